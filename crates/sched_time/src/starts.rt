@@ -1,0 +1,82 @@
+ghost use Rattle.std.specs.Prelude.{◌≡◌, min, max};
+ghost use Rattle.sched_time.specs.Decision.{start_of};
+
+use crate::numbers::Moment;
+use std::marker::Model;
+
+/// An interval with a start and no end.
+#[derive(Clone, Copy, Debug, PartialEq, Eq)]
+pub struct Interval {
+    start: Moment,
+}
+
+impl Model for Interval {
+    ghost use Rattle.std.specs.Prelude.{ℕ, ◌≤◌};
+    ghost use Rattle.sched_time.specs.declared.numbers.TheConstants.{FAR};
+
+    ghost Value = { ℕ };
+
+    ghost view = { λ i. i.start };
+
+    ghost invariant = { λ i. i.start ≤ FAR };
+
+    ghost inverse = { λ n. record { start = n } };
+}
+
+impl Interval {
+    /// The interval from `start` on.
+    pub fn after(start: Moment) -> Self
+        ensures { result ≡ start }
+    {
+        let _millis = start.get();
+        Interval { start }
+    }
+
+    /// Its start.
+    pub fn start(self) -> Moment
+        ensures { result ≡ self }
+    {
+        self.start
+    }
+
+    /// What both intervals have in common: it starts at the later of both starts.
+    pub fn meet(self, other: Interval) -> Self
+        ensures { result ≡ max self other }
+    {
+        if self.start.get() < other.start.get() {
+            other
+        } else {
+            self
+        }
+    }
+
+    /// What either interval has: it starts at the earlier of both starts.
+    pub fn join(self, other: Interval) -> Self
+        ensures { result ≡ min self other }
+    {
+        if other.start.get() < self.start.get() {
+            other
+        } else {
+            self
+        }
+    }
+}
+
+/// What a schedule decides at a step: to go on in an interval, or that it is done.
+#[derive(Clone, Copy, Debug, PartialEq, Eq)]
+pub enum Decision {
+    Go(Interval),
+    Done,
+}
+
+impl Decision {
+    /// The start of the interval in which the schedule goes on, or `None` where it is done.
+    pub fn start(self) -> Option<Moment>
+        ensures { result ≡ start_of self }
+    {
+        match self {
+            Decision::Go(interval) => Some(interval.start()),
+            Decision::Done => None,
+        }
+    }
+}
