@@ -1,0 +1,64 @@
+-- Worked examples, computed with the definitions alone: what a plan answers at each event of a history.
+use Rattle.std.specs.Prelude.{◌≡◌, ℕ, List, [], ◌∷◌, map, refl}
+use Rattle.sched_time.specs.declared.starts.Decision.{Decision}
+use Rattle.sched_time.specs.declared.starts.Decision.TheVariants.{Go, Done}
+use Rattle.sched_plan.specs.Datum.{Datum, num, pair}
+use Rattle.sched_plan.specs.Schedule.{Schedule, leaf, meet, follow}
+use Rattle.sched_plan.specs.History.{prefixes}
+use Rattle.sched_plan.specs.Answer.{answer}
+use Rattle.sched_plan.specs.declared.leaves.Leaf.TheVariants.{Forever, Recurs, Spaced, Fixed}
+use Rattle.sched_plan.specs.declared.history.Event.{Event}
+use Rattle.sched_plan.specs.declared.history.Answer.{Answer}
+
+-- the middle word, which makes a jitter neutral
+abbrev pub mid : ℕ
+mid = 2147483648
+
+-- events at these moments, with the input 0
+abbrev pub at : List ℕ → List Event
+at ms = map (λ m. record { now = m; words = mid ∷ mid ∷ mid ∷ mid ∷ []; input = num 0 }) ms
+
+abbrev pub gives : Datum → Decision → Answer
+gives output decision = record { output = output; decision = decision }
+
+-- the answers at each event in turn
+abbrev pub answers : Schedule → List ℕ → List Answer
+answers s ms = map (answer s) (prefixes (at ms))
+
+pub meet_of_recurs_and_spaced : answers (meet (leaf (Recurs 3)) (leaf (Spaced 100))) (0 ∷ 100 ∷ 200 ∷ 300 ∷ []) ≡
+    gives (pair (num 0) (num 0)) (Go 100) ∷ gives (pair (num 1) (num 1)) (Go 200) ∷
+    gives (pair (num 2) (num 2)) (Go 300) ∷ gives (pair (num 3) (num 3)) Done ∷ []
+meet_of_recurs_and_spaced = refl
+
+pub recurs_no_time : answers (leaf (Recurs 0)) (0 ∷ []) ≡ gives (num 0) Done ∷ []
+recurs_no_time = refl
+
+-- 30 ms of work each time: the boundaries of 100 ms are kept
+pub fixed_on_time : answers (leaf (Fixed 100)) (0 ∷ 130 ∷ 230 ∷ []) ≡
+    gives (num 0) (Go 100) ∷ gives (num 1) (Go 200) ∷ gives (num 2) (Go 300) ∷ []
+fixed_on_time = refl
+
+-- an event just as late as one interval is not behind
+pub fixed_just_late : answers (leaf (Fixed 100)) (0 ∷ 200 ∷ []) ≡ gives (num 0) (Go 100) ∷ gives (num 1) (Go 300) ∷ []
+fixed_just_late = refl
+
+-- later than that the schedule is behind, and goes on at once
+pub fixed_behind : answers (leaf (Fixed 100)) (0 ∷ 350 ∷ 600 ∷ []) ≡
+    gives (num 0) (Go 100) ∷ gives (num 1) (Go 350) ∷ gives (num 2) (Go 600) ∷ []
+fixed_behind = refl
+
+pub fixed_at_the_end : answers (leaf (Fixed 100)) (4611686018427387903 ∷ 4611686018427387903 ∷ []) ≡
+    gives (num 0) (Go 4611686018427387903) ∷ gives (num 1) (Go 4611686018427387903) ∷ []
+fixed_at_the_end = refl
+
+-- the event at which the first plan is done is the second plan's first
+pub follow_crosses : answers (follow (leaf (Recurs 2)) (leaf (Spaced 50))) (0 ∷ 0 ∷ 0 ∷ 50 ∷ []) ≡
+    gives (num 0) (Go 0) ∷ gives (num 1) (Go 0) ∷ gives (num 0) (Go 50) ∷ gives (num 1) (Go 100) ∷ []
+follow_crosses = refl
+
+pub follow_at_once : answers (follow (leaf (Recurs 0)) (leaf (Recurs 0))) (0 ∷ []) ≡ gives (num 0) Done ∷ []
+follow_at_once = refl
+
+pub forever_counts : answers (leaf Forever) (5 ∷ 5 ∷ 7 ∷ []) ≡
+    gives (num 0) (Go 5) ∷ gives (num 1) (Go 5) ∷ gives (num 2) (Go 7) ∷ []
+forever_counts = refl

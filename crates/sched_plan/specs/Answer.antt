@@ -1,0 +1,71 @@
+-- What a schedule answers on a history, as a function of the whole list of events, oldest first.
+use Rattle.std.specs.Prelude.{ℕ, ◌+◌, ◌-◌, ◌%◌, max, Bool, true, false, if◌then◌else◌, nat_lt, List, [], ◌∷◌, drop, length, reverse, find, Option, Some, None}
+use Rattle.sched_time.specs.Capped.{capped}
+use Rattle.sched_time.specs.declared.starts.Decision.{Decision}
+use Rattle.sched_time.specs.declared.starts.Decision.TheVariants.{Go, Done}
+use Rattle.sched_plan.specs.Datum.{num, pair}
+use Rattle.sched_plan.specs.Schedule.{Schedule, leaf, meet, follow}
+use Rattle.sched_plan.specs.History.{first_moment, last_moment, repeats, prefixes}
+use Rattle.sched_plan.specs.declared.leaves.Leaf.{Leaf}
+use Rattle.sched_plan.specs.declared.leaves.Leaf.TheVariants.{Forever, Recurs, Spaced, Fixed}
+use Rattle.sched_plan.specs.declared.history.Event.{Event}
+use Rattle.sched_plan.specs.declared.history.Answer.{Answer}
+
+abbrev pub is_done : Decision → Bool
+is_done (Go start) = false
+is_done Done = true
+
+-- the first boundary of the intervals of d from f on that is after `now`
+abbrev pub next_boundary : ℕ → ℕ → ℕ → ℕ
+next_boundary d f now = capped (now + (d - (now - f) % d))
+
+-- The start that `fixed d` plans at the last of the events, which stand newest first; f is the first moment.
+-- At the first event that is f + d. At a later one let prev be the start planned at the event before: where now
+-- is past prev + d the schedule is behind and goes on now, else at the next boundary.
+abbrev pub fixed_plan : ℕ → ℕ → List Event → ℕ
+fixed_plan d f [] = 0
+fixed_plan d f (e ∷ []) = capped (f + d)
+fixed_plan d f (e ∷ earlier) =
+    if nat_lt (capped (fixed_plan d f earlier + d)) e.now then e.now else next_boundary d f e.now
+
+-- the start that `fixed d` plans at the last event of the history
+abbrev pub fixed_start : ℕ → List Event → ℕ
+fixed_start d h = fixed_plan d (first_moment h) (reverse h)
+
+abbrev pub leaf_decision : Leaf → List Event → Decision
+leaf_decision Forever h = Go (last_moment h)
+leaf_decision (Recurs count) h = if nat_lt (length h - 1) count then Go (last_moment h) else Done
+leaf_decision (Spaced delay) h = Go (capped (last_moment h + delay))
+leaf_decision (Fixed d) h = Go (fixed_start d h)
+
+-- a leaf gives how often it has recurred
+abbrev pub leaf_answer : Leaf → List Event → Answer
+leaf_answer l h = record { output = num (repeats h); decision = leaf_decision l h }
+
+-- both go on, at the later start; else done
+abbrev pub later : Decision → Decision → Decision
+later (Go s) (Go t) = Go (max s t)
+later (Go s) Done = Done
+later Done d = Done
+
+abbrev pub both : Answer → Answer → Answer
+both a b = record { output = pair a.output b.output; decision = later a.decision b.decision }
+
+-- the shortest prefix of the history on which a schedule with these answers is done, if there is one
+abbrev pub crossing : (List Event → Answer) → List Event → Option (List Event)
+crossing answers h = find (λ p. is_done (answers p).decision) (prefixes h)
+
+-- the events from the last one of this prefix on
+abbrev pub from_end_of : List Event → List Event → List Event
+from_end_of p h = drop (length p - 1) h
+
+-- the first schedule's answer while it was never done; else the second's, from the event on at which the first was done
+abbrev pub followed : (List Event → Answer) → (List Event → Answer) → Option (List Event) → List Event → Answer
+followed front rest None h = front h
+followed front rest (Some p) h = rest (from_end_of p h)
+
+-- what the schedule answers at the last event of the history
+abbrev pub answer : Schedule → List Event → Answer
+answer (leaf l) h = leaf_answer l h
+answer (meet a b) h = both (answer a h) (answer b h)
+answer (follow a b) h = followed (answer a) (answer b) (crossing (answer a) h) h

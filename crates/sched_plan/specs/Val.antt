@@ -1,0 +1,10 @@
+use Rattle.sched_plan.specs.Datum.{Datum, unit, num, pair, list, items_of}
+use Rattle.sched_plan.specs.declared.values.ValShape.{ValShape}
+use Rattle.sched_plan.specs.declared.values.ValShape.TheVariants.{Unit, Num, Pair, List as Items}
+
+-- the value of this shape
+abbrev pub datum_of : ValShape → Datum
+datum_of Unit = unit
+datum_of (Num n) = num n
+datum_of (Pair a b) = pair a.value b.value
+datum_of (Items ds) = list (items_of ds.items)

@@ -1,0 +1,12 @@
+//! Schedules as plain data: values, plans with their builders, and what a plan answers on a history.
+#![tactic(auto)]
+
+mod history;
+mod leaves;
+mod plans;
+mod values;
+
+pub use history::{Answer, Event};
+pub use leaves::Leaf;
+pub use plans::{MOST_DEPTH, MOST_NODES, Plan, PlanFault, PlanShape};
+pub use values::{Val, ValShape};
