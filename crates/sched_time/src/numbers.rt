@@ -125,6 +125,27 @@ impl Millis {
     }
 }
 
+impl From<u32> for Millis {
+    ghost from_gives = { λ n d. d ≡ n };
+
+    fn from(millis: u32) -> Self {
+        Millis {
+            millis: u64::from(millis),
+        }
+    }
+}
+
+impl From<Moment> for Millis {
+    ghost from_gives = { λ m d. d ≡ m };
+
+    /// The time from moment 0 to this one.
+    fn from(moment: Moment) -> Self {
+        Millis {
+            millis: moment.millis,
+        }
+    }
+}
+
 /// What a schedule is given at a step beside its input: the moment, and four random words, lanes 0 to 3.
 #[derive(Clone, Copy, Debug, PartialEq, Eq)]
 pub struct Tick {

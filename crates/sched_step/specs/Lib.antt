@@ -1,0 +1,5 @@
+pub mod Progress
+pub mod State
+pub mod StateFalls
+pub mod StateOf
+pub mod Stepped

@@ -1,0 +1,87 @@
+-- One step as the code makes it, from the kept progress alone.
+use Rattle.std.specs.Prelude.{ℕ, ◌+◌, Bool, true, false, if◌then◌else◌, nat_lt, Option, Some, None}
+use Rattle.sched_time.specs.Capped.{capped}
+use Rattle.sched_time.specs.declared.starts.Decision.{Decision}
+use Rattle.sched_time.specs.declared.starts.Decision.TheVariants.{Go, Done}
+use Rattle.sched_plan.specs.Datum.{num}
+use Rattle.sched_plan.specs.Schedule.{Schedule, leaf, meet, follow}
+use Rattle.sched_plan.specs.Answer.{both, is_done, next_boundary}
+use Rattle.sched_plan.specs.declared.leaves.Leaf.{Leaf}
+use Rattle.sched_plan.specs.declared.leaves.Leaf.TheVariants.{Forever, Recurs, Spaced, Fixed}
+use Rattle.sched_plan.specs.declared.history.Event.{Event}
+use Rattle.sched_plan.specs.declared.history.Answer.{Answer}
+use Rattle.sched_step.specs.declared.leaves.LeafState.{LeafState}
+use Rattle.sched_step.specs.declared.leaves.LeafState.TheVariants.{Counted, Planned}
+use Rattle.sched_step.specs.Progress.{Progress, at_leaf, at_both, at_follow}
+
+abbrev pub count_of : LeafState → ℕ
+count_of (Counted n) = n
+count_of (Planned n p) = n
+
+abbrev pub planned_of : LeafState → Option (ℕ × ℕ)
+planned_of (Counted n) = None
+planned_of (Planned n p) = p
+
+-- the next start of `fixed d`, from the first moment and the start planned last
+abbrev pub next_fixed : ℕ → Option (ℕ × ℕ) → ℕ → ℕ
+next_fixed d None now = capped (now + d)
+next_fixed d (Some p) now = if nat_lt (capped (p.1 + d)) now then now else next_boundary d p.0 now
+
+abbrev pub first_kept : Option (ℕ × ℕ) → ℕ → ℕ
+first_kept None now = now
+first_kept (Some p) now = p.0
+
+abbrev pub leaf_next : Leaf → LeafState → ℕ → LeafState
+leaf_next Forever s now = Counted (capped (count_of s + 1))
+leaf_next (Recurs count) s now = Counted (capped (count_of s + 1))
+leaf_next (Spaced delay) s now = Counted (capped (count_of s + 1))
+leaf_next (Fixed d) s now =
+    Planned (capped (count_of s + 1)) (Some (first_kept (planned_of s) now, next_fixed d (planned_of s) now))
+
+abbrev pub leaf_decides : Leaf → LeafState → ℕ → Decision
+leaf_decides Forever s now = Go now
+leaf_decides (Recurs count) s now = if nat_lt (count_of s) count then Go now else Done
+leaf_decides (Spaced delay) s now = Go (capped (now + delay))
+leaf_decides (Fixed d) s now = Go (next_fixed d (planned_of s) now)
+
+abbrev pub leaf_answers : Leaf → LeafState → ℕ → Answer
+leaf_answers l s now = record { output = num (count_of s); decision = leaf_decides l s now }
+
+abbrev pub leaf_of : Progress → LeafState
+leaf_of (at_leaf s) = s
+leaf_of (at_both a b) = Counted 0
+leaf_of (at_follow crossed a b) = Counted 0
+
+abbrev pub first_of : Progress → Progress
+first_of (at_leaf s) = at_leaf s
+first_of (at_both a b) = a
+first_of (at_follow crossed a b) = a
+
+abbrev pub second_of : Progress → Progress
+second_of (at_leaf s) = at_leaf s
+second_of (at_both a b) = b
+second_of (at_follow crossed a b) = b
+
+abbrev pub has_crossed : Progress → Bool
+has_crossed (at_leaf s) = false
+has_crossed (at_both a b) = false
+has_crossed (at_follow crossed a b) = crossed
+
+abbrev pub both_stepped : Progress × Answer → Progress × Answer → Progress × Answer
+both_stepped a b = (at_both a.0 b.0, both a.1 b.1)
+
+-- the second is stepped, and the first stays as it is
+abbrev pub past_crossing : Progress → Progress × Answer → Progress × Answer
+past_crossing first b = (at_follow true first b.0, b.1)
+
+-- the first was stepped: where it is done, the second answers the same event
+abbrev pub at_crossing : Progress × Answer → Progress → Progress × Answer → Progress × Answer
+at_crossing a second b =
+    if is_done a.1.decision then past_crossing a.0 b else (at_follow false a.0 second, a.1)
+
+abbrev pub stepped : Schedule → Progress → Event → Progress × Answer
+stepped (leaf l) s e = (at_leaf (leaf_next l (leaf_of s) e.now), leaf_answers l (leaf_of s) e.now)
+stepped (meet a b) s e = both_stepped (stepped a (first_of s) e) (stepped b (second_of s) e)
+stepped (follow a b) s e =
+    if has_crossed s then past_crossing (first_of s) (stepped b (second_of s) e)
+    else at_crossing (stepped a (first_of s) e) (second_of s) (stepped b (second_of s) e)
