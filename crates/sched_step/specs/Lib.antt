@@ -3,3 +3,4 @@ pub mod State
 pub mod StateFalls
 pub mod StateOf
 pub mod Stepped
+pub mod Starts

@@ -1,0 +1,4 @@
+pub mod History
+pub mod Prefixes
+pub mod Fixed
+pub mod Law
