@@ -5,4 +5,5 @@ pub mod Schedule
 pub mod Plan
 pub mod PlanFalls
 pub mod History
+pub mod HistoryLaws
 pub mod Answer

@@ -1,5 +1,5 @@
 -- The state of a schedule after a history, as a function of the whole list of events, oldest first.
-use Rattle.std.specs.Prelude.{ℕ, true, false, List, [], ◌∷◌, length, Option, Some, None}
+use Rattle.std.specs.Prelude.{◌≡◌, ℕ, true, false, List, [], ◌∷◌, length, Option, Some, None}
 use Rattle.sched_time.specs.Capped.{capped}
 use Rattle.sched_time.specs.declared.numbers.Tick.{Tick}
 use Rattle.sched_plan.specs.Datum.{Datum}
@@ -9,6 +9,7 @@ use Rattle.sched_plan.specs.Answer.{answer, crossing, from_end_of, fixed_start}
 use Rattle.sched_plan.specs.declared.leaves.Leaf.{Leaf}
 use Rattle.sched_plan.specs.declared.leaves.Leaf.TheVariants.{Forever, Recurs, Spaced, Fixed}
 use Rattle.sched_plan.specs.declared.history.Event.{Event}
+use Rattle.sched_plan.specs.declared.history.Answer.{Answer}
 use Rattle.sched_step.specs.declared.leaves.LeafState.{LeafState}
 use Rattle.sched_step.specs.declared.leaves.LeafState.TheVariants.{Counted, Planned}
 use Rattle.sched_step.specs.Progress.{Progress, at_leaf, at_both, at_follow}
@@ -40,3 +41,8 @@ state_of (follow a b) h = follow_state (state_of a) (state_of b) (crossing (answ
 -- the event of this tick and input
 abbrev pub event_of : Tick → Datum → Event
 event_of tick input = record { now = tick.now; words = tick.words; input = input }
+
+-- what a step of the schedule has to give where this is the history with the step's event
+pub record IsStep (s : Schedule) (h : List Event) (state : Progress) (given : Answer) : Type 0 where
+  pub state_is : state ≡ state_of s h
+  pub answer_is : given ≡ answer s h

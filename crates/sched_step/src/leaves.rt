@@ -1,9 +1,14 @@
-ghost use Rattle.std.specs.Prelude.{◌≡◌, [], IfOk};
+ghost use Rattle.std.specs.Prelude.{◌≡◌, ◌+◌, ◌<◌, ◌≤◌, [], IfOk, IsTrue};
+ghost use Rattle.std.specs.Option.{ForSome};
+ghost use Rattle.sched_time.specs.Capped.{capped};
+ghost use Rattle.sched_plan.specs.Datum.{num};
+ghost use Rattle.sched_plan.specs.Schedule.{leaf_in_range};
 ghost use Rattle.sched_step.specs.Progress.{leaf_view, leaf_fits};
 ghost use Rattle.sched_step.specs.StateOf.{leaf_state};
+ghost use Rattle.sched_step.specs.Stepped.{leaf_next, leaf_answers, first_kept, next_fixed};
 
-use sched_plan::{Leaf, Val};
-use sched_time::{Millis, Moment, NoMemory};
+use sched_plan::{Answer, Leaf, Val};
+use sched_time::{Decision, Interval, Millis, Moment, NoMemory};
 use std::alloc::Global;
 
 /// What is kept of a leaf's events.
@@ -57,4 +62,66 @@ impl LeafState {
             _ => false,
         }
     }
+
+    /// The state after one more event, at `now`, and what the leaf answers to it.
+    pub(crate) fn step(&self, leaf: Leaf, now: Moment) -> (LeafState, Answer)
+        requires valid { IsTrue (leaf_in_range leaf) }
+        requires fits { IsTrue (leaf_fits leaf self.now now) }
+        ensures { result ≡ (leaf_next leaf self.now now, leaf_answers leaf self.now now) }
+    {
+        match *self {
+            LeafState::Counted(count) => {
+                let decision = match leaf {
+                    Leaf::Recurs(most) if most.get() <= count.get() => Decision::Done,
+                    Leaf::Spaced(delay) => Decision::Go(Interval::after(now.plus(delay))),
+                    _ => Decision::Go(Interval::after(now)),
+                };
+                (LeafState::Counted(one_more(count)), answer(count, decision))
+            }
+            LeafState::Planned(count, planned) => {
+                let Leaf::Fixed(length) = leaf else {
+                    unreachable!()
+                };
+                let (first, start) = fixed_next(length, planned, now);
+                let decision = Decision::Go(Interval::after(start));
+                let kept = LeafState::Planned(one_more(count), Some((first, start)));
+                (kept, answer(count, decision))
+            }
+        }
+    }
+}
+
+// The count after one more event.
+fn one_more(count: Millis) -> Millis
+    ensures { result ≡ capped (count + 1) }
+{
+    count.plus(Millis::from(1))
+}
+
+// What a leaf answers after so many events.
+fn answer(count: Millis, decision: Decision) -> Answer
+    ensures { result ≡ record { output = num count; decision = decision } }
+{
+    Answer {
+        output: Val::from(count),
+        decision,
+    }
+}
+
+// The first moment and the next start of intervals of `length`, from the first moment and the start planned last: a
+// schedule that is behind goes on at once, else at the next boundary.
+fn fixed_next(length: Millis, planned: Option<(Moment, Moment)>, now: Moment) -> (Moment, Moment)
+    requires some { 0 < length }
+    requires order { ForSome planned (λ p. p.0 ≤ now) }
+    ensures { result ≡ (first_kept planned now, next_fixed length planned now) }
+{
+    let Some((first, start)) = planned else {
+        return (now, now.plus(length));
+    };
+    if start.plus(length).get() < now.get() {
+        return (first, now);
+    }
+    let past = now.since(first).get() % length.get();
+    let rest = Millis::new(length.get() - past).unwrap();
+    (first, now.plus(rest))
 }

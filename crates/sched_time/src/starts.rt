@@ -11,14 +11,11 @@ pub struct Interval {
 }
 
 impl Model for Interval {
-    ghost use Rattle.std.specs.Prelude.{ℕ, ◌≤◌};
-    ghost use Rattle.sched_time.specs.declared.numbers.TheConstants.{FAR};
+    ghost use Rattle.std.specs.Prelude.{ℕ};
 
     ghost Value = { ℕ };
 
     ghost view = { λ i. i.start };
-
-    ghost invariant = { λ i. i.start ≤ FAR };
 
     ghost inverse = { λ n. record { start = n } };
 }
@@ -28,7 +25,6 @@ impl Interval {
     pub fn after(start: Moment) -> Self
         ensures { result ≡ start }
     {
-        let _millis = start.get();
         Interval { start }
     }
 

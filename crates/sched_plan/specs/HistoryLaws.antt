@@ -1,0 +1,16 @@
+-- What one more event does to a history.
+use Rattle.std.specs.Prelude.{◌≡◌, ◌≤◌, List, [], ◌∷◌, ◌++◌, refl}
+use Rattle.sched_plan.specs.History.{last_moment, IsHistory}
+use Rattle.sched_plan.specs.declared.history.Event.{Event}
+
+-- the last moment is that of the event that came last
+pub last_moment-push : (h : List Event) (e : Event) → last_moment (h ++ e ∷ []) ≡ e.now
+last_moment-push [] e = refl
+last_moment-push (d ∷ []) e = refl
+last_moment-push (d ∷ c ∷ h) e = last_moment-push (c ∷ h) e
+
+-- a history goes on with an event that is not before its last
+pub IsHistory-push : (h : List Event) (e : Event) → IsHistory h → last_moment h ≤ e.now → IsHistory (h ++ e ∷ [])
+IsHistory-push [] e ordered later = tt
+IsHistory-push (d ∷ []) e ordered later = (later, tt)
+IsHistory-push (d ∷ c ∷ h) e ordered later = (ordered.0, IsHistory-push (c ∷ h) e ordered.1 later)
