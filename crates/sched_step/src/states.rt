@@ -79,7 +79,8 @@ impl State {
     /// Makes it the plan's initial state, in place. It takes no memory. Its shape must fit the plan.
     pub fn renew(&mut self, plan: &Plan)
         requires { IsTrue (fits plan.now self.old FAR) }
-        ensures { self.new ≡ state_of plan.now [] }
+        ensures value { self.new ≡ state_of plan.now [] }
+        ensures fits { (now : ℕ) → IsTrue (fits plan.now self.new now) }
     {
         match (plan.shape(), &mut self.shape) {
             (PlanShape::Leaf(leaf), StateShape::Leaf(kept)) => *kept = LeafState::initial(*leaf),

@@ -1,0 +1,187 @@
+ghost use Rattle.std.specs.Prelude.{◌≡◌, ◌≤◌, [], length, IfOk, IfErr, option_copied};
+ghost use Rattle.sched_plan.specs.History.{IsHistory, last_moment};
+ghost use Rattle.sched_plan.specs.Answer.{answer};
+ghost use Rattle.sched_step.specs.StateOf.{state_of, event_of};
+ghost use Rattle.sched_step.specs.Starts.{StartsBy};
+ghost use Rattle.sched_driver.specs.Driven.{last_output, next_start_of, after};
+
+use sched_plan::{Answer, Event, Plan, Val};
+use sched_step::{State, initial, step};
+use sched_time::{Decision, Moment, NoMemory, Tick};
+use std::alloc::Global;
+use std::marker::Model;
+
+/// The most events of a journal.
+pub const MOST_EVENTS: usize = 65536;
+
+/// Why `next` refused an event.
+#[derive(Clone, Copy, Debug, PartialEq, Eq)]
+pub enum DriveFault {
+    /// The event is before the journal's last event, which is at `floor`.
+    Backwards { floor: Moment },
+    /// The journal holds 65,536 events.
+    JournalFull,
+    /// A growth was refused.
+    NoMemory,
+}
+
+impl From<NoMemory> for DriveFault {
+    ghost use Rattle.std.specs.Prelude.{◌≡◌};
+    ghost use Rattle.sched_driver.specs.declared.drivers.DriveFault.{DriveFault};
+
+    ghost from_gives = { λ _ fault. fault ≡ DriveFault.NoMemory };
+
+    fn from(_: NoMemory) -> Self {
+        DriveFault::NoMemory
+    }
+}
+
+/// Steps a plan event by event, and keeps the events since the last reset in a journal.
+///
+/// Its state, its last output and its next start are always those that the plan's definition gives for the journal.
+#[derive(Drop)]
+pub struct Driver {
+    plan: Plan,
+    state: State,
+    journal: Vec<Event>,
+    last: Option<Answer>,
+}
+
+impl Model for Driver {
+    ghost use Rattle.sched_driver.specs.Driven.{Driven, coded_driven};
+
+    ghost Value = { Driven };
+
+    ghost coded = { coded_driven };
+
+    ghost use Rattle.sched_driver.specs.Driver.{IsDriven};
+
+    ghost view = { λ d. record { plan = d.plan; journal = d.journal.items } };
+
+    ghost invariant = { λ d. IsDriven d.plan d.state d.journal.items d.last };
+}
+
+impl Driver {
+    ghost use Rattle.sched_driver.specs.Driver.{HasRoom, Refuses};
+
+    /// A driver of the plan before its first event. Refused only for want of memory; the plan is then dropped.
+    pub fn new(alloc: Global, plan: Plan) -> Result<Driver, NoMemory>
+        ensures plan { IfOk result (λ driver. driver.plan ≡ plan) }
+        ensures fresh { IfOk result (λ driver. driver.journal ≡ []) }
+    {
+        let state = initial(alloc, &plan)?;
+        Ok(Driver {
+            plan,
+            state,
+            journal: Vec::new(alloc),
+            last: None,
+        })
+    }
+
+    /// Gives the plan one more event, also after `Done`, and answers what it decides: the next start, or `Done`.
+    ///
+    /// Refused as `Backwards` where the tick is before the journal's last event, as `JournalFull` where the journal
+    /// holds 65,536 events, and for want of memory; the driver is then unchanged, and the input dropped.
+    pub fn next(&mut self, alloc: Global, tick: Tick, input: Val) -> Result<Decision, DriveFault>
+        ensures kept { IfOk result (λ _. self.new ≡ after self.old (event_of tick input)) }
+        ensures decision { IfOk result (λ d. d ≡ (answer self.new.plan self.new.journal).decision) }
+        ensures start { IfOk result (λ d. StartsBy tick.now d) }
+        ensures room { IfOk result (λ _. HasRoom self.old tick.now) }
+        ensures refused { IfErr result (λ fault. Refuses self.old tick.now fault) }
+        ensures unchanged { IfErr result (λ _. self.new ≡ self.old) }
+    {
+        self.has_room(tick.now)?;
+        if self.journal.reserve(1).is_err() {
+            return Err(DriveFault::NoMemory);
+        }
+        let (state, answer) = step(alloc, &self.plan, &self.state, &tick, &input)?;
+        let decision = answer.decision;
+        let words = tick.words;
+        self.journal.push_reserved(Event {
+            now: tick.now,
+            words,
+            input,
+        });
+        self.state = state;
+        self.last = Some(answer);
+        Ok(decision)
+    }
+
+    /// The output last given, or `None` where the journal is empty.
+    pub fn last(&self) -> Option<&Val>
+        ensures { option_copied result ≡ last_output self.now }
+    {
+        match &self.last {
+            Some(answer) => Some(&answer.output),
+            None => None,
+        }
+    }
+
+    /// The start planned last, or `None` where the journal is empty or the plan was done.
+    pub fn next_start(&self) -> Option<Moment>
+        ensures { result ≡ next_start_of self.now }
+    {
+        match &self.last {
+            Some(answer) => answer.decision.start(),
+            None => None,
+        }
+    }
+
+    /// The plan.
+    pub fn plan(&self) -> &Plan
+        ensures { result.now ≡ self.now.plan }
+    {
+        &self.plan
+    }
+
+    /// The plan's state after the events of the journal.
+    pub fn state(&self) -> &State
+        ensures { result.now ≡ state_of self.now.plan self.now.journal }
+    {
+        &self.state
+    }
+
+    /// The events since the last reset, oldest first; their moments never fall, and there are at most 65,536.
+    pub fn journal(&self) -> &[Event]
+        ensures events { result.now ≡ self.now.journal }
+        ensures in_order { IsHistory self.now.journal }
+        ensures few { length self.now.journal ≤ MOST_EVENTS }
+    {
+        &self.journal
+    }
+
+    /// Back to before the first event, whatever the moment of the next one. It takes no memory.
+    pub fn reset(&mut self)
+        ensures plan { self.new.plan ≡ self.old.plan }
+        ensures fresh { self.new.journal ≡ [] }
+    {
+        self.state.renew(&self.plan);
+        self.journal.clear();
+        self.last = None;
+    }
+
+    // Whether one more event at this moment has a place in the journal.
+    fn has_room(&self, now: Moment) -> Result<(), DriveFault>
+        ensures ok { IfOk result (λ _. HasRoom self.now now) }
+        ensures refused { IfErr result (λ fault. Refuses self.now now fault) }
+    {
+        let floor = self.floor();
+        if now.get() < floor.get() {
+            return Err(DriveFault::Backwards { floor });
+        }
+        if self.journal.len() == MOST_EVENTS {
+            return Err(DriveFault::JournalFull);
+        }
+        Ok(())
+    }
+
+    // The moment of the journal's last event, or 0 where it is empty.
+    fn floor(&self) -> Moment
+        ensures { result ≡ last_moment self.now.journal }
+    {
+        match self.journal.last() {
+            Some(event) => event.now,
+            None => Moment::new(0).unwrap(),
+        }
+    }
+}
