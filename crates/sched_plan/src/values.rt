@@ -1,9 +1,11 @@
-ghost use Rattle.std.specs.Prelude.{◌≡◌, ◌≤◌, ◌↔◌, IsSome, IfSome, IfOk};
+ghost use Rattle.std.specs.Prelude.{◌≡◌, ◌≤◌, ◌↔◌, ◌++◌, IsTrue, IsSome, IfSome, IfOk, OnOk, string_bytes};
 ghost use Rattle.sched_time.specs.declared.numbers.TheConstants.{FAR};
 ghost use Rattle.sched_plan.specs.Datum.{unit, num, pair, list, items_of};
+ghost use Rattle.sched_plan.specs.DatumText.{text_of, items_text};
 
 use sched_time::{Millis, NoMemory};
 use std::alloc::Global;
+use std::fmt::Write;
 use std::marker::Model;
 
 /// A value that a schedule takes or gives: nothing, a number, a pair or a list.
@@ -88,6 +90,112 @@ impl Val {
     {
         &self.shape
     }
+
+    /// An equal value. Refused only for want of memory.
+    #[cycle(copy)]
+    pub fn copy(&self, alloc: Global) -> Result<Val, NoMemory>
+        ensures { IfOk result (λ v. v ≡ self.now) }
+    {
+        let shape = match &self.shape {
+            ValShape::Unit => ValShape::Unit,
+            ValShape::Num(number) => ValShape::Num(*number),
+            ValShape::Pair(first, second) => {
+                let first = Box::new(alloc, first.copy(alloc)?)?;
+                ValShape::Pair(first, Box::new(alloc, second.copy(alloc)?)?)
+            }
+            ValShape::List(items) => ValShape::List(copy_items(alloc, items)?),
+        };
+        Ok(Val { shape })
+    }
+
+    /// Whether both values are equal.
+    #[cycle(same)]
+    pub fn same(&self, other: &Val) -> bool
+        ensures { IsTrue result ↔ (self.now ≡ other.now) }
+    {
+        match (&self.shape, &other.shape) {
+            (ValShape::Unit, ValShape::Unit) => true,
+            (ValShape::Num(a), ValShape::Num(b)) => a == b,
+            (ValShape::Pair(a, b), ValShape::Pair(c, d)) => a.same(c) && b.same(d),
+            (ValShape::List(a), ValShape::List(b)) => same_items(a, b),
+            _ => false,
+        }
+    }
+
+    /// The value as text: `()`, a decimal number, `(a, b)` or `[a, b, c]`. Refused only for want of memory.
+    pub fn text(&self, alloc: Global) -> Result<String, NoMemory>
+        ensures { IfOk result (λ text. string_bytes text ≡ text_of self.now) }
+    {
+        let mut out = String::new(alloc);
+        self.write_to(&mut out)?;
+        Ok(out)
+    }
+
+    // Adds the value's text at the end.
+    #[cycle(text)]
+    fn write_to(&self, out: &mut String) -> Result<(), NoMemory>
+        ensures { OnOk result (string_bytes out.new ≡ string_bytes out.old ++ text_of self.now) }
+    {
+        match &self.shape {
+            ValShape::Unit => out.push_str("()")?,
+            ValShape::Num(number) => write!(out, "{}", number.get())?,
+            ValShape::Pair(first, second) => {
+                out.push_str("(")?;
+                first.write_to(out)?;
+                out.push_str(", ")?;
+                second.write_to(out)?;
+                out.push_str(")")?;
+            }
+            ValShape::List(items) => {
+                out.push_str("[")?;
+                write_items(items, out)?;
+                out.push_str("]")?;
+            }
+        }
+        Ok(())
+    }
+}
+
+// Equal values in the same order.
+#[cycle(copy)]
+fn copy_items(alloc: Global, items: &Vec<Val>) -> Result<Vec<Val>, NoMemory>
+    ensures { IfOk result (λ copies. copies.items ≡ items.now.items) }
+{
+    let mut copies = Vec::with_capacity(alloc, items.len())?;
+    for item in items {
+        copies.push(item.copy(alloc)?)?;
+    }
+    Ok(copies)
+}
+
+// Whether both have equal values in the same order.
+#[cycle(same)]
+fn same_items(items: &Vec<Val>, others: &Vec<Val>) -> bool
+    ensures { IsTrue result ↔ (items.now.items ≡ others.now.items) }
+{
+    if items.len() != others.len() {
+        return false;
+    }
+    for (at, item) in items.iter().enumerate() {
+        if !item.same(&others[at]) {
+            return false;
+        }
+    }
+    true
+}
+
+// Adds the texts of the items at the end, with commas between them.
+#[cycle(text)]
+fn write_items(items: &Vec<Val>, out: &mut String) -> Result<(), NoMemory>
+    ensures { OnOk result (string_bytes out.new ≡ string_bytes out.old ++ items_text (items_of items.now.items)) }
+{
+    for (at, item) in items.iter().enumerate() {
+        if at > 0 {
+            out.push_str(", ")?;
+        }
+        item.write_to(out)?;
+    }
+    Ok(())
 }
 
 impl From<Millis> for Val {
