@@ -207,3 +207,111 @@ impl From<Millis> for Val {
         }
     }
 }
+
+#[cfg(test)]
+mod tests {
+    use super::*;
+    use std::process::Abort;
+    use std::test::Fail;
+
+    fn number(rt: &impl Abort, number: u64) -> Val {
+        Val::num(number).expect(rt, "the number is in range")
+    }
+
+    // `[(0, [1, 2]), (), [], [()]]`
+    fn nested(rt: &impl Abort, alloc: Global) -> Result<Val, NoMemory> {
+        let numbers = Val::list(vec![in alloc; number(rt, 1), number(rt, 2)]?);
+        let pair = Val::pair(alloc, number(rt, 0), numbers)?;
+        let units = Val::list(vec![in alloc; Val::unit()]?);
+        let empty = Val::list(Vec::new(alloc));
+        Ok(Val::list(vec![in alloc; pair, Val::unit(), empty, units]?))
+    }
+
+    // Values that all differ, also in the order, the kind and the number of their parts.
+    fn different(rt: &impl Abort, alloc: Global) -> Result<Vec<Val>, NoMemory> {
+        let zero_one = Val::pair(alloc, number(rt, 0), number(rt, 1))?;
+        let one_zero = Val::pair(alloc, number(rt, 1), number(rt, 0))?;
+        let empty = Val::list(Vec::new(alloc));
+        let zero = Val::list(vec![in alloc; number(rt, 0)]?);
+        let ascending = Val::list(vec![in alloc; number(rt, 0), number(rt, 1)]?);
+        let descending = Val::list(vec![in alloc; number(rt, 1), number(rt, 0)]?);
+        let deep = nested(rt, alloc)?;
+        let numbers = vec![in alloc;
+            Val::unit(),
+            number(rt, 0),
+            number(rt, 1),
+            number(rt, 4611686018427387903),
+            deep,
+        ]?;
+        let mut all = vec![in alloc; zero_one, one_zero, empty, zero, ascending, descending]?;
+        all.extend(numbers)?;
+        Ok(all)
+    }
+
+    #[test]
+    fn texts_of_all_shapes(rt: HostRuntime) -> Result<(), Fail> {
+        let alloc = rt.alloc();
+        assert_eq!(rt; Val::unit().text(alloc)?.as_str(), "()");
+        assert_eq!(rt; number(&rt, 0).text(alloc)?.as_str(), "0");
+        assert_eq!(rt;
+            number(&rt, 4611686018427387903).text(alloc)?.as_str(),
+            "4611686018427387903"
+        );
+        let pair = Val::pair(alloc, number(&rt, 10), Val::unit())?;
+        assert_eq!(rt; pair.text(alloc)?.as_str(), "(10, ())");
+        assert_eq!(rt; Val::list(Vec::new(alloc)).text(alloc)?.as_str(), "[]");
+        let one = Val::list(vec![in alloc; number(&rt, 7)]?);
+        assert_eq!(rt; one.text(alloc)?.as_str(), "[7]");
+        let three = Val::list(vec![in alloc; number(&rt, 1), number(&rt, 2), number(&rt, 3)]?);
+        assert_eq!(rt; three.text(alloc)?.as_str(), "[1, 2, 3]");
+        assert_eq!(rt;
+            nested(&rt, alloc)?.text(alloc)?.as_str(),
+            "[(0, [1, 2]), (), [], [()]]"
+        );
+        Ok(())
+    }
+
+    #[test]
+    fn numbers_end_at_far(rt: HostRuntime) {
+        assert!(rt; Val::num(4611686018427387903).is_some());
+        assert!(rt; Val::num(4611686018427387904).is_none());
+        assert!(rt; Val::num(u64::MAX).is_none());
+    }
+
+    #[test]
+    fn same_where_equal_alone(rt: HostRuntime) -> Result<(), Fail> {
+        let values = different(&rt, rt.alloc())?;
+        for (i, value) in values.iter().enumerate() {
+            for (j, other) in values.iter().enumerate() {
+                assert_eq!(rt; value.same(other), i == j, "values {i} and {j}");
+            }
+        }
+        Ok(())
+    }
+
+    #[test]
+    fn copies_are_the_same(rt: HostRuntime) -> Result<(), Fail> {
+        let alloc = rt.alloc();
+        for (i, value) in different(&rt, alloc)?.iter().enumerate() {
+            let copy = value.copy(alloc)?;
+            assert!(rt; copy.same(value), "value {i}");
+            assert_eq!(rt;
+                copy.text(alloc)?.as_str(),
+                value.text(alloc)?.as_str(),
+                "value {i}"
+            );
+        }
+        Ok(())
+    }
+
+    #[test]
+    fn shape_of_a_pair(rt: HostRuntime) -> Result<(), Fail> {
+        let pair = Val::pair(rt.alloc(), number(&rt, 3), Val::unit())?;
+        let ValShape::Pair(first, second) = pair.shape() else {
+            panic!(rt; "a pair is a pair");
+        };
+        assert!(rt; first.same(&number(&rt, 3)));
+        assert!(rt; second.same(&Val::unit()));
+        Ok(())
+    }
+}

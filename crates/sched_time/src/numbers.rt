@@ -131,3 +131,86 @@ pub struct Tick {
     pub now: Moment,
     pub words: [u32; 4],
 }
+
+#[cfg(test)]
+mod tests {
+    use super::*;
+    use std::test::Fail;
+
+    #[test]
+    fn numbers_end_at_far(rt: HostRuntime) {
+        for (number, want) in [
+            (0, Some(0)),
+            (4611686018427387903, Some(4611686018427387903)),
+            (4611686018427387904, None),
+            (u64::MAX, None),
+        ] {
+            assert_eq!(rt;
+                Moment::new(number).map(Moment::get),
+                want,
+                "moment {number}"
+            );
+            assert_eq!(rt;
+                Millis::new(number).map(Millis::get),
+                want,
+                "duration {number}"
+            );
+        }
+    }
+
+    #[test]
+    fn sums_stop_at_far(rt: HostRuntime) -> Result<(), Fail> {
+        for (a, b, want) in [
+            (0, 0, 0),
+            (100, 30, 130),
+            (4611686018427387902, 1, 4611686018427387903),
+            (4611686018427387903, 1, 4611686018427387903),
+            (1, 4611686018427387903, 4611686018427387903),
+            (
+                4611686018427387903,
+                4611686018427387903,
+                4611686018427387903,
+            ),
+        ] {
+            let delay = Millis::new(b).ok_or("out of range")?;
+            let moment = Moment::new(a).ok_or("out of range")?;
+            let duration = Millis::new(a).ok_or("out of range")?;
+            assert_eq!(rt; moment.plus(delay).get(), want, "moment {a} and {b}");
+            assert_eq!(rt; duration.plus(delay).get(), want, "duration {a} and {b}");
+        }
+        Ok(())
+    }
+
+    // In 64 bits alone the products of 4 and of 3 by their great factors would wrap round to 0 and to 1.
+    #[test]
+    fn products_stop_at_far(rt: HostRuntime) -> Result<(), Fail> {
+        for (a, factor, want) in [
+            (0, u64::MAX, 0),
+            (4611686018427387903, 0, 0),
+            (3, 5, 15),
+            (2305843009213693951, 2, 4611686018427387902),
+            (2305843009213693952, 2, 4611686018427387903),
+            (4611686018427387903, 1, 4611686018427387903),
+            (1, u64::MAX, 4611686018427387903),
+            (4, 4611686018427387904, 4611686018427387903),
+            (3, 12297829382473034411, 4611686018427387903),
+            (4611686018427387903, u64::MAX, 4611686018427387903),
+        ] {
+            let duration = Millis::new(a).ok_or("out of range")?;
+            assert_eq!(rt; duration.times(factor).get(), want, "{a} times {factor}");
+        }
+        Ok(())
+    }
+
+    #[test]
+    fn since_an_earlier_moment(rt: HostRuntime) -> Result<(), Fail> {
+        let first = Moment::new(0).ok_or("out of range")?;
+        let then = Moment::new(100).ok_or("out of range")?;
+        let now = Moment::new(130).ok_or("out of range")?;
+        let last = Moment::new(FAR).ok_or("out of range")?;
+        assert_eq!(rt; now.since(then).get(), 30);
+        assert_eq!(rt; now.since(now).get(), 0);
+        assert_eq!(rt; last.since(first).get(), 4611686018427387903);
+        Ok(())
+    }
+}
