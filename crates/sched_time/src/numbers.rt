@@ -9,7 +9,7 @@ pub const FAR: u64 = 4611686018427387903;
 /// A moment, in milliseconds from 0 to `FAR`.
 #[derive(Clone, Copy, Debug, PartialEq, Eq, PartialOrd, Ord)]
 pub struct Moment {
-    millis: u64,
+    at: u64,
 }
 
 impl Model for Moment {
@@ -18,11 +18,11 @@ impl Model for Moment {
 
     ghost Value = { ℕ };
 
-    ghost view = { λ m. m.millis };
+    ghost view = { λ m. m.at };
 
-    ghost invariant = { λ m. m.millis ≤ FAR };
+    ghost invariant = { λ m. m.at ≤ FAR };
 
-    ghost inverse = { λ n. record { millis = n } };
+    ghost inverse = { λ n. record { at = n } };
 }
 
 impl Moment {
@@ -32,7 +32,7 @@ impl Moment {
         ensures value { IfSome result (λ moment. moment ≡ millis) }
     {
         if millis <= FAR {
-            Some(Moment { millis })
+            Some(Moment { at: millis })
         } else {
             None
         }
@@ -43,7 +43,7 @@ impl Moment {
         ensures value { result ≡ self }
         ensures in_range { result ≤ FAR }
     {
-        self.millis
+        self.at
     }
 
     /// The moment this much later, at most `FAR`.
@@ -51,7 +51,7 @@ impl Moment {
         ensures { result ≡ capped (self + delay) }
     {
         Moment {
-            millis: (self.millis + delay.millis).min(FAR),
+            at: (self.at + delay.millis).min(FAR),
         }
     }
 
@@ -61,7 +61,7 @@ impl Moment {
         ensures { result ≡ self - earlier }
     {
         Millis {
-            millis: self.millis - earlier.millis,
+            millis: self.at - earlier.at,
         }
     }
 }
@@ -87,12 +87,12 @@ impl Model for Millis {
 
 impl Millis {
     /// The duration of this many milliseconds, or `None` past `FAR`.
-    pub fn new(millis: u64) -> Option<Self>
-        ensures in_range { IsSome result ↔ (millis ≤ FAR) }
-        ensures value { IfSome result (λ duration. duration ≡ millis) }
+    pub fn new(number: u64) -> Option<Self>
+        ensures in_range { IsSome result ↔ (number ≤ FAR) }
+        ensures value { IfSome result (λ duration. duration ≡ number) }
     {
-        if millis <= FAR {
-            Some(Millis { millis })
+        if number <= FAR {
+            Some(Millis { millis: number })
         } else {
             None
         }
