@@ -218,56 +218,65 @@ mod tests {
         Val::num(number).expect(rt, "the number is in range")
     }
 
-    // `[(0, [1, 2]), (), [], [()]]`
+    // `[(0, [1, 2, 3]), (), [], [()]]`
     fn nested(rt: &impl Abort, alloc: Global) -> Result<Val, NoMemory> {
-        let numbers = Val::list(vec![in alloc; number(rt, 1), number(rt, 2)]?);
+        let numbers = Val::list(vec![in alloc; number(rt, 1), number(rt, 2), number(rt, 3)]?);
         let pair = Val::pair(alloc, number(rt, 0), numbers)?;
         let units = Val::list(vec![in alloc; Val::unit()]?);
         let empty = Val::list(Vec::new(alloc));
         Ok(Val::list(vec![in alloc; pair, Val::unit(), empty, units]?))
     }
 
-    // Values that all differ, also in the order, the kind and the number of their parts.
+    // Values that all differ: in kind, in a number, in the order or the number of their parts.
     fn different(rt: &impl Abort, alloc: Global) -> Result<Vec<Val>, NoMemory> {
-        let zero_one = Val::pair(alloc, number(rt, 0), number(rt, 1))?;
-        let one_zero = Val::pair(alloc, number(rt, 1), number(rt, 0))?;
-        let empty = Val::list(Vec::new(alloc));
-        let zero = Val::list(vec![in alloc; number(rt, 0)]?);
-        let ascending = Val::list(vec![in alloc; number(rt, 0), number(rt, 1)]?);
-        let descending = Val::list(vec![in alloc; number(rt, 1), number(rt, 0)]?);
-        let deep = nested(rt, alloc)?;
-        let numbers = vec![in alloc;
-            Val::unit(),
-            number(rt, 0),
-            number(rt, 1),
-            number(rt, 4611686018427387903),
-            deep,
-        ]?;
-        let mut all = vec![in alloc; zero_one, one_zero, empty, zero, ascending, descending]?;
-        all.extend(numbers)?;
+        let mut all = vec![in alloc; Val::unit(), Val::list(Vec::new(alloc)), nested(rt, alloc)?]?;
+        for a in 0..3 {
+            all.push(number(rt, a))?;
+            all.push(Val::list(vec![in alloc; number(rt, a)]?))?;
+            for b in 0..2 {
+                all.push(Val::pair(alloc, number(rt, a), number(rt, b))?)?;
+                all.push(Val::list(vec![in alloc; number(rt, a), number(rt, b)]?))?;
+            }
+        }
         Ok(all)
+    }
+
+    fn assert_text(rt: &impl Abort, alloc: Global, value: Val, want: &str) -> Result<(), NoMemory> {
+        let text = value.text(alloc)?;
+        assert_eq!(rt; text.as_str(), want);
+        Ok(())
     }
 
     #[test]
     fn texts_of_all_shapes(rt: HostRuntime) -> Result<(), Fail> {
         let alloc = rt.alloc();
-        assert_eq!(rt; Val::unit().text(alloc)?.as_str(), "()");
-        assert_eq!(rt; number(&rt, 0).text(alloc)?.as_str(), "0");
-        assert_eq!(rt;
-            number(&rt, 4611686018427387903).text(alloc)?.as_str(),
-            "4611686018427387903"
-        );
-        let pair = Val::pair(alloc, number(&rt, 10), Val::unit())?;
-        assert_eq!(rt; pair.text(alloc)?.as_str(), "(10, ())");
-        assert_eq!(rt; Val::list(Vec::new(alloc)).text(alloc)?.as_str(), "[]");
-        let one = Val::list(vec![in alloc; number(&rt, 7)]?);
-        assert_eq!(rt; one.text(alloc)?.as_str(), "[7]");
-        let three = Val::list(vec![in alloc; number(&rt, 1), number(&rt, 2), number(&rt, 3)]?);
-        assert_eq!(rt; three.text(alloc)?.as_str(), "[1, 2, 3]");
-        assert_eq!(rt;
-            nested(&rt, alloc)?.text(alloc)?.as_str(),
-            "[(0, [1, 2]), (), [], [()]]"
-        );
+        assert_text(&rt, alloc, Val::unit(), "()")?;
+        assert_text(&rt, alloc, number(&rt, 0), "0")?;
+        assert_text(
+            &rt,
+            alloc,
+            number(&rt, 4611686018427387903),
+            "4611686018427387903",
+        )?;
+        assert_text(
+            &rt,
+            alloc,
+            Val::pair(alloc, number(&rt, 10), Val::unit())?,
+            "(10, ())",
+        )?;
+        assert_text(&rt, alloc, Val::list(Vec::new(alloc)), "[]")?;
+        assert_text(
+            &rt,
+            alloc,
+            Val::list(vec![in alloc; number(&rt, 7)]?),
+            "[7]",
+        )?;
+        assert_text(
+            &rt,
+            alloc,
+            nested(&rt, alloc)?,
+            "[(0, [1, 2, 3]), (), [], [()]]",
+        )?;
         Ok(())
     }
 

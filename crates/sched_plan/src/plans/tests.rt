@@ -58,27 +58,43 @@ fn leaves_have_one_node(rt: HostRuntime) -> Result<(), Fail> {
 
 #[test]
 fn parameters_have_ranges(rt: HostRuntime) {
-    let out_of_range = Some(PlanFault::OutOfRange);
-    assert!(rt; Plan::recurs(0).is_ok());
-    assert!(rt; Plan::recurs(4611686018427387903).is_ok());
-    assert_eq!(rt; Plan::recurs(4611686018427387904).err(), out_of_range);
-    assert_eq!(rt; Plan::recurs(u64::MAX).err(), out_of_range);
-    assert!(rt; Plan::spaced(4611686018427387903).is_ok());
-    assert_eq!(rt; Plan::spaced(4611686018427387904).err(), out_of_range);
-    assert_eq!(rt; Plan::fixed(0).err(), out_of_range);
-    assert!(rt; Plan::fixed(4611686018427387903).is_ok());
-    assert_eq!(rt; Plan::fixed(4611686018427387904).err(), out_of_range);
+    for (parameter, fits) in [
+        (1, true),
+        (4611686018427387903, true),
+        (4611686018427387904, false),
+        (u64::MAX, false),
+    ] {
+        let want = if fits {
+            None
+        } else {
+            Some(PlanFault::OutOfRange)
+        };
+        assert_eq!(rt; Plan::recurs(parameter).err(), want, "recurs {parameter}");
+        assert_eq!(rt; Plan::spaced(parameter).err(), want, "spaced {parameter}");
+        assert_eq!(rt; Plan::fixed(parameter).err(), want, "fixed {parameter}");
+    }
+    assert_eq!(rt; Plan::recurs(0).err(), None);
+    assert_eq!(rt; Plan::spaced(0).err(), None);
+    assert_eq!(rt; Plan::fixed(0).err(), Some(PlanFault::OutOfRange));
 }
 
 #[test]
 fn depth_ends_at_32(rt: HostRuntime) -> Result<(), Fail> {
     let alloc = rt.alloc();
-    let deepest = nested(alloc, 31)?;
-    assert_eq!(rt; deepest.depth(), 32);
-    assert_eq!(rt; deepest.nodes(), 63);
-    assert_eq!(rt; nested(alloc, 32).err(), Some(PlanFault::TooDeep));
-    assert_eq!(rt; chained(alloc, 31)?.depth(), 32);
-    assert_eq!(rt; chained(alloc, 32).err(), Some(PlanFault::TooDeep));
+    for deepest in [nested(alloc, 31), chained(alloc, 31)] {
+        let deepest = deepest?;
+        assert_eq!(rt; deepest.depth(), 32);
+        assert_eq!(rt; deepest.nodes(), 63);
+        let copy = deepest.copy(alloc)?;
+        assert_eq!(rt;
+            Plan::meet(alloc, deepest, Plan::forever()?).err(),
+            Some(PlanFault::TooDeep)
+        );
+        assert_eq!(rt;
+            Plan::follow(alloc, Plan::forever()?, copy).err(),
+            Some(PlanFault::TooDeep)
+        );
+    }
     Ok(())
 }
 
@@ -105,40 +121,44 @@ fn nodes_end_at_256(rt: HostRuntime) -> Result<(), Fail> {
 #[test]
 fn too_deep_comes_before_too_many(rt: HostRuntime) -> Result<(), Fail> {
     let alloc = rt.alloc();
-    assert_eq!(rt;
-        Plan::meet(alloc, nested(alloc, 30)?, twice_full(alloc)?).err(),
-        Some(PlanFault::TooMany)
-    );
-    assert_eq!(rt;
-        Plan::meet(alloc, nested(alloc, 31)?, twice_full(alloc)?).err(),
-        Some(PlanFault::TooDeep)
-    );
-    assert_eq!(rt;
-        Plan::follow(alloc, twice_full(alloc)?, nested(alloc, 30)?).err(),
-        Some(PlanFault::TooMany)
-    );
-    assert_eq!(rt;
-        Plan::follow(alloc, twice_full(alloc)?, nested(alloc, 31)?).err(),
-        Some(PlanFault::TooDeep)
-    );
+    for (times, fault) in [(30, PlanFault::TooMany), (31, PlanFault::TooDeep)] {
+        let met = Plan::meet(alloc, nested(alloc, times)?, twice_full(alloc)?);
+        assert_eq!(rt; met.err(), Some(fault), "meet of {times}");
+        let followed = Plan::follow(alloc, twice_full(alloc)?, nested(alloc, times)?);
+        assert_eq!(rt; followed.err(), Some(fault), "follow of {times}");
+    }
     Ok(())
 }
 
-// Plans that all differ: by a leaf, by its parameter, by the node, by the order of its parts, or deeper down.
+// Plans that all differ: in a leaf, in its parameter, in the node, in the order of its parts, or deeper down.
 fn different(alloc: Global) -> Result<Vec<Plan>, Fail> {
-    let mut plans = vec![in alloc;
-        Plan::forever()?,
-        Plan::recurs(3)?,
-        Plan::recurs(4)?,
-        Plan::spaced(3)?,
-    ]?;
-    plans.extend(vec![in alloc; Plan::fixed(3)?, nested(alloc, 2)?, chained(alloc, 2)?]?)?;
-    let meet = Plan::meet(alloc, Plan::recurs(3)?, Plan::spaced(3)?)?;
-    let swapped = Plan::meet(alloc, Plan::spaced(3)?, Plan::recurs(3)?)?;
-    let follow = Plan::follow(alloc, Plan::recurs(3)?, Plan::spaced(3)?)?;
-    let other = Plan::meet(alloc, Plan::recurs(3)?, Plan::spaced(4)?)?;
-    plans.extend(vec![in alloc; meet, swapped, follow, other]?)?;
+    let mut plans = Vec::new(alloc);
+    for built in [Plan::forever(), nested(alloc, 2), chained(alloc, 2)] {
+        keep(&mut plans, built?)?;
+    }
+    for k in 1..3 {
+        keep(&mut plans, Plan::recurs(k)?)?;
+        keep(&mut plans, Plan::spaced(k)?)?;
+        keep(&mut plans, Plan::fixed(k)?)?;
+        keep(
+            &mut plans,
+            Plan::meet(alloc, Plan::recurs(k)?, Plan::forever()?)?,
+        )?;
+        keep(
+            &mut plans,
+            Plan::meet(alloc, Plan::forever()?, Plan::recurs(k)?)?,
+        )?;
+        keep(
+            &mut plans,
+            Plan::follow(alloc, Plan::recurs(k)?, Plan::forever()?)?,
+        )?;
+    }
     Ok(plans)
+}
+
+fn keep(plans: &mut Vec<Plan>, plan: Plan) -> Result<(), Fail> {
+    plans.push(plan).map_err(|_| "no memory")?;
+    Ok(())
 }
 
 #[test]
