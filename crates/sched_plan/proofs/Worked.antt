@@ -62,3 +62,53 @@ follow_at_once = refl
 pub forever_counts : answers (leaf Forever) (5 ∷ 5 ∷ 7 ∷ []) ≡
     gives (num 0) (Go 5) ∷ gives (num 1) (Go 5) ∷ gives (num 2) (Go 7) ∷ []
 forever_counts = refl
+
+pub spaced_from_five : answers (leaf (Spaced 10)) (5 ∷ []) ≡ gives (num 0) (Go 15) ∷ []
+spaced_from_five = refl
+
+pub spaced_to_the_end : answers (leaf (Spaced 4611686018427387903)) (5 ∷ []) ≡ gives (num 0) (Go 4611686018427387903) ∷ []
+spaced_to_the_end = refl
+
+pub fixed_with_no_time_between : answers (leaf (Fixed 100)) (5 ∷ 5 ∷ 5 ∷ []) ≡
+    gives (num 0) (Go 105) ∷ gives (num 1) (Go 105) ∷ gives (num 2) (Go 105) ∷ []
+fixed_with_no_time_between = refl
+
+-- once behind, what counts is the start that was planned, 350, and not a boundary
+pub fixed_catches_up : answers (leaf (Fixed 100)) (0 ∷ 350 ∷ 450 ∷ []) ≡
+    gives (num 0) (Go 100) ∷ gives (num 1) (Go 350) ∷ gives (num 2) (Go 500) ∷ []
+fixed_catches_up = refl
+
+-- both sides go on counting after one is done
+pub meet_counts_on : answers (meet (leaf (Recurs 0)) (leaf (Spaced 5))) (0 ∷ 0 ∷ []) ≡
+    gives (pair (num 0) (num 0)) Done ∷ gives (pair (num 1) (num 1)) Done ∷ []
+meet_counts_on = refl
+
+-- the first interval of the second plan begins at the event that crosses
+pub follow_into_fixed : answers (follow (leaf (Recurs 1)) (leaf (Fixed 100))) (0 ∷ 30 ∷ 140 ∷ []) ≡
+    gives (num 0) (Go 0) ∷ gives (num 0) (Go 130) ∷ gives (num 1) (Go 230) ∷ []
+follow_into_fixed = refl
+
+pub follow_in_meet : answers (meet (follow (leaf (Recurs 1)) (leaf (Recurs 1))) (leaf (Spaced 10))) (0 ∷ 10 ∷ 20 ∷ []) ≡
+    gives (pair (num 0) (num 0)) (Go 10) ∷ gives (pair (num 0) (num 1)) (Go 20) ∷
+    gives (pair (num 1) (num 2)) Done ∷ []
+follow_in_meet = refl
+
+-- the crossing comes at the third event of the meet
+pub late_follow_in_meet : answers (meet (leaf (Spaced 5)) (follow (leaf (Recurs 2)) (leaf (Recurs 1)))) (0 ∷ 5 ∷ 10 ∷ 15 ∷ []) ≡
+    gives (pair (num 0) (num 0)) (Go 5) ∷ gives (pair (num 1) (num 1)) (Go 10) ∷
+    gives (pair (num 2) (num 0)) (Go 15) ∷ gives (pair (num 3) (num 1)) Done ∷ []
+late_follow_in_meet = refl
+
+-- the first plan is a meet, which is done at its third event
+pub follow_after_meet : answers (follow (meet (leaf (Recurs 2)) (leaf (Spaced 10))) (leaf (Spaced 50))) (0 ∷ 10 ∷ 20 ∷ 70 ∷ []) ≡
+    gives (pair (num 0) (num 0)) (Go 10) ∷ gives (pair (num 1) (num 1)) (Go 20) ∷
+    gives (num 0) (Go 70) ∷ gives (num 1) (Go 120) ∷ []
+follow_after_meet = refl
+
+pub follow_of_follow : answers (follow (follow (leaf (Recurs 1)) (leaf (Recurs 1))) (leaf (Spaced 7))) (0 ∷ 0 ∷ 0 ∷ 7 ∷ []) ≡
+    gives (num 0) (Go 0) ∷ gives (num 0) (Go 0) ∷ gives (num 0) (Go 7) ∷ gives (num 1) (Go 14) ∷ []
+follow_of_follow = refl
+
+pub follow_before_follow : answers (follow (leaf (Recurs 1)) (follow (leaf (Recurs 1)) (leaf (Spaced 7)))) (0 ∷ 0 ∷ 0 ∷ 7 ∷ []) ≡
+    gives (num 0) (Go 0) ∷ gives (num 0) (Go 0) ∷ gives (num 0) (Go 7) ∷ gives (num 1) (Go 14) ∷ []
+follow_before_follow = refl

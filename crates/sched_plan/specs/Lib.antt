@@ -1,4 +1,5 @@
 pub mod Datum
+pub mod DatumText
 pub mod Val
 pub mod ValFalls
 pub mod Schedule

@@ -7,6 +7,8 @@ use std::alloc::Global;
 use std::marker::Model;
 
 mod builders;
+#[cfg(test)]
+mod tests;
 
 /// The most nodes of a plan.
 pub const MOST_NODES: usize = 256;

@@ -1,9 +1,11 @@
-ghost use Rattle.std.specs.Prelude.{◌≡◌, ◌≤◌, ◌↔◌, IsSome, IfSome, IfOk};
+ghost use Rattle.std.specs.Prelude.{◌≡◌, ◌≤◌, ◌↔◌, ◌++◌, IsTrue, IsSome, IfSome, IfOk, OnOk, string_bytes};
 ghost use Rattle.sched_time.specs.declared.numbers.TheConstants.{FAR};
 ghost use Rattle.sched_plan.specs.Datum.{unit, num, pair, list, items_of};
+ghost use Rattle.sched_plan.specs.DatumText.{text_of, items_text};
 
 use sched_time::{Millis, NoMemory};
 use std::alloc::Global;
+use std::fmt::Write;
 use std::marker::Model;
 
 /// A value that a schedule takes or gives: nothing, a number, a pair or a list.
@@ -88,6 +90,112 @@ impl Val {
     {
         &self.shape
     }
+
+    /// An equal value. Refused only for want of memory.
+    #[cycle(copy)]
+    pub fn copy(&self, alloc: Global) -> Result<Val, NoMemory>
+        ensures { IfOk result (λ v. v ≡ self.now) }
+    {
+        let shape = match &self.shape {
+            ValShape::Unit => ValShape::Unit,
+            ValShape::Num(number) => ValShape::Num(*number),
+            ValShape::Pair(first, second) => {
+                let first = Box::new(alloc, first.copy(alloc)?)?;
+                ValShape::Pair(first, Box::new(alloc, second.copy(alloc)?)?)
+            }
+            ValShape::List(items) => ValShape::List(copy_items(alloc, items)?),
+        };
+        Ok(Val { shape })
+    }
+
+    /// Whether both values are equal.
+    #[cycle(same)]
+    pub fn same(&self, other: &Val) -> bool
+        ensures { IsTrue result ↔ (self.now ≡ other.now) }
+    {
+        match (&self.shape, &other.shape) {
+            (ValShape::Unit, ValShape::Unit) => true,
+            (ValShape::Num(a), ValShape::Num(b)) => a == b,
+            (ValShape::Pair(a, b), ValShape::Pair(c, d)) => a.same(c) && b.same(d),
+            (ValShape::List(a), ValShape::List(b)) => same_items(a, b),
+            _ => false,
+        }
+    }
+
+    /// The value as text: `()`, a decimal number, `(a, b)` or `[a, b, c]`. Refused only for want of memory.
+    pub fn text(&self, alloc: Global) -> Result<String, NoMemory>
+        ensures { IfOk result (λ text. string_bytes text ≡ text_of self.now) }
+    {
+        let mut out = String::new(alloc);
+        self.write_to(&mut out)?;
+        Ok(out)
+    }
+
+    // Adds the value's text at the end.
+    #[cycle(text)]
+    fn write_to(&self, out: &mut String) -> Result<(), NoMemory>
+        ensures { OnOk result (string_bytes out.new ≡ string_bytes out.old ++ text_of self.now) }
+    {
+        match &self.shape {
+            ValShape::Unit => out.push_str("()")?,
+            ValShape::Num(number) => write!(out, "{}", number.get())?,
+            ValShape::Pair(first, second) => {
+                out.push_str("(")?;
+                first.write_to(out)?;
+                out.push_str(", ")?;
+                second.write_to(out)?;
+                out.push_str(")")?;
+            }
+            ValShape::List(items) => {
+                out.push_str("[")?;
+                write_items(items, out)?;
+                out.push_str("]")?;
+            }
+        }
+        Ok(())
+    }
+}
+
+// Equal values in the same order.
+#[cycle(copy)]
+fn copy_items(alloc: Global, items: &Vec<Val>) -> Result<Vec<Val>, NoMemory>
+    ensures { IfOk result (λ copies. copies.items ≡ items.now.items) }
+{
+    let mut copies = Vec::with_capacity(alloc, items.len())?;
+    for item in items {
+        copies.push(item.copy(alloc)?)?;
+    }
+    Ok(copies)
+}
+
+// Whether both have equal values in the same order.
+#[cycle(same)]
+fn same_items(items: &Vec<Val>, others: &Vec<Val>) -> bool
+    ensures { IsTrue result ↔ (items.now.items ≡ others.now.items) }
+{
+    if items.len() != others.len() {
+        return false;
+    }
+    for (at, item) in items.iter().enumerate() {
+        if !item.same(&others[at]) {
+            return false;
+        }
+    }
+    true
+}
+
+// Adds the texts of the items at the end, with commas between them.
+#[cycle(text)]
+fn write_items(items: &Vec<Val>, out: &mut String) -> Result<(), NoMemory>
+    ensures { OnOk result (string_bytes out.new ≡ string_bytes out.old ++ items_text (items_of items.now.items)) }
+{
+    for (at, item) in items.iter().enumerate() {
+        if at > 0 {
+            out.push_str(", ")?;
+        }
+        item.write_to(out)?;
+    }
+    Ok(())
 }
 
 impl From<Millis> for Val {
@@ -97,5 +205,122 @@ impl From<Millis> for Val {
         Val {
             shape: ValShape::Num(number),
         }
+    }
+}
+
+#[cfg(test)]
+mod tests {
+    use super::*;
+    use std::process::Abort;
+    use std::test::Fail;
+
+    fn number(rt: &impl Abort, number: u64) -> Val {
+        Val::num(number).expect(rt, "the number is in range")
+    }
+
+    // `[(0, [1, 2, 3]), (), [], [()]]`
+    fn nested(rt: &impl Abort, alloc: Global) -> Result<Val, NoMemory> {
+        let numbers = Val::list(vec![in alloc; number(rt, 1), number(rt, 2), number(rt, 3)]?);
+        let pair = Val::pair(alloc, number(rt, 0), numbers)?;
+        let units = Val::list(vec![in alloc; Val::unit()]?);
+        let empty = Val::list(Vec::new(alloc));
+        Ok(Val::list(vec![in alloc; pair, Val::unit(), empty, units]?))
+    }
+
+    // Values that all differ: in kind, in a number, in the order or the number of their parts.
+    fn different(rt: &impl Abort, alloc: Global) -> Result<Vec<Val>, NoMemory> {
+        let mut all = vec![in alloc; Val::unit(), Val::list(Vec::new(alloc)), nested(rt, alloc)?]?;
+        for a in 0..3 {
+            all.push(number(rt, a))?;
+            all.push(Val::list(vec![in alloc; number(rt, a)]?))?;
+            for b in 0..2 {
+                all.push(Val::pair(alloc, number(rt, a), number(rt, b))?)?;
+                all.push(Val::list(vec![in alloc; number(rt, a), number(rt, b)]?))?;
+            }
+        }
+        Ok(all)
+    }
+
+    fn assert_text(rt: &impl Abort, alloc: Global, value: Val, want: &str) -> Result<(), NoMemory> {
+        let text = value.text(alloc)?;
+        assert_eq!(rt; text.as_str(), want);
+        Ok(())
+    }
+
+    #[test]
+    fn texts_of_all_shapes(rt: HostRuntime) -> Result<(), Fail> {
+        let alloc = rt.alloc();
+        assert_text(&rt, alloc, Val::unit(), "()")?;
+        assert_text(&rt, alloc, number(&rt, 0), "0")?;
+        assert_text(
+            &rt,
+            alloc,
+            number(&rt, 4611686018427387903),
+            "4611686018427387903",
+        )?;
+        assert_text(
+            &rt,
+            alloc,
+            Val::pair(alloc, number(&rt, 10), Val::unit())?,
+            "(10, ())",
+        )?;
+        assert_text(&rt, alloc, Val::list(Vec::new(alloc)), "[]")?;
+        assert_text(
+            &rt,
+            alloc,
+            Val::list(vec![in alloc; number(&rt, 7)]?),
+            "[7]",
+        )?;
+        assert_text(
+            &rt,
+            alloc,
+            nested(&rt, alloc)?,
+            "[(0, [1, 2, 3]), (), [], [()]]",
+        )?;
+        Ok(())
+    }
+
+    #[test]
+    fn numbers_end_at_far(rt: HostRuntime) {
+        assert!(rt; Val::num(4611686018427387903).is_some());
+        assert!(rt; Val::num(4611686018427387904).is_none());
+        assert!(rt; Val::num(u64::MAX).is_none());
+    }
+
+    #[test]
+    fn same_where_equal_alone(rt: HostRuntime) -> Result<(), Fail> {
+        let values = different(&rt, rt.alloc())?;
+        for (i, value) in values.iter().enumerate() {
+            for (j, other) in values.iter().enumerate() {
+                assert_eq!(rt; value.same(other), i == j, "values {i} and {j}");
+            }
+        }
+        Ok(())
+    }
+
+    #[test]
+    fn copies_are_the_same(rt: HostRuntime) -> Result<(), Fail> {
+        let alloc = rt.alloc();
+        for (i, value) in different(&rt, alloc)?.iter().enumerate() {
+            let copy = value.copy(alloc)?;
+            assert!(rt; copy.same(value), "value {i}");
+            assert_eq!(rt;
+                copy.text(alloc)?.as_str(),
+                value.text(alloc)?.as_str(),
+                "value {i}"
+            );
+        }
+        Ok(())
+    }
+
+    #[test]
+    fn shape_of_a_pair(rt: HostRuntime) -> Result<(), Fail> {
+        let pair = Val::pair(rt.alloc(), number(&rt, 3), Val::unit())?;
+        let ValShape::Pair(first, second) = pair.shape() else {
+            panic!(rt; "a pair is a pair");
+        };
+        assert!(rt; first.same(&number(&rt, 3)));
+        assert!(rt; second.same(&Val::unit()));
+        Ok(())
     }
 }

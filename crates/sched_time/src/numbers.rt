@@ -9,7 +9,7 @@ pub const FAR: u64 = 4611686018427387903;
 /// A moment, in milliseconds from 0 to `FAR`.
 #[derive(Clone, Copy, Debug, PartialEq, Eq, PartialOrd, Ord)]
 pub struct Moment {
-    millis: u64,
+    at: u64,
 }
 
 impl Model for Moment {
@@ -18,11 +18,11 @@ impl Model for Moment {
 
     ghost Value = { ℕ };
 
-    ghost view = { λ m. m.millis };
+    ghost view = { λ m. m.at };
 
-    ghost invariant = { λ m. m.millis ≤ FAR };
+    ghost invariant = { λ m. m.at ≤ FAR };
 
-    ghost inverse = { λ n. record { millis = n } };
+    ghost inverse = { λ n. record { at = n } };
 }
 
 impl Moment {
@@ -32,7 +32,7 @@ impl Moment {
         ensures value { IfSome result (λ moment. moment ≡ millis) }
     {
         if millis <= FAR {
-            Some(Moment { millis })
+            Some(Moment { at: millis })
         } else {
             None
         }
@@ -43,7 +43,7 @@ impl Moment {
         ensures value { result ≡ self }
         ensures in_range { result ≤ FAR }
     {
-        self.millis
+        self.at
     }
 
     /// The moment this much later, at most `FAR`.
@@ -51,7 +51,7 @@ impl Moment {
         ensures { result ≡ capped (self + delay) }
     {
         Moment {
-            millis: (self.millis + delay.millis).min(FAR),
+            at: (self.at + delay.millis).min(FAR),
         }
     }
 
@@ -61,7 +61,7 @@ impl Moment {
         ensures { result ≡ self - earlier }
     {
         Millis {
-            millis: self.millis - earlier.millis,
+            millis: self.at - earlier.at,
         }
     }
 }
@@ -87,12 +87,12 @@ impl Model for Millis {
 
 impl Millis {
     /// The duration of this many milliseconds, or `None` past `FAR`.
-    pub fn new(millis: u64) -> Option<Self>
-        ensures in_range { IsSome result ↔ (millis ≤ FAR) }
-        ensures value { IfSome result (λ duration. duration ≡ millis) }
+    pub fn new(number: u64) -> Option<Self>
+        ensures in_range { IsSome result ↔ (number ≤ FAR) }
+        ensures value { IfSome result (λ duration. duration ≡ number) }
     {
-        if millis <= FAR {
-            Some(Millis { millis })
+        if number <= FAR {
+            Some(Millis { millis: number })
         } else {
             None
         }
@@ -151,4 +151,87 @@ impl From<Moment> for Millis {
 pub struct Tick {
     pub now: Moment,
     pub words: [u32; 4],
+}
+
+#[cfg(test)]
+mod tests {
+    use super::*;
+    use std::test::Fail;
+
+    #[test]
+    fn numbers_end_at_far(rt: HostRuntime) {
+        for (number, want) in [
+            (0, Some(0)),
+            (4611686018427387903, Some(4611686018427387903)),
+            (4611686018427387904, None),
+            (u64::MAX, None),
+        ] {
+            assert_eq!(rt;
+                Moment::new(number).map(Moment::get),
+                want,
+                "moment {number}"
+            );
+            assert_eq!(rt;
+                Millis::new(number).map(Millis::get),
+                want,
+                "duration {number}"
+            );
+        }
+    }
+
+    #[test]
+    fn sums_stop_at_far(rt: HostRuntime) -> Result<(), Fail> {
+        for (a, b, want) in [
+            (0, 0, 0),
+            (100, 30, 130),
+            (4611686018427387902, 1, 4611686018427387903),
+            (4611686018427387903, 1, 4611686018427387903),
+            (1, 4611686018427387903, 4611686018427387903),
+            (
+                4611686018427387903,
+                4611686018427387903,
+                4611686018427387903,
+            ),
+        ] {
+            let delay = Millis::new(b).ok_or("out of range")?;
+            let moment = Moment::new(a).ok_or("out of range")?;
+            let duration = Millis::new(a).ok_or("out of range")?;
+            assert_eq!(rt; moment.plus(delay).get(), want, "moment {a} and {b}");
+            assert_eq!(rt; duration.plus(delay).get(), want, "duration {a} and {b}");
+        }
+        Ok(())
+    }
+
+    // In 64 bits alone the products of 4 and of 3 by their great factors would wrap round to 0 and to 1.
+    #[test]
+    fn products_stop_at_far(rt: HostRuntime) -> Result<(), Fail> {
+        for (a, factor, want) in [
+            (0, u64::MAX, 0),
+            (4611686018427387903, 0, 0),
+            (3, 5, 15),
+            (2305843009213693951, 2, 4611686018427387902),
+            (2305843009213693952, 2, 4611686018427387903),
+            (4611686018427387903, 1, 4611686018427387903),
+            (1, u64::MAX, 4611686018427387903),
+            (4, 4611686018427387904, 4611686018427387903),
+            (3, 12297829382473034411, 4611686018427387903),
+            (4611686018427387903, u64::MAX, 4611686018427387903),
+        ] {
+            let duration = Millis::new(a).ok_or("out of range")?;
+            assert_eq!(rt; duration.times(factor).get(), want, "{a} times {factor}");
+        }
+        Ok(())
+    }
+
+    #[test]
+    fn since_an_earlier_moment(rt: HostRuntime) -> Result<(), Fail> {
+        let first = Moment::new(0).ok_or("out of range")?;
+        let then = Moment::new(100).ok_or("out of range")?;
+        let now = Moment::new(130).ok_or("out of range")?;
+        let last = Moment::new(FAR).ok_or("out of range")?;
+        assert_eq!(rt; now.since(then).get(), 30);
+        assert_eq!(rt; now.since(now).get(), 0);
+        assert_eq!(rt; last.since(first).get(), 4611686018427387903);
+        Ok(())
+    }
 }

@@ -76,3 +76,33 @@ impl Decision {
         }
     }
 }
+
+#[cfg(test)]
+mod tests {
+    use super::*;
+    use std::test::Fail;
+
+    #[test]
+    fn meet_is_later_and_join_earlier(rt: HostRuntime) -> Result<(), Fail> {
+        for (a, b, later, earlier) in [
+            (3, 9, 9, 3),
+            (9, 3, 9, 3),
+            (7, 7, 7, 7),
+            (0, 4611686018427387903, 4611686018427387903, 0),
+        ] {
+            let first = Interval::after(Moment::new(a).ok_or("out of range")?);
+            let second = Interval::after(Moment::new(b).ok_or("out of range")?);
+            assert_eq!(rt; first.meet(second).start().get(), later, "{a} and {b}");
+            assert_eq!(rt; first.join(second).start().get(), earlier, "{a} or {b}");
+        }
+        Ok(())
+    }
+
+    #[test]
+    fn start_of_a_decision(rt: HostRuntime) -> Result<(), Fail> {
+        let start = Moment::new(150).ok_or("out of range")?;
+        assert_eq!(rt; Decision::Go(Interval::after(start)).start(), Some(start));
+        assert_eq!(rt; Decision::Done.start(), None);
+        Ok(())
+    }
+}

@@ -1,0 +1,12 @@
+use Rattle.std.proofs.Common.{◌≡◌, take}
+use Rattle.sched_plan.specs.Datum.{items_of, datum_size, items_size}
+use Rattle.sched_plan.proofs.values.+copy.Given as goal
+
+abbrev pub decreases-Val::copy : goal.decreases-Val::copy
+decreases-Val::copy l = datum_size l.self.now
+
+abbrev pub decreases-copy_items : goal.decreases-copy_items
+decreases-copy_items l = items_size (items_of l.items.now.items)
+
+abbrev pub invariant-copy_items-loop-item : goal.invariant-copy_items-loop-item
+invariant-copy_items-loop-item l = l.copies.items ≡ take l.item-index l.item-items
