@@ -3,8 +3,14 @@
 
 mod counts;
 mod faults;
+mod options;
 mod streams;
+mod whole;
+mod words;
 
 pub use counts::Counted;
 pub use faults::{PrintFault, WordsFault};
+pub use options::{Asked, MOST_STEPS, PlanOptions};
 pub use streams::{Sink, Source};
+pub use whole::LONGEST_INPUT;
+pub use words::read_words;
