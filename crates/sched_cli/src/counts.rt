@@ -23,6 +23,20 @@ impl<T> Counted<T> {
         Counted { inner, failures: 0 }
     }
 
+    /// How many of its calls have failed, modulo 2^64.
+    pub fn failures(&self) -> u64
+        ensures { result ≡ failures_of self.now }
+    {
+        self.failures
+    }
+
+    /// The stream itself.
+    pub fn into_inner(self) -> T
+        ensures { result ≡ inner_of self }
+    {
+        self.inner
+    }
+
     fn count_failure(&mut self)
         ensures inner { inner_of self.new ≡ inner_of self.old }
         ensures counts { failures_of self.new ≡ next_count (failures_of self.old) }

@@ -5,6 +5,8 @@ mod counts;
 mod faults;
 mod options;
 mod streams;
+#[cfg(test)]
+mod tests;
 mod whole;
 mod words;
 
