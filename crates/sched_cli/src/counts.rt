@@ -41,7 +41,8 @@ impl<T> Counted<T> {
         ensures inner { inner_of self.new ≡ inner_of self.old }
         ensures counts { failures_of self.new ≡ next_count (failures_of self.old) }
     {
-        self.failures = self.failures.wrapping_add(1);
+        let Counted { failures, .. } = self;
+        *failures = failures.wrapping_add(1);
     }
 }
 

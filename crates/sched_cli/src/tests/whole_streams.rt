@@ -1,6 +1,7 @@
 use super::fakes::Halting;
 use crate::whole::{put_all, read_all};
-use crate::{Counted, LONGEST_INPUT, PrintFault, Sink, Source};
+use crate::{Counted, PrintFault, Sink, Source};
+use std::alloc::{AllocError, Global};
 use std::test::Fail;
 
 const TEXT: &[u8] = b"0: (0, 0) next 100\n";
@@ -33,28 +34,31 @@ fn a_failed_read_ends_the_reading(rt: HostRuntime) {
     }
 }
 
+// What `read_all` answers of an input of this many bytes: their number. Beside it, how many reads
+// it made and how many bytes it left.
+fn reading(
+    alloc: Global,
+    length: usize,
+    step: usize,
+) -> Result<(Result<usize, PrintFault>, u64, usize), AllocError> {
+    let text = vec![in alloc; b' '; length]?;
+    let mut reader = Counted::new(Halting::steady(text.as_slice(), step));
+    let answer = read_all(alloc, &mut reader).map(|bytes| bytes.len());
+    let reader = reader.into_inner();
+    Ok((answer, reader.calls, reader.inner.len()))
+}
+
 #[test]
 fn the_longest_input_is_read_and_one_byte_more_is_refused(rt: HostRuntime) -> Result<(), Fail> {
-    let most = 1048576;
-    assert_eq!(rt; LONGEST_INPUT, most);
-    let bytes = vec![in rt.alloc(); 32u8; most + 1000]?;
-    for (step, reads) in [(1usize, 1048577u64), (8192, 129), (1 << 20, 129)] {
-        let mut reader = Counted::new(Halting::steady(&bytes.as_slice()[..most], step));
-        assert_eq!(rt; read_all(rt.alloc(), &mut reader)?.len(), most, "by {step}");
-        assert_eq!(rt; reader.into_inner().calls, reads, "by {step}");
-
-        for length in [most + 1, most + 1000] {
-            let mut reader = Counted::new(Halting::steady(&bytes.as_slice()[..length], step));
-            let answer = read_all(rt.alloc(), &mut reader).err();
-            assert_eq!(rt; answer, Some(PrintFault::TooLong), "{length} by {step}");
-            let reader = reader.into_inner();
-            assert_eq!(rt; reader.calls, reads, "{length} by {step}");
-            assert_eq!(rt;
-                reader.inner.len(),
-                length - (most + 1),
-                "{length} by {step}"
-            );
-        }
+    let alloc = rt.alloc();
+    let too_long = Err(PrintFault::TooLong);
+    for (step, reads) in [(1usize, 1048577u64), (8192, 129), (1048577, 129)] {
+        let longest = reading(alloc, 1048576, step)?;
+        assert_eq!(rt; longest, (Ok(1048576), reads, 0), "by {step}");
+        let longer = reading(alloc, 1048577, step)?;
+        assert_eq!(rt; longer, (too_long, reads, 0), "by {step}");
+        let far_longer = reading(alloc, 1050000, step)?;
+        assert_eq!(rt; far_longer, (too_long, reads, 1423), "by {step}");
     }
     Ok(())
 }
