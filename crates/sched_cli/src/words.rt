@@ -16,40 +16,38 @@ use std::alloc::{AllocError, Global};
 pub fn read_words(alloc: Global, words: &[&str]) -> Result<Asked, WordsFault>
     ensures { IfOk result IsAskedInRange }
 {
-    match zsched(alloc)?.try_get_matches_from(words) {
+    match zsched_command(alloc)?.try_get_matches_from(words) {
         Ok(matches) => asked(&matches).ok_or(WordsFault::Bad),
         Err(error) => Err(refused(alloc, &error)),
     }
 }
 
 // The whole command, as `clap` takes it.
-fn zsched<'a>(alloc: Global) -> Result<Command<'a>, AllocError> {
+fn zsched_command<'a>(alloc: Global) -> Result<Command<'a>, AllocError> {
     Command::new(alloc, "zsched")
-        .about("Steps recurrence schedules on a clock that is counted, and never waits")
+        .about("Runs recurrence schedules on a virtual clock")
         .subcommand_required(true)
-        .subcommand(plan(alloc)?)
+        .subcommand(plan_command(alloc)?)
 }
 
-fn plan<'a>(alloc: Global) -> Result<Command<'a>, AllocError> {
-    let steps = number(alloc, "steps", "N", "10")
+fn plan_command<'a>(alloc: Global) -> Result<Command<'a>, AllocError> {
+    let steps = number_option(alloc, "steps", "N", "10")
         .value_parser(value_parser!(u64).range(0..=MOST_STEPS as i64))
         .help("The most events to print, from 0 to 4096");
-    let from = moment(alloc, "from", "M").help(
+    let from = far_option(alloc, "from", "M").help(
         "The moment of the first event, in milliseconds from 0 to 4611686018427387903",
     );
-    let took = moment(alloc, "took", "M").help(
+    let took = far_option(alloc, "took", "M").help(
         "How long after a planned start its event comes, in milliseconds from 0 to 4611686018427387903",
     );
-    let input = moment(alloc, "input", "N").help(
+    let input = far_option(alloc, "input", "N").help(
         "The input of every event, a number from 0 to 4611686018427387903",
     );
-    let word = number(alloc, "word", "W", "2147483648")
+    let word = number_option(alloc, "word", "W", "2147483648")
         .value_parser(value_parser!(u32))
         .help("The random word of every event, in all four lanes, from 0 to 4294967295");
     Command::new(alloc, "plan")
-        .about(
-            "Reads one plan as JSON from standard input and prints what it decides, a line an event",
-        )
+        .about("Reads one plan as JSON from standard input and prints its events, one line each")
         .arg(steps)?
         .arg(from)?
         .arg(took)?
@@ -58,16 +56,16 @@ fn plan<'a>(alloc: Global) -> Result<Command<'a>, AllocError> {
 }
 
 // An option `--NAME VALUE` with its default.
-fn number<'a>(alloc: Global, name: &'a str, value: &'a str, default: &'a str) -> Arg<'a> {
+fn number_option<'a>(alloc: Global, name: &'a str, value: &'a str, default: &'a str) -> Arg<'a> {
     Arg::new(alloc, name)
         .long(name)
         .value_name(value)
         .default_value(default)
 }
 
-// An option that takes what a moment, a duration or a count may be, 0 where it is not given.
-fn moment<'a>(alloc: Global, name: &'a str, value: &'a str) -> Arg<'a> {
-    number(alloc, name, value, "0").value_parser(value_parser!(u64).range(0..=FAR as i64))
+// An option that takes what a moment or a duration may be, 0 where it is not given.
+fn far_option<'a>(alloc: Global, name: &'a str, value: &'a str) -> Arg<'a> {
+    number_option(alloc, name, value, "0").value_parser(value_parser!(u64).range(0..=FAR as i64))
 }
 
 // What the words ask for, or `None` where a value is missing or outside its range.
