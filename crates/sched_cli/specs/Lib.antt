@@ -1,0 +1,5 @@
+pub mod Counted
+pub mod Failures
+pub mod Options
+pub mod Status
+pub mod Whole

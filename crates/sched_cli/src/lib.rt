@@ -1,0 +1,18 @@
+//! What the program `zsched` reads and writes: its command line, its streams and its faults.
+#![tactic(auto)]
+
+mod counts;
+mod faults;
+mod options;
+mod streams;
+#[cfg(test)]
+mod tests;
+mod whole;
+mod words;
+
+pub use counts::Counted;
+pub use faults::{PrintFault, WordsFault};
+pub use options::{Asked, MOST_STEPS, PlanOptions};
+pub use streams::{Sink, Source};
+pub use whole::LONGEST_INPUT;
+pub use words::read_words;

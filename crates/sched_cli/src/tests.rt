@@ -1,0 +1,5 @@
+//! Tests of what no clause says, and the readers and writers that they stand on.
+mod command_lines;
+mod fakes;
+mod fault_lines;
+mod whole_streams;
