@@ -7,6 +7,9 @@ use sched_plan::{Plan, PlanFault};
 use serde_json::{Map, Value};
 use std::alloc::Global;
 
+#[cfg(test)]
+mod tests;
+
 /// Why a JSON value is not read as a plan.
 #[derive(Clone, Copy, Debug, PartialEq, Eq)]
 pub enum ReadFault {
