@@ -3,7 +3,6 @@ use Rattle.std.proofs.Common.{◌≡◌, Bool, true, false, ◌||◌, Result, Ok
 use Rattle.serde_json.specs.View.{view, items_view}
 use Rattle.serde_json.specs.declared.value.Value.{Value}
 use Rattle.sched_plan.specs.Schedule.{Schedule}
-use Rattle.sched_plan.specs.declared.plans.PlanFault.{PlanFault}
 use Rattle.sched_plan.specs.declared.plans.PlanFault.TheVariants.{OutOfRange, TooDeep, TooMany, NoMemory}
 use Rattle.sched_cli.specs.declared.reading.ReadFault.{ReadFault}
 use Rattle.sched_cli.specs.declared.reading.ReadFault.TheVariants.{NotAPlan, Plan}

@@ -1,6 +1,6 @@
 -- The JSON forms of plans: which plan a JSON value spells, or the first fault found in it.
-use Rattle.std.specs.Prelude.{◌≡◌, ℕ, Bool, true, false, ◌||◌, if◌then◌else◌, bytes_eq, codes, List, [], ◌∷◌, Option, Some, None, option_and_then, Result, Ok, Err, is_ok, IsTrue}
-use Rattle.serde_json.specs.Data.{Data, null, boolean, number, string, array, object, Items, no_items, item, Members, no_members, member}
+use Rattle.std.specs.Prelude.{◌≡◌, ℕ, Bool, false, ◌||◌, if◌then◌else◌, bytes_eq, codes, List, [], ◌∷◌, Option, Some, None, option_and_then, Result, Ok, Err, is_ok, IsTrue}
+use Rattle.serde_json.specs.Data.{Data, string, array, object, Items, no_items, item, Members, no_members, member}
 use Rattle.serde_json.specs.Find.{as_number, as_u64}
 use Rattle.sched_plan.specs.Schedule.{Schedule, leaf, meet, follow}
 use Rattle.sched_plan.specs.Plan.{built}

@@ -5,7 +5,9 @@ use std::alloc::{AllocError, Global};
 use std::test::Fail;
 
 const OUT_OF_RANGE: ReadFault = ReadFault::Plan(PlanFault::OutOfRange);
+
 const TOO_DEEP: ReadFault = ReadFault::Plan(PlanFault::TooDeep);
+
 const TOO_MANY: ReadFault = ReadFault::Plan(PlanFault::TooMany);
 
 // The plan of a JSON text.
@@ -95,7 +97,11 @@ fn other_values_are_no_plans(rt: HostRuntime) -> Result<(), Fail> {
         r#"{"exponential":[1,2]}"#,
     ];
     for text in texts {
-        assert_eq!(rt; fault_of(rt.alloc(), text)?, Some(ReadFault::NotAPlan), "{text}");
+        assert_eq!(rt;
+            fault_of(rt.alloc(), text)?,
+            Some(ReadFault::NotAPlan),
+            "{text}"
+        );
     }
     Ok(())
 }
@@ -114,7 +120,11 @@ fn other_numbers_are_no_plans(rt: HostRuntime) -> Result<(), Fail> {
         r#"{"fixed":-1}"#,
     ];
     for text in texts {
-        assert_eq!(rt; fault_of(rt.alloc(), text)?, Some(ReadFault::NotAPlan), "{text}");
+        assert_eq!(rt;
+            fault_of(rt.alloc(), text)?,
+            Some(ReadFault::NotAPlan),
+            "{text}"
+        );
     }
     Ok(())
 }
@@ -133,7 +143,11 @@ fn other_numbers_of_plans_are_no_plans(rt: HostRuntime) -> Result<(), Fail> {
         r#"{"meet":["forever","forever"],"follow":["forever","forever"]}"#,
     ];
     for text in texts {
-        assert_eq!(rt; fault_of(rt.alloc(), text)?, Some(ReadFault::NotAPlan), "{text}");
+        assert_eq!(rt;
+            fault_of(rt.alloc(), text)?,
+            Some(ReadFault::NotAPlan),
+            "{text}"
+        );
     }
     Ok(())
 }

@@ -1,5 +1,5 @@
 -- Each call is on a value that nests less, or on a part of the same value.
-use Rattle.std.proofs.Common.{ℕ, ◌+◌, ◌*◌}
+use Rattle.std.proofs.Common.{◌+◌, ◌*◌}
 use Rattle.serde_json.specs.Data.{depth, items_depth, members_depth}
 use Rattle.serde_json.specs.View.{view, items_view, members_view}
 use Rattle.sched_cli.proofs.reading.+reading.Given as goal
