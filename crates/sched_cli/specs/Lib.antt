@@ -3,3 +3,4 @@ pub mod Failures
 pub mod Options
 pub mod Status
 pub mod Whole
+pub mod Reading

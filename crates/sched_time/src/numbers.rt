@@ -141,7 +141,7 @@ impl From<Moment> for Millis {
     /// The time from moment 0 to this one.
     fn from(moment: Moment) -> Self {
         Millis {
-            millis: moment.millis,
+            millis: moment.at,
         }
     }
 }

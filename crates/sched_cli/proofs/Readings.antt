@@ -1,0 +1,52 @@
+-- What a reading answers follows from what its parts answer.
+use Rattle.std.proofs.Common.{◌≡◌, Bool, true, false, ◌||◌, Result, Ok, Err, IsTrue, List, [], ◌∷◌, length, refl, arith}
+use Rattle.serde_json.specs.View.{view, items_view}
+use Rattle.serde_json.specs.declared.value.Value.{Value}
+use Rattle.sched_plan.specs.Schedule.{Schedule}
+use Rattle.sched_plan.specs.declared.plans.PlanFault.TheVariants.{OutOfRange, TooDeep, TooMany, NoMemory}
+use Rattle.sched_cli.specs.declared.reading.ReadFault.{ReadFault}
+use Rattle.sched_cli.specs.declared.reading.ReadFault.TheVariants.{NotAPlan, Plan}
+use Rattle.sched_cli.specs.Reading.{Reading, Reads, found, then_read, read_on, reading_of, parts_of_items, two_plans}
+
+asked_first : (a b : Bool) → IsTrue a → IsTrue (a || b)
+asked_first true b h = refl
+asked_first false b h = cc
+
+asked_later : (a b : Bool) → IsTrue b → IsTrue (a || b)
+asked_later true b h = refl
+asked_later false b h = h
+
+asked_on : {A B : Type 0} (asked : Bool) (answer : Result A ReadFault) (next : A → Reading B)
+    → IsTrue asked → IsTrue (read_on asked answer next).asked
+asked_on asked (Ok x) next h = asked_first asked (next x).asked h
+asked_on asked (Err fault) next h = h
+
+-- after the first part was found, the whole answers what the rest does
+pub Reads-then_read : {A B : Type 0} (answer : Result B ReadFault) (r : Reading A) (next : A → Reading B) (x : A)
+    → Ok x ≡ r.answer → Reads answer (next x) → Reads answer (then_read r next)
+Reads-then_read (Ok y) r next x e h = rw (← e) h
+Reads-then_read (Err NotAPlan) r next x e h = rw (← e) h
+Reads-then_read (Err (Plan OutOfRange)) r next x e h = rw (← e) h
+Reads-then_read (Err (Plan TooDeep)) r next x e h = rw (← e) h
+Reads-then_read (Err (Plan TooMany)) r next x e h = rw (← e) h
+Reads-then_read (Err (Plan NoMemory)) r next x e h = rw (← e) (asked_later r.asked (next x).asked h)
+
+-- a fault of the first part is one of the whole
+pub Reads-fault : {A B : Type 0} (fault : ReadFault) (r : Reading A) (next : A → Reading B)
+    → Reads {A = A} (Err fault) r → Reads {A = B} (Err fault) (then_read r next)
+Reads-fault NotAPlan r next h = rw (← h) refl
+Reads-fault (Plan OutOfRange) r next h = rw (← h) refl
+Reads-fault (Plan TooDeep) r next h = rw (← h) refl
+Reads-fault (Plan TooMany) r next h = rw (← h) refl
+Reads-fault (Plan NoMemory) r next h = asked_on r.asked r.answer next h
+
+-- of two plans the first was read, and the second gave a fault
+pub two_plans-second : (vs : List Value) (a b : Value) (after_a after_b : List Value) (first : Schedule) (fault : ReadFault)
+    → vs ≡ a ∷ after_a → after_a ≡ b ∷ after_b → length after_b ≡ 0
+    → Ok first ≡ (reading_of (view a)).answer → Reads {A = Schedule} (Err fault) (reading_of (view b))
+    → Reads {A = Schedule × Schedule} (Err fault) (two_plans (parts_of_items (items_view vs)))
+two_plans-second vs a b after_a [] first fault at_a at_b ends is h =
+    let rest : Schedule → Reading (Schedule × Schedule) = λ x. then_read (reading_of (view b)) (λ y. found (x, y)) in
+    let second : Reads {A = Schedule × Schedule} (Err fault) (rest first) = Reads-fault fault (reading_of (view b)) (λ y. found (first, y)) h in
+    rw (at_a, at_b) (Reads-then_read (Err fault) (reading_of (view a)) rest first is second)
+two_plans-second vs a b after_a (v ∷ vs') first fault at_a at_b ends is h = absurd (omega arith)
