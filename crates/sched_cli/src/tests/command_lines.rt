@@ -18,10 +18,11 @@ fn plan_of(alloc: Global, words: &[&str]) -> Result<(u64, u64, u64, u64, u32), W
     Ok(numbers(&options))
 }
 
-fn help_of(alloc: Global, words: &[&str]) -> Option<String> {
+fn help_of(alloc: Global, words: &[&str]) -> Result<String, WordsFault> {
     match read_words(alloc, words) {
-        Err(WordsFault::Help(text)) => Some(text),
-        _ => None,
+        Err(WordsFault::Help(text)) => Ok(text),
+        Err(fault) => Err(fault),
+        Ok(_) => Err(WordsFault::Bad),
     }
 }
 
@@ -111,9 +112,9 @@ fn what_is_no_task_is_a_bad_command_line(rt: HostRuntime) {
 
 #[test]
 fn help_names_the_subcommand_and_each_option(rt: HostRuntime) -> Result<(), Fail> {
-    let text = help_of(rt.alloc(), &["zsched", "--help"]).ok_or("help of zsched")?;
+    let text = help_of(rt.alloc(), &["zsched", "--help"])?;
     assert!(rt; text.as_str().contains("plan"), "{text}");
-    let text = help_of(rt.alloc(), &["zsched", "plan", "--help"]).ok_or("help of plan")?;
+    let text = help_of(rt.alloc(), &["zsched", "plan", "--help"])?;
     for option in [
         "--steps",
         "--from",
