@@ -112,6 +112,10 @@ abbrev mutual
   parts_of_items no_items = []
   parts_of_items (item d items) = record { json = d; plan = reading_of d } ∷ parts_of_items items
 
+-- what comes of reading the node of this name over this value
+abbrev pub named_node : List ℕ → Data → Reading Schedule
+named_node name value = member_node name (record { json = value; plan = reading_of value }) (parts_of value)
+
 -- the plan that a JSON value spells, or the first fault: first a node's own form, then its plans from left to
 -- right, then what its builder refuses
 abbrev pub plan_of : Data → Result Schedule ReadFault

@@ -1,7 +1,7 @@
 ghost use Rattle.std.specs.Prelude.{◌≡◌, ◌≤◌};
 ghost use Rattle.serde_json.specs.Data.{depth, items_depth};
 ghost use Rattle.serde_json.specs.View.{view, items_view, members_view};
-ghost use Rattle.sched_cli.specs.Reading.{Reads, number_in, string_node, leaf_node, member_node, reading_of, reading_of_members, parts_of, parts_of_items, two_plans};
+ghost use Rattle.sched_cli.specs.Reading.{Reads, number_in, string_node, leaf_node, named_node, reading_of, reading_of_members, parts_of, parts_of_items, two_plans};
 
 use sched_plan::{Plan, PlanFault};
 use serde_json::{Map, Value};
@@ -31,7 +31,7 @@ impl From<PlanFault> for ReadFault {
 }
 
 /// The plan that a JSON value spells, or the first fault found: of each node first its own form is looked at, then
-/// its plans from left to right, then what its builder refuses.
+/// its plans from left to right, then what its builder refuses. Only a node over other plans asks for memory.
 #[cycle(reading)]
 pub fn read_plan(alloc: Global, value: &Value) -> Result<Plan, ReadFault>
     ensures { Reads result (reading_of (view value.now)) }
@@ -68,7 +68,7 @@ fn read_members(alloc: Global, members: &Map<String, Value>) -> Result<Plan, Rea
 // The node of this name over its value.
 #[cycle(reading)]
 fn read_node(alloc: Global, name: &str, value: &Value) -> Result<Plan, ReadFault>
-    ensures { Reads result (member_node name.now (record { json = view value.now; plan = reading_of (view value.now) }) (parts_of (view value.now))) }
+    ensures { Reads result (named_node name.now (view value.now)) }
 {
     match name {
         "meet" => {
