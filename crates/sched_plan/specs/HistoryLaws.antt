@@ -1,6 +1,7 @@
 -- What one more event does to a history.
-use Rattle.std.specs.Prelude.{◌≡◌, ◌≤◌, List, [], ◌∷◌, ◌++◌, refl}
-use Rattle.sched_plan.specs.History.{last_moment, IsHistory}
+use Rattle.std.proofs.Common.{◌≡◌, ◌≤◌, List, [], ◌∷◌, ◌++◌, map, refl, ap, ◌∙◌}
+use Rattle.std.proofs.lemmas.List.{map-append}
+use Rattle.sched_plan.specs.History.{last_moment, IsHistory, prefixes}
 use Rattle.sched_plan.specs.declared.history.Event.{Event}
 
 -- the last moment is that of the event that came last
@@ -14,3 +15,10 @@ pub IsHistory-push : (h : List Event) (e : Event) → IsHistory h → last_momen
 IsHistory-push [] e ordered later = tt
 IsHistory-push (d ∷ []) e ordered later = (later, tt)
 IsHistory-push (d ∷ c ∷ h) e ordered later = (ordered.0, IsHistory-push (c ∷ h) e ordered.1 later)
+
+-- its prefixes are those before, and then the whole of it
+pub prefixes-push : (h : List Event) (e : Event) → prefixes (h ++ e ∷ []) ≡ prefixes h ++ (h ++ e ∷ []) ∷ []
+prefixes-push [] e = refl
+prefixes-push (d ∷ h) e =
+    ap (λ ps. (d ∷ []) ∷ map (λ p. d ∷ p) ps) (prefixes-push h e)
+    ∙ ap (λ ps. (d ∷ []) ∷ ps) (map-append (λ p. d ∷ p) (prefixes h) ((h ++ e ∷ []) ∷ []))

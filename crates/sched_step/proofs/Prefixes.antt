@@ -1,18 +1,11 @@
 -- The first prefix of a history that passes a test, when the history grows by one event.
 use Rattle.std.proofs.Common.{◌≡◌, ◌≤◌, List, [], ◌∷◌, ◌++◌, map, length, find, All, Bool, true, false, cond, if◌then◌else◌, Some, None, refl, ap, subst, ◌∙◌, arith}
-use Rattle.std.proofs.lemmas.List.{map-append}
 use Rattle.std.proofs.lemmas.List.Elements.{All-nil, All-cons, All-head, All-tail, All-map, All-weaker}
 use Rattle.sched_plan.specs.History.{prefixes}
+use Rattle.sched_plan.specs.HistoryLaws.{prefixes-push}
 use Rattle.sched_plan.specs.Answer.{crossing, is_done}
 use Rattle.sched_plan.specs.declared.history.Event.{Event}
 use Rattle.sched_plan.specs.declared.history.Answer.{Answer}
-
--- the prefixes of the history, and then the whole of it
-pub prefixes-snoc : (h : List Event) (e : Event) → prefixes (h ++ e ∷ []) ≡ prefixes h ++ (h ++ e ∷ []) ∷ []
-prefixes-snoc [] e = refl
-prefixes-snoc (d ∷ h) e =
-    ap (λ ps. (d ∷ []) ∷ map (λ p. d ∷ p) ps) (prefixes-snoc h e)
-    ∙ ap (λ ps. (d ∷ []) ∷ ps) (map-append (λ p. d ∷ p) (prefixes h) ((h ++ e ∷ []) ∷ []))
 
 -- no prefix is longer than the history
 pub prefixes_short : (h : List Event) → All (λ p. length p ≤ length h) (prefixes h)
@@ -61,7 +54,7 @@ pub crossing-kept : (answers : List Event → Answer) (h p : List Event) (e : Ev
     crossing answers (h ++ e ∷ []) ≡ Some p
 crossing-kept answers h p e crossed =
     let test : List Event → Bool = λ p. is_done (answers p).decision in
-    ap (find test) (prefixes-snoc h e) ∙ find-kept test (prefixes h) ((h ++ e ∷ []) ∷ []) p crossed
+    ap (find test) (prefixes-push h e) ∙ find-kept test (prefixes h) ((h ++ e ∷ []) ∷ []) p crossed
 
 -- one that was never done is first done at the new event or not yet
 pub crossing-snoc : (answers : List Event → Answer) (h : List Event) (e : Event) → crossing answers h ≡ None →
@@ -69,4 +62,4 @@ pub crossing-snoc : (answers : List Event → Answer) (h : List Event) (e : Even
     (if is_done (answers (h ++ e ∷ [])).decision then Some (h ++ e ∷ []) else None)
 crossing-snoc answers h e none =
     let test : List Event → Bool = λ p. is_done (answers p).decision in
-    ap (find test) (prefixes-snoc h e) ∙ find-past test (prefixes h) ((h ++ e ∷ []) ∷ []) none
+    ap (find test) (prefixes-push h e) ∙ find-past test (prefixes h) ((h ++ e ∷ []) ∷ []) none
