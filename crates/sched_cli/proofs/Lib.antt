@@ -1,2 +1,5 @@
+pub mod PrintFaults
+pub mod Printed
+pub mod PrintSteps
 mod Readings
 pub mod WorkedReading

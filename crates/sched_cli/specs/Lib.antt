@@ -4,3 +4,5 @@ pub mod Options
 pub mod Status
 pub mod Whole
 pub mod Reading
+pub mod PlanText
+pub mod Printing

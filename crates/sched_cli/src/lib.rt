@@ -4,6 +4,7 @@
 mod counts;
 mod faults;
 mod options;
+mod printing;
 mod reading;
 mod streams;
 #[cfg(test)]
@@ -14,6 +15,7 @@ mod words;
 pub use counts::Counted;
 pub use faults::{PrintFault, WordsFault};
 pub use options::{Asked, MOST_STEPS, PlanOptions};
+pub use printing::print_plan;
 pub use reading::{ReadFault, read_plan};
 pub use streams::{Sink, Source};
 pub use whole::LONGEST_INPUT;

@@ -1,0 +1,117 @@
+-- What one event does to what is true while a plan's lines are written.
+use Rattle.std.proofs.Common.{◌≡◌, ℕ, ◌+◌, ◌≤◌, List, [], ◌∷◌, ◌++◌, length, Option, Some, None, Err, sym, ◌∙◌, ap, subst, append_assoc, arith, length-append}
+use Rattle.std.specs.Io.KnownBytes.{Appends}
+use Rattle.std.proofs.KnownBytes.{Appends-trans}
+use Rattle.sched_time.specs.Capped.{capped}
+use Rattle.sched_time.specs.Decision.{start_of}
+use Rattle.sched_time.specs.declared.numbers.TheConstants.{FAR}
+use Rattle.sched_time.specs.declared.starts.Decision.{Decision}
+use Rattle.sched_time.specs.declared.starts.Decision.TheVariants.{Go, Done}
+use Rattle.sched_plan.specs.Schedule.{Schedule}
+use Rattle.sched_plan.specs.History.{last_moment}
+use Rattle.sched_plan.specs.HistoryLaws.{last_moment-push}
+use Rattle.sched_plan.specs.Answer.{answer}
+use Rattle.sched_plan.specs.declared.history.Event.{Event}
+use Rattle.sched_step.specs.Starts.{StartsBy}
+use Rattle.sched_driver.specs.Driven.{Driven, next_start_of, after}
+use Rattle.sched_cli.specs.PlanText.{event_at, next_moment, run, line_text, lines_text, plan_text}
+use Rattle.sched_cli.specs.Printing.{WritesText}
+use Rattle.sched_cli.specs.Whole.{WritesFront, StopsWriting}
+use Rattle.sched_cli.specs.declared.options.PlanOptions.{PlanOptions}
+use Rattle.sched_cli.specs.declared.faults.PrintFault.{PrintFault}
+use Rattle.sched_cli.specs.declared.faults.PrintFault.TheVariants.{ReadFailed, TooLong, NotJson, NotAPlan, OutOfRange, TooDeep, TooMany, NoMemory, NotStarted, WriteFailed, Unfinished, Mixed}
+use Rattle.sched_cli.proofs.Printed.{IsPrinted, IsFront-trans, run-grows, lines_text-push, front_of_plan, end_of_plan, next_moment-push}
+
+by_start : (now start : ℕ) (d : Decision) → StartsBy now d → Some start ≡ start_of d → now ≤ start
+by_start now start (Go t) from is =
+    let same : start ≡ t = cc in
+    subst (λ x. now ≤ x) (sym same) from
+by_start now start Done from is = cc
+
+-- a planned start is not before the moment of its event
+starts_from : (s : Schedule) (h : List Event) (e : Event) (now start : ℕ) → StartsBy now (answer s (h ++ e ∷ [])).decision →
+    Some start ≡ next_start_of (record { plan = s; journal = h ++ e ∷ [] }) → now ≤ start
+starts_from s [] e now start from is = by_start now start (answer s (e ∷ [])).decision from is
+starts_from s (d ∷ h) e now start from is = by_start now start (answer s (d ∷ h ++ e ∷ [])).decision from is
+
+-- the last moment of a driver is that of the event that it was given last
+pub last_after : (d next : Driven) (e : Event) → next ≡ after d e → e.now ≡ last_moment next.journal
+last_after d next e stepped = sym (ap (λ x. last_moment x.journal) stepped ∙ last_moment-push d.journal e)
+
+-- where printing stops between two lines, a front of the text is written
+pub stopped : (s : Schedule) (o : PlanOptions) (n now : ℕ) (d : Driven) (old new : Option (List ℕ)) →
+    IsPrinted s o n now d old new → n ≤ o.steps → WritesFront old new (plan_text s o)
+stopped s o n now d old new printed within = (lines_text s (run s o n), front_of_plan s o n within, printed.wrote)
+
+module _ (s : Schedule) (o : PlanOptions) (n now : ℕ) (d next : Driven) (old mid : Option (List ℕ))
+    (printed : IsPrinted s o n now d old mid) (stepped : next ≡ after d (event_at o now)) where
+  -- the driver after the event at `now`
+  driven_next : next ≡ record { plan = s; journal = run s o n ++ event_at o now ∷ [] }
+  driven_next = stepped ∙ (λ i. record { plan = printed.plan_is i; journal = printed.run_is i ++ event_at o now ∷ [] })
+
+  grown : run s o (n + 1) ≡ run s o n ++ event_at o now ∷ []
+  grown = run-grows s o n now printed.next_is
+
+  -- the lines so far and the driver's last line are the lines of the longer run
+  pub lines_next : (line : List ℕ) → line ≡ line_text next.plan next.journal → lines_text s (run s o n) ++ line ≡ lines_text s (run s o (n + 1))
+  lines_next line is =
+      ap (λ l. lines_text s (run s o n) ++ l) (is ∙ ap (λ x. line_text x.plan x.journal) driven_next)
+      ∙ sym (lines_text-push s (run s o n) (event_at o now)) ∙ ap (λ h. lines_text s h) (sym grown)
+
+  wrote_next : (new : Option (List ℕ)) (line : List ℕ) → line ≡ line_text next.plan next.journal → Appends mid new line →
+      Appends old new (lines_text s (run s o (n + 1)))
+  wrote_next new line is put =
+      subst (λ text. Appends old new text) (lines_next line is) (Appends-trans old mid new (lines_text s (run s o n)) line printed.wrote put)
+
+  -- where the plan is done, all of the text is written
+  pub finished : (new : Option (List ℕ)) (line : List ℕ) → line ≡ line_text next.plan next.journal → Appends mid new line →
+      n + 1 ≤ o.steps → None ≡ next_start_of next → Appends old new (plan_text s o)
+  finished new line is put within done =
+      let ends : next_moment s o (run s o (n + 1)) ≡ None =
+      ap (next_moment s o) grown ∙ next_moment-push s o (run s o n) (event_at o now) None (done ∙ ap next_start_of driven_next) in
+      subst (λ text. Appends old new text) (sym (end_of_plan s o (n + 1) within ends)) (wrote_next new line is put)
+
+  -- where it goes on, one more line is written and the next event is at its start and the time that its work took
+  pub goes_on : (new : Option (List ℕ)) (line : List ℕ) (start then : ℕ) → line ≡ line_text next.plan next.journal → Appends mid new line →
+      Some start ≡ next_start_of next → StartsBy now (answer next.plan next.journal).decision → now ≤ FAR →
+      then ≡ capped (start + o.took) → IsPrinted s o (n + 1) then next old new
+  goes_on new line start then is put going from in_range then_is =
+      let planned : Some start ≡ next_start_of (record { plan = s; journal = run s o n ++ event_at o now ∷ [] }) = going ∙ ap next_start_of driven_next in
+      let not_before : now ≤ start =
+      starts_from s (run s o n) (event_at o now) now start
+      (subst (λ (x : Driven). StartsBy now (answer x.plan x.journal).decision) driven_next from) planned in
+      let last : now ≡ last_moment next.journal = last_after d next (event_at o now) stepped in
+      record {
+        plan_is = ap (λ x. x.plan) driven_next;
+        run_is = ap (λ x. x.journal) driven_next ∙ sym grown;
+        next_is =
+            ap (next_moment s o) grown ∙ next_moment-push s o (run s o n) (event_at o now) (Some start) planned
+            ∙ ap Some (sym then_is);
+        later = omega arith;
+        count = ap (λ x. length x.journal) stepped ∙ length-append d.journal (event_at o now ∷ []) ∙ ap (λ k. k + 1) printed.count;
+        wrote = wrote_next new line is put;
+      }
+
+  -- where a write fails, a front of the text is written
+  pub stopped_in_line : (new : Option (List ℕ)) (line : List ℕ) (fault : PrintFault) → line ≡ line_text next.plan next.journal →
+      n + 1 ≤ o.steps → StopsWriting fault mid new line → WritesText old new (plan_text s o) (Err fault)
+  stopped_in_line new line WriteFailed is within stop =
+      let lines = lines_text s (run s o n) in
+      let front = stop.0 in (
+        lines ++ front,
+        IsFront-trans (lines ++ front) (lines_text s (run s o (n + 1))) (plan_text s o)
+            (stop.1.0, sym (lines_next line is) ∙ ap (λ l. lines ++ l) stop.1.1 ∙ sym (append_assoc lines front stop.1.0))
+            (front_of_plan s o (n + 1) within),
+        Appends-trans old mid new lines front printed.wrote stop.2,
+      )
+  stopped_in_line new line ReadFailed is within stop = absurd stop
+  stopped_in_line new line TooLong is within stop = absurd stop
+  stopped_in_line new line NotJson is within stop = absurd stop
+  stopped_in_line new line NotAPlan is within stop = absurd stop
+  stopped_in_line new line OutOfRange is within stop = absurd stop
+  stopped_in_line new line TooDeep is within stop = absurd stop
+  stopped_in_line new line TooMany is within stop = absurd stop
+  stopped_in_line new line NoMemory is within stop = absurd stop
+  stopped_in_line new line NotStarted is within stop = absurd stop
+  stopped_in_line new line Unfinished is within stop = absurd stop
+  stopped_in_line new line Mixed is within stop = absurd stop

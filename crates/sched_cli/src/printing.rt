@@ -1,0 +1,126 @@
+ghost use Rattle.std.specs.Prelude.{◌≡◌, ◌<◌, ◌≤◌, length, string_bytes, IfOk, IfErr};
+ghost use Rattle.sched_time.specs.declared.numbers.TheConstants.{FAR};
+ghost use Rattle.sched_plan.specs.History.{last_moment};
+ghost use Rattle.sched_plan.specs.Answer.{answer};
+ghost use Rattle.sched_step.specs.Starts.{StartsBy};
+ghost use Rattle.sched_driver.specs.Driven.{after};
+ghost use Rattle.sched_driver.specs.declared.drivers.TheConstants.{MOST_EVENTS};
+ghost use Rattle.sched_cli.specs.PlanText.{event_at, line_text, plan_text};
+ghost use Rattle.sched_cli.specs.Printing.{Prints, ReadsPlan, WritesText};
+ghost use Rattle.sched_cli.specs.Whole.{count_of_reads, count_of_writes};
+
+use crate::faults::PrintFault;
+use crate::options::PlanOptions;
+use crate::reading::{ReadFault, read_plan};
+use crate::streams::{Sink, Source};
+use crate::whole::{put_all, read_all};
+use sched_driver::{DriveFault, Driver};
+use sched_plan::{Plan, PlanFault, Val};
+use sched_time::{Moment, NoMemory, Tick};
+use serde_json::Value;
+use std::alloc::Global;
+
+/// Reads one plan as JSON from `reader`, steps it as the options say, and writes a line for each event to `writer`:
+/// `MOMENT: OUTPUT next START` or `MOMENT: OUTPUT done`, up to the first event at which the plan is done.
+///
+/// Refused as `ReadFailed`, `TooLong`, `NotJson`, `NotAPlan`, `OutOfRange`, `TooDeep` and `TooMany` with nothing
+/// written, as `NoMemory` and `WriteFailed` with a front of the text written.
+pub fn print_plan<R: Source, W: Sink>(
+    alloc: Global,
+    reader: &mut R,
+    writer: &mut W,
+    options: &PlanOptions,
+) -> Result<(), PrintFault>
+    ensures text { Prints options.now (R.left reader.old) (R.left reader.new) (W.taken writer.old) (W.taken writer.new) result }
+    ensures reads { R.failures reader.new ≡ count_of_reads result (R.failures reader.old) }
+    ensures writes { W.failures writer.new ≡ count_of_writes result (W.failures writer.old) }
+{
+    let bytes = read_all(alloc, reader)?;
+    let plan = plan_in(alloc, &bytes)?;
+    write_plan(alloc, plan, writer, options)
+}
+
+// The plan that the bytes spell.
+fn plan_in(alloc: Global, bytes: &[u8]) -> Result<Plan, PrintFault>
+    ensures { ReadsPlan bytes.now result }
+{
+    let value = match Value::from_slice(alloc, bytes) {
+        Ok(value) => value,
+        Err(error) if error.is_memory() => return Err(PrintFault::NoMemory),
+        Err(_) => return Err(PrintFault::NotJson),
+    };
+    match read_plan(alloc, &value) {
+        Ok(plan) => Ok(plan),
+        Err(ReadFault::NotAPlan) => Err(PrintFault::NotAPlan),
+        Err(ReadFault::Plan(PlanFault::OutOfRange)) => Err(PrintFault::OutOfRange),
+        Err(ReadFault::Plan(PlanFault::TooDeep)) => Err(PrintFault::TooDeep),
+        Err(ReadFault::Plan(PlanFault::TooMany)) => Err(PrintFault::TooMany),
+        Err(ReadFault::Plan(PlanFault::NoMemory)) => Err(PrintFault::NoMemory),
+    }
+}
+
+// Writes the plan's lines.
+fn write_plan<W: Sink>(
+    alloc: Global,
+    plan: Plan,
+    writer: &mut W,
+    options: &PlanOptions,
+) -> Result<(), PrintFault>
+    ensures text { WritesText (W.taken writer.old) (W.taken writer.new) (plan_text plan options.now) result }
+    ensures counts { W.failures writer.new ≡ count_of_writes result (W.failures writer.old) }
+{
+    let mut driver = Driver::new(alloc, plan)?;
+    let mut now = options.from;
+    for _step in 0..options.steps {
+        step_at(alloc, &mut driver, now, options)?;
+        let line = last_line(alloc, &driver, now)?;
+        put_all(writer, line.as_bytes())?;
+        let Some(start) = driver.next_start() else {
+            return Ok(());
+        };
+        now = start.plus(options.took);
+    }
+    Ok(())
+}
+
+// Steps the driver with the event at `now`.
+fn step_at(
+    alloc: Global,
+    driver: &mut Driver,
+    now: Moment,
+    options: &PlanOptions,
+) -> Result<(), PrintFault>
+    requires later { last_moment driver.old.journal ≤ now }
+    requires room { length driver.old.journal < MOST_EVENTS }
+    ensures event { IfOk result (λ _. driver.new ≡ after driver.old (event_at options.now now)) }
+    ensures start { IfOk result (λ _. StartsBy now (answer driver.new.plan driver.new.journal).decision) }
+    ensures err { IfErr result (λ fault. fault ≡ PrintFault.NoMemory) }
+{
+    let words = [options.word; 4];
+    let tick = Tick { now, words };
+    match driver.next(alloc, tick, Val::from(options.input)) {
+        Ok(_) => Ok(()),
+        Err(DriveFault::NoMemory) => Err(PrintFault::NoMemory),
+        Err(DriveFault::Backwards { .. } | DriveFault::JournalFull) => unreachable!(),
+    }
+}
+
+// The line of the driver's last event, which was at `now`.
+fn last_line(alloc: Global, driver: &Driver, now: Moment) -> Result<String, NoMemory>
+    requires some { 0 < length driver.now.journal }
+    requires last { now ≡ last_moment driver.now.journal }
+    ensures line { IfOk result (λ line. string_bytes line ≡ line_text driver.now.plan driver.now.journal) }
+    ensures in_range { IfOk result (λ _. now ≤ FAR) }
+{
+    let Some(output) = driver.last() else {
+        unreachable!()
+    };
+    let output = output.text(alloc)?;
+    let mut line = String::new(alloc);
+    write!(line, "{}: {}", now.get(), output)?;
+    match driver.next_start() {
+        Some(start) => write!(line, " next {}\n", start.get())?,
+        None => line.push_str(" done\n")?,
+    }
+    Ok(line)
+}
