@@ -1,0 +1,57 @@
+//! `zsched` prints what a recurrence schedule would do: it passes words, streams and statuses on, and nothing else.
+#![tactic(auto)]
+
+use sched_cli::{Asked, Counted, PlanOptions, PrintFault, WordsFault, print_plan, read_words};
+use std::process::ExitCode;
+use std::{env, io};
+
+fn main(rt: HostRuntime) -> ExitCode {
+    match asked(&rt) {
+        Ok(Asked::Plan(options)) => ended(&rt, plan(&rt, &options)),
+        Err(WordsFault::Help(text)) => match print!(rt; "{text}") {
+            Ok(()) => ExitCode::SUCCESS,
+            Err(_) => ended(&rt, Err(PrintFault::WriteFailed)),
+        },
+        Err(fault) => {
+            let _ = eprintln!(rt; "{fault}");
+            ExitCode::from(fault.status())
+        }
+    }
+}
+
+// What the command line asks for. A word that is no text is a bad command line.
+fn asked(rt: &HostRuntime) -> Result<Asked, WordsFault> {
+    let words = match env::args(rt) {
+        Ok(words) => words,
+        Err(error) if error.kind() == io::ErrorKind::OutOfMemory => return Err(
+            WordsFault::NoMemory,
+        ),
+        Err(_) => return Err(WordsFault::Bad),
+    };
+    let words: Vec<String> = words.collect(rt.alloc())?;
+    let mut texts = Vec::new(rt.alloc());
+    for word in &words {
+        if texts.push(word.as_str()).is_err() {
+            return Err(WordsFault::NoMemory);
+        }
+    }
+    read_words(rt.alloc(), &texts)
+}
+
+// Prints the plan on standard input.
+fn plan(rt: &HostRuntime, options: &PlanOptions) -> Result<(), PrintFault> {
+    let mut reader = Counted::new(rt.stdin());
+    let mut writer = Counted::new(rt.stdout());
+    print_plan(rt.alloc(), &mut reader, &mut writer, options)
+}
+
+// The status of what was printed, with its line on standard error where it stopped at a fault.
+fn ended(rt: &HostRuntime, printed: Result<(), PrintFault>) -> ExitCode {
+    match printed {
+        Ok(()) => ExitCode::SUCCESS,
+        Err(fault) => {
+            let _ = eprintln!(rt; "{fault}");
+            ExitCode::from(fault.status())
+        }
+    }
+}

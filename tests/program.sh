@@ -1,0 +1,87 @@
+#!/usr/bin/env bash
+# Runs the built program on good and bad command lines and inputs, and compares its output, its line on standard error
+# and its status with what is wanted.
+set -euo pipefail
+top=$(cd "$(dirname "${BASH_SOURCE[0]}")/.." && pwd)
+work=$(mktemp -d)
+trap 'rm -rf "$work"' EXIT
+failed=0
+
+# wants STATUS OUTPUT LINE WORD..: what zsched does with these words and the input in $work/in
+wants() {
+  local status=$1 output=$2 line=$3
+  shift 3
+  local got=0
+  "$top/bin/zsched" "$@" <"$work/in" >"$work/out" 2>"$work/err" || got=$?
+  printf '%b' "$output" >"$work/out.want"
+  printf '%b' "$line" >"$work/err.want"
+  if [ "$got" != "$status" ] || ! cmp -s "$work/out" "$work/out.want" || ! cmp -s "$work/err" "$work/err.want"; then
+    echo "tests/program.sh: zsched $*: status $got, wanted $status; output $(head -c 200 "$work/out"); errors $(head -c 200 "$work/err")" >&2
+    failed=1
+  fi
+}
+
+# helps WORD..: zsched shows help on standard output with these words
+helps() {
+  local got=0
+  "$top/bin/zsched" "$@" </dev/null >"$work/out" 2>"$work/err" || got=$?
+  if [ "$got" != 0 ] || ! grep -q 'Usage: zsched' "$work/out" || [ -s "$work/err" ]; then
+    echo "tests/program.sh: zsched $*: no help" >&2
+    failed=1
+  fi
+}
+
+input() { printf '%b' "$1" >"$work/in"; }
+
+"$top/bin/zsched" plan --steps 0 <<<'"forever"'
+
+input '{"meet":[{"recurs":3},{"spaced":100}]}'
+wants 0 '0: (0, 0) next 100\n100: (1, 1) next 200\n200: (2, 2) next 300\n300: (3, 3) done\n' '' plan
+wants 0 '' '' plan --steps 0
+input '{"fixed":100}'
+wants 0 '0: 0 next 100\n350: 1 next 350\n600: 2 next 600\n' '' plan --took 250 --steps 3
+helps --help
+helps plan --help
+wants 2 '' 'zsched: bad command line\n'
+wants 2 '' 'zsched: bad command line\n' plan --steps 4097
+wants 2 '' 'zsched: bad command line\n' plan --none
+wants 2 '' 'zsched: bad command line\n' pool
+wants 2 '' 'zsched: bad command line\n' plan --from $'\xff'
+{ printf '"forever"'; head -c 1048568 /dev/zero | tr '\0' ' '; } >"$work/in"
+wants 3 '' 'zsched: input too long\n' plan
+input ''
+wants 3 '' 'zsched: not JSON\n' plan
+input '{"recurs":3'
+wants 3 '' 'zsched: not JSON\n' plan
+input '{"recurs":-1}'
+wants 3 '' 'zsched: not a plan\n' plan
+input '{"exponential":[1,2]}'
+wants 3 '' 'zsched: not a plan\n' plan
+input '{"fixed":0}'
+wants 3 '' 'zsched: number out of range\n' plan
+
+deep='"forever"'
+for _ in $(seq 32); do deep="{\"meet\":[$deep,\"forever\"]}"; done
+printf '%s' "$deep" >"$work/in"
+wants 3 '' 'zsched: too deep\n' plan
+
+wide='"forever"'
+for _ in $(seq 8); do wide="{\"meet\":[$wide,$wide]}"; done
+printf '%s' "$wide" >"$work/in"
+wants 3 '' 'zsched: too many nodes\n' plan
+
+# Standard input that is a folder can't be read, and a full device can't be written.
+got=0
+"$top/bin/zsched" plan <"$work" >"$work/out" 2>"$work/err" || got=$?
+[ "$got" = 4 ] && [ "$(cat "$work/err")" = 'zsched: read failed' ] && [ ! -s "$work/out" ] ||
+  { echo "tests/program.sh: a read that fails: status $got" >&2; failed=1; }
+got=0
+"$top/bin/zsched" plan <<<'"forever"' >/dev/full 2>"$work/err" || got=$?
+[ "$got" = 4 ] && [ "$(cat "$work/err")" = 'zsched: write failed' ] ||
+  { echo "tests/program.sh: a write that fails: status $got" >&2; failed=1; }
+
+if [ "$failed" = 0 ]; then
+  echo "tests/program.sh: every run of the program is as wanted"
+else
+  exit 1
+fi
