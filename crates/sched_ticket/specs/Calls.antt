@@ -23,11 +23,12 @@ RefusesRaise rises to NoMemory = ⊥
 RefusesRaise rises to TooManyPasses = ⊥
 RefusesRaise rises to Fixed = (rises ≡ false) × (to ≤ 4294967296)
 
--- the pass asked for the limit, which a budget that keeps its limit never changes and a rising one shows at that moment
+-- the pass asked for the limit: a budget that keeps its limit changes nothing, and a rising one was read
 pub record Asked (v u : View) : Type 0 where
   pub limit : IsLimit v u.floor
+  pub same : u ≡ record v { floor = u.floor; readings = u.readings }
   pub fixed : v.terms.rises ≡ false → u ≡ v
-  pub rising : v.terms.rises ≡ true → u ≡ with_floor v u.floor
+  pub rising : v.terms.rises ≡ true → u.readings ≡ v.readings + 1
 
 -- a draw that gave the ticket k: a number below the limit asked for, and after all tickets that the pass had
 pub record Drew (v : View) (k : ℕ) (w : View) : Type 0 where

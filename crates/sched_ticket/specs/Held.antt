@@ -20,6 +20,13 @@ pub record Held : Type 0 where
 abbrev pub IsOf : Name → Held → Type 0
 IsOf b p = (p.table ≡ b.table) × (p.has.terms ≡ b.terms)
 
+-- a budget's table has three words and no slot, and is under the rule for its terms
+pub record IsLaidOut (table : TableId) (key about : Terms) : Type 0 where
+  pub words : table.words ≡ 3
+  pub slots : table.slots ≡ 0
+  pub about_is : key ≡ about
+  pub small : about.limit ≤ 4294967296
+
 -- a pass counts what its view has: n tickets, a weight w, o refused splits, and whether a draw was refused
 pub record IsCounted (m : Sat) (n w o : ℕ) (r : Bool) : Type 0 where
   pub bare : m.1 ≡ []

@@ -26,13 +26,13 @@ pub struct Budget {
 }
 
 impl Model for Budget {
-    ghost use Rattle.sched_ticket.specs.Held.{Name};
+    ghost use Rattle.sched_ticket.specs.Held.{Name, IsLaidOut};
 
     ghost Value = { Name };
 
     ghost view = { λ b. record { table = b.table.shared.table_id; terms = b.terms } };
 
-    ghost invariant = { λ b. (b.table.shared.table_id.words ≡ 3) × (b.table.shared.table_id.slots ≡ 0) × (b.table.shared.key ≡ b.terms) × (b.terms.limit ≤ 4294967296) };
+    ghost invariant = { λ b. IsLaidOut b.table.shared.table_id b.table.shared.key b.terms };
 }
 
 impl Budget {
