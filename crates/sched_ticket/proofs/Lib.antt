@@ -1,3 +1,4 @@
 pub mod Sums
 pub mod Totals
 pub mod Moves
+pub mod Whole

@@ -114,3 +114,21 @@ below-from n (suc d) h = omega (arith, below-from n d (omega arith), from-no n d
 pub none_from : (n : ℕ) (xs : List ℕ) → total (from n) xs ≡ 0 → Each (λ t. t < n) xs
 none_from n [] e = tt
 none_from n (x ∷ xs) e = (dite (dec_le n x) (λ le. absurd (omega (arith, from-yes n x le))) (λ lt. lt_of_not-le lt), none_from n xs (omega arith))
+
+module _ {A : Type 0} (f g : A → ℕ) where
+  nothing : (l : List A) → ((i : ℕ) (u : A) → get_elem? l i ≡ some u → g u ≡ 0 → f u ≡ 0) → total g l ≡ 0 → total f l ≡ 0
+  nothing [] h e = refl
+  nothing (x ∷ xs) h e = omega (arith, h 0 x refl (omega arith), nothing xs (λ i. h (suc i)) (omega arith))
+
+  -- where the whole of g is at one element, and f is 0 where g is, the whole of f is at that element
+  pub alone : (l : List A) (j : ℕ) (v : A) → ((i : ℕ) (u : A) → get_elem? l i ≡ some u → g u ≡ 0 → f u ≡ 0) → get_elem? l j ≡ some v → total g l ≡ g v → total f l ≡ f v
+  alone [] j v h e all = absurd (some-ne-none v (sym e))
+  alone (x ∷ xs) zero v h e all = omega (arith, ap f (some-injective x v e), nothing xs (λ i. h (suc i)) (omega (arith, ap g (some-injective x v e))))
+  alone (x ∷ xs) (suc j) v h e all =
+      let here : g x ≡ 0 = omega (arith, term_le g xs j v e) in
+      omega (arith, h 0 x refl here, alone xs j v (λ i. h (suc i)) e (omega arith))
+
+-- x does not stand among numbers below n, where it is not below n
+pub times-none : (x n : ℕ) (xs : List ℕ) → n ≤ x → Each (λ t. t < n) xs → times x xs ≡ 0
+times-none x n [] le h = refl
+times-none x n (y ∷ xs) le h = omega (arith, is-other x y (λ e. omega (arith, h.0)), times-none x n xs le h.1)

@@ -1,10 +1,11 @@
 -- What each call does to a pass, and when each refusal comes.
-use Rattle.std.specs.Prelude.{◌≡◌, ℕ, ◌+◌, ◌<◌, ◌≤◌, ◌⊎◌, Bool, true, false, [], length, min}
-use Rattle.sched_ticket.specs.Lists.{Each, below, AreBelow}
+use Rattle.std.specs.Prelude.{◌≡◌, ℕ, ◌+◌, ◌<◌, ◌≤◌, ◌⊎◌, Bool, true, false, List, [], length, min}
+use Rattle.sched_ticket.specs.Lists.{total, below, Each, AreBelow}
 use Rattle.sched_ticket.specs.View.{with_ticket, with_refusal, with_floor, with_refused_split}
-use Rattle.sched_ticket.specs.Rule.{found, IsRefusal}
+use Rattle.sched_ticket.specs.Rule.{IsRefusal}
 use Rattle.sched_ticket.specs.Steps.{IsLater, IsLimit}
 use Rattle.sched_ticket.specs.declared.view.Terms.{Terms}
+use Rattle.sched_ticket.specs.declared.view.Refusal.{Refusal}
 use Rattle.sched_ticket.specs.declared.view.View.{View}
 use Rattle.sched_ticket.specs.declared.fault.TicketFault.{TicketFault}
 use Rattle.sched_ticket.specs.declared.fault.TicketFault.TheVariants.{LimitTooLarge, NoMemory, TooManyPasses, Fixed}
@@ -63,17 +64,17 @@ pub record Raised (v : View) (to n : ℕ) (w : View) : Type 0 where
   pub reached : to ≤ n
   pub gained : w ≡ with_floor v n
 
--- The pass stands for all passes of its budget: every number that was drawn is one of its tickets or refusals, once.
+-- These are all tickets and refusals of a budget: every number that was drawn is one of them, once.
 -- `limit` is the limit at the close
-pub record IsWhole (k : Terms) (v : View) : Type 0 where
+pub record IsWhole (k : Terms) (tickets : List ℕ) (refusals : List Refusal) : Type 0 where
   pub limit : ℕ
-  pub numbers : (h : ℕ → ℕ) → found h v ≡ below h (length v.tickets + length v.refusals)
+  pub numbers : (h : ℕ → ℕ) → total h tickets + total (λ (r : Refusal). h r.number) refusals ≡ below h (length tickets + length refusals)
   pub rises : k.limit ≤ limit
   pub fixed : k.rises ≡ false → limit ≡ k.limit
   pub small : limit ≤ 4294967296
-  pub tickets : Each (λ t. t < limit) v.tickets
-  pub refusals : Each (IsRefusal k limit) v.refusals
-  pub few_tickets : length v.tickets ≤ limit
+  pub below_limit : Each (λ t. t < limit) tickets
+  pub high : Each (IsRefusal k limit) refusals
+  pub few : length tickets ≤ limit
   -- where the limit was never raised, the tickets are the numbers below the draws made and the limit
-  pub count : limit ≡ k.limit → length v.tickets ≡ min (length v.tickets + length v.refusals) limit
-  pub each_once : limit ≡ k.limit → AreBelow v.tickets (length v.tickets)
+  pub count : limit ≡ k.limit → length tickets ≡ min (length tickets + length refusals) limit
+  pub each_once : limit ≡ k.limit → AreBelow tickets (length tickets)

@@ -1,9 +1,10 @@
 //! The budget: making it, and closing it with the pass that stands for all.
-ghost use Rattle.std.specs.Prelude.{◌≡◌, ◌+◌, ◌<◌, ◌≤◌, true, false, length, min, IfOk, IfErr, OnOk};
+ghost use Rattle.std.specs.Prelude.{◌≡◌, ◌+◌, ◌<◌, ◌≤◌, true, false, length, min, IfOk, IfErr, OnOk, MatchBool};
 ghost use Rattle.sched_ticket.specs.View.{terms, first_view, with_mark};
 ghost use Rattle.sched_ticket.specs.Held.{IsOf};
 ghost use Rattle.sched_ticket.specs.Calls.{RefusesLimit, IsWhole};
 ghost use Rattle.sched_ticket.specs.Lists.{AreBelow};
+ghost use Rattle.sched_ticket.specs.declared.view.Mark.{Mark};
 
 use crate::fault::{PassesOut, TicketFault};
 use crate::pass::{Pass, Seat};
@@ -77,9 +78,62 @@ impl Budget {
                     table,
                     terms: about,
                 },
-                Pass::first(seat),
+                Pass::start(seat),
             )),
             Err(_) => Err(TicketFault::NoMemory),
         }
+    }
+
+    /// The number of tickets drawn, where this pass stands for all passes of the budget.
+    /// Otherwise another pass is alive or was dropped, and both come back, the pass marked as shared.
+    pub fn close(self, pass: Pass) -> Result<u64, (Budget, Pass, PassesOut)>
+        requires { IsOf self pass }
+        ensures count { IfOk result (λ n. n ≡ length pass.has.tickets) }
+        ensures whole { OnOk result (IsWhole self.terms pass.has.tickets pass.has.refusals) }
+        ensures fixed { IfOk result (λ n. self.terms.rises ≡ false → (n ≡ min (n + length pass.has.refusals) self.terms.limit) × AreBelow pass.has.tickets n) }
+        ensures err { IfErr result (λ r. (r.0 ≡ self) × IsOf r.0 r.1 × (r.1.has ≡ with_mark pass.has Mark.Shared)) }
+    {
+        let Pass {
+            mut seat,
+            tickets,
+            weight,
+            refused_splits,
+            refused,
+        } = pass;
+        if self.look(&mut seat, weight + refused_splits) {
+            self.take_apart(seat);
+            Ok(tickets)
+        } else {
+            let pass = Pass {
+                seat,
+                tickets,
+                weight,
+                refused_splits,
+                refused,
+            };
+            Err((self, pass, PassesOut))
+        }
+    }
+
+    /// Whether the passes that were made are those that the seat stands for. It marks the seat.
+    fn look(&self, seat: &mut Seat, known: u64) -> bool
+        requires of { seat.old.table_id ≡ self.now.table }
+        requires live { 0 < seat.old.me.0.weight }
+        requires known { known ≡ seat.old.me.0.weight + seat.old.me.0.refused_splits }
+        ensures seat { (seat.new.table_id ≡ seat.old.table_id) × (seat.new.me.1 ≡ seat.old.me.1) }
+        ensures mark { MatchBool result (seat.new.me.0 ≡ with_mark seat.old.me.0 Mark.Sole) (seat.new.me.0 ≡ with_mark seat.old.me.0 Mark.Shared) }
+    {
+        self.table.shared.load::<Look>(seat, 1) == known
+    }
+
+    /// Frees the table. Only a look gives the mark that it asks for.
+    fn take_apart(self, seat: Seat)
+        requires of { seat.table_id ≡ self.table }
+        requires live { 0 < seat.me.0.weight }
+        requires sole { seat.me.0.mark ≡ Mark.Sole }
+        ensures { IsWhole self.terms seat.me.0.tickets seat.me.0.refusals }
+    {
+        let Budget { table, terms: _ } = self;
+        table.close_with(seat).free();
     }
 }

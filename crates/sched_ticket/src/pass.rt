@@ -1,6 +1,6 @@
 //! The pass: the right to draw tickets of a budget, and what was drawn with it.
 ghost use Rattle.std.specs.Prelude.{◌≡◌, ◌+◌, ◌<◌, ◌≤◌, true, false, [], ◌∷◌, length, None, IfOk, IfErr, OnOk, IfSome, IfNone, MatchOption};
-ghost use Rattle.sched_ticket.specs.View.{first_view, part_of, both};
+ghost use Rattle.sched_ticket.specs.View.{fresh, part_of, both};
 ghost use Rattle.sched_ticket.specs.Steps.{IsSound};
 ghost use Rattle.sched_ticket.specs.Held.{IsOf};
 ghost use Rattle.sched_ticket.specs.Calls.{Asked, Drew, DrewNone, SplitRefused, Raised, RefusesRaise};
@@ -12,6 +12,9 @@ use crate::view::View;
 use std::marker::Model;
 
 pub(crate) type Seat = atomic_table::Seat<u8, View>;
+
+/// The most passes that are counted of a budget.
+const MAX_PASSES: u64 = 65536;
 
 /// The right to draw tickets of one budget. Contracts see it as its budget and what it has of it.
 /// A pass that is dropped keeps what it has, so its budget cannot be closed.
@@ -38,9 +41,10 @@ impl Model for Pass {
 }
 
 impl Pass {
-    pub(crate) fn first(seat: Seat) -> Pass
+    pub(crate) fn start(seat: Seat) -> Pass
         requires bare { seat.me.1 ≡ [] }
-        requires first { seat.me.0 ≡ first_view seat.me.0.terms }
+        requires new { seat.me.0 ≡ fresh seat.me.0.terms seat.me.0.floor 1 }
+        requires fixed { seat.me.0.terms.rises ≡ false → seat.me.0.floor ≡ seat.me.0.terms.limit }
         ensures { (result.table ≡ seat.table_id) × (result.has ≡ seat.me.0) }
     {
         Pass {
@@ -81,6 +85,68 @@ impl Pass {
             self.refused = true;
             None
         }
+    }
+
+    /// A new pass without tickets and without refusal. `TooManyPasses` where 65,536 passes were counted of this budget,
+    /// the first included, or where this pass was told so before. The tickets of this pass stay.
+    pub fn split(&mut self, budget: &Budget) -> Result<Pass, TicketFault>
+        requires { IsOf budget.now self.old }
+        ensures of { IsOf budget.now self.new }
+        ensures ok { IfOk result (λ p. IsOf budget.now p × (p.has ≡ part_of self.old.has)) }
+        ensures kept { OnOk result ((self.old.has.refused_splits ≡ 0) × (self.new.has ≡ self.old.has)) }
+        ensures err { IfErr result (λ e. (e ≡ TicketFault.TooManyPasses) × SplitRefused self.old.has self.new.has) }
+    {
+        if self.refused_splits > 0 {
+            return Err(TicketFault::TooManyPasses);
+        }
+        let made = budget.table.shared.fetch_add::<Count>(&mut self.seat, 1, 1);
+        if made >= MAX_PASSES {
+            self.refused_splits = 1;
+            return Err(TicketFault::TooManyPasses);
+        }
+        let seat = budget.table.shared.split_seat::<Part>(&mut self.seat);
+        Ok(Pass::start(seat))
+    }
+
+    /// One pass with what both have. It answers None where either did.
+    pub fn join(mut self, other: Pass, budget: &Budget) -> Pass
+        requires this { IsOf budget.now self }
+        requires that { IsOf budget.now other }
+        ensures of { IsOf budget.now result }
+        ensures both { result.has ≡ both self.has other.has }
+        ensures sound { IsSound result.has }
+    {
+        let Pass {
+            seat,
+            tickets,
+            weight,
+            refused_splits,
+            refused,
+        } = other;
+        budget.table.shared.join_seat::<Merge>(&mut self.seat, seat);
+        budget.table.shared.load::<Learn>(&mut self.seat, 0);
+        self.tickets += tickets;
+        self.weight += weight;
+        self.refused_splits += refused_splits;
+        self.refused |= refused;
+        self
+    }
+
+    /// Makes the limit of a rising budget the greater of itself and `to`, and answers it. It waits for nobody.
+    pub fn raise(&mut self, budget: &Budget, to: u64) -> Result<u64, TicketFault>
+        requires { IsOf budget.now self.old }
+        ensures of { IsOf budget.now self.new }
+        ensures ok { IfOk result (λ n. Raised self.old.has to n self.new.has) }
+        ensures err { IfErr result (λ e. RefusesRaise budget.now.terms.rises to e × (self.new ≡ self.old)) }
+    {
+        if to > MAX_LIMIT {
+            return Err(TicketFault::LimitTooLarge);
+        }
+        if !budget.terms.rises {
+            return Err(TicketFault::Fixed);
+        }
+        let before = budget.table.shared.fetch_max::<Raise>(&mut self.seat, 2, to);
+        Ok(before.max(to))
     }
 }
 
