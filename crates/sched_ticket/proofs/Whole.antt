@@ -16,7 +16,7 @@ use Rattle.sched_ticket.specs.declared.view.View.{View}
 use Rattle.sched_ticket.proofs.Sums.{term_le, alone, total-one, below-one, below-is, below-once_below, is-other, once_below-yes, once_below-no, total-once_below, times-none}
 use Rattle.sched_ticket.proofs.Totals.{tickets_le}
 
-no_refusal : (xs : List Refusal) → length xs ≤ 0 → xs ≡ []
+pub no_refusal : (xs : List Refusal) → length xs ≤ 0 → xs ≡ []
 no_refusal [] h = refl
 no_refusal (x ∷ xs) h = absurd (omega arith)
 

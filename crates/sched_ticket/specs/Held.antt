@@ -42,3 +42,10 @@ pub record IsCounted (m : Sat) (n w o : ℕ) (r : Bool) : Type 0 where
   pub few_refused_splits : o ≤ w
   pub unsole : m.0.mark ≢ Sole
   pub fixed : m.0.terms.rises ≡ false → m.0.floor ≡ m.0.terms.limit
+
+-- the name of no budget
+abbrev pub nobody : Name
+nobody = record {
+  table = record { words = 0; slots = 0; views_name = 0; atom = 0; block = 0; offset = 0; slot_names = [] };
+  terms = record { limit = 0; rises = false };
+}

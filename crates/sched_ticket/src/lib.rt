@@ -8,12 +8,16 @@
 
 mod budget;
 mod fault;
+pub mod laws;
+pub mod locked;
+mod naming;
 mod pass;
 mod rule;
 mod view;
 
 pub use budget::{Budget, MAX_LIMIT};
 pub use fault::{PassesOut, TicketFault};
+pub use naming::Naming;
 pub use pass::Pass;
 pub use rule::Rule;
 pub use view::{Mark, Refusal, Terms, View};
