@@ -29,3 +29,7 @@ once_below x n = if nat_lt x n then 1 else 0
 -- the list has the numbers below n, each once, and no other
 abbrev pub AreBelow : List ℕ → ℕ → Type 0
 AreBelow xs n = (x : ℕ) → times x xs ≡ once_below x n
+
+-- the same numbers, each as often
+abbrev pub IsSame : List ℕ → List ℕ → Type 0
+IsSame xs ys = (h : ℕ → ℕ) → total h xs ≡ total h ys

@@ -14,6 +14,7 @@ mod naming;
 mod pass;
 mod rule;
 mod view;
+pub mod workers;
 
 pub use budget::{Budget, MAX_LIMIT};
 pub use fault::{PassesOut, TicketFault};
