@@ -80,14 +80,14 @@ module _ (k : Terms) where
         each = λ by u there. ⊎_elim
             (λ (t : (by ≡ j) × (w ≡ u)). subst (Fits k m' l' (weights (set views j w))) t.1 (fits wide))
             (λ (t : (by ≢ j) × (get_elem? views by ≡ some u)). Fits-on m m' l l' (weights views) (weights (set views j w)) v.weight u (o.each by u t.1) more up (omega arith) live
-                (omega (arith, terms_le (λ (x : View). x.weight) views j by v u t.0 at t.1)))
+            (omega (arith, terms_le (λ (x : View). x.weight) views j by v u t.0 at t.1)))
             (at_set views j by w u there);
       }
 
   -- a step is allowed if it is at each three words
   allows : (n id : ℕ) (m : Sat) (i : ℕ) (f : ℕ → ℕ) (then : ℕ → Sat → Type 0)
       → ((d made l : ℕ) (views : List View) → IsOrderly k d made l views → get_elem? views id ≡ some m.0
-          → (w : View) × ((homes : List (Option ℕ)) → IsKept k (record { words = set (d ∷ made ∷ l ∷ []) i (f (slice_index (d ∷ made ∷ l ∷ []) i)); homes = homes; views = set views id w })) × then (slice_index (d ∷ made ∷ l ∷ []) i) (w, m.1))
+      → (w : View) × ((homes : List (Option ℕ)) → IsKept k (record { words = set (d ∷ made ∷ l ∷ []) i (f (slice_index (d ∷ made ∷ l ∷ []) i)); homes = homes; views = set views id w })) × then (slice_index (d ∷ made ∷ l ∷ []) i) (w, m.1))
       → Allows (IsKept k) n id m i f then
   allows n id m i f then go s kept wide at fits =
       let there = go kept.drawn kept.made kept.limit s.views kept.orderly at in
@@ -104,10 +104,10 @@ module _ (k : Terms) where
       let few = drawn_le k d made l views o in
       let word : (d + 1) % 2 ^ 64 ∷ made ∷ l ∷ [] ≡ (d + 1) ∷ made ∷ l ∷ [] = ap (λ (x : ℕ). x ∷ made ∷ l ∷ []) (mod-eq_of_lt (omega (arith, o.small))) in
       let next : (w : View) → v.weight ≡ w.weight → v.refused_splits ≡ w.refused_splits → ((h : ℕ → ℕ) → found h w ≡ found h v + h d) → (weights (set views id w) ≡ weights views → Fits k made l (weights (set views id w)) w)
-              → (homes : List (Option ℕ)) → IsKept k (record { words = (d + 1) % 2 ^ 64 ∷ made ∷ l ∷ []; homes = homes; views = set views id w }) =
-          λ w same splits more fits homes. kept (d + 1) made l (set views id w) homes ((d + 1) % 2 ^ 64 ∷ made ∷ l ∷ []) word
-              (moved d made l views id v w (d + 1) made l o at live (omega arith) (omega (arith, o.few_passes)) (λ h. omega (arith, more h, below_more h d)) (omega arith) (omega arith) (omega arith) o.fixed o.small
-                  (λ wide. fits (omega arith))) in
+      → (homes : List (Option ℕ)) → IsKept k (record { words = (d + 1) % 2 ^ 64 ∷ made ∷ l ∷ []; homes = homes; views = set views id w }) =
+      λ w same splits more fits homes. kept (d + 1) made l (set views id w) homes ((d + 1) % 2 ^ 64 ∷ made ∷ l ∷ []) word
+      (moved d made l views id v w (d + 1) made l o at live (omega arith) (omega (arith, o.few_passes)) (λ h. omega (arith, more h, below_more h d)) (omega arith) (omega arith) (omega arith) o.fixed o.small
+      (λ wide. fits (omega arith))) in
       let later = is_later k d made l views o id v at in
       dite (dec_le v.floor d)
       (λ high. (
@@ -203,8 +203,7 @@ module _ (k : Terms) where
   pub learns_ok : (n id : ℕ) (m : Sat) (st : Step ℕ) → 0 < m.0.weight → Allows (IsKept k) n id m 0 (λ x. x) (learns st m)
   learns_ok n id m st live = allows n id m 0 (λ x. x) (learns st m) (λ d made l views o at.
       let v : View = m.0 in
-      let f : Fits k made l (weights views) v = o.each id v at in
-      (
+      let f : Fits k made l (weights views) v = o.each id v at in (
         v,
         (λ homes. kept d made l (set views id v) homes (d ∷ made ∷ l ∷ []) refl (told d made l views id v v.floor v.mark v.readings l o at live (omega arith) f.floor (omega arith) o.fixed o.small f.mark)),
         (refl, is_sound k d made l views o id v at),
@@ -219,7 +218,7 @@ module _ (k : Terms) where
       let rest = rest_le (λ (u : View). u.refused_splits) (λ (u : View). u.weight) views id v (λ i u there. (o.each i u there).few_refused_splits) at in
       let counted : made ≡ weights views + refused_splits views = o.counted in
       let marks : (mark : Mark) → IsMarked (weights views) mark v.weight → (homes : List (Option ℕ)) → IsKept k (record { words = d ∷ made ∷ l ∷ []; homes = homes; views = set views id (with_mark v mark) }) =
-          λ mark marked homes. kept d made l (set views id (with_mark v mark)) homes (d ∷ made ∷ l ∷ []) refl (told d made l views id v v.floor mark v.readings l o at live (omega arith) f.floor (omega arith) o.fixed o.small marked) in
+      λ mark marked homes. kept d made l (set views id (with_mark v mark)) homes (d ∷ made ∷ l ∷ []) refl (told d made l views id v v.floor mark v.readings l o at live (omega arith) f.floor (omega arith) o.fixed o.small marked) in
       dite (ℕ_discrete made (v.weight + v.refused_splits))
       (λ e. (with_mark v Sole, marks Sole (omega arith), ((λ _. refl), λ ne. absurd (ne e))))
       (λ ne. (with_mark v Shared, marks Shared (lt_of_not-le (λ le. ne (omega arith))), ((λ e. absurd (ne e)), λ _. refl))))
@@ -227,8 +226,7 @@ module _ (k : Terms) where
   pub reads_limit_ok : (n id : ℕ) (m : Sat) (st : Step ℕ) → 0 < m.0.weight → m.0.terms ≡ k → Allows (IsKept k) n id m 2 (λ x. x) (reads_limit st m)
   reads_limit_ok n id m st live of = allows n id m 2 (λ x. x) (reads_limit st m) (λ d made l views o at.
       let v : View = m.0 in
-      let f : Fits k made l (weights views) v = o.each id v at in
-      (
+      let f : Fits k made l (weights views) v = o.each id v at in (
         with_floor v l,
         (λ homes. kept d made l (set views id (with_floor v l)) homes (d ∷ made ∷ l ∷ []) refl (told d made l views id v l v.mark (v.readings + 1) l o at live f.floor (omega arith) (omega arith) o.fixed o.small f.mark)),
         (record { rises = f.floor; fixed = λ e. o.fixed (ap (λ (x : Terms). x.rises) (sym of) ∙ e) ∙ ap (λ (x : Terms). x.limit) (sym of); small = o.small }, refl),
@@ -241,8 +239,7 @@ module _ (k : Terms) where
       let l' : ℕ = max l st.first in
       let up : l ≤ l' = le-max_left l st.first in
       let least : l' ≤ 4294967296 = omega (arith, o.small) in
-      let never : k.rises ≡ false → ⊥ = λ e. let no : true ≡ false = sym rises ∙ e in cc in
-      (
+      let never : k.rises ≡ false → ⊥ = λ e. let no : true ≡ false = sym rises ∙ e in cc in (
         with_floor v l',
         (λ homes. kept d made l' (set views id (with_floor v l')) homes (d ∷ made ∷ l' ∷ []) refl
             (told d made l views id v l' v.mark (v.readings + 1) l' o at live (omega (arith, f.floor)) (omega arith) up (λ e. absurd (never e)) least f.mark)),
@@ -298,9 +295,9 @@ module _ (k : Terms) where
           small = o.small;
           each = λ by u there. ⊎_elim
               (λ (t : get_elem? (set views id left) by ≡ some u). ⊎_elim
-                  (λ (e : (by ≡ id) × (left ≡ u)). subst F e.1 fits-left)
-                  (λ (e : (by ≢ id) × (get_elem? views by ≡ some u)). subst (λ (all : ℕ). Fits k kept.made kept.limit all u) (sym same) (o.each by u e.1))
-                  (at_set views id by left u t))
+              (λ (e : (by ≡ id) × (left ≡ u)). subst F e.1 fits-left)
+              (λ (e : (by ≢ id) × (get_elem? views by ≡ some u)). subst (λ (all : ℕ). Fits k kept.made kept.limit all u) (sym same) (o.each by u e.1))
+              (at_set views id by left u t))
               (λ (e : right ≡ u). subst F e fits-right)
               (at_snoc (set views id left) right u by there);
         };
@@ -330,7 +327,7 @@ module _ (k : Terms) where
       let middle : List View = set views id joined in
       let after : List View = set middle other blank in
       let sums : (p : View → ℕ) → total p after + p w + p v ≡ total p views + p joined + p blank =
-          λ p. omega (arith, total-set p views id v joined at, total-set p middle other w blank there) in
+      λ p. omega (arith, total-set p views id v joined at, total-set p middle other w blank there) in
       let same : weights after ≡ weights views = omega (arith, sums (λ (u : View). u.weight)) in
       let F : View → Type 0 = Fits k kept.made kept.limit (weights after) in
       let fits-joined : F joined = record {
@@ -359,9 +356,9 @@ module _ (k : Terms) where
           each = λ by u there'. ⊎_elim
               (λ (e : (by ≡ other) × (blank ≡ u)). subst F e.1 (Fits-blank kept.made kept.limit (weights after)))
               (λ (e : (by ≢ other) × (get_elem? middle by ≡ some u)). ⊎_elim
-                  (λ (t : (by ≡ id) × (joined ≡ u)). subst F t.1 fits-joined)
-                  (λ (t : (by ≢ id) × (get_elem? views by ≡ some u)). subst (λ (all : ℕ). Fits k kept.made kept.limit all u) (sym same) (o.each by u t.1))
-                  (at_set views id by joined u e.1))
+              (λ (t : (by ≡ id) × (joined ≡ u)). subst F t.1 fits-joined)
+              (λ (t : (by ≢ id) × (get_elem? views by ≡ some u)). subst (λ (all : ℕ). Fits k kept.made kept.limit all u) (sym same) (o.each by u t.1))
+              (at_set views id by joined u e.1))
               (at_set middle other by blank u there');
         };
       }

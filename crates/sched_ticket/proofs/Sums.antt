@@ -86,7 +86,7 @@ below-is x zero = sym (once_below-no x 0 (omega arith))
 below-is x (suc n) = dite (ℕ_discrete n x)
     (λ e. omega (arith, below-is x n, is-same x n e, once_below-no x n (omega arith), once_below-yes x (suc n) (omega arith)))
     (λ ne. dite (dec_le n x) (λ le. omega (arith, below-is x n, is-other x n ne, once_below-no x n le, once_below-no x (suc n) (omega arith)))
-        (λ lt. omega (arith, below-is x n, is-other x n ne, once_below-yes x n (lt_of_not-le lt), once_below-yes x (suc n) (omega (arith, lt_of_not-le lt)))))
+    (λ lt. omega (arith, below-is x n, is-other x n ne, once_below-yes x n (lt_of_not-le lt), once_below-yes x (suc n) (omega (arith, lt_of_not-le lt)))))
 
 pub once_below-le : (x n : ℕ) → once_below x n ≤ 1
 once_below-le x n = dite (dec_le n x) (λ le. omega (arith, once_below-no x n le)) (λ lt. omega (arith, once_below-yes x n (lt_of_not-le lt)))

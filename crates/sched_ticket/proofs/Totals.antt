@@ -19,13 +19,13 @@ module _ (k : Terms) (drawn made limit : ℕ) (views : List View) (o : IsOrderly
   pub tickets_le : total (λ (v : View). length v.tickets) views ≤ limit
   tickets_le =
       let each : total (λ (v : View). length v.tickets) views ≤ total (found (λ x. once_below x limit)) views =
-          total-le (λ (v : View). length v.tickets) (found (λ x. once_below x limit)) views (λ i u at. omega (arith, total-once_below limit u.tickets (o.each i u at).tickets)) in
+      total-le (λ (v : View). length v.tickets) (found (λ x. once_below x limit)) views (λ i u at. omega (arith, total-once_below limit u.tickets (o.each i u at).tickets)) in
       omega (arith, o.numbers (λ x. once_below x limit), below-once_below limit drawn)
 
   pub drawn_le : drawn ≤ limit + 65536
   drawn_le =
       let each : total (found (λ _. 1)) views ≤ total (λ (v : View). length v.tickets + v.weight) views =
-          total-le (found (λ _. 1)) (λ (v : View). length v.tickets + v.weight) views (λ i u at. omega (arith, found-one u, (o.each i u at).few_refusals)) in
+      total-le (found (λ _. 1)) (λ (v : View). length v.tickets + v.weight) views (λ i u at. omega (arith, found-one u, (o.each i u at).few_refusals)) in
       let parts = total-plus (λ (v : View). length v.tickets) (λ (v : View). v.weight) views in
       omega (arith, o.numbers (λ _. 1), below-one drawn, tickets_le, o.few_passes)
 

@@ -42,7 +42,7 @@ numbers_stand_once k s kept x = kept.orderly.numbers (is x) ∙ below-is x kept.
 pub draws_are_counted : DrawsAreCounted
 draws_are_counted k s kept =
     let each : total (found (λ _. 1)) s.views ≡ total (λ (v : View). length v.tickets + length v.refusals) s.views =
-        total-same (found (λ _. 1)) (λ (v : View). length v.tickets + length v.refusals) s.views (λ i u at. found-one u) in
+    total-same (found (λ _. 1)) (λ (v : View). length v.tickets + length v.refusals) s.views (λ i u at. found-one u) in
     omega (arith, kept.orderly.numbers (λ _. 1), below-one kept.drawn, total-plus (λ (v : View). length v.tickets) (λ (v : View). length v.refusals) s.views)
 
 pub tickets_stand_once : TicketsStandOnce
@@ -55,15 +55,15 @@ tickets_stand_once k s kept keeps x =
     let all : total drawn s.views + total refused s.views ≡ once_below x kept.drawn = sym (total-plus drawn refused s.views) ∙ (o.numbers (is x) ∙ below-is x kept.drawn) in
     dite (dec_le L x)
     (λ high.
-        let none : total drawn s.views ≡ total (λ (v : View). 0) s.views = total-same drawn (λ (v : View). 0) s.views (λ i u at. times-none x L u.tickets high (o.each i u at).tickets) in
-        none ∙ zeros s.views ∙ sym (once_below-no x (min kept.drawn k.limit) (omega arith)))
+    let none : total drawn s.views ≡ total (λ (v : View). 0) s.views = total-same drawn (λ (v : View). 0) s.views (λ i u at. times-none x L u.tickets high (o.each i u at).tickets) in
+    none ∙ zeros s.views ∙ sym (once_below-no x (min kept.drawn k.limit) (omega arith)))
     (λ not.
-        let low : x < L = lt_of_not-le not in
-        let none : total refused s.views ≡ total (λ (v : View). 0) s.views = total-same refused (λ (v : View). 0) s.views (λ i u at. other_refusals k L first x u.refusals low (o.each i u at).refusals) in
-        let none' : total refused s.views ≡ 0 = none ∙ zeros s.views in
-        dite (dec_le kept.drawn x)
-        (λ past. omega (arith, once_below-no x kept.drawn past, once_below-no x (min kept.drawn k.limit) (omega arith)))
-        (λ near. let early : x < kept.drawn = lt_of_not-le near in omega (arith, once_below-yes x kept.drawn early, once_below-yes x (min kept.drawn k.limit) (omega arith))))
+    let low : x < L = lt_of_not-le not in
+    let none : total refused s.views ≡ total (λ (v : View). 0) s.views = total-same refused (λ (v : View). 0) s.views (λ i u at. other_refusals k L first x u.refusals low (o.each i u at).refusals) in
+    let none' : total refused s.views ≡ 0 = none ∙ zeros s.views in
+    dite (dec_le kept.drawn x)
+    (λ past. omega (arith, once_below-no x kept.drawn past, once_below-no x (min kept.drawn k.limit) (omega arith)))
+    (λ near. let early : x < kept.drawn = lt_of_not-le near in omega (arith, once_below-yes x kept.drawn early, once_below-yes x (min kept.drawn k.limit) (omega arith))))
   where
     zeros : (l : List View) → total (λ (v : View). 0) l ≡ 0
     zeros [] = refl

@@ -53,7 +53,7 @@ module _ (k : Terms) (s : State ℕ View) (kept : IsKept k s) (id : ℕ) (v : Vi
     count_is : length v.tickets ≡ min (length v.tickets + length v.refusals) kept.limit
     count_is =
         let low : length v.tickets ≡ min kept.drawn kept.limit =
-            omega (arith, numbers (λ x. once_below x kept.limit), total-once_below kept.limit v.tickets fits.tickets, high_refusals k kept.limit first v.refusals fits.refusals, below-once_below kept.limit kept.drawn) in
+        omega (arith, numbers (λ x. once_below x kept.limit), total-once_below kept.limit v.tickets fits.tickets, high_refusals k kept.limit first v.refusals fits.refusals, below-once_below kept.limit kept.drawn) in
         low ∙ ap (λ (d : ℕ). min d kept.limit) drawn_is
 
     once_each : AreBelow v.tickets (length v.tickets)
@@ -64,9 +64,9 @@ module _ (k : Terms) (s : State ℕ View) (kept : IsKept k s) (id : ℕ) (v : Vi
         dite (dec_le kept.limit x)
         (λ high. omega (arith, times-none x kept.limit v.tickets high fits.tickets, once_below-no x n (omega arith)))
         (λ not. let low : x < kept.limit = lt_of_not-le not in dite (dec_le kept.drawn x)
-            (λ past. omega (arith, once_below-no x kept.drawn past, once_below-no x n (omega arith)))
-            (λ near. let early : x < kept.drawn = lt_of_not-le near in
-                omega (arith, once_below-yes x kept.drawn early, once_below-yes x n (omega arith), other_refusals k kept.limit first x v.refusals low fits.refusals)))
+        (λ past. omega (arith, once_below-no x kept.drawn past, once_below-no x n (omega arith)))
+        (λ near. let early : x < kept.drawn = lt_of_not-le near in
+        omega (arith, once_below-yes x kept.drawn early, once_below-yes x n (omega arith), other_refusals k kept.limit first x v.refusals low fits.refusals)))
 
   pub is_whole : IsWhole k v.tickets v.refusals
   is_whole = record {

@@ -58,10 +58,7 @@ impl Budget {
         ensures limit { OnOk result (limit ≤ 4294967296) }
         ensures err { IfErr result (RefusesLimit limit) }
     {
-        Budget::open(
-            alloc,
-            Terms { limit, rises: true },
-        )
+        Budget::open(alloc, Terms { limit, rises: true })
     }
 
     fn open(alloc: Global, about: Terms) -> Result<(Budget, Pass), TicketFault>

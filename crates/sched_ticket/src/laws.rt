@@ -6,34 +6,29 @@ ghost use Rattle.sched_ticket.specs.Laws.{NumbersStandOnce, DrawsAreCounted, Tic
 pub fn numbers_stand_once()
     ensures once { NumbersStandOnce }
     ensures counted { DrawsAreCounted }
-{
-}
+{}
 
 /// Of a budget that keeps its limit the tickets of all passes are the numbers below the draws made and the limit, each
 /// in one pass, and a pass is refused only where more was drawn than the limit.
 pub fn tickets_stand_once()
     ensures once { TicketsStandOnce }
     ensures refusals { RefusalsAreLate }
-{
-}
+{}
 
 /// The tickets never pass the limit, of a rising budget its limit at that moment.
 pub fn tickets_stay_below()
     ensures all { TicketsStayBelow }
     ensures each { EachTicketIsBelow }
-{
-}
+{}
 
 /// No word wraps: at most 65,536 passes are counted, and each is refused once.
 pub fn words_stay_small()
     ensures words { WordsStaySmall }
     ensures splits { SplitsAreRefusedLate }
-{
-}
+{}
 
 /// A pass that a look marked sole stands for all, and beside one that it marked shared stands another.
 pub fn marks_are_true()
     ensures sole { SoleIsAlone }
     ensures shared { SharedHasAnother }
-{
-}
+{}

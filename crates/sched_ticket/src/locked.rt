@@ -74,11 +74,7 @@ impl<N: Naming> Job<N> {
 }
 
 /// Draws a ticket for the job behind the lock.
-pub fn draw_locked<N: Naming>(
-    rt: &impl Wait,
-    budget: &Budget,
-    job: &Mutex<Job<N>>,
-) -> Option<u64>
+pub fn draw_locked<N: Naming>(rt: &impl Wait, budget: &Budget, job: &Mutex<Job<N>>) -> Option<u64>
     requires { budget.now ≡ N.budget }
 {
     job.lock(rt).draw(budget)
@@ -93,10 +89,7 @@ fn draw_each<N: Naming>(
 ) -> (Option<u64>, Option<u64>)
     requires { budget.now ≡ N.budget }
 {
-    (
-        draw_locked(rt, budget, one),
-        draw_locked(rt, budget, two),
-    )
+    (draw_locked(rt, budget, one), draw_locked(rt, budget, two))
 }
 
 /// Two threads draw for two jobs under their locks. What the budget gave out is what the jobs were granted.

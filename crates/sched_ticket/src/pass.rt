@@ -145,7 +145,10 @@ impl Pass {
         if !budget.terms.rises {
             return Err(TicketFault::Fixed);
         }
-        let before = budget.table.shared.fetch_max::<Raise>(&mut self.seat, 2, to);
+        let before = budget
+            .table
+            .shared
+            .fetch_max::<Raise>(&mut self.seat, 2, to);
         Ok(before.max(to))
     }
 }

@@ -1,5 +1,5 @@
 //! Budgets at work, with real threads.
-ghost use Rattle.std.specs.Prelude.{All, IfOk, IfSome};
+ghost use Rattle.std.specs.Prelude.{All, IfOk};
 ghost use Rattle.sched_ticket.specs.Held.{IsOf};
 
 use super::*;
@@ -63,8 +63,14 @@ fn no_ticket(rt: HostRuntime) -> Result<(), Fail> {
 
 #[test]
 fn limits(rt: HostRuntime) -> Result<(), Fail> {
-    assert_eq!(rt; Budget::new(rt.alloc(), 4294967297).err(), Some(TicketFault::LimitTooLarge));
-    assert_eq!(rt; Budget::rising(rt.alloc(), 4294967297).err(), Some(TicketFault::LimitTooLarge));
+    assert_eq!(rt;
+        Budget::new(rt.alloc(), 4294967297).err(),
+        Some(TicketFault::LimitTooLarge)
+    );
+    assert_eq!(rt;
+        Budget::rising(rt.alloc(), 4294967297).err(),
+        Some(TicketFault::LimitTooLarge)
+    );
     let (budget, pass) = Budget::new(rt.alloc(), 4294967296)?;
     assert_eq!(rt; budget.close(pass).ok(), Some(0));
     let (budget, mut pass) = Budget::rising(rt.alloc(), 4294967296)?;
@@ -86,7 +92,10 @@ fn rises_past_one(rt: HostRuntime) -> Result<(), Fail> {
     assert_eq!(rt; b.draw(&budget), None);
     assert_eq!(rt; a.draw(&budget), None);
     assert_eq!(rt; b.raise(&budget, 2), Ok(3));
-    assert_eq!(rt; b.raise(&budget, 4294967297), Err(TicketFault::LimitTooLarge));
+    assert_eq!(rt;
+        b.raise(&budget, 4294967297),
+        Err(TicketFault::LimitTooLarge)
+    );
     let all = a.join(b, &budget).join(c, &budget);
     assert_eq!(rt; budget.close(all).ok(), Some(2));
     Ok(())
@@ -111,7 +120,10 @@ fn keeps_its_limit(rt: HostRuntime) -> Result<(), Fail> {
     let (budget, mut pass) = Budget::new(rt.alloc(), 1)?;
     assert_eq!(rt; pass.raise(&budget, 2), Err(TicketFault::Fixed));
     assert_eq!(rt; pass.raise(&budget, 0), Err(TicketFault::Fixed));
-    assert_eq!(rt; pass.raise(&budget, 4294967297), Err(TicketFault::LimitTooLarge));
+    assert_eq!(rt;
+        pass.raise(&budget, 4294967297),
+        Err(TicketFault::LimitTooLarge)
+    );
     assert_eq!(rt; pass.draw(&budget), Some(0));
     assert_eq!(rt; pass.draw(&budget), None);
     assert_eq!(rt; budget.close(pass).ok(), Some(1));
@@ -289,19 +301,20 @@ fn act(alloc: Global, budget: &Budget, turn: Turn) -> Result<(Pass, Vec<u64>), A
     Ok((pass, drawn))
 }
 
-fn turns(alloc: Global, budget: &Budget, mut pass: Pass) -> Result<Vec<Turn>, AllocError>
-    requires { IsOf budget.now pass }
-    ensures { IfOk result (λ v. All (λ t. IsOf budget.now t.pass) v.items) }
+// Four that draw and one that raises the limit.
+fn turns(alloc: Global, budget: &Budget, pass: &mut Pass) -> Result<Vec<Turn>, AllocError>
+    requires { IsOf budget.now pass.old }
+    ensures of { IsOf budget.now pass.new }
+    ensures turns { IfOk result (λ v. All (λ t. IsOf budget.now t.pass) v.items) }
 {
     let mut turns = Vec::new(alloc);
-    for _ in 0..4 {
+    for k in 0..5 {
         let Ok(pass) = pass.split(budget) else {
             return Err(AllocError);
         };
-        turns.push(Turn { pass, to: None }).map_err(AllocError::from)?;
+        let to = if k == 4 { Some(200) } else { None };
+        turns.push(Turn { pass, to }).map_err(AllocError::from)?;
     }
-    let to = Some(200);
-    turns.push(Turn { pass, to }).map_err(AllocError::from)?;
     Ok(turns)
 }
 
@@ -320,34 +333,36 @@ fn act_beside<R: Threads + Sync>(
 fn join_all(
     alloc: Global,
     budget: &Budget,
+    mut pass: Pass,
     mut done: Vec<Result<(Pass, Vec<u64>), AllocError>>,
-) -> Result<Option<(Pass, Vec<Vec<u64>>)>, AllocError>
-    requires { All (λ r. IfOk r (λ t. IsOf budget.now t.0)) done.items }
-    ensures { IfOk result (λ o. IfSome o (λ r. IsOf budget.now r.0)) }
+) -> Result<(Pass, Vec<Vec<u64>>), AllocError>
+    requires pass { IsOf budget.now pass }
+    requires done { All (λ r. IfOk r (λ t. IsOf budget.now t.0)) done.items }
+    ensures { IfOk result (λ r. IsOf budget.now r.0) }
 {
     let mut lists = Vec::new(alloc);
-    let Some(last) = done.pop() else {
-        return Ok(None);
-    };
-    let (mut pass, drawn) = last?;
-    lists.push(drawn)?;
     while let Some(next) = done.pop() {
         let (other, drawn) = next?;
         pass = pass.join(other, budget);
         lists.push(drawn)?;
     }
-    Ok(Some((pass, lists)))
+    Ok((pass, lists))
 }
 
 #[test]
 fn four_draw_and_one_raises(rt: HostRuntime) -> Result<(), Fail> {
-    let (budget, pass) = Budget::rising(rt.alloc(), 100)?;
-    let turns = turns(rt.alloc(), &budget, pass)?;
+    let (budget, mut pass) = Budget::rising(rt.alloc(), 100)?;
+    let turns = turns(rt.alloc(), &budget, &mut pass)?;
     let done = act_beside(&rt, rt.alloc(), &budget, turns)?;
-    let (pass, lists) = join_all(rt.alloc(), &budget, done)?.ok_or("five passes")?;
+    let (pass, lists) = join_all(rt.alloc(), &budget, pass, done)?;
     let all = all_of(rt.alloc(), lists.as_slice())?;
     assert!(rt; 100 <= all.len() && all.len() <= 200);
-    assert!(rt; all.iter().enumerate().take(100).all(|(i, t)| *t == i as u64));
+    assert!(rt;
+        all.iter()
+            .enumerate()
+            .take(100)
+            .all(|(i, t)| *t == i as u64)
+    );
     assert!(rt; all.windows(2).all(|w| w[0] < w[1]));
     assert!(rt; all.iter().all(|t| *t < 200));
     assert_eq!(rt; budget.close(pass).ok(), Some(all.len() as u64));

@@ -130,10 +130,7 @@ fn gather(
     let mut lists = Vec::new(alloc);
     lists.push(drawn)?;
     while let Some(haul) = hauls.pop() {
-        let Haul {
-            pass: other,
-            drawn,
-        } = haul?;
+        let Haul { pass: other, drawn } = haul?;
         pass = pass.join(other, budget);
         lists.push(drawn)?;
     }

@@ -16,7 +16,14 @@ loop-haul-preserved c =
       hauls = grind (arith, common_steps);
       same = λ h.
           let numbers : Vec ℕ Global → ℕ = λ xs. total h xs.items in
-          omega (arith, ap (total numbers) c.in_ok-push-2.ensures.items, total-append numbers c.loop-haul.lists.items (haul.drawn ∷ []), before.same h, haul.same h,
-              ap (λ (v : View). total h v.tickets) joined, total-append h mine.tickets haul.pass.has.tickets);
+          omega (
+            arith,
+            ap (total numbers) c.in_ok-push-2.ensures.items,
+            total-append numbers c.loop-haul.lists.items (haul.drawn ∷ []),
+            before.same h,
+            haul.same h,
+            ap (λ (v : View). total h v.tickets) joined,
+            total-append h mine.tickets haul.pass.has.tickets,
+          );
       refused = omega (arith, ap (λ (v : View). length v.refusals) joined, length-append mine.refusals haul.pass.has.refusals, before.refused);
     }
