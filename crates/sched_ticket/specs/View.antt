@@ -14,7 +14,7 @@ refusal number floor = record { number = number; floor = floor }
 
 -- a pass that has drawn nothing
 abbrev pub fresh : Terms → ℕ → ℕ → View
-fresh k floor weight = record { terms = k; tickets = []; refusals = []; floor = floor; weight = weight; refused_splits = 0; mark = Unseen; readings = 0 }
+fresh k floor weight = record { terms = k; tickets = []; refusals = []; floor = floor; weight = weight; splits = 0; refused_splits = 0; mark = Unseen; readings = 0 }
 
 -- the first pass of a budget
 abbrev pub first_view : Terms → View
@@ -42,8 +42,13 @@ with_refused_split v = record v { refused_splits = v.refused_splits + 1 }
 abbrev pub heavier : View → View
 heavier v = record v { weight = v.weight + 1 }
 
+-- a pass that has given a part of itself away
 abbrev pub lighter : View → View
-lighter v = record v { weight = v.weight - 1 }
+lighter v = record v { weight = v.weight - 1; splits = v.splits + 1 }
+
+-- a pass after a split: all as before, but that one more was split from it
+abbrev pub with_split : View → View
+with_split v = record v { splits = v.splits + 1 }
 
 -- the pass that is split from another
 abbrev pub part_of : View → View
@@ -57,6 +62,7 @@ both v w = record {
   refusals = v.refusals ++ w.refusals;
   floor = max v.floor w.floor;
   weight = v.weight + w.weight;
+  splits = v.splits + w.splits;
   refused_splits = v.refused_splits + w.refused_splits;
   mark = Unseen;
   readings = v.readings + w.readings;

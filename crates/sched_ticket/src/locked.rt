@@ -1,7 +1,7 @@
 //! The smallest use of a named budget: jobs under locks, whose passes are of one budget by their type.
-ghost use Rattle.std.specs.Prelude.{◌≡◌, ◌+◌, ◌≤◌, false, length, IfOk, IfSome, IfNone};
+ghost use Rattle.std.specs.Prelude.{◌≡◌, ◌+◌, ◌≤◌, false, length, IfOk, IfErr, IfSome, IfNone};
 ghost use Rattle.sched_ticket.specs.Held.{IsOf};
-ghost use Rattle.sched_ticket.specs.Calls.{Drew, DrewNone};
+ghost use Rattle.sched_ticket.specs.Calls.{Drew, DrewNone, RefusesLimit};
 
 use crate::budget::Budget;
 use crate::fault::TicketFault;
@@ -133,6 +133,7 @@ pub fn drawn_by_two<R: Threads + Wait + Sync>(
 ) -> Result<Option<(u64, u64, u64)>, TicketFault>
     ensures granted { IfOk result (λ o. IfSome o (λ r. r.0 ≡ r.1 + r.2)) }
     ensures limit { IfOk result (λ o. IfSome o (λ r. r.0 ≤ limit)) }
+    ensures err { IfErr result (RefusesLimit limit) }
 {
     let (budget, first) = Budget::new(alloc, limit)?;
     Ok(two_jobs::<Brand, R>(rt, budget, first))

@@ -1,6 +1,6 @@
 //! The pass: the right to draw tickets of a budget, and what was drawn with it.
 ghost use Rattle.std.specs.Prelude.{◌≡◌, ◌+◌, ◌<◌, ◌≤◌, true, false, [], ◌∷◌, length, None, IfOk, IfErr, OnOk, IfSome, IfNone, MatchOption};
-ghost use Rattle.sched_ticket.specs.View.{fresh, part_of, both};
+ghost use Rattle.sched_ticket.specs.View.{fresh, part_of, with_split, both};
 ghost use Rattle.sched_ticket.specs.Steps.{IsSound};
 ghost use Rattle.sched_ticket.specs.Held.{IsOf};
 ghost use Rattle.sched_ticket.specs.Calls.{Asked, Drew, DrewNone, SplitRefused, Raised, RefusesRaise};
@@ -93,7 +93,7 @@ impl Pass {
         requires { IsOf budget.now self.old }
         ensures of { IsOf budget.now self.new }
         ensures ok { IfOk result (λ p. IsOf budget.now p × (p.has ≡ part_of self.old.has)) }
-        ensures kept { OnOk result ((self.old.has.refused_splits ≡ 0) × (self.new.has ≡ self.old.has)) }
+        ensures kept { OnOk result ((self.old.has.refused_splits ≡ 0) × (self.new.has ≡ with_split self.old.has)) }
         ensures err { IfErr result (λ e. (e ≡ TicketFault.TooManyPasses) × SplitRefused self.old.has self.new.has) }
     {
         if self.refused_splits > 0 {

@@ -4,7 +4,7 @@
 //! |---|---|---|
 //! | `Draw` | 1 more drawn | gains the number found: a ticket below its floor, else a refusal |
 //! | `Count` | 1 more made | gains a weight where fewer than 65,536 were made, else a refused split |
-//! | `Part` | none changes | gives one weight to a new pass |
+//! | `Part` | none changes | gives one weight to a new pass, and counts it |
 //! | `Merge` | none changes | takes in another pass, which is spent |
 //! | `Learn` | none changes | learns that its tickets are distinct |
 //! | `Look` | made is read | is marked sole or shared |

@@ -34,6 +34,8 @@ pub struct View {
     pub floor: u64,
     /// The passes that it stands for. A view of weight 0 is spent.
     pub weight: u64,
+    /// How many passes were split from it.
+    pub splits: u64,
     /// How often a split was refused after it was counted.
     pub refused_splits: u64,
     pub mark: Mark,

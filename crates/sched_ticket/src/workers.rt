@@ -1,7 +1,8 @@
 //! Many threads on one budget: each draws until it is refused, and their passes are joined.
-ghost use Rattle.std.specs.Prelude.{◌≡◌, ℕ, ◌<◌, ◌≤◌, [], length, All, IfOk};
+ghost use Rattle.std.specs.Prelude.{◌≡◌, ℕ, ◌+◌, ◌<◌, ◌≤◌, [], length, vec_len, All, IfOk, IfErr};
 ghost use Rattle.sched_ticket.specs.Lists.{total, times, once_below, IsSame};
 ghost use Rattle.sched_ticket.specs.Held.{IsOf};
+ghost use Rattle.sched_ticket.specs.Drains.{RefusesDrain, IsSplitFault};
 
 use crate::budget::Budget;
 use crate::fault::TicketFault;
@@ -22,17 +23,28 @@ pub struct Drained {
 #[derive(Clone, Copy, Debug, PartialEq, Eq, Drop)]
 pub enum DrainFault {
     Refused(TicketFault),
-    /// A pass is missing, which no clause rules out.
+    /// A pass is missing. No clause rules it out, and no run meets it.
     PassesOut,
 }
 
 impl From<TicketFault> for DrainFault {
+    ghost use Rattle.std.specs.Prelude.{◌≡◌};
+    ghost use Rattle.sched_ticket.specs.declared.workers.DrainFault.TheVariants.{Refused};
+
+    ghost from_gives = { λ fault e. e ≡ Refused fault };
+
     fn from(fault: TicketFault) -> DrainFault {
         DrainFault::Refused(fault)
     }
 }
 
 impl From<AllocError> for DrainFault {
+    ghost use Rattle.std.specs.Prelude.{◌≡◌};
+    ghost use Rattle.sched_ticket.specs.declared.workers.DrainFault.TheVariants.{Refused};
+    ghost use Rattle.sched_ticket.specs.declared.fault.TicketFault.TheVariants.{NoMemory};
+
+    ghost from_gives = { λ _ e. e ≡ Refused NoMemory };
+
     fn from(_none: AllocError) -> DrainFault {
         DrainFault::Refused(TicketFault::NoMemory)
     }
@@ -56,6 +68,8 @@ pub fn drain<R: Threads + Sync>(
 ) -> Result<Drained, DrainFault>
     ensures all { IfOk result (λ d. d.count ≡ limit) }
     ensures each_once { IfOk result (λ d. (x : ℕ) → total (λ l. times x l.items) d.drawn.items ≡ once_below x d.count) }
+    ensures workers { IfOk result (λ d. vec_len d.drawn ≡ workers + 1) }
+    ensures err { IfErr result (RefusesDrain limit) }
 {
     let (budget, mut pass) = Budget::new(alloc, limit)?;
     let passes = split_off(alloc, &budget, &mut pass, workers)?;
@@ -78,6 +92,8 @@ fn split_off(
     requires { IsOf budget.now pass.old × (pass.old.has.tickets ≡ []) }
     ensures of { IsOf budget.now pass.new × (pass.new.has.tickets ≡ []) }
     ensures passes { IfOk result (λ v. All (λ p. IsOf budget.now p × (p.has.tickets ≡ [])) v.items) }
+    ensures workers { IfOk result (λ v. vec_len v ≡ workers) }
+    ensures err { IfErr result IsSplitFault }
 {
     let mut passes = Vec::new(alloc);
     for _ in 0..workers {
@@ -95,7 +111,8 @@ fn draw_beside<R: Threads + Sync>(
     passes: Vec<Pass>,
 ) -> Result<Vec<Result<Haul, AllocError>>, AllocError>
     requires { All (λ p. IsOf budget.now p × (p.has.tickets ≡ [])) passes.items }
-    ensures { IfOk result (λ v. All (λ r. IfOk r (λ h. IsOf budget.now h.pass)) v.items) }
+    ensures of { IfOk result (λ v. All (λ r. IfOk r (λ h. IsOf budget.now h.pass)) v.items) }
+    ensures workers { IfOk result (λ v. vec_len v ≡ vec_len passes) }
 {
     map_vec(rt, passes, &|pass: Pass| draw_all(alloc, budget, pass))
 }
@@ -124,6 +141,7 @@ fn gather(
     requires hauls { All (λ r. IfOk r (λ h. IsOf budget.now h.pass)) hauls.items }
     ensures of { IfOk result (λ r. IsOf budget.now r.0) }
     ensures same { IfOk result (λ r. (h : ℕ → ℕ) → total (λ l. total h l.items) r.1.items ≡ total h r.0.has.tickets) }
+    ensures workers { IfOk result (λ r. vec_len r.1 ≡ vec_len hauls + 1) }
     ensures refused { IfOk result (λ r. length mine.pass.has.refusals ≤ length r.0.has.refusals) }
 {
     let Haul { mut pass, drawn } = mine;

@@ -26,4 +26,5 @@ loop-haul-preserved c =
             total-append h mine.tickets haul.pass.has.tickets,
           );
       refused = omega (arith, ap (λ (v : View). length v.refusals) joined, length-append mine.refusals haul.pass.has.refusals, before.refused);
+      counted = grind (arith, common_steps);
     }

@@ -1,4 +1,4 @@
-use Rattle.std.proofs.Common.{◌≡◌, ℕ, ◌≤◌, length, vec_len}
+use Rattle.std.proofs.Common.{◌≡◌, ℕ, ◌+◌, ◌≤◌, length, vec_len}
 use Rattle.std.specs.Prelude.{All, IfOk}
 use Rattle.sched_ticket.specs.Lists.{total}
 use Rattle.sched_ticket.specs.Held.{IsOf}
@@ -10,6 +10,7 @@ invariant-loop-haul l = record {
   hauls : All (λ r. IfOk r (λ h. IsOf l.budget h.pass)) l.hauls.items;
   same : (h : ℕ → ℕ) → total (λ xs. total h xs.items) l.lists.items ≡ total h l.pass.has.tickets;
   refused : length l.fn.mine.pass.has.refusals ≤ length l.pass.has.refusals;
+  counted : vec_len l.lists + vec_len l.hauls ≡ vec_len l.fn.hauls + 1;
 }
 
 abbrev pub decreases-loop-haul : goal.decreases-loop-haul
