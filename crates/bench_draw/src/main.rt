@@ -20,11 +20,23 @@ fn main(rt: HostRuntime) -> io::Result<()> {
         .next()
         .and_then(|word| word.as_str().parse().ok())
         .unwrap_or(1000);
-    match draw_beside(&rt, rt.alloc(), threads, draws) {
+    let count = if threads == 1 {
+        draw_alone(rt.alloc(), draws)
+    } else {
+        draw_beside(&rt, rt.alloc(), threads, draws)
+    };
+    match count {
         Ok(Some(count)) => println!(rt; "{threads} threads, {draws} draws each: {count} tickets"),
         Ok(None) => println!(rt; "a pass is missing"),
         Err(fault) => println!(rt; "{fault:?}"),
     }
+}
+
+/// This thread draws so many tickets. It answers how many the budget gave out.
+fn draw_alone(alloc: Global, draws: u64) -> Result<Option<u64>, TicketFault> {
+    let (budget, pass) = Budget::new(alloc, draws)?;
+    let pass = draw_times(&budget, pass, draws);
+    Ok(budget.close(pass).ok())
 }
 
 /// Each thread draws so many tickets. It answers how many the budget gave out.
