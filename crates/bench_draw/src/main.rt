@@ -89,12 +89,15 @@ fn draw_each<R: Threads + Sync>(
     map_vec(rt, passes, &|pass: Pass| draw_times(budget, pass, draws))
 }
 
+/// Draws so many tickets, if there are so many.
 fn draw_times(budget: &Budget, mut pass: Pass, draws: u64) -> Pass
     requires { IsOf budget.now pass }
     ensures { IsOf budget.now result }
 {
     for _ in 0..draws {
-        let _ticket = pass.draw(budget);
+        if pass.draw(budget).is_none() {
+            break;
+        }
     }
     pass
 }
