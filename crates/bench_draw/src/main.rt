@@ -2,7 +2,7 @@
 //! where nothing is said. It prints what was drawn and no time; a script measures it from outside.
 #![tactic(auto)]
 
-ghost use Rattle.std.specs.Prelude.{All, IfOk};
+ghost use Rattle.std.specs.Prelude.{◌*◌, ◌≤◌, All, IfOk, IfSome};
 ghost use Rattle.sched_ticket.specs.Held.{IsOf};
 
 use sched_ticket::{Budget, Pass, TicketFault};
@@ -33,7 +33,9 @@ fn main(rt: HostRuntime) -> io::Result<()> {
 }
 
 /// This thread draws so many tickets. It answers how many the budget gave out.
-fn draw_alone(alloc: Global, draws: u64) -> Result<Option<u64>, TicketFault> {
+fn draw_alone(alloc: Global, draws: u64) -> Result<Option<u64>, TicketFault>
+    ensures { IfOk result (λ o. IfSome o (λ n. n ≤ draws)) }
+{
     let (budget, pass) = Budget::new(alloc, draws)?;
     let pass = draw_times(&budget, pass, draws);
     Ok(budget.close(pass).ok())
@@ -45,7 +47,9 @@ fn draw_beside<R: Threads + Sync>(
     alloc: Global,
     threads: u64,
     draws: u64,
-) -> Result<Option<u64>, TicketFault> {
+) -> Result<Option<u64>, TicketFault>
+    ensures { IfOk result (λ o. IfSome o (λ n. n ≤ threads * draws)) }
+{
     let (budget, mut first) = Budget::new(alloc, threads.saturating_mul(draws))?;
     let passes = split_off(alloc, &budget, &mut first, threads)?;
     let Ok(passes) = draw_each(rt, &budget, passes, draws) else {

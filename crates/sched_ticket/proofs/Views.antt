@@ -7,7 +7,7 @@ use lib.ListN.{get_elem?}
 use Rattle.atomic_table.specs.Table.{State}
 use Rattle.sched_ticket.specs.Lists.{total, below, Each, is, times, once_below}
 use Rattle.sched_ticket.specs.Rule.{found, weights, refused_splits, IsMarked, IsRefusal, Fits, IsOrderly, IsKept}
-use Rattle.sched_ticket.specs.Laws.{Always, OfEachPass, tickets_of, refusals_of, NumbersStandOnce, DrawsAreCounted, TicketsStandOnce, RefusalsAreLate, TicketsStayBelow, EachTicketIsBelow, WordsStaySmall, SplitsAreRefusedLate, IsSpent, SoleIsAlone, SharedHasAnother}
+use Rattle.sched_ticket.specs.Laws.{Always, OfEachPass, tickets_of, refusals_of, NumbersStandOnce, DrawsAreCounted, EachRefusalIsHigh, TicketsStandOnce, RefusalsAreLate, TicketsStayBelow, EachTicketIsBelow, FloorsStayBelow, PassesAreCounted, EachIsRefusedOnce, WordsStaySmall, SplitsAreRefusedLate, IsSpent, SoleIsAlone, SharedHasAnother}
 use Rattle.sched_ticket.specs.declared.view.Terms.{Terms}
 use Rattle.sched_ticket.specs.declared.view.Refusal.{Refusal}
 use Rattle.sched_ticket.specs.declared.view.Mark.{Mark}
@@ -107,3 +107,15 @@ sole_is_alone k s kept by v at sole other u apart there =
 pub shared_has_another : SharedHasAnother
 shared_has_another k s kept by v at shared =
     another (λ (x : View). x.weight) s.views by v at (subst (λ (m : Mark). IsMarked (weights s.views) m v.weight) shared (kept.orderly.each by v at).mark)
+
+pub each_refusal_is_high : EachRefusalIsHigh
+each_refusal_is_high k s kept by v at = (kept.orderly.each by v at).refusals
+
+pub floors_stay_below : FloorsStayBelow
+floors_stay_below k s kept by v at = (kept.orderly.each by v at).floor
+
+pub passes_are_counted : PassesAreCounted
+passes_are_counted k s kept = (kept.orderly.counted, kept.orderly.few_passes)
+
+pub each_is_refused_once : EachIsRefusedOnce
+each_is_refused_once k s kept by v at = let f = kept.orderly.each by v at in (f.few_refusals, f.few_refused_splits)

@@ -4,7 +4,7 @@ use mathlib.Core.Option.{some}
 use lib.ListN.{get_elem?}
 use Rattle.atomic_table.specs.Table.{State}
 use Rattle.sched_ticket.specs.Lists.{total, Each, is, times, once_below}
-use Rattle.sched_ticket.specs.Rule.{found, IsKept}
+use Rattle.sched_ticket.specs.Rule.{found, weights, refused_splits, IsRefusal, IsKept}
 use Rattle.sched_ticket.specs.declared.view.Terms.{Terms}
 use Rattle.sched_ticket.specs.declared.view.Mark.TheVariants.{Sole, Shared}
 use Rattle.sched_ticket.specs.declared.view.View.{View}
@@ -31,6 +31,10 @@ NumbersStandOnce = Always (λ k s kept. (x : ℕ) → total (found (is x)) s.vie
 abbrev pub DrawsAreCounted : Type 0
 DrawsAreCounted = Always (λ k s kept. kept.drawn ≡ tickets_of s.views + refusals_of s.views)
 
+-- a refused number stands with the limit that was known then, which it is not below and the limit never falls below
+abbrev pub EachRefusalIsHigh : Type 0
+EachRefusalIsHigh = OfEachPass (λ k s kept by v. Each (IsRefusal k kept.limit) v.refusals)
+
 -- of a budget that keeps its limit the tickets of all passes are the numbers below the draws made and the limit, each in one pass, once
 abbrev pub TicketsStandOnce : Type 0
 TicketsStandOnce = Always (λ k s kept. k.rises ≡ false → (x : ℕ) → total (λ (v : View). times x v.tickets) s.views ≡ once_below x (min kept.drawn k.limit))
@@ -45,6 +49,18 @@ TicketsStayBelow = Always (λ k s kept. tickets_of s.views ≤ kept.limit)
 
 abbrev pub EachTicketIsBelow : Type 0
 EachTicketIsBelow = OfEachPass (λ k s kept by v. Each (λ t. t < kept.limit) v.tickets)
+
+-- no pass knows of a higher limit than there is
+abbrev pub FloorsStayBelow : Type 0
+FloorsStayBelow = OfEachPass (λ k s kept by v. v.floor ≤ kept.limit)
+
+-- the passes made are those that the views stand for and those that were refused, and at most 65,536 stand
+abbrev pub PassesAreCounted : Type 0
+PassesAreCounted = Always (λ k s kept. (kept.made ≡ weights s.views + refused_splits s.views) × (weights s.views ≤ 65536))
+
+-- each of the passes that a view stands for was refused a ticket once at most, and a split once at most
+abbrev pub EachIsRefusedOnce : Type 0
+EachIsRefusedOnce = OfEachPass (λ k s kept by v. (length v.refusals ≤ v.weight) × (v.refused_splits ≤ v.weight))
 
 -- no word comes near its end
 abbrev pub WordsStaySmall : Type 0

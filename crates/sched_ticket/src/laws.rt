@@ -1,11 +1,12 @@
 //! What holds of a budget between any two atomic steps, for any number of passes, draws, splits, joins and raises.
 //! Each function does nothing: its contract is a law of the table's rule.
-ghost use Rattle.sched_ticket.specs.Laws.{NumbersStandOnce, DrawsAreCounted, TicketsStandOnce, RefusalsAreLate, TicketsStayBelow, EachTicketIsBelow, WordsStaySmall, SplitsAreRefusedLate, SoleIsAlone, SharedHasAnother};
+ghost use Rattle.sched_ticket.specs.Laws.{NumbersStandOnce, DrawsAreCounted, EachRefusalIsHigh, TicketsStandOnce, RefusalsAreLate, TicketsStayBelow, EachTicketIsBelow, FloorsStayBelow, PassesAreCounted, EachIsRefusedOnce, WordsStaySmall, SplitsAreRefusedLate, SoleIsAlone, SharedHasAnother};
 
 /// Each number drawn is in one pass, as a ticket or as a refused number, and the draws are the tickets and the refusals.
 pub fn numbers_stand_once()
     ensures once { NumbersStandOnce }
     ensures counted { DrawsAreCounted }
+    ensures refusals { EachRefusalIsHigh }
 {}
 
 /// Of a budget that keeps its limit the tickets of all passes are the numbers below the draws made and the limit, each
@@ -19,9 +20,16 @@ pub fn tickets_stand_once()
 pub fn tickets_stay_below()
     ensures all { TicketsStayBelow }
     ensures each { EachTicketIsBelow }
+    ensures floors { FloorsStayBelow }
 {}
 
-/// No word wraps: at most 65,536 passes are counted, and each is refused once.
+/// The passes made are those that live passes stand for and those that were refused, and each is refused once at most.
+pub fn passes_are_counted()
+    ensures counted { PassesAreCounted }
+    ensures once { EachIsRefusedOnce }
+{}
+
+/// No word wraps, and a split is refused only past 65,536 passes.
 pub fn words_stay_small()
     ensures words { WordsStaySmall }
     ensures splits { SplitsAreRefusedLate }

@@ -22,5 +22,4 @@ pub use budget::{Budget, MAX_LIMIT};
 pub use fault::{PassesOut, TicketFault};
 pub use naming::Naming;
 pub use pass::Pass;
-pub use rule::Rule;
 pub use view::{Mark, Refusal, Terms, View};

@@ -18,7 +18,7 @@ use crate::view::{Terms, View};
 use atomic_table::{Join, Play, Split, TableRule};
 
 /// The rule of the table behind every budget.
-pub struct Rule;
+pub(crate) struct Rule;
 
 impl TableRule<u8, View, Terms> for Rule {
     ghost holds = { IsKept };
