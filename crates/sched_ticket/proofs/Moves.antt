@@ -1,16 +1,16 @@
 -- Each step keeps the rule.
 use Rattle.std.proofs.Common.{◌≡◌, ◌≢◌, ℕ, ◌+◌, ◌-◌, ◌%◌, ◌^◌, ◌<◌, ◌≤◌, max, false, true, List, [], ◌∷◌, ◌++◌, length, set, slice_index, sym, refl, ap, ◌∙◌, subst, arith, ⊎_elim, lt_of_not-le, length-append}
-use Rattle.std.proofs.Math.Nat.{mod-eq_of_lt, le-max_left, le-max_right}
+use Rattle.std.proofs.Math.Nat.{mod-eq_of_lt, le-max_left}
 use mathlib.Core.Logic.{dite}
 use mathlib.Core.Option.{Option, some}
 use native.Mathlib.Decide.{ℕ_discrete, dec_le}
 use lib.ListN.{get_elem?}
-use Rattle.atomic_table.specs.Table.{State, Me, Step, Act, keeps, Valid, carried_after, stepped, Allows, Splits, Joins}
+use Rattle.atomic_table.specs.Table.{Step, Act, keeps, Valid, carried_after, stepped, Allows, Splits, Joins}
 use Rattle.atomic_table.proofs.Lists.{at_set, at_snoc, set_else}
 use Rattle.sched_ticket.specs.Lists.{total, below, Each}
-use Rattle.sched_ticket.specs.View.{terms, with_ticket, with_refusal, with_floor, with_mark, with_refused_split, heavier, lighter, part_of, both, blank}
+use Rattle.sched_ticket.specs.View.{with_ticket, with_refusal, with_floor, with_mark, with_refused_split, heavier, lighter, part_of, both, blank}
 use Rattle.sched_ticket.specs.Rule.{found, weights, refused_splits, IsMarked, IsRefusal, Fits, IsOrderly, IsKept}
-use Rattle.sched_ticket.specs.Steps.{Sat, Then, Sees, IsLater, draws, counts, IsSound, learns, looks, IsLimit, reads_limit, raises}
+use Rattle.sched_ticket.specs.Steps.{Sat, draws, counts, learns, looks, reads_limit, raises}
 use Rattle.sched_ticket.specs.declared.view.Terms.{Terms}
 use Rattle.sched_ticket.specs.declared.view.Refusal.{Refusal}
 use Rattle.sched_ticket.specs.declared.view.Mark.{Mark}

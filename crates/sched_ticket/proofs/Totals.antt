@@ -1,12 +1,11 @@
 -- What the rule says of all views together.
-use Rattle.std.proofs.Common.{◌≡◌, ℕ, ◌+◌, ◌<◌, ◌≤◌, List, [], ◌∷◌, length, min, sym, refl, ap, arith}
+use Rattle.std.proofs.Common.{◌≡◌, ℕ, ◌+◌, ◌<◌, ◌≤◌, List, length, arith}
 use mathlib.Core.Option.{some}
 use lib.ListN.{get_elem?}
-use Rattle.sched_ticket.specs.Lists.{total, below, Each, is, times, once_below}
-use Rattle.sched_ticket.specs.Rule.{found, weights, refused_splits, Fits, IsOrderly}
+use Rattle.sched_ticket.specs.Lists.{total, is, once_below}
+use Rattle.sched_ticket.specs.Rule.{found, weights, refused_splits, IsOrderly}
 use Rattle.sched_ticket.specs.Steps.{IsLater, IsSound}
 use Rattle.sched_ticket.specs.declared.view.Terms.{Terms}
-use Rattle.sched_ticket.specs.declared.view.Refusal.{Refusal}
 use Rattle.sched_ticket.specs.declared.view.View.{View}
 use Rattle.sched_ticket.proofs.Sums.{term_le, total-le, total-plus, total-one, below-one, below-once_below, below-is, once_below-le, total-once_below, from, below-from, none_from, Each-map}
 

@@ -1,19 +1,17 @@
 -- The laws of all views, from the rule.
-use Rattle.std.proofs.Common.{◌≡◌, ◌≢◌, ℕ, zero, suc, ◌+◌, ◌<◌, ◌≤◌, false, List, [], ◌∷◌, length, min, sym, refl, ap, ◌∙◌, subst, arith, lt_of_not-le}
+use Rattle.std.proofs.Common.{◌≡◌, ◌≢◌, ℕ, zero, suc, ◌+◌, ◌<◌, ◌≤◌, List, [], ◌∷◌, length, min, sym, refl, ap, ◌∙◌, subst, arith, lt_of_not-le}
 use mathlib.Core.Logic.{dite}
 use mathlib.Core.Option.{some, some-injective, some-ne-none}
 use native.Mathlib.Decide.{dec_le}
 use lib.ListN.{get_elem?}
-use Rattle.atomic_table.specs.Table.{State}
-use Rattle.sched_ticket.specs.Lists.{total, below, Each, is, times, once_below}
-use Rattle.sched_ticket.specs.Rule.{found, weights, refused_splits, IsMarked, IsRefusal, Fits, IsOrderly, IsKept}
-use Rattle.sched_ticket.specs.Laws.{Always, OfEachPass, tickets_of, refusals_of, NumbersStandOnce, DrawsAreCounted, EachRefusalIsHigh, TicketsStandOnce, RefusalsAreLate, TicketsStayBelow, EachTicketIsBelow, FloorsStayBelow, PassesAreCounted, EachIsRefusedOnce, WordsStaySmall, SplitsAreRefusedLate, IsSpent, SoleIsAlone, SharedHasAnother}
+use Rattle.sched_ticket.specs.Lists.{total, Each, is, times, once_below}
+use Rattle.sched_ticket.specs.Rule.{found, weights, IsMarked, IsRefusal, Fits}
+use Rattle.sched_ticket.specs.Laws.{NumbersStandOnce, DrawsAreCounted, EachRefusalIsHigh, TicketsStandOnce, RefusalsAreLate, TicketsStayBelow, EachTicketIsBelow, FloorsStayBelow, PassesAreCounted, EachIsRefusedOnce, WordsStaySmall, SplitsAreRefusedLate, SoleIsAlone, SharedHasAnother}
 use Rattle.sched_ticket.specs.declared.view.Terms.{Terms}
 use Rattle.sched_ticket.specs.declared.view.Refusal.{Refusal}
 use Rattle.sched_ticket.specs.declared.view.Mark.{Mark}
-use Rattle.sched_ticket.specs.declared.view.Mark.TheVariants.{Sole, Shared}
 use Rattle.sched_ticket.specs.declared.view.View.{View}
-use Rattle.sched_ticket.proofs.Sums.{term_le, terms_le, total-le, total-plus, total-one, below-one, below-is, once_below-yes, once_below-no, times-none, from, from-yes, below-from}
+use Rattle.sched_ticket.proofs.Sums.{term_le, terms_le, total-plus, below-one, below-is, once_below-yes, once_below-no, times-none, from, from-yes, below-from}
 use Rattle.sched_ticket.proofs.Totals.{found-one, tickets_le, drawn_le, made_le}
 use Rattle.sched_ticket.proofs.Whole.{no_refusal, other_refusals}
 

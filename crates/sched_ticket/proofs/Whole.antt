@@ -6,7 +6,7 @@ use native.Mathlib.Decide.{dec_le}
 use lib.ListN.{get_elem?}
 use Rattle.atomic_table.specs.Table.{State}
 use Rattle.sched_ticket.specs.Lists.{total, below, Each, is, times, once_below, AreBelow}
-use Rattle.sched_ticket.specs.Rule.{found, weights, IsMarked, IsRefusal, Fits, IsOrderly, IsKept}
+use Rattle.sched_ticket.specs.Rule.{found, weights, IsMarked, IsRefusal, Fits, IsKept}
 use Rattle.sched_ticket.specs.Calls.{IsWhole}
 use Rattle.sched_ticket.specs.declared.view.Terms.{Terms}
 use Rattle.sched_ticket.specs.declared.view.Refusal.{Refusal}

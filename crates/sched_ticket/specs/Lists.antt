@@ -1,5 +1,5 @@
 -- Lists of numbers, weighed. Two lists with the same weight under every `h` have the same numbers, each as often.
-use Rattle.std.specs.Prelude.{◌≡◌, ℕ, zero, suc, ◌+◌, ◌<◌, List, [], ◌∷◌, if◌then◌else◌, ◌==◌, nat_lt}
+use Rattle.std.specs.Prelude.{◌≡◌, ℕ, zero, suc, ◌+◌, List, [], ◌∷◌, if◌then◌else◌, ◌==◌, nat_lt}
 
 -- f of each element, added up
 abbrev pub total : {A : Type 0} → (A → ℕ) → List A → ℕ

@@ -1,9 +1,9 @@
 -- Views of a budget, and how one step changes a view.
-use Rattle.std.specs.Prelude.{ℕ, ◌+◌, ◌-◌, List, [], ◌∷◌, ◌++◌, max, Bool, false}
+use Rattle.std.specs.Prelude.{ℕ, ◌+◌, ◌-◌, [], ◌∷◌, ◌++◌, max, Bool, false}
 use Rattle.sched_ticket.specs.declared.view.Terms.{Terms}
 use Rattle.sched_ticket.specs.declared.view.Refusal.{Refusal}
 use Rattle.sched_ticket.specs.declared.view.Mark.{Mark}
-use Rattle.sched_ticket.specs.declared.view.Mark.TheVariants.{Unseen, Sole, Shared}
+use Rattle.sched_ticket.specs.declared.view.Mark.TheVariants.{Unseen}
 use Rattle.sched_ticket.specs.declared.view.View.{View}
 
 abbrev pub terms : ℕ → Bool → Terms

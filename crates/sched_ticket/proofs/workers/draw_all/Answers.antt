@@ -1,4 +1,4 @@
-use Rattle.std.proofs.Common.{◌≡◌, ℕ, ◌+◌, [], ◌∷◌, ap, arith}
+use Rattle.std.proofs.Common.{[], ◌∷◌, ap, arith}
 use Rattle.sched_ticket.specs.Lists.{total}
 use Rattle.sched_ticket.proofs.Sums.{total-append}
 use Rattle.sched_ticket.proofs.workers.draw_all.Goals as goal

@@ -1,4 +1,4 @@
-use Rattle.std.proofs.Common.{◌≡◌, ℕ, ◌+◌, ◌≤◌, Vec, Global, length, [], ◌∷◌, ap, arith, length-append}
+use Rattle.std.proofs.Common.{ℕ, Vec, Global, length, [], ◌∷◌, ap, arith, length-append}
 use Rattle.std.proofs.lemmas.Grind.{common_steps}
 use Rattle.sched_ticket.specs.Lists.{total}
 use Rattle.sched_ticket.specs.declared.view.View.{View}

@@ -1,11 +1,9 @@
-use Rattle.std.proofs.Common.{◌≡◌, ℕ, ◌<◌, sym, ap, ◌∙◌, arith}
+use Rattle.std.proofs.Common.{sym, ap, ◌∙◌, arith}
 use mathlib.Core.Option.{none}
 use Rattle.atomic_table.specs.Table.{step}
 use Rattle.sched_ticket.specs.Steps.{Sat}
 use Rattle.sched_ticket.specs.Held.{Name, Held}
-use Rattle.sched_ticket.specs.declared.view.Mark.{Mark}
-use Rattle.sched_ticket.specs.declared.view.Refusal.{Refusal}
-use Rattle.std.proofs.Common.{List, length}
+use Rattle.std.proofs.Common.{length}
 use Rattle.sched_ticket.proofs.Moves.{counts_ok, splits_ok}
 use Rattle.sched_ticket.proofs.pass.Pass.split.Goals as goal
 
