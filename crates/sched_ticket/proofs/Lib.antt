@@ -1,0 +1,5 @@
+pub mod Sums
+pub mod Totals
+pub mod Moves
+pub mod Whole
+pub mod Views

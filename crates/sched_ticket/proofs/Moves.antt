@@ -1,0 +1,364 @@
+-- Each step keeps the rule.
+use Rattle.std.proofs.Common.{◌≡◌, ◌≢◌, ℕ, ◌+◌, ◌-◌, ◌%◌, ◌^◌, ◌<◌, ◌≤◌, max, false, true, List, [], ◌∷◌, ◌++◌, length, set, slice_index, sym, refl, ap, ◌∙◌, subst, arith, ⊎_elim, lt_of_not-le, length-append}
+use Rattle.std.proofs.Math.Nat.{mod-eq_of_lt, le-max_left}
+use mathlib.Core.Logic.{dite}
+use mathlib.Core.Option.{Option, some}
+use native.Mathlib.Decide.{ℕ_discrete, dec_le}
+use lib.ListN.{get_elem?}
+use Rattle.atomic_table.specs.Table.{Step, Act, keeps, Valid, carried_after, stepped, Allows, Splits, Joins}
+use Rattle.atomic_table.proofs.Lists.{at_set, at_snoc, set_else}
+use Rattle.sched_ticket.specs.Lists.{total, below, Each}
+use Rattle.sched_ticket.specs.View.{with_ticket, with_refusal, with_floor, with_mark, with_refused_split, heavier, lighter, part_of, both, blank}
+use Rattle.sched_ticket.specs.Rule.{found, weights, refused_splits, IsMarked, IsRefusal, Fits, IsOrderly, IsKept}
+use Rattle.sched_ticket.specs.Steps.{Sat, draws, counts, learns, looks, reads_limit, raises}
+use Rattle.sched_ticket.specs.declared.view.Terms.{Terms}
+use Rattle.sched_ticket.specs.declared.view.Refusal.{Refusal}
+use Rattle.sched_ticket.specs.declared.view.Mark.{Mark}
+use Rattle.sched_ticket.specs.declared.view.Mark.TheVariants.{Unseen, Sole, Shared}
+use Rattle.sched_ticket.specs.declared.view.View.{View}
+use Rattle.sched_ticket.proofs.Sums.{total-append, total-set, term_le, terms_le, rest_le, Each-append, Each-map, below_more}
+use Rattle.sched_ticket.proofs.Totals.{drawn_le, made_le, is_later, is_sound}
+
+-- a mark stays true while another pass gets no lighter
+IsMarked-on : (m : Mark) (all all' weight other : ℕ) → 0 < other → weight + other ≤ all → all ≤ all' → IsMarked all m weight → IsMarked all' m weight
+IsMarked-on Unseen all all' weight other live room more h = tt
+IsMarked-on Sole all all' weight other live room more h = absurd (omega arith)
+IsMarked-on Shared all all' weight other live room more h = omega arith
+
+-- a mark that is not sole stays true while the other passes get no lighter
+IsMarked-less : (m : Mark) (all weight less : ℕ) → m ≢ Sole → less ≤ weight → IsMarked all m weight → IsMarked all m less
+IsMarked-less Unseen all weight less n le h = tt
+IsMarked-less Sole all weight less n le h = absurd (n refl)
+IsMarked-less Shared all weight less n le h = omega arith
+
+IsMarked-more : (m : Mark) (all weight : ℕ) → IsMarked all m weight → IsMarked (all + 1) m (weight + 1)
+IsMarked-more Unseen all weight h = tt
+IsMarked-more Sole all weight h = omega arith
+IsMarked-more Shared all weight h = omega arith
+
+module _ (k : Terms) where
+  -- the refusals of a view stay true while the limit rises
+  refusals-on : (limit limit' : ℕ) (xs : List Refusal) → limit ≤ limit' → Each (IsRefusal k limit) xs → Each (IsRefusal k limit') xs
+  refusals-on limit limit' xs up h = Each-map (IsRefusal k limit) (IsRefusal k limit') (λ r t. (t.0, t.1, omega (arith, t.2))) xs h
+
+  tickets-on : (limit limit' : ℕ) (xs : List ℕ) → limit ≤ limit' → Each (λ t. t < limit) xs → Each (λ t. t < limit') xs
+  tickets-on limit limit' xs up h = Each-map (λ t. t < limit) (λ t. t < limit') (λ x t. omega arith) xs h
+
+  -- another pass's view still fits
+  Fits-on : (made made' limit limit' all all' other : ℕ) (u : View) → Fits k made limit all u → made ≤ made' → limit ≤ limit' → all ≤ all' → 0 < other → u.weight + other ≤ all → Fits k made' limit' all' u
+  Fits-on made made' limit limit' all all' other u f more up wide live room = record {
+    tickets = tickets-on limit limit' u.tickets up f.tickets;
+    refusals = refusals-on limit limit' u.refusals up f.refusals;
+    floor = omega (arith, f.floor);
+    live = f.live;
+    spent = f.spent;
+    few_refusals = f.few_refusals;
+    few_refused_splits = f.few_refused_splits;
+    too_many_made = λ h. omega (arith, f.too_many_made h);
+    mark = IsMarked-on u.mark all all' u.weight other live room wide f.mark;
+  }
+
+  -- one view and the words change
+  moved : (d m l : ℕ) (views : List View) (j : ℕ) (v w : View) (d' m' l' : ℕ)
+      → IsOrderly k d m l views → get_elem? views j ≡ some v
+      → 0 < v.weight → v.weight ≤ w.weight → weights views + w.weight ≤ 65536 + v.weight
+      → ((h : ℕ → ℕ) → found h w + below h d ≡ found h v + below h d')
+      → m' + v.weight + v.refused_splits ≡ m + w.weight + w.refused_splits
+      → m ≤ m' → l ≤ l' → (k.rises ≡ false → l' ≡ k.limit) → l' ≤ 4294967296
+      → (weights (set views j w) + v.weight ≡ weights views + w.weight → Fits k m' l' (weights (set views j w)) w)
+      → IsOrderly k d' m' l' (set views j w)
+  moved d m l views j v w d' m' l' o at live heavy room numbers counted more up fixed small fits =
+      let wide : weights (set views j w) + v.weight ≡ weights views + w.weight = total-set (λ (u : View). u.weight) views j v w at in
+      let splits : refused_splits (set views j w) + v.refused_splits ≡ refused_splits views + w.refused_splits = total-set (λ (u : View). u.refused_splits) views j v w at in
+      record {
+        numbers = λ h. omega (arith, total-set (found h) views j v w at, o.numbers h, numbers h);
+        counted = omega (arith, o.counted);
+        few_passes = omega arith;
+        rises = omega (arith, o.rises);
+        fixed = fixed;
+        small = small;
+        each = λ by u there. ⊎_elim
+            (λ (t : (by ≡ j) × (w ≡ u)). subst (Fits k m' l' (weights (set views j w))) t.1 (fits wide))
+            (λ (t : (by ≢ j) × (get_elem? views by ≡ some u)). Fits-on m m' l l' (weights views) (weights (set views j w)) v.weight u (o.each by u t.1) more up (omega arith) live
+            (omega (arith, terms_le (λ (x : View). x.weight) views j by v u t.0 at t.1)))
+            (at_set views j by w u there);
+      }
+
+  -- a step is allowed if it is at each three words
+  allows : (n id : ℕ) (m : Sat) (i : ℕ) (f : ℕ → ℕ) (then : ℕ → Sat → Type 0)
+      → ((d made l : ℕ) (views : List View) → IsOrderly k d made l views → get_elem? views id ≡ some m.0
+      → (w : View) × ((homes : List (Option ℕ)) → IsKept k (record { words = set (d ∷ made ∷ l ∷ []) i (f (slice_index (d ∷ made ∷ l ∷ []) i)); homes = homes; views = set views id w })) × then (slice_index (d ∷ made ∷ l ∷ []) i) (w, m.1))
+      → Allows (IsKept k) n id m i f then
+  allows n id m i f then go s kept wide at fits =
+      let there = go kept.drawn kept.made kept.limit s.views kept.orderly at in
+      let G : List ℕ → Type 0 = λ ws. (w : View) × (a : Act ℕ) × Valid s.homes m.1 a × IsKept k (stepped (record { words = ws; homes = s.homes; views = s.views }) i (f (slice_index ws i)) id m.1 w a) × then (slice_index ws i) (w, carried_after m.1 a) in
+      subst G (sym kept.words) (there.0, keeps, tt, there.1 s.homes, there.2)
+
+  kept : (d m l : ℕ) (views : List View) (homes : List (Option ℕ)) (ws : List ℕ) → ws ≡ d ∷ m ∷ l ∷ [] → IsOrderly k d m l views → IsKept k (record { words = ws; homes = homes; views = views })
+  kept d m l views homes ws e o = record { drawn = d; made = m; limit = l; words = e; orderly = o }
+
+  pub draws_ok : (n id : ℕ) (m : Sat) (st : Step ℕ) → 0 < m.0.weight → m.0.refusals ≡ [] → Allows (IsKept k) n id m 0 (λ x. (x + 1) % 2 ^ 64) (draws st m)
+  draws_ok n id m st live unrefused = allows n id m 0 (λ x. (x + 1) % 2 ^ 64) (draws st m) (λ d made l views o at.
+      let v : View = m.0 in
+      let f : Fits k made l (weights views) v = o.each id v at in
+      let few = drawn_le k d made l views o in
+      let word : (d + 1) % 2 ^ 64 ∷ made ∷ l ∷ [] ≡ (d + 1) ∷ made ∷ l ∷ [] = ap (λ (x : ℕ). x ∷ made ∷ l ∷ []) (mod-eq_of_lt (omega (arith, o.small))) in
+      let next : (w : View) → v.weight ≡ w.weight → v.refused_splits ≡ w.refused_splits → ((h : ℕ → ℕ) → found h w ≡ found h v + h d) → (weights (set views id w) ≡ weights views → Fits k made l (weights (set views id w)) w)
+      → (homes : List (Option ℕ)) → IsKept k (record { words = (d + 1) % 2 ^ 64 ∷ made ∷ l ∷ []; homes = homes; views = set views id w }) =
+      λ w same splits more fits homes. kept (d + 1) made l (set views id w) homes ((d + 1) % 2 ^ 64 ∷ made ∷ l ∷ []) word
+      (moved d made l views id v w (d + 1) made l o at live (omega arith) (omega (arith, o.few_passes)) (λ h. omega (arith, more h, below_more h d)) (omega arith) (omega arith) (omega arith) o.fixed o.small
+      (λ wide. fits (omega arith))) in
+      let later = is_later k d made l views o id v at in
+      dite (dec_le v.floor d)
+      (λ high. (
+        with_refusal v d,
+        next (with_refusal v d) refl refl (λ h. omega arith) (λ wide. record {
+          tickets = f.tickets;
+          refusals = (((f.live live).1, high, f.floor), f.refusals);
+          floor = f.floor;
+          live = f.live;
+          spent = λ e. absurd (omega arith);
+          few_refusals = omega (arith, ap length unrefused);
+          few_refused_splits = f.few_refused_splits;
+          too_many_made = f.too_many_made;
+          mark = subst (λ (all : ℕ). IsMarked all v.mark v.weight) (sym wide) f.mark;
+        }),
+        (later, (λ low. absurd (omega arith)), λ _. refl),
+      ))
+      (λ not. let low : d < v.floor = lt_of_not-le not in (
+        with_ticket v d,
+        next (with_ticket v d) refl refl (λ h. omega arith) (λ wide. record {
+          tickets = (omega (arith, f.floor), f.tickets);
+          refusals = f.refusals;
+          floor = f.floor;
+          live = f.live;
+          spent = λ e. absurd (omega arith);
+          few_refusals = f.few_refusals;
+          few_refused_splits = f.few_refused_splits;
+          too_many_made = f.too_many_made;
+          mark = subst (λ (all : ℕ). IsMarked all v.mark v.weight) (sym wide) f.mark;
+        }),
+        (later, (λ _. refl), λ high. absurd (omega arith)),
+      )))
+
+  pub counts_ok : (n id : ℕ) (m : Sat) (st : Step ℕ) → 0 < m.0.weight → m.0.refused_splits ≡ 0 → Allows (IsKept k) n id m 1 (λ x. (x + 1) % 2 ^ 64) (counts st m)
+  counts_ok n id m st live none = allows n id m 1 (λ x. (x + 1) % 2 ^ 64) (counts st m) (λ d made l views o at.
+      let v : View = m.0 in
+      let f : Fits k made l (weights views) v = o.each id v at in
+      let few = made_le k d made l views o in
+      let word : d ∷ (made + 1) % 2 ^ 64 ∷ l ∷ [] ≡ d ∷ (made + 1) ∷ l ∷ [] = ap (λ (x : ℕ). d ∷ x ∷ l ∷ []) (mod-eq_of_lt (omega arith)) in
+      dite (dec_le 65536 made)
+      (λ many. let w : View = with_refused_split v in (
+        w,
+        (λ homes. kept d (made + 1) l (set views id w) homes (d ∷ (made + 1) % 2 ^ 64 ∷ l ∷ []) word
+            (moved d made l views id v w d (made + 1) l o at live (omega arith) (omega (arith, o.few_passes)) (λ h. omega arith) (omega arith) (omega arith) (omega arith) o.fixed o.small (λ wide. record {
+              tickets = f.tickets;
+              refusals = f.refusals;
+              floor = f.floor;
+              live = f.live;
+              spent = f.spent;
+              few_refusals = f.few_refusals;
+              few_refused_splits = omega arith;
+              too_many_made = λ h. omega arith;
+              mark = let same : weights (set views id w) ≡ weights views = omega arith in subst (λ (all : ℕ). IsMarked all v.mark v.weight) (sym same) f.mark;
+            }))),
+        ((λ few. absurd (omega arith)), λ _. refl),
+      ))
+      (λ not. let few-made : made < 65536 = lt_of_not-le not in let w : View = heavier v in (
+        w,
+        (λ homes. kept d (made + 1) l (set views id w) homes (d ∷ (made + 1) % 2 ^ 64 ∷ l ∷ []) word
+            (moved d made l views id v w d (made + 1) l o at live (omega arith) (omega (arith, o.counted)) (λ h. omega arith) (omega arith) (omega arith) (omega arith) o.fixed o.small (λ wide. record {
+              tickets = f.tickets;
+              refusals = f.refusals;
+              floor = f.floor;
+              live = λ _. f.live live;
+              spent = λ e. absurd (omega arith);
+              few_refusals = omega (arith, f.few_refusals);
+              few_refused_splits = omega arith;
+              too_many_made = λ h. absurd (omega arith);
+              mark = let more : weights (set views id w) ≡ weights views + 1 = omega arith in subst (λ (all : ℕ). IsMarked all v.mark (v.weight + 1)) (sym more) (IsMarked-more v.mark (weights views) v.weight f.mark);
+            }))),
+        ((λ _. refl), λ many. absurd (omega arith)),
+      )))
+
+  -- a pass learns, and no number is drawn and no pass counted
+  told : (d made l : ℕ) (views : List View) (id : ℕ) (v : View) (floor : ℕ) (mark : Mark) (readings l' : ℕ)
+      → IsOrderly k d made l views → get_elem? views id ≡ some v → 0 < v.weight → v.floor ≤ floor → floor ≤ l' → l ≤ l' → (k.rises ≡ false → l' ≡ k.limit) → l' ≤ 4294967296
+      → IsMarked (weights views) mark v.weight → IsOrderly k d made l' (set views id (record v { floor = floor; mark = mark; readings = readings }))
+  told d made l views id v floor mark readings l' o at live rises most up fixed small marked =
+      let w : View = record v { floor = floor; mark = mark; readings = readings } in
+      let f : Fits k made l (weights views) v = o.each id v at in
+      moved d made l views id v w d made l' o at live (omega arith) (omega (arith, o.few_passes)) (λ h. omega arith) (omega arith) (omega arith) up fixed small (λ wide. record {
+        tickets = tickets-on l l' v.tickets up f.tickets;
+        refusals = refusals-on l l' v.refusals up f.refusals;
+        floor = most;
+        live = λ h. let t = f.live h in (t.0, omega (arith, t.1));
+        spent = f.spent;
+        few_refusals = f.few_refusals;
+        few_refused_splits = f.few_refused_splits;
+        too_many_made = f.too_many_made;
+        mark = let same : weights (set views id w) ≡ weights views = omega arith in subst (λ (all : ℕ). IsMarked all mark v.weight) (sym same) marked;
+      })
+
+  pub learns_ok : (n id : ℕ) (m : Sat) (st : Step ℕ) → 0 < m.0.weight → Allows (IsKept k) n id m 0 (λ x. x) (learns st m)
+  learns_ok n id m st live = allows n id m 0 (λ x. x) (learns st m) (λ d made l views o at.
+      let v : View = m.0 in
+      let f : Fits k made l (weights views) v = o.each id v at in (
+        v,
+        (λ homes. kept d made l (set views id v) homes (d ∷ made ∷ l ∷ []) refl (told d made l views id v v.floor v.mark v.readings l o at live (omega arith) f.floor (omega arith) o.fixed o.small f.mark)),
+        (refl, is_sound k d made l views o id v at),
+      ))
+
+  pub looks_ok : (n id : ℕ) (m : Sat) (st : Step ℕ) → 0 < m.0.weight → Allows (IsKept k) n id m 1 (λ x. x) (looks st m)
+  looks_ok n id m st live = allows n id m 1 (λ x. x) (looks st m) (λ d made l views o at.
+      let v : View = m.0 in
+      let f : Fits k made l (weights views) v = o.each id v at in
+      let weight = term_le (λ (u : View). u.weight) views id v at in
+      let splits = term_le (λ (u : View). u.refused_splits) views id v at in
+      let rest = rest_le (λ (u : View). u.refused_splits) (λ (u : View). u.weight) views id v (λ i u there. (o.each i u there).few_refused_splits) at in
+      let counted : made ≡ weights views + refused_splits views = o.counted in
+      let marks : (mark : Mark) → IsMarked (weights views) mark v.weight → (homes : List (Option ℕ)) → IsKept k (record { words = d ∷ made ∷ l ∷ []; homes = homes; views = set views id (with_mark v mark) }) =
+      λ mark marked homes. kept d made l (set views id (with_mark v mark)) homes (d ∷ made ∷ l ∷ []) refl (told d made l views id v v.floor mark v.readings l o at live (omega arith) f.floor (omega arith) o.fixed o.small marked) in
+      dite (ℕ_discrete made (v.weight + v.refused_splits))
+      (λ e. (with_mark v Sole, marks Sole (omega arith), ((λ _. refl), λ ne. absurd (ne e))))
+      (λ ne. (with_mark v Shared, marks Shared (lt_of_not-le (λ le. ne (omega arith))), ((λ e. absurd (ne e)), λ _. refl))))
+
+  pub reads_limit_ok : (n id : ℕ) (m : Sat) (st : Step ℕ) → 0 < m.0.weight → m.0.terms ≡ k → Allows (IsKept k) n id m 2 (λ x. x) (reads_limit st m)
+  reads_limit_ok n id m st live of = allows n id m 2 (λ x. x) (reads_limit st m) (λ d made l views o at.
+      let v : View = m.0 in
+      let f : Fits k made l (weights views) v = o.each id v at in (
+        with_floor v l,
+        (λ homes. kept d made l (set views id (with_floor v l)) homes (d ∷ made ∷ l ∷ []) refl (told d made l views id v l v.mark (v.readings + 1) l o at live f.floor (omega arith) (omega arith) o.fixed o.small f.mark)),
+        (record { rises = f.floor; fixed = λ e. o.fixed (ap (λ (x : Terms). x.rises) (sym of) ∙ e) ∙ ap (λ (x : Terms). x.limit) (sym of); small = o.small }, refl),
+      ))
+
+  pub raises_ok : (n id : ℕ) (m : Sat) (st : Step ℕ) → 0 < m.0.weight → m.0.terms ≡ k → k.rises ≡ true → st.first ≤ 4294967296 → Allows (IsKept k) n id m 2 (λ x. max x st.first) (raises st m)
+  raises_ok n id m st live of rises small = allows n id m 2 (λ x. max x st.first) (raises st m) (λ d made l views o at.
+      let v : View = m.0 in
+      let f : Fits k made l (weights views) v = o.each id v at in
+      let l' : ℕ = max l st.first in
+      let up : l ≤ l' = le-max_left l st.first in
+      let least : l' ≤ 4294967296 = omega (arith, o.small) in
+      let never : k.rises ≡ false → ⊥ = λ e. let no : true ≡ false = sym rises ∙ e in cc in (
+        with_floor v l',
+        (λ homes. kept d made l' (set views id (with_floor v l')) homes (d ∷ made ∷ l' ∷ []) refl
+            (told d made l views id v l' v.mark (v.readings + 1) l' o at live (omega (arith, f.floor)) (omega arith) up (λ e. absurd (never e)) least f.mark)),
+        (record { rises = omega (arith, f.floor); fixed = λ e. absurd (never (ap (λ (x : Terms). x.rises) (sym of) ∙ e)); small = least }, refl),
+      ))
+
+  pub splits_ok : (id : ℕ) (v : View) → 1 < v.weight → length v.refusals < v.weight → v.refused_splits < v.weight → v.mark ≢ Sole → Splits (IsKept k) id v (lighter v) (part_of v)
+  splits_ok id v heavy some-refusals some-splits not-sole s kept at =
+      let views : List View = s.views in
+      let o : IsOrderly k kept.drawn kept.made kept.limit views = kept.orderly in
+      let f : Fits k kept.made kept.limit (weights views) v = o.each id v at in
+      let left : View = lighter v in
+      let right : View = part_of v in
+      let after : List View = set views id left ++ right ∷ [] in
+      let weight = total-set (λ (u : View). u.weight) views id v left at in
+      let same : weights after ≡ weights views = omega (arith, total-append (λ (u : View). u.weight) (set views id left) (right ∷ [])) in
+      let splits = total-set (λ (u : View). u.refused_splits) views id v left at in
+      let live = f.live (omega arith) in
+      let F : View → Type 0 = Fits k kept.made kept.limit (weights after) in
+      let fits-left : F left = record {
+        tickets = f.tickets;
+        refusals = f.refusals;
+        floor = f.floor;
+        live = λ _. live;
+        spent = λ e. absurd (omega arith);
+        few_refusals = omega arith;
+        few_refused_splits = omega arith;
+        too_many_made = f.too_many_made;
+        mark = subst (λ (all : ℕ). IsMarked all v.mark (v.weight - 1)) (sym same) (IsMarked-less v.mark (weights views) v.weight (v.weight - 1) not-sole (omega arith) f.mark);
+      } in
+      let fits-right : F right = record {
+        tickets = tt;
+        refusals = tt;
+        floor = f.floor;
+        live = λ _. live;
+        spent = λ _. refl;
+        few_refusals = omega arith;
+        few_refused_splits = omega arith;
+        too_many_made = λ h. absurd (omega arith);
+        mark = tt;
+      } in
+      record {
+        drawn = kept.drawn;
+        made = kept.made;
+        limit = kept.limit;
+        words = kept.words;
+        orderly = record {
+          numbers = λ h. omega (arith, total-append (found h) (set views id left) (right ∷ []), total-set (found h) views id v left at, o.numbers h);
+          counted = omega (arith, o.counted, total-append (λ (u : View). u.refused_splits) (set views id left) (right ∷ []));
+          few_passes = omega (arith, o.few_passes);
+          rises = o.rises;
+          fixed = o.fixed;
+          small = o.small;
+          each = λ by u there. ⊎_elim
+              (λ (t : get_elem? (set views id left) by ≡ some u). ⊎_elim
+              (λ (e : (by ≡ id) × (left ≡ u)). subst F e.1 fits-left)
+              (λ (e : (by ≢ id) × (get_elem? views by ≡ some u)). subst (λ (all : ℕ). Fits k kept.made kept.limit all u) (sym same) (o.each by u e.1))
+              (at_set views id by left u t))
+              (λ (e : right ≡ u). subst F e fits-right)
+              (at_snoc (set views id left) right u by there);
+        };
+      }
+
+  Fits-blank : (made limit all : ℕ) → Fits k made limit all blank
+  Fits-blank made limit all = record {
+    tickets = tt;
+    refusals = tt;
+    floor = omega arith;
+    live = λ h. absurd (omega arith);
+    spent = λ _. refl;
+    few_refusals = omega arith;
+    few_refused_splits = omega arith;
+    too_many_made = λ h. absurd (omega arith);
+    mark = tt;
+  }
+
+  pub joins_ok : (id : ℕ) (v : View) (other : ℕ) (w : View) → 0 < v.weight → Joins (IsKept k) id v other w (both v w) blank
+  joins_ok id v other w live s kept at apart there =
+      let views : List View = s.views in
+      let o : IsOrderly k kept.drawn kept.made kept.limit views = kept.orderly in
+      let at-other : get_elem? views other ≡ some w = sym (set_else views id other (both v w) apart) ∙ there in
+      let f : Fits k kept.made kept.limit (weights views) v = o.each id v at in
+      let g : Fits k kept.made kept.limit (weights views) w = o.each other w at-other in
+      let joined : View = both v w in
+      let middle : List View = set views id joined in
+      let after : List View = set middle other blank in
+      let sums : (p : View → ℕ) → total p after + p w + p v ≡ total p views + p joined + p blank =
+      λ p. omega (arith, total-set p views id v joined at, total-set p middle other w blank there) in
+      let same : weights after ≡ weights views = omega (arith, sums (λ (u : View). u.weight)) in
+      let F : View → Type 0 = Fits k kept.made kept.limit (weights after) in
+      let fits-joined : F joined = record {
+        tickets = Each-append (λ t. t < kept.limit) v.tickets w.tickets f.tickets g.tickets;
+        refusals = Each-append (IsRefusal k kept.limit) v.refusals w.refusals f.refusals g.refusals;
+        floor = omega (arith, f.floor, g.floor);
+        live = λ _. let t = f.live live in (t.0, omega (arith, t.1, le-max_left v.floor w.floor));
+        spent = λ e. absurd (omega arith);
+        few_refusals = omega (arith, length-append v.refusals w.refusals, f.few_refusals, g.few_refusals);
+        few_refused_splits = omega (arith, f.few_refused_splits, g.few_refused_splits);
+        too_many_made = λ h. dite (dec_le 1 v.refused_splits) (λ some-left. f.too_many_made some-left) (λ none. g.too_many_made (omega arith));
+        mark = tt;
+      } in
+      record {
+        drawn = kept.drawn;
+        made = kept.made;
+        limit = kept.limit;
+        words = kept.words;
+        orderly = record {
+          numbers = λ h. omega (arith, sums (found h), total-append h v.tickets w.tickets, total-append (λ (r : Refusal). h r.number) v.refusals w.refusals, o.numbers h);
+          counted = omega (arith, o.counted, sums (λ (u : View). u.refused_splits));
+          few_passes = omega (arith, o.few_passes);
+          rises = o.rises;
+          fixed = o.fixed;
+          small = o.small;
+          each = λ by u there'. ⊎_elim
+              (λ (e : (by ≡ other) × (blank ≡ u)). subst F e.1 (Fits-blank kept.made kept.limit (weights after)))
+              (λ (e : (by ≢ other) × (get_elem? middle by ≡ some u)). ⊎_elim
+              (λ (t : (by ≡ id) × (joined ≡ u)). subst F t.1 fits-joined)
+              (λ (t : (by ≢ id) × (get_elem? views by ≡ some u)). subst (λ (all : ℕ). Fits k kept.made kept.limit all u) (sym same) (o.each by u t.1))
+              (at_set views id by joined u e.1))
+              (at_set middle other by blank u there');
+        };
+      }

@@ -1,0 +1,83 @@
+-- A sole pass stands for all, so what it has is what was drawn.
+use Rattle.std.proofs.Common.{◌≡◌, ℕ, ◌+◌, ◌<◌, ◌≤◌, List, [], ◌∷◌, length, min, sym, refl, ap, ◌∙◌, subst, arith, lt_of_not-le}
+use mathlib.Core.Logic.{dite}
+use mathlib.Core.Option.{some}
+use native.Mathlib.Decide.{dec_le}
+use lib.ListN.{get_elem?}
+use Rattle.atomic_table.specs.Table.{State}
+use Rattle.sched_ticket.specs.Lists.{total, below, Each, is, times, once_below, AreBelow}
+use Rattle.sched_ticket.specs.Rule.{found, weights, IsMarked, IsRefusal, Fits, IsKept}
+use Rattle.sched_ticket.specs.Calls.{IsWhole}
+use Rattle.sched_ticket.specs.declared.view.Terms.{Terms}
+use Rattle.sched_ticket.specs.declared.view.Refusal.{Refusal}
+use Rattle.sched_ticket.specs.declared.view.Mark.{Mark}
+use Rattle.sched_ticket.specs.declared.view.Mark.TheVariants.{Sole}
+use Rattle.sched_ticket.specs.declared.view.View.{View}
+use Rattle.sched_ticket.proofs.Sums.{term_le, alone, total-one, below-one, below-is, below-once_below, is-other, once_below-yes, once_below-no, total-once_below, times-none}
+use Rattle.sched_ticket.proofs.Totals.{tickets_le}
+
+pub no_refusal : (xs : List Refusal) → length xs ≤ 0 → xs ≡ []
+no_refusal [] h = refl
+no_refusal (x ∷ xs) h = absurd (omega arith)
+
+module _ (k : Terms) (limit : ℕ) (first : limit ≡ k.limit) where
+  -- no refused number is below a limit that was never raised
+  pub high_refusals : (xs : List Refusal) → Each (IsRefusal k limit) xs → total (λ (r : Refusal). once_below r.number limit) xs ≡ 0
+  high_refusals [] h = refl
+  high_refusals (r ∷ xs) h = let high : limit ≤ r.number = omega (arith, h.0.0, h.0.1) in omega (arith, once_below-no r.number limit high, high_refusals xs h.1)
+
+  pub other_refusals : (x : ℕ) (xs : List Refusal) → x < limit → Each (IsRefusal k limit) xs → total (λ (r : Refusal). is x r.number) xs ≡ 0
+  other_refusals x [] low h = refl
+  other_refusals x (r ∷ xs) low h = omega (arith, is-other x r.number (λ e. omega (arith, h.0.0, h.0.1)), other_refusals x xs low h.1)
+
+module _ (k : Terms) (s : State ℕ View) (kept : IsKept k s) (id : ℕ) (v : View) (at : get_elem? s.views id ≡ some v) (sole : v.mark ≡ Sole) where
+  fits : Fits k kept.made kept.limit (weights s.views) v
+  fits = kept.orderly.each id v at
+
+  all_here : weights s.views ≡ v.weight
+  all_here = subst (λ (m : Mark). IsMarked (weights s.views) m v.weight) sole fits.mark
+
+  -- a view of no weight has found no number
+  spent : (h : ℕ → ℕ) (i : ℕ) (u : View) → get_elem? s.views i ≡ some u → u.weight ≡ 0 → found h u ≡ 0
+  spent h i u there e =
+      let f : Fits k kept.made kept.limit (weights s.views) u = kept.orderly.each i u there in
+      omega (arith, ap (total h) (f.spent e), ap (total (λ (r : Refusal). h r.number)) (no_refusal u.refusals (omega (arith, f.few_refusals))))
+
+  numbers : (h : ℕ → ℕ) → found h v ≡ below h kept.drawn
+  numbers h = sym (alone (found h) (λ (u : View). u.weight) s.views id v (spent h) at all_here) ∙ kept.orderly.numbers h
+
+  drawn_is : kept.drawn ≡ length v.tickets + length v.refusals
+  drawn_is = omega (arith, numbers (λ _. 1), total-one v.tickets, total-one v.refusals, below-one kept.drawn)
+
+  module _ (first : kept.limit ≡ k.limit) where
+    count_is : length v.tickets ≡ min (length v.tickets + length v.refusals) kept.limit
+    count_is =
+        let low : length v.tickets ≡ min kept.drawn kept.limit =
+        omega (arith, numbers (λ x. once_below x kept.limit), total-once_below kept.limit v.tickets fits.tickets, high_refusals k kept.limit first v.refusals fits.refusals, below-once_below kept.limit kept.drawn) in
+        low ∙ ap (λ (d : ℕ). min d kept.limit) drawn_is
+
+    once_each : AreBelow v.tickets (length v.tickets)
+    once_each x =
+        let all : times x v.tickets + total (λ (r : Refusal). is x r.number) v.refusals ≡ once_below x kept.drawn = numbers (is x) ∙ below-is x kept.drawn in
+        let n : ℕ = length v.tickets in
+        let least : n ≡ min kept.drawn kept.limit = count_is ∙ ap (λ (d : ℕ). min d kept.limit) (sym drawn_is) in
+        dite (dec_le kept.limit x)
+        (λ high. omega (arith, times-none x kept.limit v.tickets high fits.tickets, once_below-no x n (omega arith)))
+        (λ not. let low : x < kept.limit = lt_of_not-le not in dite (dec_le kept.drawn x)
+        (λ past. omega (arith, once_below-no x kept.drawn past, once_below-no x n (omega arith)))
+        (λ near. let early : x < kept.drawn = lt_of_not-le near in
+        omega (arith, once_below-yes x kept.drawn early, once_below-yes x n (omega arith), other_refusals k kept.limit first x v.refusals low fits.refusals)))
+
+  pub is_whole : IsWhole k v.tickets v.refusals
+  is_whole = record {
+    limit = kept.limit;
+    numbers = λ h. numbers h ∙ ap (below h) drawn_is;
+    rises = kept.orderly.rises;
+    fixed = kept.orderly.fixed;
+    small = kept.orderly.small;
+    below_limit = fits.tickets;
+    high = fits.refusals;
+    few = omega (arith, term_le (λ (u : View). length u.tickets) s.views id v at, tickets_le k kept.drawn kept.made kept.limit s.views kept.orderly);
+    count = count_is;
+    each_once = once_each;
+  }

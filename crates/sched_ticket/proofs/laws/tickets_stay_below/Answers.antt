@@ -1,0 +1,11 @@
+use Rattle.sched_ticket.proofs.Views.{tickets_stay_below, each_ticket_is_below, floors_stay_below}
+use Rattle.sched_ticket.proofs.laws.tickets_stay_below.Goals as goal
+
+pub returns-clause-all : goal.returns-clause-all
+returns-clause-all c = tickets_stay_below
+
+pub returns-clause-each : goal.returns-clause-each
+returns-clause-each c = each_ticket_is_below
+
+pub returns-clause-floors : goal.returns-clause-floors
+returns-clause-floors c = floors_stay_below

@@ -1,0 +1,31 @@
+use Rattle.std.proofs.Common.{sym, ap, ◌∙◌, arith}
+use mathlib.Core.Option.{none}
+use Rattle.atomic_table.specs.Table.{step}
+use Rattle.sched_ticket.specs.Steps.{Sat}
+use Rattle.sched_ticket.specs.Held.{Name, Held}
+use Rattle.std.proofs.Common.{length}
+use Rattle.sched_ticket.proofs.Moves.{counts_ok, splits_ok}
+use Rattle.sched_ticket.proofs.pass.Pass.split.Goals as goal
+
+pub fetch_add-made-requires : goal.fetch_add-made-requires
+fetch_add-made-requires c =
+    let known = c.budget.invariant in
+    let counted = c.self.invariant in (
+      ap (λ (p : Held). p.table) c.self.view_is ∙ c.requires.0 ∙ sym (ap (λ (b : Name). b.table) c.budget.view_is),
+      omega arith,
+      counts_ok _ _ _ _ (step 0 1 1 0 none) (omega arith) (omega arith),
+    )
+
+pub split_seat-seat-requires : goal.split_seat-seat-requires
+split_seat-seat-requires c =
+    let known = c.budget.invariant in
+    let counted = c.self.invariant in
+    let made = c.fetch_add-made.ensures in
+    let heavy = made.2.0 (omega arith) in (
+      made.0 ∙ ap (λ (p : Held). p.table) c.self.view_is ∙ c.requires.0 ∙ sym (ap (λ (b : Name). b.table) c.budget.view_is),
+      omega arith,
+      splits_ok _ _ _ (omega (arith, ap (λ (m : Sat). m.0.weight) heavy))
+          (omega (arith, ap (λ (m : Sat). m.0.weight) heavy, ap (λ (m : Sat). length m.0.refusals) heavy))
+          (omega (arith, ap (λ (m : Sat). m.0.weight) heavy, ap (λ (m : Sat). m.0.refused_splits) heavy))
+          (λ sole. counted.unsole (sym (ap (λ (m : Sat). m.0.mark) heavy) ∙ sole)),
+    )

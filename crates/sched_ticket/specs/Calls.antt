@@ -1,0 +1,80 @@
+-- What each call does to a pass, and when each refusal comes.
+use Rattle.std.specs.Prelude.{◌≡◌, ℕ, ◌+◌, ◌<◌, ◌≤◌, ◌⊎◌, Bool, true, false, List, [], length, min}
+use Rattle.sched_ticket.specs.Lists.{total, below, Each, AreBelow}
+use Rattle.sched_ticket.specs.View.{with_ticket, with_refusal, with_floor, with_refused_split}
+use Rattle.sched_ticket.specs.Rule.{IsRefusal}
+use Rattle.sched_ticket.specs.Steps.{IsLater, IsLimit}
+use Rattle.sched_ticket.specs.declared.view.Terms.{Terms}
+use Rattle.sched_ticket.specs.declared.view.Refusal.{Refusal}
+use Rattle.sched_ticket.specs.declared.view.View.{View}
+use Rattle.sched_ticket.specs.declared.fault.TicketFault.{TicketFault}
+use Rattle.sched_ticket.specs.declared.fault.TicketFault.TheVariants.{LimitTooLarge, NoMemory, TooManyPasses, Fixed}
+
+-- a budget of this limit is not made for this reason
+abbrev pub RefusesLimit : ℕ → TicketFault → Type 0
+RefusesLimit limit LimitTooLarge = 4294967296 < limit
+RefusesLimit limit NoMemory = limit ≤ 4294967296
+RefusesLimit limit TooManyPasses = ⊥
+RefusesLimit limit Fixed = ⊥
+
+-- a limit is not raised for this reason
+abbrev pub RefusesRaise : Bool → ℕ → TicketFault → Type 0
+RefusesRaise rises to LimitTooLarge = 4294967296 < to
+RefusesRaise rises to NoMemory = ⊥
+RefusesRaise rises to TooManyPasses = ⊥
+RefusesRaise rises to Fixed = (rises ≡ false) × (to ≤ 4294967296)
+
+-- the pass asked for the limit: a budget that keeps its limit changes nothing, and a rising one was read
+pub record Asked (v u : View) : Type 0 where
+  pub limit : IsLimit v u.floor
+  pub same : u ≡ record v { floor = u.floor; readings = u.readings }
+  pub fixed : v.terms.rises ≡ false → u ≡ v
+  pub rising : v.terms.rises ≡ true → u.readings ≡ v.readings + 1
+
+-- a draw that gave the ticket k: a number below the limit asked for, and after all tickets that the pass had
+pub record Drew (v : View) (k : ℕ) (w : View) : Type 0 where
+  pub unrefused : v.refusals ≡ []
+  pub asked : View
+  pub asks : Asked v asked
+  pub ticket : k < asked.floor
+  pub later : IsLater v k
+  pub gained : w ≡ with_ticket asked k
+
+-- a draw that found a number too high
+pub record FoundNone (v w : View) : Type 0 where
+  pub unrefused : v.refusals ≡ []
+  pub asked : View
+  pub asks : Asked v asked
+  pub number : ℕ
+  pub high : asked.floor ≤ number
+  pub gained : w ≡ with_refusal asked number
+
+-- a draw was answered None: before, and nothing changes, or now
+abbrev pub DrewNone : View → View → Type 0
+DrewNone v w = ((0 < length v.refusals) × (w ≡ v)) ⊎ FoundNone v w
+
+-- a split was refused: before, and nothing changes, or now
+abbrev pub SplitRefused : View → View → Type 0
+SplitRefused v w = ((0 < v.refused_splits) × (w ≡ v)) ⊎ ((v.refused_splits ≡ 0) × (w ≡ with_refused_split v))
+
+-- the limit has become n, the greater of what it was and `to`
+pub record Raised (v : View) (to n : ℕ) (w : View) : Type 0 where
+  pub rising : v.terms.rises ≡ true
+  pub limit : IsLimit v n
+  pub reached : to ≤ n
+  pub gained : w ≡ with_floor v n
+
+-- These are all tickets and refusals of a budget: every number that was drawn is one of them, once.
+-- `limit` is the limit at the close
+pub record IsWhole (k : Terms) (tickets : List ℕ) (refusals : List Refusal) : Type 0 where
+  pub limit : ℕ
+  pub numbers : (h : ℕ → ℕ) → total h tickets + total (λ (r : Refusal). h r.number) refusals ≡ below h (length tickets + length refusals)
+  pub rises : k.limit ≤ limit
+  pub fixed : k.rises ≡ false → limit ≡ k.limit
+  pub small : limit ≤ 4294967296
+  pub below_limit : Each (λ t. t < limit) tickets
+  pub high : Each (IsRefusal k limit) refusals
+  pub few : length tickets ≤ limit
+  -- where the limit was never raised, the tickets are the numbers below the draws made and the limit
+  pub count : limit ≡ k.limit → length tickets ≡ min (length tickets + length refusals) limit
+  pub each_once : limit ≡ k.limit → AreBelow tickets (length tickets)

@@ -1,0 +1,8 @@
+pub mod Lists
+pub mod View
+pub mod Rule
+pub mod Steps
+pub mod Held
+pub mod Calls
+pub mod Laws
+pub mod Drains

@@ -1,0 +1,63 @@
+-- What holds of a budget between any two atomic steps, of its three words and of the views of all its passes.
+use Rattle.std.specs.Prelude.{◌≡◌, ℕ, ◌+◌, ◌<◌, ◌≤◌, false, List, [], ◌∷◌, length}
+use mathlib.Core.Option.{some}
+use lib.ListN.{get_elem?}
+use Rattle.atomic_table.specs.Table.{State}
+use Rattle.sched_ticket.specs.Lists.{total, below, Each}
+use Rattle.sched_ticket.specs.declared.view.Terms.{Terms}
+use Rattle.sched_ticket.specs.declared.view.Refusal.{Refusal}
+use Rattle.sched_ticket.specs.declared.view.Mark.{Mark}
+use Rattle.sched_ticket.specs.declared.view.Mark.TheVariants.{Unseen, Sole, Shared}
+use Rattle.sched_ticket.specs.declared.view.View.{View}
+
+-- what the numbers weigh that a pass's draws found: its tickets and its refused numbers
+abbrev pub found : (ℕ → ℕ) → View → ℕ
+found h v = total h v.tickets + total (λ (r : Refusal). h r.number) v.refusals
+
+-- the passes that all views stand for
+abbrev pub weights : List View → ℕ
+weights views = total (λ (v : View). v.weight) views
+
+abbrev pub refused_splits : List View → ℕ
+refused_splits views = total (λ (v : View). v.refused_splits) views
+
+-- a mark is true: a sole pass has the weight of all, a shared one has less
+abbrev pub IsMarked : ℕ → Mark → ℕ → Type 0
+IsMarked all Unseen weight = Unit {0}
+IsMarked all Sole weight = all ≡ weight
+IsMarked all Shared weight = weight < all
+
+-- a number was refused by a limit that the pass had found: it is not below it, and the limit is never below it
+abbrev pub IsRefusal : Terms → ℕ → Refusal → Type 0
+IsRefusal k limit r = (k.limit ≤ r.floor) × (r.floor ≤ r.number) × (r.floor ≤ limit)
+
+-- one view fits the words and the weight of all views
+pub record Fits (k : Terms) (made limit all : ℕ) (v : View) : Type 0 where
+  pub tickets : Each (λ t. t < limit) v.tickets
+  pub refusals : Each (IsRefusal k limit) v.refusals
+  pub floor : v.floor ≤ limit
+  pub live : 0 < v.weight → (v.terms ≡ k) × (k.limit ≤ v.floor)
+  pub spent : v.weight ≡ 0 → v.tickets ≡ []
+  pub few_refusals : length v.refusals ≤ v.weight
+  pub few_refused_splits : v.refused_splits ≤ v.weight
+  pub too_many_made : 0 < v.refused_splits → 65536 < made
+  pub mark : IsMarked all v.mark v.weight
+
+-- the words and the views fit together
+pub record IsOrderly (k : Terms) (drawn made limit : ℕ) (views : List View) : Type 0 where
+  -- each number below drawn is in one view, as a ticket or as a refused number, once, and no other number is
+  pub numbers : (h : ℕ → ℕ) → total (found h) views ≡ below h drawn
+  pub counted : made ≡ weights views + refused_splits views
+  pub few_passes : weights views ≤ 65536
+  pub rises : k.limit ≤ limit
+  pub fixed : k.rises ≡ false → limit ≡ k.limit
+  pub small : limit ≤ 4294967296
+  pub each : (by : ℕ) (v : View) → get_elem? views by ≡ some v → Fits k made limit (weights views) v
+
+-- the rule of a budget's table
+pub record IsKept (k : Terms) (s : State ℕ View) : Type 0 where
+  pub drawn : ℕ
+  pub made : ℕ
+  pub limit : ℕ
+  pub words : s.words ≡ drawn ∷ made ∷ limit ∷ []
+  pub orderly : IsOrderly k drawn made limit s.views

@@ -1,0 +1,53 @@
+-- What each kind of atomic step tells the pass that makes it: of the seat before, the number found and the seat after.
+use Rattle.std.specs.Prelude.{◌≡◌, ◌≢◌, ℕ, ◌+◌, ◌<◌, ◌≤◌, false, length, max}
+use Rattle.atomic_table.specs.Table.{Me, Step}
+use Rattle.sched_ticket.specs.Lists.{Each, times}
+use Rattle.sched_ticket.specs.View.{with_ticket, with_refusal, with_floor, with_mark, with_refused_split, heavier}
+use Rattle.sched_ticket.specs.declared.view.Mark.TheVariants.{Sole, Shared}
+use Rattle.sched_ticket.specs.declared.view.View.{View}
+
+-- a seat's view, and the slots that it holds, of which a budget has none
+abbrev pub Sat : Type 0
+Sat = Me ℕ View
+
+abbrev pub Then : Type 1
+Then = Step ℕ → Sat → ℕ → Sat → Type 0
+
+-- the seat has this view now, and all else as before
+abbrev pub Sees : Sat → Sat → View → Type 0
+Sees m n v = n ≡ (v, m.1)
+
+-- the number comes after all tickets of the pass
+abbrev pub IsLater : View → ℕ → Type 0
+IsLater v k = Each (λ t. t < k) v.tickets × (length v.tickets ≤ k)
+
+abbrev pub draws : Then
+draws s m k n = IsLater m.0 k × (k < m.0.floor → Sees m n (with_ticket m.0 k)) × (m.0.floor ≤ k → Sees m n (with_refusal m.0 k))
+
+abbrev pub counts : Then
+counts s m made n = (made < 65536 → Sees m n (heavier m.0)) × (65536 ≤ made → Sees m n (with_refused_split m.0))
+
+-- what holds of a pass's tickets and weight, whatever was joined into it
+pub record IsSound (v : View) : Type 0 where
+  pub once : (x : ℕ) → times x v.tickets ≤ 1
+  pub small : Each (λ t. t < 4294967296) v.tickets
+  pub few_tickets : length v.tickets ≤ 4294967296
+  pub few_passes : v.weight ≤ 65536
+
+abbrev pub learns : Then
+learns s m found n = (n ≡ m) × IsSound m.0
+
+abbrev pub looks : Then
+looks s m made n = (made ≡ m.0.weight + m.0.refused_splits → Sees m n (with_mark m.0 Sole)) × (made ≢ m.0.weight + m.0.refused_splits → Sees m n (with_mark m.0 Shared))
+
+-- a limit that a pass finds is none below its floor, and the first one where the budget keeps its limit
+pub record IsLimit (v : View) (limit : ℕ) : Type 0 where
+  pub rises : v.floor ≤ limit
+  pub fixed : v.terms.rises ≡ false → limit ≡ v.terms.limit
+  pub small : limit ≤ 4294967296
+
+abbrev pub reads_limit : Then
+reads_limit s m limit n = IsLimit m.0 limit × Sees m n (with_floor m.0 limit)
+
+abbrev pub raises : Then
+raises s m before n = let limit = max before s.first in IsLimit m.0 limit × Sees m n (with_floor m.0 limit)

@@ -1,0 +1,136 @@
+//! The budget: making it, and closing it with the pass that stands for all.
+ghost use Rattle.std.specs.Prelude.{◌≡◌, ◌+◌, ◌<◌, ◌≤◌, true, false, length, min, IfOk, IfErr, OnOk, MatchBool};
+ghost use Rattle.sched_ticket.specs.View.{terms, first_view, with_mark};
+ghost use Rattle.sched_ticket.specs.Held.{IsOf};
+ghost use Rattle.sched_ticket.specs.Calls.{RefusesLimit, IsWhole};
+ghost use Rattle.sched_ticket.specs.Lists.{AreBelow};
+ghost use Rattle.sched_ticket.specs.declared.view.Mark.{Mark};
+
+use crate::fault::{PassesOut, TicketFault};
+use crate::pass::{Pass, Seat};
+use crate::rule::{Look, Rule};
+use crate::view::{Terms, View};
+use atomic_table::Table;
+use std::alloc::Global;
+use std::marker::Model;
+
+/// The most tickets that a budget gives out.
+pub const MAX_LIMIT: u64 = 4294967296;
+
+/// A number of tickets that any number of threads draw from, each with a pass of its own.
+/// Contracts see it as its name: which budget it is, and what it was made with.
+#[derive(Drop)]
+pub struct Budget {
+    /// How many numbers were drawn, how many passes were made, and the limit.
+    pub(crate) table: Table<u8, View, Terms, Rule, Global>,
+    pub(crate) terms: Terms,
+}
+
+impl Model for Budget {
+    ghost use Rattle.sched_ticket.specs.Held.{Name, IsLaidOut};
+
+    ghost Value = { Name };
+
+    ghost view = { λ b. record { table = b.table.shared.table_id; terms = b.terms } };
+
+    ghost invariant = { λ b. IsLaidOut b.table.shared.table_id b.table.shared.key b.terms };
+}
+
+impl Budget {
+    /// A budget of `limit` tickets, and its first pass.
+    pub fn new(alloc: Global, limit: u64) -> Result<(Budget, Pass), TicketFault>
+        ensures ok { IfOk result (λ r. (r.0.terms ≡ terms limit false) × IsOf r.0 r.1 × (r.1.has ≡ first_view (terms limit false))) }
+        ensures limit { OnOk result (limit ≤ 4294967296) }
+        ensures err { IfErr result (RefusesLimit limit) }
+    {
+        Budget::open(
+            alloc,
+            Terms {
+                limit,
+                rises: false,
+            },
+        )
+    }
+
+    /// A budget whose limit is `limit` and may rise, and its first pass.
+    pub fn rising(alloc: Global, limit: u64) -> Result<(Budget, Pass), TicketFault>
+        ensures ok { IfOk result (λ r. (r.0.terms ≡ terms limit true) × IsOf r.0 r.1 × (r.1.has ≡ first_view (terms limit true))) }
+        ensures limit { OnOk result (limit ≤ 4294967296) }
+        ensures err { IfErr result (RefusesLimit limit) }
+    {
+        Budget::open(alloc, Terms { limit, rises: true })
+    }
+
+    fn open(alloc: Global, about: Terms) -> Result<(Budget, Pass), TicketFault>
+        ensures ok { IfOk result (λ r. (r.0.terms ≡ about) × IsOf r.0 r.1 × (r.1.has ≡ first_view about)) }
+        ensures limit { OnOk result (about.limit ≤ 4294967296) }
+        ensures err { IfErr result (RefusesLimit about.limit) }
+    {
+        if about.limit > MAX_LIMIT {
+            return Err(TicketFault::LimitTooLarge);
+        }
+        match Table::of_words(alloc, &[0, 1, about.limit], &about) {
+            Ok((table, seat)) => Ok((
+                Budget {
+                    table,
+                    terms: about,
+                },
+                Pass::start(seat),
+            )),
+            Err(_) => Err(TicketFault::NoMemory),
+        }
+    }
+
+    /// The number of tickets drawn, where this pass stands for all passes of the budget.
+    /// Otherwise another pass is alive or was dropped, and both come back, the pass marked as shared.
+    pub fn close(self, pass: Pass) -> Result<u64, (Budget, Pass, PassesOut)>
+        requires { IsOf self pass }
+        ensures count { IfOk result (λ n. n ≡ length pass.has.tickets) }
+        ensures whole { OnOk result (IsWhole self.terms pass.has.tickets pass.has.refusals) }
+        ensures fixed { IfOk result (λ n. self.terms.rises ≡ false → (n ≡ min (n + length pass.has.refusals) self.terms.limit) × AreBelow pass.has.tickets n) }
+        ensures err { IfErr result (λ r. (r.0 ≡ self) × IsOf r.0 r.1 × (r.1.has ≡ with_mark pass.has Mark.Shared)) }
+    {
+        let Pass {
+            mut seat,
+            tickets,
+            weight,
+            refused_splits,
+            refused,
+        } = pass;
+        if self.look(&mut seat, weight + refused_splits) {
+            self.take_apart(seat);
+            Ok(tickets)
+        } else {
+            let pass = Pass {
+                seat,
+                tickets,
+                weight,
+                refused_splits,
+                refused,
+            };
+            Err((self, pass, PassesOut))
+        }
+    }
+
+    /// Whether the passes that were made are those that the seat stands for. It marks the seat.
+    fn look(&self, seat: &mut Seat, known: u64) -> bool
+        requires of { seat.old.table_id ≡ self.now.table }
+        requires live { 0 < seat.old.me.0.weight }
+        requires known { known ≡ seat.old.me.0.weight + seat.old.me.0.refused_splits }
+        ensures seat { (seat.new.table_id ≡ seat.old.table_id) × (seat.new.me.1 ≡ seat.old.me.1) }
+        ensures mark { MatchBool result (seat.new.me.0 ≡ with_mark seat.old.me.0 Mark.Sole) (seat.new.me.0 ≡ with_mark seat.old.me.0 Mark.Shared) }
+    {
+        self.table.shared.load::<Look>(seat, 1) == known
+    }
+
+    /// Frees the table. Only a look gives the mark that it asks for.
+    fn take_apart(self, seat: Seat)
+        requires of { seat.table_id ≡ self.table }
+        requires live { 0 < seat.me.0.weight }
+        requires sole { seat.me.0.mark ≡ Mark.Sole }
+        ensures { IsWhole self.terms seat.me.0.tickets seat.me.0.refusals }
+    {
+        let Budget { table, terms: _ } = self;
+        table.close_with(seat).free();
+    }
+}

@@ -1,0 +1,41 @@
+//! Why a call on a budget was refused.
+
+use std::error::Error;
+use std::fmt;
+
+/// Why a budget was not made, a pass not split or a limit not raised.
+#[derive(Clone, Copy, Debug, PartialEq, Eq, Drop)]
+pub enum TicketFault {
+    /// More than 4294967296 tickets.
+    LimitTooLarge,
+    NoMemory,
+    /// 65,536 passes were counted, the first included.
+    TooManyPasses,
+    /// The budget keeps its limit.
+    Fixed,
+}
+
+impl fmt::Display for TicketFault {
+    fn fmt<W: fmt::Write>(&self, f: &mut fmt::Formatter<W>) -> fmt::Result {
+        f.write_str(match self {
+            TicketFault::LimitTooLarge => "the limit is more than 4294967296 tickets",
+            TicketFault::NoMemory => "no memory",
+            TicketFault::TooManyPasses => "more than 65536 passes of one budget",
+            TicketFault::Fixed => "the budget keeps its limit",
+        })
+    }
+}
+
+impl Error for TicketFault {}
+
+/// A budget was not closed: another of its passes is alive, or was dropped.
+#[derive(Clone, Copy, Debug, PartialEq, Eq, Drop)]
+pub struct PassesOut;
+
+impl fmt::Display for PassesOut {
+    fn fmt<W: fmt::Write>(&self, f: &mut fmt::Formatter<W>) -> fmt::Result {
+        f.write_str("another pass of the budget is alive or was dropped")
+    }
+}
+
+impl Error for PassesOut {}

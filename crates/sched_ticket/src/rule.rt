@@ -1,0 +1,79 @@
+//! The rule of a budget's table, and its kinds of atomic step.
+//!
+//! | Step | On the word | The stepping pass |
+//! |---|---|---|
+//! | `Draw` | 1 more drawn | gains the number found: a ticket below its floor, else a refusal |
+//! | `Count` | 1 more made | gains a weight where fewer than 65,536 were made, else a refused split |
+//! | `Part` | none changes | gives one weight to a new pass, and counts it |
+//! | `Merge` | none changes | takes in another pass, which is spent |
+//! | `Learn` | none changes | learns that its tickets are distinct |
+//! | `Look` | made is read | is marked sole or shared |
+//! | `ReadLimit` | limit is read | its floor becomes the limit |
+//! | `Raise` | limit becomes the greater of itself and the number given | its floor becomes the new limit |
+ghost use Rattle.sched_ticket.specs.Rule.{IsKept};
+ghost use Rattle.sched_ticket.specs.View.{first_view, blank, lighter, part_of, both};
+ghost use Rattle.sched_ticket.specs.Steps.{draws, counts, learns, looks, reads_limit, raises};
+
+use crate::view::{Terms, View};
+use atomic_table::{Join, Play, Split, TableRule};
+
+/// The rule of the table behind every budget.
+pub(crate) struct Rule;
+
+impl TableRule<u8, View, Terms> for Rule {
+    ghost holds = { IsKept };
+
+    ghost first = { first_view };
+}
+
+pub(crate) struct Draw;
+
+impl Play<u8, View> for Draw {
+    ghost then = { draws };
+}
+
+pub(crate) struct Count;
+
+impl Play<u8, View> for Count {
+    ghost then = { counts };
+}
+
+pub(crate) struct Part;
+
+impl Split<View> for Part {
+    ghost left = { lighter };
+
+    ghost right = { part_of };
+}
+
+pub(crate) struct Merge;
+
+impl Join<View> for Merge {
+    ghost both = { both };
+
+    ghost spent = { blank };
+}
+
+pub(crate) struct Learn;
+
+impl Play<u8, View> for Learn {
+    ghost then = { learns };
+}
+
+pub(crate) struct Look;
+
+impl Play<u8, View> for Look {
+    ghost then = { looks };
+}
+
+pub(crate) struct ReadLimit;
+
+impl Play<u8, View> for ReadLimit {
+    ghost then = { reads_limit };
+}
+
+pub(crate) struct Raise;
+
+impl Play<u8, View> for Raise {
+    ghost then = { raises };
+}
