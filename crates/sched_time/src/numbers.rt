@@ -140,9 +140,7 @@ impl From<Moment> for Millis {
 
     /// The time from moment 0 to this one.
     fn from(moment: Moment) -> Self {
-        Millis {
-            millis: moment.at,
-        }
+        Millis { millis: moment.at }
     }
 }
 
