@@ -21,6 +21,7 @@ abbrev pub next_moment : Schedule → PlanOptions → List Event → Option ℕ
 next_moment s o [] = Some o.from
 next_moment s o (e ∷ h) = option_map (λ start. capped (start + o.took)) (start_of (answer s (e ∷ h)).decision)
 
+-- the history with the event at this moment, if there is one
 abbrev pub and_at : PlanOptions → List Event → Option ℕ → List Event
 and_at o h None = h
 and_at o h (Some now) = h ++ event_at o now ∷ []
@@ -30,6 +31,7 @@ abbrev pub run : Schedule → PlanOptions → ℕ → List Event
 run s o zero = []
 run s o (suc n) = and_at o (run s o n) (next_moment s o (run s o n))
 
+-- `next START`, or `done`
 abbrev pub decision_text : Decision → List ℕ
 decision_text (Go start) = codes " next " ++ decimal start
 decision_text Done = codes " done"

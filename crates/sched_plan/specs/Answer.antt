@@ -11,6 +11,7 @@ use Rattle.sched_plan.specs.declared.leaves.Leaf.TheVariants.{Forever, Recurs, S
 use Rattle.sched_plan.specs.declared.history.Event.{Event}
 use Rattle.sched_plan.specs.declared.history.Answer.{Answer}
 
+-- whether the schedule stops here
 abbrev pub is_done : Decision → Bool
 is_done (Go start) = false
 is_done Done = true
@@ -32,22 +33,24 @@ fixed_plan d f (e ∷ earlier) =
 abbrev pub fixed_start : ℕ → List Event → ℕ
 fixed_start d h = fixed_plan d (first_moment h) (reverse h)
 
+-- what a recurrence of its own decides at the last event
 abbrev pub leaf_decision : Leaf → List Event → Decision
 leaf_decision Forever h = Go (last_moment h)
 leaf_decision (Recurs count) h = if nat_lt (length h - 1) count then Go (last_moment h) else Done
 leaf_decision (Spaced delay) h = Go (capped (last_moment h + delay))
 leaf_decision (Fixed d) h = Go (fixed_start d h)
 
--- a leaf gives how often it has recurred
+-- its output is how often it has recurred before this event
 abbrev pub leaf_answer : Leaf → List Event → Answer
 leaf_answer l h = record { output = num (repeats h); decision = leaf_decision l h }
 
--- both go on, at the later start; else done
+-- the intervals of both: going on at the later start where both go on, else done
 abbrev pub later : Decision → Decision → Decision
 later (Go s) (Go t) = Go (max s t)
 later (Go s) Done = Done
 later Done d = Done
 
+-- two schedules side by side, as ZIO's `&&`: the pair of outputs, while both go on
 abbrev pub both : Answer → Answer → Answer
 both a b = record { output = pair a.output b.output; decision = later a.decision b.decision }
 
@@ -59,7 +62,8 @@ crossing answers h = find (λ p. is_done (answers p).decision) (prefixes h)
 abbrev pub from_end_of : List Event → List Event → List Event
 from_end_of p h = drop (length p - 1) h
 
--- the first schedule's answer while it was never done; else the second's, from the event on at which the first was done
+-- one schedule after another, as ZIO's `andThen`: the first one's answer while it was never done, else the second one's
+-- on the events from the one on at which the first was done
 abbrev pub followed : (List Event → Answer) → (List Event → Answer) → Option (List Event) → List Event → Answer
 followed front rest None h = front h
 followed front rest (Some p) h = rest (from_end_of p h)

@@ -1,5 +1,5 @@
 -- The first prefix of a history that passes a test, when the history grows by one event.
-use Rattle.std.proofs.Common.{◌≡◌, ◌≤◌, List, [], ◌∷◌, ◌++◌, map, length, find, All, Bool, true, false, cond, if◌then◌else◌, Some, None, refl, ap, subst, ◌∙◌, arith}
+use Rattle.std.proofs.Common.{◌≡◌, ◌≤◌, List, [], ◌∷◌, ◌++◌, length, find, All, Bool, true, false, cond, if◌then◌else◌, Some, None, refl, ap, subst, ◌∙◌, arith}
 use Rattle.std.proofs.lemmas.List.Elements.{All-nil, All-cons, All-head, All-tail, All-map, All-weaker}
 use Rattle.sched_plan.specs.History.{prefixes}
 use Rattle.sched_plan.specs.HistoryLaws.{prefixes-push}

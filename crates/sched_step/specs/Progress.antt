@@ -29,6 +29,7 @@ abbrev pub bit : Bool → ℕ
 bit true = 1
 bit false = 0
 
+-- the value that shows a leaf's state
 abbrev pub leaf_view : LeafState → Datum
 leaf_view (Counted n) = num n
 leaf_view (Planned n None) = pair (num n) unit

@@ -1,4 +1,5 @@
--- One step as the code makes it, from the kept progress alone.
+-- One step as the code makes it, from the kept progress alone. That it meets the definition over whole histories is
+-- what `step` ensures.
 use Rattle.std.specs.Prelude.{ℕ, ◌+◌, Bool, true, false, if◌then◌else◌, nat_lt, Option, Some, None}
 use Rattle.sched_time.specs.Capped.{capped}
 use Rattle.sched_time.specs.declared.starts.Decision.{Decision}
@@ -14,10 +15,12 @@ use Rattle.sched_step.specs.declared.leaves.LeafState.{LeafState}
 use Rattle.sched_step.specs.declared.leaves.LeafState.TheVariants.{Counted, Planned}
 use Rattle.sched_step.specs.Progress.{Progress, at_leaf, at_both, at_follow}
 
+-- how many events a leaf has counted
 abbrev pub count_of : LeafState → ℕ
 count_of (Counted n) = n
 count_of (Planned n p) = n
 
+-- the first moment and the start planned last, if the leaf keeps them
 abbrev pub planned_of : LeafState → Option (ℕ × ℕ)
 planned_of (Counted n) = None
 planned_of (Planned n p) = p
@@ -27,10 +30,12 @@ abbrev pub next_fixed : ℕ → Option (ℕ × ℕ) → ℕ → ℕ
 next_fixed d None now = capped (now + d)
 next_fixed d (Some p) now = if nat_lt (capped (p.1 + d)) now then now else next_boundary d p.0 now
 
+-- the first moment: the one that is kept, else that of this event
 abbrev pub first_kept : Option (ℕ × ℕ) → ℕ → ℕ
 first_kept None now = now
 first_kept (Some p) now = p.0
 
+-- a leaf's state after one more event
 abbrev pub leaf_next : Leaf → LeafState → ℕ → LeafState
 leaf_next Forever s now = Counted (capped (count_of s + 1))
 leaf_next (Recurs count) s now = Counted (capped (count_of s + 1))
@@ -38,35 +43,42 @@ leaf_next (Spaced delay) s now = Counted (capped (count_of s + 1))
 leaf_next (Fixed d) s now =
     Planned (capped (count_of s + 1)) (Some (first_kept (planned_of s) now, next_fixed d (planned_of s) now))
 
+-- what a leaf decides at one more event
 abbrev pub leaf_decides : Leaf → LeafState → ℕ → Decision
 leaf_decides Forever s now = Go now
 leaf_decides (Recurs count) s now = if nat_lt (count_of s) count then Go now else Done
 leaf_decides (Spaced delay) s now = Go (capped (now + delay))
 leaf_decides (Fixed d) s now = Go (next_fixed d (planned_of s) now)
 
+-- what a leaf answers to one more event
 abbrev pub leaf_answers : Leaf → LeafState → ℕ → Answer
 leaf_answers l s now = record { output = num (count_of s); decision = leaf_decides l s now }
 
+-- a leaf's state
 abbrev pub leaf_of : Progress → LeafState
 leaf_of (at_leaf s) = s
 leaf_of (at_both a b) = Counted 0
 leaf_of (at_follow crossed a b) = Counted 0
 
+-- how far the first of two schedules has come
 abbrev pub first_of : Progress → Progress
 first_of (at_leaf s) = at_leaf s
 first_of (at_both a b) = a
 first_of (at_follow crossed a b) = a
 
+-- how far the second of two schedules has come
 abbrev pub second_of : Progress → Progress
 second_of (at_leaf s) = at_leaf s
 second_of (at_both a b) = b
 second_of (at_follow crossed a b) = b
 
+-- whether the first of two schedules in turn is done
 abbrev pub has_crossed : Progress → Bool
 has_crossed (at_leaf s) = false
 has_crossed (at_both a b) = false
 has_crossed (at_follow crossed a b) = crossed
 
+-- two schedules that were stepped side by side
 abbrev pub both_stepped : Progress × Answer → Progress × Answer → Progress × Answer
 both_stepped a b = (at_both a.0 b.0, both a.1 b.1)
 
@@ -79,6 +91,7 @@ abbrev pub at_crossing : Progress × Answer → Progress → Progress × Answer 
 at_crossing a second b =
     if is_done a.1.decision then past_crossing a.0 b else (at_follow false a.0 second, a.1)
 
+-- the progress after one more event, and the answer to it
 abbrev pub stepped : Schedule → Progress → Event → Progress × Answer
 stepped (leaf l) s e = (at_leaf (leaf_next l (leaf_of s) e.now), leaf_answers l (leaf_of s) e.now)
 stepped (meet a b) s e = both_stepped (stepped a (first_of s) e) (stepped b (second_of s) e)

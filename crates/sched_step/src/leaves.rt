@@ -11,9 +11,9 @@ use sched_plan::{Answer, Leaf, Val};
 use sched_time::{Decision, Interval, Millis, Moment, NoMemory};
 use std::alloc::Global;
 
-/// What is kept of a leaf's events.
+// What is kept of a leaf's events.
 #[derive(Clone, Copy, Debug, PartialEq, Eq)]
-pub enum LeafState {
+pub(crate) enum LeafState {
     /// How many there were.
     Counted(Millis),
     /// How many there were and, once there was one, the first moment and the start planned last.

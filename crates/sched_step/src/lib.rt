@@ -5,7 +5,6 @@ mod leaves;
 mod states;
 mod steps;
 
-pub use leaves::LeafState;
 pub use sched_plan::{Answer, Event};
 pub use states::{State, initial};
 pub use steps::step;
