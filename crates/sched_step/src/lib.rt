@@ -4,6 +4,8 @@
 mod leaves;
 mod states;
 mod steps;
+#[cfg(test)]
+mod tests;
 
 pub use sched_plan::{Answer, Event};
 pub use states::{State, initial};
