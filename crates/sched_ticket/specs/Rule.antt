@@ -36,7 +36,9 @@ pub record Fits (k : Terms) (made limit all : ℕ) (v : View) : Type 0 where
   pub tickets : Each (λ t. t < limit) v.tickets
   pub refusals : Each (IsRefusal k limit) v.refusals
   pub floor : v.floor ≤ limit
+  -- a pass that stands for some is of this budget, and knows its first limit
   pub live : 0 < v.weight → (v.terms ≡ k) × (k.limit ≤ v.floor)
+  -- one that stands for none has nothing
   pub spent : v.weight ≡ 0 → v.tickets ≡ []
   pub few_refusals : length v.refusals ≤ v.weight
   pub few_refused_splits : v.refused_splits ≤ v.weight
@@ -47,6 +49,7 @@ pub record Fits (k : Terms) (made limit all : ℕ) (v : View) : Type 0 where
 pub record IsOrderly (k : Terms) (drawn made limit : ℕ) (views : List View) : Type 0 where
   -- each number below drawn is in one view, as a ticket or as a refused number, once, and no other number is
   pub numbers : (h : ℕ → ℕ) → total (found h) views ≡ below h drawn
+  -- the passes made are those that the views stand for and the splits that were refused
   pub counted : made ≡ weights views + refused_splits views
   pub few_passes : weights views ≤ 65536
   pub rises : k.limit ≤ limit
