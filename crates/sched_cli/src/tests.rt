@@ -1,5 +1,7 @@
-//! Tests of what no clause says, and the readers and writers that they stand on.
+//! Tests of what no clause says, and the readers, writers and texts that they stand on.
 mod command_lines;
 mod fakes;
 mod fault_lines;
+mod printed_plans;
+pub(crate) mod texts;
 mod whole_streams;

@@ -1,4 +1,5 @@
 use super::{ReadFault, read_plan};
+use crate::tests::texts::{nested, node};
 use sched_plan::{Plan, PlanFault};
 use serde_json::Value;
 use std::alloc::{AllocError, Global};
@@ -23,20 +24,6 @@ fn fault_of(alloc: Global, text: &str) -> Result<Option<ReadFault>, Fail> {
         Some(ReadFault::Plan(PlanFault::NoMemory)) => Err(PlanFault::NoMemory)?,
         fault => Ok(fault),
     }
-}
-
-// A node of this name over both plans.
-fn node(alloc: Global, name: &str, first: &str, second: &str) -> Result<String, AllocError> {
-    format!(in alloc; "{{\"{name}\":[{first},{second}]}}")
-}
-
-// Nodes of this name over `forever`, nested on the left so many times.
-fn nested(alloc: Global, name: &str, times: u64) -> Result<String, AllocError> {
-    let mut text = String::from_str(alloc, "\"forever\"")?;
-    for _ in 0..times {
-        text = node(alloc, name, text.as_str(), "\"forever\"")?;
-    }
-    Ok(text)
 }
 
 // Meets and follows over `forever`, a full tree: 127 nodes, depth 7.

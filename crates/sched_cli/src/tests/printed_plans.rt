@@ -1,0 +1,336 @@
+use super::fakes::Halting;
+use super::texts::{nested, node};
+use crate::{Counted, MOST_STEPS, PlanOptions, PrintFault, print_plan};
+use sched_time::{Millis, Moment};
+use std::alloc::{AllocError, Global};
+use std::io::{Cursor, Read, Write};
+use std::process::Abort;
+use std::test::Fail;
+
+// The intersection of three recurrences and a spacing of 100 ms, and its four lines.
+const PLAN: &str = r#"{"meet":[{"recurs":3},{"spaced":100}]}"#;
+
+const LINES: &str =
+    "0: (0, 0) next 100\n100: (1, 1) next 200\n200: (2, 2) next 300\n300: (3, 3) done\n";
+
+// The options of a command line that gives these three, where they are in range.
+fn options(steps: u64, from: u64, took: u64) -> Option<PlanOptions> {
+    with_input(steps, from, took, 0, 2147483648)
+}
+
+// The options of a command line that gives them all, where they are in range.
+fn with_input(steps: u64, from: u64, took: u64, input: u64, word: u32) -> Option<PlanOptions> {
+    if steps > MOST_STEPS {
+        return None;
+    }
+    let from = Moment::new(from)?;
+    let took = Millis::new(took)?;
+    let input = Millis::new(input)?;
+    Some(PlanOptions {
+        steps,
+        from,
+        took,
+        input,
+        word,
+    })
+}
+
+// What a printing answered, and how many of its reads and of its writes failed.
+type Printed = (Result<(), PrintFault>, u64, u64);
+
+// Prints from the reader to the writer, and gives the writer back.
+fn printing<R: Read + Drop, W: Write>(
+    alloc: Global,
+    reader: R,
+    writer: W,
+    options: &PlanOptions,
+) -> (Printed, W) {
+    let mut reader = Counted::new(reader);
+    let mut writer = Counted::new(writer);
+    let answer = print_plan(alloc, &mut reader, &mut writer, options);
+    let printed = (answer, reader.failures(), writer.failures());
+    (printed, writer.into_inner())
+}
+
+// Asserts that the input is printed as these lines, with no failed call.
+fn prints(rt: &impl Abort, alloc: Global, input: &[u8], options: &PlanOptions, lines: &str) {
+    let (printed, taken) = printing(alloc, input, Vec::new(alloc), options);
+    assert_eq!(rt; printed, (Ok(()), 0, 0), "{lines}");
+    assert_eq!(rt; taken.as_slice(), lines.as_bytes(), "{lines}");
+}
+
+// Asserts that the input is refused with this fault, with nothing written and no failed call.
+fn refuses(rt: &impl Abort, alloc: Global, input: &[u8], options: &PlanOptions, fault: PrintFault) {
+    let (printed, taken) = printing(alloc, input, Vec::new(alloc), options);
+    assert_eq!(rt; printed, (Err(fault), 0, 0));
+    assert!(rt; taken.is_empty(), "{fault:?}");
+}
+
+#[test]
+fn each_event_has_its_line(rt: HostRuntime) -> Result<(), Fail> {
+    let far = 4611686018427387903;
+    let table = [
+        (PLAN, (10u64, 0u64, 0u64), LINES),
+        (PLAN, (4, 0, 0), LINES),
+        (
+            PLAN,
+            (2, 0, 0),
+            "0: (0, 0) next 100\n100: (1, 1) next 200\n",
+        ),
+        (PLAN, (0, 0, 0), ""),
+        (r#"{"recurs":0}"#, (10, 0, 0), "0: 0 done\n"),
+        (r#"{"recurs":0}"#, (0, 0, 0), ""),
+        (
+            r#"{"recurs":4611686018427387903}"#,
+            (1, 0, 0),
+            "0: 0 next 0\n",
+        ),
+        (r#"{"spaced":10}"#, (1, 5, 0), "5: 0 next 15\n"),
+        (
+            r#"{"follow":[{"recurs":2},{"spaced":50}]}"#,
+            (4, 0, 0),
+            "0: 0 next 0\n0: 1 next 0\n0: 0 next 50\n50: 1 next 100\n",
+        ),
+        (
+            r#"{"follow":[{"recurs":0},{"recurs":0}]}"#,
+            (10, 0, 0),
+            "0: 0 done\n",
+        ),
+        (
+            r#"{"fixed":100}"#,
+            (2, far, 0),
+            "4611686018427387903: 0 next 4611686018427387903\n4611686018427387903: 1 next 4611686018427387903\n",
+        ),
+    ];
+    for (text, (steps, from, took), lines) in table {
+        let options = options(steps, from, took).ok_or("out of range")?;
+        prints(&rt, rt.alloc(), text.as_bytes(), &options, lines);
+    }
+    Ok(())
+}
+
+#[test]
+fn an_event_comes_when_its_work_is_over(rt: HostRuntime) -> Result<(), Fail> {
+    let table = [
+        (
+            30u64,
+            3u64,
+            "0: 0 next 100\n130: 1 next 200\n230: 2 next 300\n",
+        ),
+        (100, 2, "0: 0 next 100\n200: 1 next 300\n"),
+        (250, 3, "0: 0 next 100\n350: 1 next 350\n600: 2 next 600\n"),
+    ];
+    for (took, steps, lines) in table {
+        let options = options(steps, 0, took).ok_or("out of range")?;
+        prints(&rt, rt.alloc(), br#"{"fixed":100}"#, &options, lines);
+    }
+    Ok(())
+}
+
+#[test]
+fn inputs_and_words_leave_these_plans_alone(rt: HostRuntime) -> Result<(), Fail> {
+    for (input, word) in [(9u64, 0u32), (4611686018427387903, 4294967295)] {
+        let options = with_input(10, 0, 0, input, word).ok_or("out of range")?;
+        prints(&rt, rt.alloc(), PLAN.as_bytes(), &options, LINES);
+    }
+    Ok(())
+}
+
+#[test]
+fn other_inputs_are_refused_with_nothing_written(rt: HostRuntime) -> Result<(), Fail> {
+    let options = options(10, 0, 0).ok_or("out of range")?;
+    let table = [
+        ("", PrintFault::NotJson),
+        (r#"{"recurs":3"#, PrintFault::NotJson),
+        (r#"{"recurs":-1}"#, PrintFault::NotAPlan),
+        (r#"{"recurs":1.5}"#, PrintFault::NotAPlan),
+        (r#"{"meet":[{"recurs":3}]}"#, PrintFault::NotAPlan),
+        (r#"{"forever":1}"#, PrintFault::NotAPlan),
+        ("7", PrintFault::NotAPlan),
+        (r#"{"fixed":0}"#, PrintFault::OutOfRange),
+        (r#"{"recurs":4611686018427387904}"#, PrintFault::OutOfRange),
+    ];
+    for (text, fault) in table {
+        refuses(&rt, rt.alloc(), text.as_bytes(), &options, fault);
+    }
+    refuses(&rt, rt.alloc(), &[255], &options, PrintFault::NotJson);
+    Ok(())
+}
+
+// So many bytes, each this one.
+fn repeated(alloc: Global, byte: u8, times: usize) -> Result<Vec<u8>, AllocError> {
+    vec![in alloc; byte; times]
+}
+
+// The first bytes, and so many of the last one after them.
+fn ending_in(alloc: Global, first: &[u8], last: u8, times: usize) -> Result<Vec<u8>, AllocError> {
+    let mut bytes = Vec::new(alloc);
+    bytes.extend_from_slice(first)?;
+    bytes.extend_from_slice(repeated(alloc, last, times)?.as_slice())?;
+    Ok(bytes)
+}
+
+// The lines of `forever` from 0, for so many events.
+fn counted_lines(alloc: Global, events: u64) -> Result<String, AllocError> {
+    let mut lines = String::new(alloc);
+    for event in 0..events {
+        write!(lines, "0: {event} next 0\n")?;
+    }
+    Ok(lines)
+}
+
+#[test]
+fn the_longest_input_is_printed_and_one_byte_more_is_refused(rt: HostRuntime) -> Result<(), Fail> {
+    let alloc = rt.alloc();
+    let options = options(10, 0, 0).ok_or("out of range")?;
+    let lines = counted_lines(alloc, 10)?;
+    let longest = ending_in(alloc, br#""forever""#, b' ', 1048567)?;
+    assert_eq!(rt; longest.len(), 1048576);
+    prints(&rt, alloc, longest.as_slice(), &options, lines.as_str());
+    let longer = ending_in(alloc, br#""forever""#, b' ', 1048568)?;
+    refuses(&rt, alloc, longer.as_slice(), &options, PrintFault::TooLong);
+    let open = repeated(alloc, b'[', 1000)?;
+    let brackets = ending_in(alloc, open.as_slice(), b']', 1000)?;
+    refuses(
+        &rt,
+        alloc,
+        brackets.as_slice(),
+        &options,
+        PrintFault::NotJson,
+    );
+    Ok(())
+}
+
+#[test]
+fn the_most_events_have_4096_lines(rt: HostRuntime) -> Result<(), Fail> {
+    let alloc = rt.alloc();
+    let options = options(4096, 0, 0).ok_or("out of range")?;
+    let (printed, taken) = printing(alloc, br#""forever""#.as_slice(), Vec::new(alloc), &options);
+    assert_eq!(rt; printed, (Ok(()), 0, 0));
+    let ends = taken.iter().filter(|byte| **byte == b'\n').count();
+    assert_eq!(rt; ends, 4096);
+    assert!(rt; taken.as_slice().ends_with(b"\n0: 4095 next 0\n"));
+    let lines = counted_lines(alloc, 4096)?;
+    assert_eq!(rt; taken.as_slice(), lines.as_bytes());
+    Ok(())
+}
+
+// The output of meets of `forever` nested on the left so many times, at the first event.
+fn nested_output(alloc: Global, times: u64) -> Result<String, AllocError> {
+    let mut output = String::from_str(alloc, "0")?;
+    for _ in 0..times {
+        output = format!(in alloc; "({output}, 0)")?;
+    }
+    Ok(output)
+}
+
+#[test]
+fn depth_ends_at_32(rt: HostRuntime) -> Result<(), Fail> {
+    let alloc = rt.alloc();
+    let options = options(1, 0, 0).ok_or("out of range")?;
+    let deepest = nested(alloc, "meet", 31)?;
+    let output = nested_output(alloc, 31)?;
+    let line = format!(in alloc; "0: {output} next 0\n")?;
+    prints(&rt, alloc, deepest.as_bytes(), &options, line.as_str());
+    let deeper = nested(alloc, "meet", 32)?;
+    refuses(&rt, alloc, deeper.as_bytes(), &options, PrintFault::TooDeep);
+    Ok(())
+}
+
+// Meets of `forever` as a full tree of so many levels of meets, and the first event's output.
+fn full(alloc: Global, levels: u64) -> Result<(String, String), AllocError> {
+    let mut text = String::from_str(alloc, "\"forever\"")?;
+    let mut output = String::from_str(alloc, "0")?;
+    for _ in 0..levels {
+        text = node(alloc, "meet", text.as_str(), text.as_str())?;
+        output = format!(in alloc; "({output}, {output})")?;
+    }
+    Ok((text, output))
+}
+
+// A full tree of 6 levels has 127 nodes.
+#[test]
+fn nodes_end_at_256(rt: HostRuntime) -> Result<(), Fail> {
+    let alloc = rt.alloc();
+    let options = options(1, 0, 0).ok_or("out of range")?;
+    let (most, output) = full(alloc, 7)?;
+    let line = format!(in alloc; "0: {output} next 0\n")?;
+    prints(&rt, alloc, most.as_bytes(), &options, line.as_str());
+    let (half, _) = full(alloc, 6)?;
+    let two_more = node(alloc, "meet", half.as_str(), "\"forever\"")?;
+    let over = node(alloc, "meet", half.as_str(), two_more.as_str())?;
+    refuses(&rt, alloc, over.as_bytes(), &options, PrintFault::TooMany);
+    Ok(())
+}
+
+#[test]
+fn a_writer_that_fails_after_k_bytes_has_the_first_k(rt: HostRuntime) -> Result<(), Fail> {
+    let options = options(10, 0, 0).ok_or("out of range")?;
+    let lines = LINES.as_bytes();
+    for works in 0..lines.len() {
+        let writer = Halting::failing_after(Vec::new(rt.alloc()), 1, works as u64);
+        let (printed, writer) = printing(rt.alloc(), PLAN.as_bytes(), writer, &options);
+        assert_eq!(rt;
+            printed,
+            (Err(PrintFault::WriteFailed), 0, 1),
+            "at write {works}"
+        );
+        assert_eq!(rt; writer.inner.as_slice(), &lines[..works]);
+        assert_eq!(rt; writer.calls, works as u64 + 1);
+    }
+    let writer = Halting::steady(Vec::new(rt.alloc()), 1);
+    let (printed, writer) = printing(rt.alloc(), PLAN.as_bytes(), writer, &options);
+    assert_eq!(rt; printed, (Ok(()), 0, 0));
+    assert_eq!(rt; writer.inner.as_slice(), lines);
+    Ok(())
+}
+
+#[test]
+fn a_writer_that_takes_no_byte_has_failed(rt: HostRuntime) -> Result<(), Fail> {
+    let options = options(10, 0, 0).ok_or("out of range")?;
+    let writer = Halting::steady(Vec::new(rt.alloc()), 0);
+    let (printed, writer) = printing(rt.alloc(), PLAN.as_bytes(), writer, &options);
+    assert_eq!(rt; printed, (Err(PrintFault::WriteFailed), 0, 1));
+    assert!(rt; writer.inner.is_empty());
+    assert_eq!(rt; writer.calls, 1);
+    Ok(())
+}
+
+#[test]
+fn a_failed_read_leaves_nothing_written(rt: HostRuntime) -> Result<(), Fail> {
+    let options = options(10, 0, 0).ok_or("out of range")?;
+    let input = PLAN.as_bytes();
+    for works in 0..=input.len() {
+        let reader = Halting::failing_after(input, 1, works as u64);
+        let (printed, taken) = printing(rt.alloc(), reader, Vec::new(rt.alloc()), &options);
+        assert_eq!(rt;
+            printed,
+            (Err(PrintFault::ReadFailed), 1, 0),
+            "at read {works}"
+        );
+        assert!(rt; taken.is_empty(), "at read {works}");
+    }
+    let reader = Halting::steady(input, 1);
+    let (printed, taken) = printing(rt.alloc(), reader, Vec::new(rt.alloc()), &options);
+    assert_eq!(rt; printed, (Ok(()), 0, 0));
+    assert_eq!(rt; taken.as_slice(), LINES.as_bytes());
+    Ok(())
+}
+
+// Only want of memory may change the answer, and then a front of the lines is written. The writer takes no memory.
+// `rt try --test --fail-alloc N` refuses one allocation after another.
+#[test]
+fn refused_memory_leaves_a_front_of_the_lines(rt: HostRuntime) -> Result<(), Fail> {
+    let options = options(10, 0, 0).ok_or("out of range")?;
+    let writer = Cursor::new([0u8; 128]);
+    let (printed, writer) = printing(rt.alloc(), PLAN.as_bytes(), writer, &options);
+    let end = (writer.position() as usize).min(128);
+    let written = &writer.get_ref()[..end];
+    if printed == (Ok(()), 0, 0) {
+        assert_eq!(rt; written, LINES.as_bytes());
+    } else {
+        assert_eq!(rt; printed, (Err(PrintFault::NoMemory), 0, 0));
+        assert!(rt; LINES.as_bytes().starts_with(written));
+    }
+    Ok(())
+}
