@@ -3,6 +3,8 @@
 
 mod cells;
 mod drivers;
+#[cfg(test)]
+mod tests;
 
 pub use cells::{DriverCell, Guard};
 pub use drivers::{DriveFault, Driver, MOST_EVENTS};
