@@ -28,9 +28,14 @@ fn asked(rt: &HostRuntime) -> Result<Asked, WordsFault> {
         ),
         Err(_) => return Err(WordsFault::Bad),
     };
-    let words: Vec<String> = words.collect(rt.alloc())?;
+    let mut owned = Vec::new(rt.alloc());
+    for word in words {
+        if owned.push(word).is_err() {
+            return Err(WordsFault::NoMemory);
+        }
+    }
     let mut texts = Vec::new(rt.alloc());
-    for word in &words {
+    for word in &owned {
         if texts.push(word.as_str()).is_err() {
             return Err(WordsFault::NoMemory);
         }
