@@ -6,3 +6,4 @@ pub mod Held
 pub mod Calls
 pub mod Laws
 pub mod Drains
+pub mod Fault

@@ -1,5 +1,8 @@
 //! Why a call on a budget was refused.
 
+ghost use Rattle.std.specs.Prelude.{Some, codes};
+ghost use Rattle.sched_ticket.specs.Fault.{fault_text};
+
 use std::error::Error;
 use std::fmt;
 
@@ -8,6 +11,7 @@ use std::fmt;
 pub enum TicketFault {
     /// More than 4294967296 tickets.
     LimitTooLarge,
+    /// A growth was refused.
     NoMemory,
     /// 65,536 passes were counted, the first included.
     TooManyPasses,
@@ -16,6 +20,8 @@ pub enum TicketFault {
 }
 
 impl fmt::Display for TicketFault {
+    ghost output = { λ fault. Some (fault_text fault) };
+
     fn fmt<W: fmt::Write>(&self, f: &mut fmt::Formatter<W>) -> fmt::Result {
         f.write_str(match self {
             TicketFault::LimitTooLarge => "the limit is more than 4294967296 tickets",
@@ -33,6 +39,8 @@ impl Error for TicketFault {}
 pub struct PassesOut;
 
 impl fmt::Display for PassesOut {
+    ghost output = { λ _. Some (codes "another pass of the budget is alive or was dropped") };
+
     fn fmt<W: fmt::Write>(&self, f: &mut fmt::Formatter<W>) -> fmt::Result {
         f.write_str("another pass of the budget is alive or was dropped")
     }

@@ -141,33 +141,3 @@ fn journal_ends_at_65536(rt: HostRuntime) -> Result<(), Fail> {
     assert_eq!(rt; next(&rt, alloc, &mut driver, 0), go(&rt, 0));
     Ok(())
 }
-
-// A run in which the allocation is refused that the third event asks for sees the refusal, and one without goes on.
-#[test]
-fn refused_memory_changes_nothing(rt: HostRuntime) -> Result<(), Fail> {
-    let alloc = rt.alloc();
-    let mut driver = Driver::new(alloc, spaced_recurs(alloc)?)?;
-    assert_eq!(rt; next(&rt, alloc, &mut driver, 0), go(&rt, 100));
-    assert_eq!(rt; next(&rt, alloc, &mut driver, 100), go(&rt, 200));
-    let mut third = next(&rt, alloc, &mut driver, 200);
-    if third.is_err() {
-        assert_eq!(rt; third, Err(DriveFault::NoMemory));
-        let twice = Shown {
-            moments: &[0, 100],
-            last: "(1, 1)",
-            next_start: Some(200),
-            view: "(2, 2)",
-        };
-        assert_shows(&rt, alloc, &driver, &twice)?;
-        third = next(&rt, alloc, &mut driver, 200);
-    }
-    assert_eq!(rt; third, go(&rt, 300));
-    let thrice = Shown {
-        moments: &[0, 100, 200],
-        last: "(2, 2)",
-        next_start: Some(300),
-        view: "(3, 3)",
-    };
-    assert_shows(&rt, alloc, &driver, &thrice)?;
-    Ok(())
-}
