@@ -35,7 +35,7 @@ input() { printf '%b' "$1" >"$work/in"; }
 
 "$top/bin/zsched" plan --steps 0 <<<'"forever"'
 
-input '{"meet":[{"recurs":3},{"spaced":100}]}'
+cp "$top/plans/three-times.json" "$work/in"
 wants 0 '0: (0, 0) next 100\n100: (1, 1) next 200\n200: (2, 2) next 300\n300: (3, 3) done\n' '' plan
 wants 0 '' '' plan --steps 0
 input '{"fixed":100}'
@@ -70,14 +70,18 @@ for _ in $(seq 8); do wide="{\"meet\":[$wide,$wide]}"; done
 printf '%s' "$wide" >"$work/in"
 wants 3 '' 'zsched: too many nodes\n' plan
 
-# Standard input that is a folder can't be read, and a full device can't be written.
-got=0
-"$top/bin/zsched" plan <"$work" >"$work/out" 2>"$work/err" || got=$?
-[ "$got" = 4 ] && [ "$(cat "$work/err")" = 'zsched: read failed' ] && [ ! -s "$work/out" ] ||
-  { echo "tests/program.sh: a read that fails: status $got" >&2; failed=1; }
+# Standard input that is a folder can't be read, but a bad command line is refused before anything is.
+rm "$work/in"
+mkdir "$work/in"
+wants 4 '' 'zsched: read failed\n' plan
+wants 2 '' 'zsched: bad command line\n' plan --none
+rmdir "$work/in"
+
+# A full device can't be written.
 got=0
 "$top/bin/zsched" plan <<<'"forever"' >/dev/full 2>"$work/err" || got=$?
-[ "$got" = 4 ] && [ "$(cat "$work/err")" = 'zsched: write failed' ] ||
+printf 'zsched: write failed\n' >"$work/err.want"
+[ "$got" = 4 ] && cmp -s "$work/err" "$work/err.want" ||
   { echo "tests/program.sh: a write that fails: status $got" >&2; failed=1; }
 
 if [ "$failed" = 0 ]; then

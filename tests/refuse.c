@@ -1,25 +1,44 @@
 // Loaded before the C library, it refuses one growth that the program asks for: the one whose number stands in
 // REFUSE_AT. It then writes one byte to descriptor 9. What the C library asks for itself is not counted.
-#define _GNU_SOURCE
-#include <dlfcn.h>
-#include <link.h>
-#include <malloc.h>
-#include <stddef.h>
-#include <stdint.h>
-#include <stdlib.h>
-#include <unistd.h>
+//
+// It declares what it uses of the C library itself, since the kit has a compiler and no headers.
 
-static uintptr_t program_start, program_end;
+typedef unsigned long size_t;
+typedef unsigned long address;
+
+// A segment of a program, and a loaded object, as the loader of a 64-bit Linux describes them.
+struct segment {
+    unsigned int type, flags;
+    unsigned long offset, virtual_address, physical_address, file_size, memory_size, alignment;
+};
+struct object {
+    address base;
+    const char *name;
+    const struct segment *segments;
+    unsigned short count;
+};
+
+enum { LOADED = 1 };
+#define NEXT ((void *)-1L)
+
+void *dlsym(void *handle, const char *name);
+int dl_iterate_phdr(int (*each)(struct object *, size_t, void *), void *data);
+size_t malloc_usable_size(void *block);
+char *getenv(const char *name);
+long atol(const char *text);
+long write(int descriptor, const void *bytes, size_t count);
+
+static address program_start, program_end;
 static long asked, refuse_at = -1;
 
-static int first_object(struct dl_phdr_info *info, size_t size, void *data) {
+static int first_object(struct object *program, size_t size, void *data) {
     (void)size, (void)data;
-    for (int i = 0; i < info->dlpi_phnum; i++) {
-        const ElfW(Phdr) *part = &info->dlpi_phdr[i];
-        uintptr_t start = info->dlpi_addr + part->p_vaddr;
-        if (part->p_type != PT_LOAD) continue;
+    for (int i = 0; i < program->count; i++) {
+        const struct segment *part = &program->segments[i];
+        address start = program->base + part->virtual_address;
+        if (part->type != LOADED) continue;
         if (!program_start || start < program_start) program_start = start;
-        if (start + part->p_memsz > program_end) program_end = start + part->p_memsz;
+        if (start + part->memory_size > program_end) program_end = start + part->memory_size;
     }
     return 1;
 }
@@ -28,25 +47,24 @@ static int is_refused(void *from) {
     if (refuse_at < 0) {
         const char *at = getenv("REFUSE_AT");
         refuse_at = at ? atol(at) : 0;
-        dl_iterate_phdr(first_object, NULL);
+        dl_iterate_phdr(first_object, 0);
     }
-    if ((uintptr_t)from < program_start || (uintptr_t)from >= program_end) return 0;
+    if ((address)from < program_start || (address)from >= program_end) return 0;
     if (++asked != refuse_at) return 0;
-    ssize_t written = write(9, "x", 1);
-    (void)written;
+    write(9, "x", 1);
     return 1;
 }
 
 void *malloc(size_t size) {
     static void *(*real)(size_t);
-    if (!real) real = (void *(*)(size_t))dlsym(RTLD_NEXT, "malloc");
-    return is_refused(__builtin_return_address(0)) ? NULL : real(size);
+    if (!real) real = (void *(*)(size_t))dlsym(NEXT, "malloc");
+    return is_refused(__builtin_return_address(0)) ? 0 : real(size);
 }
 
 void *realloc(void *block, size_t size) {
     static void *(*real)(void *, size_t);
-    if (!real) real = (void *(*)(void *, size_t))dlsym(RTLD_NEXT, "realloc");
+    if (!real) real = (void *(*)(void *, size_t))dlsym(NEXT, "realloc");
     // A block that has the room already does not grow.
     if (block && malloc_usable_size(block) >= size) return real(block, size);
-    return is_refused(__builtin_return_address(0)) ? NULL : real(block, size);
+    return is_refused(__builtin_return_address(0)) ? 0 : real(block, size);
 }

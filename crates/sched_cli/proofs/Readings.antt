@@ -6,7 +6,7 @@ use Rattle.sched_plan.specs.Schedule.{Schedule}
 use Rattle.sched_plan.specs.declared.plans.PlanFault.TheVariants.{OutOfRange, TooDeep, TooMany, NoMemory}
 use Rattle.sched_cli.specs.declared.reading.ReadFault.{ReadFault}
 use Rattle.sched_cli.specs.declared.reading.ReadFault.TheVariants.{NotAPlan, Plan}
-use Rattle.sched_cli.specs.Reading.{Reading, Reads, found, then_read, read_on, reading_of, parts_of_items, two_plans}
+use Rattle.sched_cli.specs.Reading.{Reading, Reads, found_value, then_read, read_on, reading_of, parts_of_items, two_plans}
 
 asked_first : (a b : Bool) → IsTrue a → IsTrue (a || b)
 asked_first true b h = refl
@@ -46,7 +46,7 @@ pub two_plans-second : (vs : List Value) (a b : Value) (after_a after_b : List V
     → Ok first ≡ (reading_of (view a)).answer → Reads {A = Schedule} (Err fault) (reading_of (view b))
     → Reads {A = Schedule × Schedule} (Err fault) (two_plans (parts_of_items (items_view vs)))
 two_plans-second vs a b after_a [] first fault at_a at_b ends is h =
-    let rest : Schedule → Reading (Schedule × Schedule) = λ x. then_read (reading_of (view b)) (λ y. found (x, y)) in
-    let second : Reads {A = Schedule × Schedule} (Err fault) (rest first) = Reads-fault fault (reading_of (view b)) (λ y. found (first, y)) h in
+    let rest : Schedule → Reading (Schedule × Schedule) = λ x. then_read (reading_of (view b)) (λ y. found_value (x, y)) in
+    let second : Reads {A = Schedule × Schedule} (Err fault) (rest first) = Reads-fault fault (reading_of (view b)) (λ y. found_value (first, y)) h in
     rw (at_a, at_b) (Reads-then_read (Err fault) (reading_of (view a)) rest first is second)
 two_plans-second vs a b after_a (v ∷ vs') first fault at_a at_b ends is h = absurd (omega arith)

@@ -3,7 +3,7 @@ use Rattle.std.specs.Prelude.{◌≡◌, ℕ, Bool, false, ◌||◌, if◌then�
 use Rattle.serde_json.specs.Data.{Data, string, array, object, Items, no_items, item, Members, no_members, member}
 use Rattle.serde_json.specs.Find.{as_number, as_u64}
 use Rattle.sched_plan.specs.Schedule.{Schedule, leaf, meet, follow}
-use Rattle.sched_plan.specs.Plan.{built}
+use Rattle.sched_plan.specs.Plan.{built_plan}
 use Rattle.sched_plan.specs.declared.leaves.Leaf.{Leaf}
 use Rattle.sched_plan.specs.declared.leaves.Leaf.TheVariants.{Forever, Recurs, Spaced, Fixed}
 use Rattle.sched_plan.specs.declared.plans.PlanFault.{PlanFault}
@@ -21,8 +21,8 @@ abbrev pub Reads : {A : Type 0} → Result A ReadFault → Reading A → Type 0
 Reads (Err (Plan NoMemory)) r = IsTrue r.asked
 Reads answer r = answer ≡ r.answer
 
-abbrev pub found : {A : Type 0} → A → Reading A
-found x = record { answer = Ok x; asked = false }
+abbrev pub found_value : {A : Type 0} → A → Reading A
+found_value x = record { answer = Ok x; asked = false }
 
 -- the value has not the form of a node
 abbrev pub not_a_plan : {A : Type 0} → Reading A
@@ -42,11 +42,11 @@ of_builder (Err fault) = Err (Plan fault)
 
 -- a leaf, built with no memory
 abbrev pub built_leaf : Leaf → Reading Schedule
-built_leaf l = record { answer = of_builder (built (leaf l)); asked = false }
+built_leaf l = record { answer = of_builder (built_plan (leaf l)); asked = false }
 
 -- a node over other plans, for which its builder asks for memory once nothing else refuses it
 abbrev pub built_node : Schedule → Reading Schedule
-built_node s = record { answer = of_builder (built s); asked = is_ok (built s) }
+built_node s = record { answer = of_builder (built_plan s); asked = is_ok (built_plan s) }
 
 -- a part of a node: its JSON, and what comes of reading it as a plan
 pub record Part : Type 0 where
@@ -54,7 +54,7 @@ pub record Part : Type 0 where
   pub plan : Reading Schedule
 
 abbrev pub number_read : Option ℕ → Reading ℕ
-number_read (Some n) = found n
+number_read (Some n) = found_value n
 number_read None = not_a_plan
 
 -- a whole number from 0 to 2^64 - 1
@@ -63,7 +63,7 @@ number_in d = number_read (option_and_then as_u64 (as_number d))
 
 -- exactly two plans, read from left to right
 abbrev pub two_plans : List Part → Reading (Schedule × Schedule)
-two_plans (a ∷ b ∷ []) = then_read a.plan (λ first. then_read b.plan (λ second. found (first, second)))
+two_plans (a ∷ b ∷ []) = then_read a.plan (λ first. then_read b.plan (λ second. found_value (first, second)))
 two_plans _ = not_a_plan
 
 -- a node that holds one number

@@ -4,13 +4,12 @@ use Rattle.std.specs.Io.KnownBytes.{Consumes, Appends, IsAtEnd}
 use Rattle.sched_cli.specs.Failures.{next_count}
 use Rattle.sched_cli.specs.declared.faults.PrintFault.{PrintFault}
 use Rattle.sched_cli.specs.declared.faults.PrintFault.TheVariants.{ReadFailed, TooLong, NoMemory, WriteFailed}
-use Rattle.sched_cli.specs.declared.whole.TheConstants.{LONGEST_INPUT}
 
 -- the bytes were read, none is left, and they are no more than an input may have
 pub record IsWholeInput (left left' : Option (List ℕ)) (bytes : List ℕ) : Type 0 where
   pub reads : Consumes left left' bytes
   pub ends : IsAtEnd left'
-  pub fits : length bytes ≤ LONGEST_INPUT
+  pub fits : length bytes ≤ 1048576
 
 -- some bytes were read, as many as `IsCount` says
 abbrev pub ReadsSome : Option (List ℕ) → Option (List ℕ) → (ℕ → Type 0) → Type 0
@@ -18,9 +17,9 @@ ReadsSome left left' IsCount = (bytes : List ℕ) × Consumes left left' bytes �
 
 -- reading stopped at a fault: at `TooLong` just past the longest input, and never further
 abbrev pub StopsReading : PrintFault → Option (List ℕ) → Option (List ℕ) → Type 0
-StopsReading ReadFailed left left' = ReadsSome left left' (λ n. n ≤ LONGEST_INPUT)
-StopsReading TooLong left left' = ReadsSome left left' (λ n. n ≡ LONGEST_INPUT + 1)
-StopsReading NoMemory left left' = ReadsSome left left' (λ n. n ≤ LONGEST_INPUT + 1)
+StopsReading ReadFailed left left' = ReadsSome left left' (λ n. n ≤ 1048576)
+StopsReading TooLong left left' = ReadsSome left left' (λ n. n ≡ 1048577)
+StopsReading NoMemory left left' = ReadsSome left left' (λ n. n ≤ 1048577)
 StopsReading fault left left' = ⊥
 
 -- the text begins with the front

@@ -1,5 +1,4 @@
 ghost use Rattle.std.specs.Prelude.{◌≤◌};
-ghost use Rattle.sched_cli.specs.declared.options.TheConstants.{MOST_STEPS};
 
 use sched_time::{Millis, Moment};
 
@@ -26,5 +25,5 @@ pub struct PlanOptions {
     pub input: Millis,
     /// The random word of every event, in all four lanes.
     pub word: u32,
-    ghost in_range: { steps ≤ MOST_STEPS },
+    ghost in_range: { steps ≤ 4096 },
 }

@@ -4,7 +4,6 @@ ghost use Rattle.sched_plan.specs.History.{last_moment};
 ghost use Rattle.sched_plan.specs.Answer.{answer};
 ghost use Rattle.sched_step.specs.Starts.{StartsBy};
 ghost use Rattle.sched_driver.specs.Driven.{after};
-ghost use Rattle.sched_driver.specs.declared.drivers.TheConstants.{MOST_EVENTS};
 ghost use Rattle.sched_cli.specs.PlanText.{event_at, line_text, plan_text};
 ghost use Rattle.sched_cli.specs.Printing.{Prints, ReadsPlan, WritesText};
 ghost use Rattle.sched_cli.specs.Whole.{count_of_reads, count_of_writes};
@@ -31,7 +30,8 @@ pub fn print_plan<R: Source, W: Sink>(
     writer: &mut W,
     options: &PlanOptions,
 ) -> Result<(), PrintFault>
-    ensures text { Prints options.now (R.left reader.old) (R.left reader.new) (W.taken writer.old) (W.taken writer.new) result }
+    ensures text { Prints options.now
+        (R.left reader.old) (R.left reader.new) (W.taken writer.old) (W.taken writer.new) result }
     ensures reads { R.failures reader.new ≡ count_of_reads result (R.failures reader.old) }
     ensures writes { W.failures writer.new ≡ count_of_writes result (W.failures writer.old) }
 {
@@ -91,7 +91,7 @@ fn step_at(
     options: &PlanOptions,
 ) -> Result<(), PrintFault>
     requires later { last_moment driver.old.journal ≤ now }
-    requires room { length driver.old.journal < MOST_EVENTS }
+    requires room { length driver.old.journal < 65536 }
     ensures event { IfOk result (λ _. driver.new ≡ after driver.old (event_at options.now now)) }
     ensures start { IfOk result (λ _. StartsBy now (answer driver.new.plan driver.new.journal).decision) }
     ensures err { IfErr result (λ fault. fault ≡ PrintFault.NoMemory) }

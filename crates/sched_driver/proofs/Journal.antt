@@ -11,7 +11,6 @@ use Rattle.sched_step.specs.Progress.{Progress, fits}
 use Rattle.sched_step.specs.StateOf.{IsStep}
 use Rattle.sched_driver.specs.Driven.{last_answer}
 use Rattle.sched_driver.specs.Driver.{IsDriven}
-use Rattle.sched_driver.specs.declared.drivers.TheConstants.{MOST_EVENTS}
 
 last_moment_at : (h : List Event) (e : Event) (n : ℕ) → length h ≡ suc n → Some e ≡ slice_get h n → e.now ≡ last_moment h
 last_moment_at [] e n size found = cc
@@ -33,7 +32,7 @@ last_answer-push s (d ∷ h) e = refl
 
 -- a driver stays one over a step that its journal has room for
 pub driven_on : (plan : Schedule) (state state' : Progress) (journal journal' : List Event) (last : Option Answer) (e : Event) (given : Answer) →
-    IsDriven plan state journal last → last_moment journal ≤ e.now → length journal < MOST_EVENTS →
+    IsDriven plan state journal last → last_moment journal ≤ e.now → length journal < 65536 →
     journal' ≡ journal ++ e ∷ [] → IsStep plan (journal ++ e ∷ []) state' given →
     ((m : ℕ) → e.now ≤ m → IsTrue (fits plan state' m)) → IsTrue (fits plan state' FAR) →
     IsDriven plan state' journal' (Some given)

@@ -10,7 +10,6 @@ use Rattle.sched_step.specs.StateOf.{state_of}
 use Rattle.sched_driver.specs.Driven.{Driven, last_answer}
 use Rattle.sched_driver.specs.declared.drivers.DriveFault.{DriveFault}
 use Rattle.sched_driver.specs.declared.drivers.DriveFault.TheVariants.{Backwards, JournalFull, NoMemory}
-use Rattle.sched_driver.specs.declared.drivers.TheConstants.{MOST_EVENTS}
 
 -- The state, and what was last answered, are those that the schedule's definition gives for the journal, whose moments
 -- never fall; and the state fits the plan from the last moment on.
@@ -19,16 +18,16 @@ pub record IsDriven (plan : Schedule) (state : Progress) (journal : List Event) 
   pub last_is : last ≡ last_answer plan journal
   pub fits_on : (later : ℕ) → last_moment journal ≤ later → IsTrue (fits plan state later)
   pub shape : IsTrue (fits plan state FAR)
-  pub few : length journal ≤ MOST_EVENTS
+  pub few : length journal ≤ 65536
   pub in_order : IsHistory journal
 
 -- there is room for one more event
 abbrev pub HasRoom : Driven → ℕ → Type 0
-HasRoom d now = (last_moment d.journal ≤ now) × (length d.journal < MOST_EVENTS)
+HasRoom d now = (last_moment d.journal ≤ now) × (length d.journal < 65536)
 
 -- Each refusal comes only in its own case, tested in this order: a moment before that of the journal's last event, then
 -- a full journal, then want of memory.
 abbrev pub Refuses : Driven → ℕ → DriveFault → Type 0
 Refuses d now (Backwards floor) = (floor ≡ last_moment d.journal) × (now < floor)
-Refuses d now JournalFull = (last_moment d.journal ≤ now) × (length d.journal ≡ MOST_EVENTS)
+Refuses d now JournalFull = (last_moment d.journal ≤ now) × (length d.journal ≡ 65536)
 Refuses d now NoMemory = HasRoom d now

@@ -145,7 +145,7 @@ impl Driver {
     pub fn journal(&self) -> &[Event]
         ensures events { result.now ≡ self.now.journal }
         ensures in_order { IsHistory self.now.journal }
-        ensures few { length self.now.journal ≤ MOST_EVENTS }
+        ensures few { length self.now.journal ≤ 65536 }
     {
         &self.journal
     }

@@ -10,13 +10,13 @@ use Rattle.sched_plan.specs.declared.leaves.Leaf.TheVariants.{Forever, Recurs, S
 use Rattle.sched_plan.specs.declared.history.Event.{Event}
 use Rattle.sched_plan.specs.declared.history.Answer.{Answer}
 
--- the middle word, which makes a jitter neutral
-abbrev pub mid : ℕ
-mid = 2147483648
+-- the random word of each event, in the middle of the range
+abbrev pub middle_word : ℕ
+middle_word = 2147483648
 
 -- events at these moments, with the input 0
 abbrev pub at : List ℕ → List Event
-at ms = map (λ m. record { now = m; words = mid ∷ mid ∷ mid ∷ mid ∷ []; input = num 0 }) ms
+at ms = map (λ m. record { now = m; words = middle_word ∷ middle_word ∷ middle_word ∷ middle_word ∷ []; input = num 0 }) ms
 
 abbrev pub gives : Datum → Decision → Answer
 gives output decision = record { output = output; decision = decision }

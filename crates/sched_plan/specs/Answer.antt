@@ -64,12 +64,12 @@ from_end_of p h = drop (length p - 1) h
 
 -- one schedule after another, as ZIO's `andThen`: the first one's answer while it was never done, else the second one's
 -- on the events from the one on at which the first was done
-abbrev pub followed : (List Event → Answer) → (List Event → Answer) → Option (List Event) → List Event → Answer
-followed front rest None h = front h
-followed front rest (Some p) h = rest (from_end_of p h)
+abbrev pub follow_answer : (List Event → Answer) → (List Event → Answer) → Option (List Event) → List Event → Answer
+follow_answer front rest None h = front h
+follow_answer front rest (Some p) h = rest (from_end_of p h)
 
 -- what the schedule answers at the last event of the history
 abbrev pub answer : Schedule → List Event → Answer
 answer (leaf l) h = leaf_answer l h
 answer (meet a b) h = both (answer a h) (answer b h)
-answer (follow a b) h = followed (answer a) (answer b) (crossing (answer a) h) h
+answer (follow a b) h = follow_answer (answer a) (answer b) (crossing (answer a) h) h

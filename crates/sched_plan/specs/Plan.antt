@@ -4,7 +4,6 @@ use Rattle.sched_plan.specs.declared.plans.PlanFault.{PlanFault}
 use Rattle.sched_plan.specs.declared.plans.PlanFault.TheVariants.{OutOfRange, TooDeep, TooMany, NoMemory}
 use Rattle.sched_plan.specs.declared.plans.PlanShape.{PlanShape}
 use Rattle.sched_plan.specs.declared.plans.PlanShape.TheVariants.{Leaf, Meet, Follow}
-use Rattle.sched_plan.specs.declared.plans.TheConstants.{MOST_NODES, MOST_DEPTH}
 
 -- the schedule of this shape
 abbrev pub schedule_of : PlanShape → Schedule
@@ -16,24 +15,24 @@ schedule_of (Follow a b) = follow a.value b.value
 pub record IsSound (s : Schedule) (nodes depth : ℕ) : Type 0 where
   pub nodes_counted : nodes ≡ nodes_of s
   pub depth_counted : depth ≡ depth_of s
-  pub few : nodes ≤ MOST_NODES
-  pub shallow : depth ≤ MOST_DEPTH
+  pub few : nodes ≤ 256
+  pub shallow : depth ≤ 32
   pub valid : IsTrue (is_valid s)
 
 -- the plan of a node over plans that were built, or its first refusal
-abbrev pub built : Schedule → Result Schedule PlanFault
-built s =
+abbrev pub built_plan : Schedule → Result Schedule PlanFault
+built_plan s =
     if not (node_in_range s) then Err OutOfRange else
-    if nat_lt MOST_DEPTH (depth_of s) then Err TooDeep else
-    if nat_lt MOST_NODES (nodes_of s) then Err TooMany else Ok s
+    if nat_lt 32 (depth_of s) then Err TooDeep else
+    if nat_lt 256 (nodes_of s) then Err TooMany else Ok s
 
 -- a builder that takes memory answers so too, and refuses for want of memory only where no other refusal comes
 abbrev pub Builds : Result Schedule PlanFault → Schedule → Type 0
-Builds (Err NoMemory) s = built s ≡ Ok s
-Builds r s = r ≡ built s
+Builds (Err NoMemory) s = built_plan s ≡ Ok s
+Builds r s = r ≡ built_plan s
 
 -- so many nodes at such a depth, or why a plan may not have them
-abbrev pub limited : ℕ → ℕ → Result (ℕ × ℕ) PlanFault
-limited nodes depth =
-    if nat_lt MOST_DEPTH depth then Err TooDeep else
-    if nat_lt MOST_NODES nodes then Err TooMany else Ok (nodes, depth)
+abbrev pub counts_or_fault : ℕ → ℕ → Result (ℕ × ℕ) PlanFault
+counts_or_fault nodes depth =
+    if nat_lt 32 depth then Err TooDeep else
+    if nat_lt 256 nodes then Err TooMany else Ok (nodes, depth)

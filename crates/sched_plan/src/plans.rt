@@ -53,7 +53,6 @@ pub enum PlanShape {
 impl Model for Plan {
     ghost use Rattle.std.specs.Prelude.{◌≡◌, ◌≤◌, true};
     ghost use Rattle.sched_plan.specs.Schedule.{Schedule, coded_schedule, nodes_of, depth_of, is_valid};
-    ghost use Rattle.sched_plan.specs.declared.plans.TheConstants.{MOST_NODES, MOST_DEPTH};
 
     ghost Value = { Schedule };
 
@@ -73,7 +72,7 @@ impl Model for Plan {
 }
 
 impl Plan {
-    ghost use Rattle.sched_plan.specs.Plan.{schedule_of, built, Builds};
+    ghost use Rattle.sched_plan.specs.Plan.{schedule_of, built_plan, Builds};
 
     /// The shape at the top, for a caller to match on.
     pub fn shape(&self) -> &PlanShape
@@ -86,7 +85,7 @@ impl Plan {
     /// How many nodes the plan has, at most 256.
     pub fn nodes(&self) -> usize
         ensures value { result ≡ nodes_of self.now }
-        ensures few { result ≤ MOST_NODES }
+        ensures few { result ≤ 256 }
     {
         self.nodes
     }
@@ -94,7 +93,7 @@ impl Plan {
     /// How deep the plan is, at most 32.
     pub fn depth(&self) -> usize
         ensures value { result ≡ depth_of self.now }
-        ensures shallow { result ≤ MOST_DEPTH }
+        ensures shallow { result ≤ 32 }
     {
         self.depth
     }

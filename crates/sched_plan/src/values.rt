@@ -19,9 +19,13 @@ pub struct Val {
 #[cycle(val)]
 #[derive(Drop)]
 pub enum ValShape {
+    /// Nothing.
     Unit,
+    /// A number.
     Num(Millis),
+    /// Two values as one.
     Pair(Box<Val>, Box<Val>),
+    /// Values in order.
     List(Vec<Val>),
 }
 
@@ -187,7 +191,8 @@ fn same_items(items: &Vec<Val>, others: &Vec<Val>) -> bool
 // Adds the texts of the items at the end, with commas between them.
 #[cycle(text)]
 fn write_items(items: &Vec<Val>, out: &mut String) -> Result<(), NoMemory>
-    ensures { OnOk result (string_bytes out.new ≡ string_bytes out.old ++ items_text (items_of items.now.items)) }
+    ensures { OnOk result
+        (string_bytes out.new ≡ string_bytes out.old ++ items_text (items_of items.now.items)) }
 {
     for (at, item) in items.iter().enumerate() {
         if at > 0 {

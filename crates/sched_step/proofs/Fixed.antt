@@ -4,8 +4,8 @@ use Rattle.std.proofs.lemmas.List.{reverse-append}
 use mathlib.Core.List.{reverse-cons}
 use Rattle.sched_plan.specs.Answer.{fixed_plan, fixed_start}
 use Rattle.sched_plan.specs.declared.history.Event.{Event}
-use Rattle.sched_step.specs.StateOf.{planned}
-use Rattle.sched_step.specs.Stepped.{first_kept, next_fixed}
+use Rattle.sched_step.specs.StateOf.{first_and_start}
+use Rattle.sched_step.specs.Step.{first_kept, next_fixed}
 
 -- over events that begin with one before, newest first, the plan goes on from the one before
 fixed_plan-cons : (d f : ℕ) (e : Event) (earlier : List Event) (c : Event) (rest : List Event) → earlier ≡ rest ++ c ∷ [] →
@@ -15,15 +15,15 @@ fixed_plan-cons d f e [] c (b ∷ rest) h = cc
 fixed_plan-cons d f e (b ∷ earlier) c rest h = refl
 
 -- the next start follows from what is kept
-pub fixed_start-snoc : (d : ℕ) (h : List Event) (e : Event) →
-    fixed_start d (h ++ e ∷ []) ≡ next_fixed d (planned d h) e.now
-fixed_start-snoc d [] e = refl
-fixed_start-snoc d (c ∷ h) e =
+pub fixed_start-push : (d : ℕ) (h : List Event) (e : Event) →
+    fixed_start d (h ++ e ∷ []) ≡ next_fixed d (first_and_start d h) e.now
+fixed_start-push d [] e = refl
+fixed_start-push d (c ∷ h) e =
     ap (fixed_plan d c.now) (reverse-append (c ∷ h) (e ∷ []))
     ∙ fixed_plan-cons d c.now e (reverse (c ∷ h)) c (reverse h) (reverse-cons c h)
 
 -- what is kept of the plan goes on as a step makes it
-pub planned-snoc : (d : ℕ) (h : List Event) (e : Event) →
-    Some (first_kept (planned d h) e.now, next_fixed d (planned d h) e.now) ≡ planned d (h ++ e ∷ [])
-planned-snoc d [] e = refl
-planned-snoc d (c ∷ h) e = ap (λ start. Some (c.now, start)) (sym (fixed_start-snoc d (c ∷ h) e))
+pub first_and_start-push : (d : ℕ) (h : List Event) (e : Event) →
+    Some (first_kept (first_and_start d h) e.now, next_fixed d (first_and_start d h) e.now) ≡ first_and_start d (h ++ e ∷ [])
+first_and_start-push d [] e = refl
+first_and_start-push d (c ∷ h) e = ap (λ start. Some (c.now, start)) (sym (fixed_start-push d (c ∷ h) e))

@@ -8,8 +8,9 @@ use Rattle.sched_time.specs.declared.starts.Decision.{Decision}
 use Rattle.sched_time.specs.declared.starts.Decision.TheVariants.{Go, Done}
 use Rattle.sched_plan.specs.Datum.{num}
 use Rattle.sched_plan.specs.History.{repeats}
+use Rattle.sched_plan.specs.HistoryLaws.{last_moment-push}
 use Rattle.sched_plan.specs.Schedule.{Schedule, leaf, meet, follow, leaf_in_range, is_valid}
-use Rattle.sched_plan.specs.Answer.{answer, leaf_decision, followed, crossing, from_end_of, is_done, later, next_boundary}
+use Rattle.sched_plan.specs.Answer.{answer, leaf_decision, follow_answer, crossing, from_end_of, is_done, later, next_boundary}
 use Rattle.sched_plan.specs.declared.leaves.Leaf.{Leaf}
 use Rattle.sched_plan.specs.declared.leaves.Leaf.TheVariants.{Forever, Recurs, Spaced, Fixed}
 use Rattle.sched_plan.specs.declared.history.Event.{Event}
@@ -19,10 +20,10 @@ use Rattle.sched_step.specs.declared.leaves.LeafState.TheVariants.{Counted, Plan
 use Rattle.sched_step.specs.Progress.{Progress, at_leaf, at_both, at_follow, leaf_fits, fits}
 use Rattle.sched_step.specs.Starts.{StartsBy}
 use Rattle.sched_step.specs.StateOf.{leaf_state, follow_state, state_of}
-use Rattle.sched_step.specs.Stepped.{count_of, planned_of, next_fixed, leaf_next, leaf_decides, leaf_of, first_of, second_of, has_crossed, both_stepped, past_crossing, at_crossing, stepped}
-use Rattle.sched_step.proofs.History.{last_moment-snoc, length_before-snoc, repeats-snoc, capped_count-snoc, capped_below, from_end_of-itself, from_end_of-snoc}
-use Rattle.sched_step.proofs.Prefixes.{crossing-short, crossing-kept, crossing-snoc}
-use Rattle.sched_step.proofs.Fixed.{fixed_start-snoc, planned-snoc}
+use Rattle.sched_step.specs.Step.{count_of, planned_of, next_fixed, leaf_next, leaf_decides, leaf_of, first_of, second_of, has_crossed, both_steps, past_crossing, at_crossing, step_of}
+use Rattle.sched_step.proofs.History.{length_before-push, repeats-push, capped_count-push, capped_below, from_end_of-itself, from_end_of-push}
+use Rattle.sched_step.proofs.Prefixes.{crossing-short, crossing-kept, crossing-push}
+use Rattle.sched_step.proofs.Fixed.{fixed_start-push, first_and_start-push}
 
 -- the state and the answer after a history
 abbrev after : Schedule → List Event → Progress × Answer
@@ -31,7 +32,7 @@ after s h = (state_of s h, answer s h)
 -- the same of two schedules in turn, from where they crossed
 abbrev followed_after : Schedule → Schedule → Option (List Event) → List Event → Progress × Answer
 followed_after a b crossed h =
-    (follow_state (state_of a) (state_of b) crossed h, followed (answer a) (answer b) crossed h)
+    (follow_state (state_of a) (state_of b) crossed h, follow_answer (answer a) (answer b) crossed h)
 
 leaf_counts : (l : Leaf) (h : List Event) → count_of (leaf_state l h) ≡ capped (length h)
 leaf_counts Forever h = refl
@@ -39,25 +40,25 @@ leaf_counts (Recurs count) h = refl
 leaf_counts (Spaced delay) h = refl
 leaf_counts (Fixed d) h = refl
 
-leaf_next-snoc : (l : Leaf) (h : List Event) (e : Event) → leaf_next l (leaf_state l h) e.now ≡ leaf_state l (h ++ e ∷ [])
-leaf_next-snoc Forever h e = ap Counted (capped_count-snoc h e)
-leaf_next-snoc (Recurs count) h e = ap Counted (capped_count-snoc h e)
-leaf_next-snoc (Spaced delay) h e = ap Counted (capped_count-snoc h e)
-leaf_next-snoc (Fixed d) h e = λ i. Planned (capped_count-snoc h e i) (planned-snoc d h e i)
+leaf_next-push : (l : Leaf) (h : List Event) (e : Event) → leaf_next l (leaf_state l h) e.now ≡ leaf_state l (h ++ e ∷ [])
+leaf_next-push Forever h e = ap Counted (capped_count-push h e)
+leaf_next-push (Recurs count) h e = ap Counted (capped_count-push h e)
+leaf_next-push (Spaced delay) h e = ap Counted (capped_count-push h e)
+leaf_next-push (Fixed d) h e = λ i. Planned (capped_count-push h e i) (first_and_start-push d h e i)
 
-leaf_decides-snoc : (l : Leaf) (h : List Event) (e : Event) → IsTrue (leaf_in_range l) →
+leaf_decides-push : (l : Leaf) (h : List Event) (e : Event) → IsTrue (leaf_in_range l) →
     leaf_decides l (leaf_state l h) e.now ≡ leaf_decision l (h ++ e ∷ [])
-leaf_decides-snoc Forever h e valid = ap Go (sym (last_moment-snoc h e))
-leaf_decides-snoc (Recurs count) h e valid =
-    rw (last_moment-snoc h e, length_before-snoc h e, capped_below (length h) count (leb-true count FAR valid)) refl
-leaf_decides-snoc (Spaced delay) h e valid = ap (λ now. Go (capped (now + delay))) (sym (last_moment-snoc h e))
-leaf_decides-snoc (Fixed d) h e valid = ap Go (sym (fixed_start-snoc d h e))
+leaf_decides-push Forever h e valid = ap Go (sym (last_moment-push h e))
+leaf_decides-push (Recurs count) h e valid =
+    rw (last_moment-push h e, length_before-push h e, capped_below (length h) count (leb-true count FAR valid)) refl
+leaf_decides-push (Spaced delay) h e valid = ap (λ now. Go (capped (now + delay))) (sym (last_moment-push h e))
+leaf_decides-push (Fixed d) h e valid = ap Go (sym (fixed_start-push d h e))
 
 leaf_law : (l : Leaf) (h : List Event) (e : Event) → IsTrue (leaf_in_range l) →
-    stepped (leaf l) (state_of (leaf l) h) e ≡ after (leaf l) (h ++ e ∷ [])
+    step_of (leaf l) (state_of (leaf l) h) e ≡ after (leaf l) (h ++ e ∷ [])
 leaf_law l h e valid =
-    let counts : count_of (leaf_state l h) ≡ repeats (h ++ e ∷ []) = leaf_counts l h ∙ sym (repeats-snoc h e) in
-    λ i. (at_leaf (leaf_next-snoc l h e i), record { output = num (counts i); decision = leaf_decides-snoc l h e valid i })
+    let counts : count_of (leaf_state l h) ≡ repeats (h ++ e ∷ []) = leaf_counts l h ∙ sym (repeats-push h e) in
+    λ i. (at_leaf (leaf_next-push l h e i), record { output = num (counts i); decision = leaf_decides-push l h e valid i })
 
 -- the step at which the first schedule may be done
 at_crossing_law : (a b : Schedule) (h : List Event) (e : Event) (done : Bool) →
@@ -68,28 +69,28 @@ at_crossing_law a b h e true = ap (λ g. past_crossing (state_of a (h ++ e ∷ [
 at_crossing_law a b h e false = refl
 
 follow_law : (a b : Schedule) (h : List Event) (e : Event) →
-    stepped a (state_of a h) e ≡ after a (h ++ e ∷ []) →
-    ((g : List Event) → stepped b (state_of b g) e ≡ after b (g ++ e ∷ [])) →
+    step_of a (state_of a h) e ≡ after a (h ++ e ∷ []) →
+    ((g : List Event) → step_of b (state_of b g) e ≡ after b (g ++ e ∷ [])) →
     (crossed : Option (List Event)) → crossing (answer a) h ≡ crossed →
-    stepped (follow a b) (follow_state (state_of a) (state_of b) crossed h) e ≡ after (follow a b) (h ++ e ∷ [])
+    step_of (follow a b) (follow_state (state_of a) (state_of b) crossed h) e ≡ after (follow a b) (h ++ e ∷ [])
 follow_law a b h e first second None is =
     (λ i. at_crossing (first i) (state_of b []) (second [] i))
     ∙ at_crossing_law a b h e (is_done (answer a (h ++ e ∷ [])).decision)
-    ∙ ap (λ c. followed_after a b c (h ++ e ∷ [])) (sym (crossing-snoc (answer a) h e is))
+    ∙ ap (λ c. followed_after a b c (h ++ e ∷ [])) (sym (crossing-push (answer a) h e is))
 follow_law a b h e first second (Some p) is =
     ap (past_crossing (state_of a p)) (second (from_end_of p h))
-    ∙ ap (λ g. past_crossing (state_of a p) (after b g)) (sym (from_end_of-snoc p h e (crossing-short (answer a) h p is)))
+    ∙ ap (λ g. past_crossing (state_of a p) (after b g)) (sym (from_end_of-push p h e (crossing-short (answer a) h p is)))
     ∙ ap (λ c. followed_after a b c (h ++ e ∷ [])) (sym (crossing-kept (answer a) h p e is))
 
-pub stepped_law : (s : Schedule) (h : List Event) (e : Event) → IsTrue (is_valid s) →
-    stepped s (state_of s h) e ≡ (state_of s (h ++ e ∷ []), answer s (h ++ e ∷ []))
-stepped_law (leaf l) h e valid = leaf_law l h e valid
-stepped_law (meet a b) h e valid =
+pub step_law : (s : Schedule) (h : List Event) (e : Event) → IsTrue (is_valid s) →
+    step_of s (state_of s h) e ≡ (state_of s (h ++ e ∷ []), answer s (h ++ e ∷ []))
+step_law (leaf l) h e valid = leaf_law l h e valid
+step_law (meet a b) h e valid =
     let valid_parts = and_parts (is_valid a) (is_valid b) valid in
-    λ i. both_stepped (stepped_law a h e valid_parts.0 i) (stepped_law b h e valid_parts.1 i)
-stepped_law (follow a b) h e valid =
+    λ i. both_steps (step_law a h e valid_parts.0 i) (step_law b h e valid_parts.1 i)
+step_law (follow a b) h e valid =
     let valid_parts = and_parts (is_valid a) (is_valid b) valid in
-    follow_law a b h e (stepped_law a h e valid_parts.0) (λ g. stepped_law b g e valid_parts.1) (crossing (answer a) h) refl
+    follow_law a b h e (step_law a h e valid_parts.0) (λ g. step_law b g e valid_parts.1) (crossing (answer a) h) refl
 
 -- No step starts before its event, from whatever progress it is made.
 
@@ -111,13 +112,13 @@ later_starts now (Go s) (Go t) first second = omega arith
 later_starts now (Go s) Done first second = tt
 later_starts now Done b first second = tt
 
-pub starts_law : (s : Schedule) (p : Progress) (e : Event) → e.now ≤ FAR → StartsBy e.now (stepped s p e).1.decision
+pub starts_law : (s : Schedule) (p : Progress) (e : Event) → e.now ≤ FAR → StartsBy e.now (step_of s p e).1.decision
 starts_law (leaf l) p e far = leaf_starts l (leaf_of p) e.now far
 starts_law (meet a b) p e far =
     later_starts e.now _ _ (starts_law a (first_of p) e far) (starts_law b (second_of p) e far)
 starts_law (follow a b) p e far =
-    let first : Progress × Answer = stepped a (first_of p) e in
-    let second : Progress × Answer = stepped b (second_of p) e in
+    let first : Progress × Answer = step_of a (first_of p) e in
+    let second : Progress × Answer = step_of b (second_of p) e in
     let Starts : Progress × Answer → Type 0 = λ r. StartsBy e.now r.1.decision in
     let second_starts : Starts second = starts_law b (second_of p) e far in
     cond_both (has_crossed p) (past_crossing (first_of p) second) (at_crossing first (second_of p) second) Starts
@@ -156,15 +157,15 @@ leaf_fits_next (Fixed d) (Counted n) now m fitting le = absurd (false≢true fit
 leaf_fits_next l s now m fitting le = refl
 
 pub fits_law : (s : Schedule) (p : Progress) (e : Event) (m : ℕ) → IsTrue (fits s p e.now) → e.now ≤ m →
-    IsTrue (fits s (stepped s p e).0 m)
+    IsTrue (fits s (step_of s p e).0 m)
 fits_law (leaf l) (at_leaf s) e m fitting le = leaf_fits_next l s e.now m fitting le
 fits_law (meet a b) (at_both p q) e m fitting le =
     let parts = and_parts (fits a p e.now) (fits b q e.now) fitting in
     and_from _ _ (fits_law a p e m parts.0 le) (fits_law b q e m parts.1 le)
 fits_law (follow a b) (at_follow crossed p q) e m fitting le =
     let parts = and_parts (fits a p e.now) (fits b q e.now) fitting in
-    let first : Progress × Answer = stepped a p e in
-    let second : Progress × Answer = stepped b q e in
+    let first : Progress × Answer = step_of a p e in
+    let second : Progress × Answer = step_of b q e in
     let Fits : Progress × Answer → Type 0 = λ r. IsTrue (fits (follow a b) r.0 m) in
     let first_fits : IsTrue (fits a first.0 m) = fits_law a p e m parts.0 le in
     let second_fits : IsTrue (fits b second.0 m) = fits_law b q e m parts.1 le in

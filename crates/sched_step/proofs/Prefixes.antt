@@ -57,9 +57,9 @@ crossing-kept answers h p e crossed =
     ap (find test) (prefixes-push h e) ∙ find-kept test (prefixes h) ((h ++ e ∷ []) ∷ []) p crossed
 
 -- one that was never done is first done at the new event or not yet
-pub crossing-snoc : (answers : List Event → Answer) (h : List Event) (e : Event) → crossing answers h ≡ None →
+pub crossing-push : (answers : List Event → Answer) (h : List Event) (e : Event) → crossing answers h ≡ None →
     crossing answers (h ++ e ∷ []) ≡
     (if is_done (answers (h ++ e ∷ [])).decision then Some (h ++ e ∷ []) else None)
-crossing-snoc answers h e none =
+crossing-push answers h e none =
     let test : List Event → Bool = λ p. is_done (answers p).decision in
     ap (find test) (prefixes-push h e) ∙ find-past test (prefixes h) ((h ++ e ∷ []) ∷ []) none

@@ -2,5 +2,5 @@ pub mod Progress
 pub mod State
 pub mod StateFalls
 pub mod StateOf
-pub mod Stepped
+pub mod Step
 pub mod Starts

@@ -15,16 +15,16 @@ use Rattle.sched_step.specs.declared.leaves.LeafState.TheVariants.{Counted, Plan
 use Rattle.sched_step.specs.Progress.{Progress, at_leaf, at_both, at_follow}
 
 -- the first moment and the start planned last; none before the first event
-abbrev pub planned : ℕ → List Event → Option (ℕ × ℕ)
-planned d [] = None
-planned d (e ∷ h) = Some (first_moment (e ∷ h), fixed_start d (e ∷ h))
+abbrev pub first_and_start : ℕ → List Event → Option (ℕ × ℕ)
+first_and_start d [] = None
+first_and_start d (e ∷ h) = Some (first_moment (e ∷ h), fixed_start d (e ∷ h))
 
 -- the number of events, with what the leaf keeps of them
 abbrev pub leaf_state : Leaf → List Event → LeafState
 leaf_state Forever h = Counted (capped (length h))
 leaf_state (Recurs count) h = Counted (capped (length h))
 leaf_state (Spaced delay) h = Counted (capped (length h))
-leaf_state (Fixed d) h = Planned (capped (length h)) (planned d h)
+leaf_state (Fixed d) h = Planned (capped (length h)) (first_and_start d h)
 
 -- before the crossing the first schedule has all events; after it those up to and with the crossing one,
 -- and the second those from the crossing one on

@@ -5,7 +5,7 @@ ghost use Rattle.sched_plan.specs.Datum.{num};
 ghost use Rattle.sched_plan.specs.Schedule.{leaf_in_range};
 ghost use Rattle.sched_step.specs.Progress.{leaf_view, leaf_fits};
 ghost use Rattle.sched_step.specs.StateOf.{leaf_state};
-ghost use Rattle.sched_step.specs.Stepped.{leaf_next, leaf_answers, first_kept, next_fixed};
+ghost use Rattle.sched_step.specs.Step.{leaf_next, leaf_answers, first_kept, next_fixed};
 
 use sched_plan::{Answer, Leaf, Val};
 use sched_time::{Decision, Interval, Millis, Moment, NoMemory};

@@ -19,8 +19,11 @@ pub struct State {
 #[cycle(state)]
 #[derive(Drop)]
 pub(crate) enum StateShape {
+    /// What is kept of a leaf's events.
     Leaf(LeafState),
+    /// The states of two plans that are stepped together.
     Both(Box<State>, Box<State>),
+    /// Whether the first of two plans in turn is done, and the states of both.
     Follow(bool, Box<State>, Box<State>),
 }
 

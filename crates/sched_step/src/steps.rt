@@ -5,7 +5,7 @@ ghost use Rattle.sched_plan.specs.declared.history.Event.{Event};
 ghost use Rattle.sched_step.specs.Progress.{fits};
 ghost use Rattle.sched_step.specs.StateOf.{state_of, event_of, IsStep};
 ghost use Rattle.sched_step.specs.Starts.{StartsBy};
-ghost use Rattle.sched_step.specs.Stepped.{stepped};
+ghost use Rattle.sched_step.specs.Step.{step_of};
 
 use crate::states::{State, StateShape};
 use sched_plan::{Answer, Plan, PlanShape, Val};
@@ -31,7 +31,8 @@ pub fn step(
     ensures starts { IfOk result (λ r. StartsBy tick.entry.now.now r.1.decision) }
 
     // The new state fits the plan from now on.
-    ensures fits { IfOk result (λ r. (later : ℕ) → tick.entry.now.now ≤ later → IsTrue (fits plan.now r.0 later)) }
+    ensures fits { IfOk result
+        (λ r. (later : ℕ) → tick.entry.now.now ≤ later → IsTrue (fits plan.now r.0 later)) }
     ensures shape { IfOk result (λ r. IsTrue (fits plan.now r.0 FAR)) }
 {
     // Both tell what the proof rests on: that the moment is within `FAR`, and that the plan is valid.
@@ -50,7 +51,7 @@ fn advance(
     input: &Val,
 ) -> Result<(State, Answer), NoMemory>
     requires { IsTrue (fits plan.now state.now tick.now.now) }
-    ensures { IfOk result (λ r. r ≡ stepped plan.now state.now (event_of tick.entry.now input.now)) }
+    ensures { IfOk result (λ r. r ≡ step_of plan.now state.now (event_of tick.entry.now input.now)) }
 {
     match (plan.shape(), state.shape()) {
         (PlanShape::Leaf(leaf), StateShape::Leaf(kept)) => {

@@ -39,7 +39,8 @@ impl Model for Budget {
 impl Budget {
     /// A budget of `limit` tickets, and its first pass.
     pub fn new(alloc: Global, limit: u64) -> Result<(Budget, Pass), TicketFault>
-        ensures ok { IfOk result (λ r. (r.0.terms ≡ terms limit false) × IsOf r.0 r.1 × (r.1.has ≡ first_view (terms limit false))) }
+        ensures ok { IfOk result
+            (λ r. (r.0.terms ≡ terms limit false) × IsOf r.0 r.1 × (r.1.has ≡ first_view (terms limit false))) }
         ensures limit { OnOk result (limit ≤ 4294967296) }
         ensures err { IfErr result (RefusesLimit limit) }
     {
@@ -54,7 +55,8 @@ impl Budget {
 
     /// A budget whose limit is `limit` and may rise, and its first pass.
     pub fn rising(alloc: Global, limit: u64) -> Result<(Budget, Pass), TicketFault>
-        ensures ok { IfOk result (λ r. (r.0.terms ≡ terms limit true) × IsOf r.0 r.1 × (r.1.has ≡ first_view (terms limit true))) }
+        ensures ok { IfOk result
+            (λ r. (r.0.terms ≡ terms limit true) × IsOf r.0 r.1 × (r.1.has ≡ first_view (terms limit true))) }
         ensures limit { OnOk result (limit ≤ 4294967296) }
         ensures err { IfErr result (RefusesLimit limit) }
     {
@@ -87,8 +89,10 @@ impl Budget {
         requires { IsOf self pass }
         ensures count { IfOk result (λ n. n ≡ length pass.has.tickets) }
         ensures whole { OnOk result (IsWhole self.terms pass.has.tickets pass.has.refusals) }
-        ensures fixed { IfOk result (λ n. self.terms.rises ≡ false → (n ≡ min (n + length pass.has.refusals) self.terms.limit) × AreBelow pass.has.tickets n) }
-        ensures err { IfErr result (λ r. (r.0 ≡ self) × IsOf r.0 r.1 × (r.1.has ≡ with_mark pass.has Mark.Shared)) }
+        ensures fixed { IfOk result (λ n. self.terms.rises ≡ false →
+            (n ≡ min (n + length pass.has.refusals) self.terms.limit) × AreBelow pass.has.tickets n) }
+        ensures err { IfErr result
+            (λ r. (r.0 ≡ self) × IsOf r.0 r.1 × (r.1.has ≡ with_mark pass.has Mark.Shared)) }
     {
         let Pass {
             mut seat,
@@ -118,7 +122,8 @@ impl Budget {
         requires live { 0 < seat.old.me.0.weight }
         requires known { known ≡ seat.old.me.0.weight + seat.old.me.0.refused_splits }
         ensures seat { (seat.new.table_id ≡ seat.old.table_id) × (seat.new.me.1 ≡ seat.old.me.1) }
-        ensures mark { MatchBool result (seat.new.me.0 ≡ with_mark seat.old.me.0 Mark.Sole) (seat.new.me.0 ≡ with_mark seat.old.me.0 Mark.Shared) }
+        ensures mark { MatchBool result
+            (seat.new.me.0 ≡ with_mark seat.old.me.0 Mark.Sole) (seat.new.me.0 ≡ with_mark seat.old.me.0 Mark.Shared) }
     {
         self.table.shared.load::<Look>(seat, 1) == known
     }

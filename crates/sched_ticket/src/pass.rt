@@ -71,7 +71,8 @@ impl Pass {
         ensures some { IfSome result (λ k. Drew self.old.has k self.new.has) }
         ensures none { IfNone result (DrewNone self.old.has self.new.has) }
         ensures again { 0 < length self.old.has.refusals → (result ≡ None) × (self.new ≡ self.old) }
-        ensures tickets { MatchOption result (self.new.has.tickets ≡ self.old.has.tickets) (λ k. self.new.has.tickets ≡ k ∷ self.old.has.tickets) }
+        ensures tickets { MatchOption result
+            (self.new.has.tickets ≡ self.old.has.tickets) (λ k. self.new.has.tickets ≡ k ∷ self.old.has.tickets) }
     {
         if self.refused {
             return None;
@@ -93,8 +94,10 @@ impl Pass {
         requires { IsOf budget.now self.old }
         ensures of { IsOf budget.now self.new }
         ensures ok { IfOk result (λ p. IsOf budget.now p × (p.has ≡ part_of self.old.has)) }
-        ensures kept { OnOk result ((self.old.has.refused_splits ≡ 0) × (self.new.has ≡ with_split self.old.has)) }
-        ensures err { IfErr result (λ e. (e ≡ TicketFault.TooManyPasses) × SplitRefused self.old.has self.new.has) }
+        ensures kept { OnOk result
+            ((self.old.has.refused_splits ≡ 0) × (self.new.has ≡ with_split self.old.has)) }
+        ensures err { IfErr result
+            (λ e. (e ≡ TicketFault.TooManyPasses) × SplitRefused self.old.has self.new.has) }
     {
         if self.refused_splits > 0 {
             return Err(TicketFault::TooManyPasses);

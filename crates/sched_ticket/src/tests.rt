@@ -210,20 +210,6 @@ fn counts_joined_passes(rt: HostRuntime) -> Result<(), Fail> {
     Ok(())
 }
 
-// Run with an allocation refused, the first is `NoMemory`. The next succeeds.
-#[test]
-fn refused_memory(rt: HostRuntime) -> Result<(), Fail> {
-    let (budget, pass) = match Budget::new(rt.alloc(), 7) {
-        Ok(made) => made,
-        Err(fault) => {
-            assert_eq!(rt; fault, TicketFault::NoMemory);
-            Budget::new(rt.alloc(), 7)?
-        }
-    };
-    assert_eq!(rt; budget.close(pass).ok(), Some(0));
-    Ok(())
-}
-
 #[test]
 fn draws_apart(rt: HostRuntime) -> Result<(), Fail> {
     let (budget, pass) = Budget::new(rt.alloc(), 1)?;

@@ -67,7 +67,8 @@ pub fn drain<R: Threads + Sync>(
     workers: usize,
 ) -> Result<Drained, DrainFault>
     ensures all { IfOk result (λ d. d.count ≡ limit) }
-    ensures each_once { IfOk result (λ d. (x : ℕ) → total (λ l. times x l.items) d.drawn.items ≡ once_below x d.count) }
+    ensures each_once { IfOk result
+        (λ d. (x : ℕ) → total (λ l. times x l.items) d.drawn.items ≡ once_below x d.count) }
     ensures workers { IfOk result (λ d. vec_len d.drawn ≡ workers + 1) }
     ensures err { IfErr result (RefusesDrain limit) }
 {
@@ -140,7 +141,8 @@ fn gather(
     requires mine { IsOf budget.now mine.pass }
     requires hauls { All (λ r. IfOk r (λ h. IsOf budget.now h.pass)) hauls.items }
     ensures of { IfOk result (λ r. IsOf budget.now r.0) }
-    ensures same { IfOk result (λ r. (h : ℕ → ℕ) → total (λ l. total h l.items) r.1.items ≡ total h r.0.has.tickets) }
+    ensures same { IfOk result
+        (λ r. (h : ℕ → ℕ) → total (λ l. total h l.items) r.1.items ≡ total h r.0.has.tickets) }
     ensures workers { IfOk result (λ r. vec_len r.1 ≡ vec_len hauls + 1) }
     ensures refused { IfOk result (λ r. length mine.pass.has.refusals ≤ length r.0.has.refusals) }
 {

@@ -28,7 +28,7 @@ impl Model for Moment {
 impl Moment {
     /// The moment at this many milliseconds, or `None` past `FAR`.
     pub fn new(millis: u64) -> Option<Self>
-        ensures in_range { IsSome result ↔ (millis ≤ FAR) }
+        ensures in_range { IsSome result ↔ (millis ≤ 4611686018427387903) }
         ensures value { IfSome result (λ moment. moment ≡ millis) }
     {
         if millis <= FAR {
@@ -88,7 +88,7 @@ impl Model for Millis {
 impl Millis {
     /// The duration of this many milliseconds, or `None` past `FAR`.
     pub fn new(number: u64) -> Option<Self>
-        ensures in_range { IsSome result ↔ (number ≤ FAR) }
+        ensures in_range { IsSome result ↔ (number ≤ 4611686018427387903) }
         ensures value { IfSome result (λ duration. duration ≡ number) }
     {
         if number <= FAR {

@@ -61,7 +61,9 @@ impl Interval {
 /// What a schedule decides at a step: to go on in an interval, or that it is done.
 #[derive(Clone, Copy, Debug, PartialEq, Eq)]
 pub enum Decision {
+    /// Goes on at the start of this interval.
     Go(Interval),
+    /// Does not go on.
     Done,
 }
 

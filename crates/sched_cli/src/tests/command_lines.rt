@@ -26,14 +26,14 @@ fn help_of(alloc: Global, words: &[&str]) -> Result<String, WordsFault> {
     }
 }
 
-const MID_WORD: u32 = 2147483648;
+const MIDDLE_WORD: u32 = 2147483648;
 
 #[test]
 fn options_have_defaults(rt: HostRuntime) -> Result<(), Fail> {
     let plain = plan_of(rt.alloc(), &["zsched", "plan"])?;
-    assert_eq!(rt; plain, (10, 0, 0, 0, MID_WORD));
+    assert_eq!(rt; plain, (10, 0, 0, 0, MIDDLE_WORD));
     let none = plan_of(rt.alloc(), &["zsched", "plan", "--steps", "0"])?;
-    assert_eq!(rt; none, (0, 0, 0, 0, MID_WORD));
+    assert_eq!(rt; none, (0, 0, 0, 0, MIDDLE_WORD));
     Ok(())
 }
 

@@ -3,7 +3,7 @@ use super::texts::{nested, node};
 use crate::{Counted, MOST_STEPS, PlanOptions, PrintFault, print_plan};
 use sched_time::{Millis, Moment};
 use std::alloc::{AllocError, Global};
-use std::io::{Cursor, Read, Write};
+use std::io::{Read, Write};
 use std::process::Abort;
 use std::test::Fail;
 
@@ -314,23 +314,5 @@ fn a_failed_read_leaves_nothing_written(rt: HostRuntime) -> Result<(), Fail> {
     let (printed, taken) = printing(rt.alloc(), reader, Vec::new(rt.alloc()), &options);
     assert_eq!(rt; printed, (Ok(()), 0, 0));
     assert_eq!(rt; taken.as_slice(), LINES.as_bytes());
-    Ok(())
-}
-
-// Only want of memory may change the answer, and then a front of the lines is written. The writer takes no memory.
-// `rt try --test --fail-alloc N` refuses one allocation after another.
-#[test]
-fn refused_memory_leaves_a_front_of_the_lines(rt: HostRuntime) -> Result<(), Fail> {
-    let options = options(10, 0, 0).ok_or("out of range")?;
-    let writer = Cursor::new([0u8; 128]);
-    let (printed, writer) = printing(rt.alloc(), PLAN.as_bytes(), writer, &options);
-    let end = (writer.position() as usize).min(128);
-    let written = &writer.get_ref()[..end];
-    if printed == (Ok(()), 0, 0) {
-        assert_eq!(rt; written, LINES.as_bytes());
-    } else {
-        assert_eq!(rt; printed, (Err(PrintFault::NoMemory), 0, 0));
-        assert!(rt; LINES.as_bytes().starts_with(written));
-    }
     Ok(())
 }

@@ -1,6 +1,6 @@
 ghost use Rattle.std.specs.Prelude.{◌≡◌, ◌+◌, max, IfOk, IfErr};
 ghost use Rattle.sched_plan.specs.Schedule.{leaf, meet, follow, nodes_of, depth_of};
-ghost use Rattle.sched_plan.specs.Plan.{built, Builds, limited};
+ghost use Rattle.sched_plan.specs.Plan.{built_plan, Builds, counts_or_fault};
 
 use super::{MOST_DEPTH, MOST_NODES, Plan, PlanFault, PlanShape};
 use crate::leaves::Leaf;
@@ -10,14 +10,14 @@ use std::alloc::Global;
 impl Plan {
     /// Goes on for ever, at once. Never refused.
     pub fn forever() -> Result<Plan, PlanFault>
-        ensures { result ≡ built (leaf Leaf.Forever) }
+        ensures { result ≡ built_plan (leaf Leaf.Forever) }
     {
         Ok(Plan::of_leaf(Leaf::Forever))
     }
 
     /// Goes on at once, `count` times. Refused as `OutOfRange` past `FAR`.
     pub fn recurs(count: u64) -> Result<Plan, PlanFault>
-        ensures { result ≡ built (leaf (Leaf.Recurs count)) }
+        ensures { result ≡ built_plan (leaf (Leaf.Recurs count)) }
     {
         let count = Millis::new(count).ok_or(PlanFault::OutOfRange)?;
         Ok(Plan::of_leaf(Leaf::Recurs(count)))
@@ -25,7 +25,7 @@ impl Plan {
 
     /// Goes on `delay` milliseconds after each event. Refused as `OutOfRange` past `FAR`.
     pub fn spaced(delay: u64) -> Result<Plan, PlanFault>
-        ensures { result ≡ built (leaf (Leaf.Spaced delay)) }
+        ensures { result ≡ built_plan (leaf (Leaf.Spaced delay)) }
     {
         let delay = Millis::new(delay).ok_or(PlanFault::OutOfRange)?;
         Ok(Plan::of_leaf(Leaf::Spaced(delay)))
@@ -34,7 +34,7 @@ impl Plan {
     /// Goes on at the boundaries of intervals of `length` milliseconds, the first of which begins at the first
     /// event. Refused as `OutOfRange` at 0 and past `FAR`.
     pub fn fixed(length: u64) -> Result<Plan, PlanFault>
-        ensures { result ≡ built (leaf (Leaf.Fixed length)) }
+        ensures { result ≡ built_plan (leaf (Leaf.Fixed length)) }
     {
         if length == 0 {
             return Err(PlanFault::OutOfRange);
@@ -74,7 +74,8 @@ impl Plan {
 
 // The nodes and the depth of a node over both plans, if they are within the limits.
 fn within_limits(first: &Plan, second: &Plan) -> Result<(usize, usize), PlanFault>
-    ensures { result ≡ limited (nodes_of first.now + nodes_of second.now + 1) (max (depth_of first.now) (depth_of second.now) + 1) }
+    ensures { result ≡ counts_or_fault
+        (nodes_of first.now + nodes_of second.now + 1) (max (depth_of first.now) (depth_of second.now) + 1) }
 {
     let nodes = first.nodes + second.nodes + 1;
     let depth = first.depth.max(second.depth) + 1;

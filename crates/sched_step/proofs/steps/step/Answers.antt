@@ -5,14 +5,14 @@ use Rattle.sched_plan.specs.declared.history.Event.{Event}
 use Rattle.sched_plan.specs.declared.history.Answer.{Answer}
 use Rattle.sched_step.specs.Progress.{Progress}
 use Rattle.sched_step.specs.StateOf.{state_of, event_of, IsStep}
-use Rattle.sched_step.specs.Stepped.{stepped}
-use Rattle.sched_step.proofs.Law.{stepped_law, starts_law, fits_law}
+use Rattle.sched_step.specs.Step.{step_of}
+use Rattle.sched_step.proofs.Law.{step_law, starts_law, fits_law}
 use Rattle.sched_step.proofs.steps.step.Goals as goal
 
 law_at : (s : Schedule) (p : Progress) (h : List Event) (e : Event) (r : Progress × Answer) →
-    IsTrue (is_valid s) → r ≡ stepped s p e → p ≡ state_of s h → IsStep s (h ++ e ∷ []) r.0 r.1
+    IsTrue (is_valid s) → r ≡ step_of s p e → p ≡ state_of s h → IsStep s (h ++ e ∷ []) r.0 r.1
 law_at s p h e r valid is from =
-    let both = is ∙ ap (λ q. stepped s q e) from ∙ stepped_law s h e valid in
+    let both = is ∙ ap (λ q. step_of s q e) from ∙ step_law s h e valid in
     record { state_is = ap (λ x. x.0) both; answer_is = ap (λ x. x.1) both }
 
 pub returns-clause-law : goal.returns-clause-law

@@ -1,29 +1,46 @@
-//! Gives a driver of three recurrences, 100 ms apart, four events, and prints what it shows before and after each.
+//! Makes calls that ask for memory, and prints what stands before and after each.
 //!
-//! Where a step is refused, it prints the fault with what the driver shows then, and gives the same event again. A script
-//! runs it with each growth refused in turn; status 5 says that memory was refused to something else than a step.
+//! Where a call is refused, it prints the fault with what stands then, and makes the same call again. A script runs it
+//! with each growth refused in turn; status 5 says that memory was refused to something else than such a call.
 #![tactic(auto)]
 
 use sched_driver::{DriveFault, Driver};
 use sched_plan::{Plan, Val};
+use sched_ticket::Budget;
 use sched_time::{Moment, Tick};
 use std::process::ExitCode;
 
 fn main(rt: HostRuntime) -> ExitCode {
-    match step_through(&rt) {
+    match make_budget(&rt).and_then(|()| step_driver(&rt)) {
         Some(()) => ExitCode::SUCCESS,
         None => ExitCode::from(5),
     }
 }
 
-fn step_through(rt: &HostRuntime) -> Option<()> {
+// Makes a budget of two tickets, draws one of them and closes the budget.
+fn make_budget(rt: &HostRuntime) -> Option<()> {
+    println!(rt; "no budget").ok()?;
+    let (budget, mut pass) = match Budget::new(rt.alloc(), 2) {
+        Ok(made) => made,
+        Err(fault) => {
+            println!(rt; "{fault:?}: no budget").ok()?;
+            Budget::new(rt.alloc(), 2).ok()?
+        }
+    };
+    let ticket = pass.draw(&budget);
+    let count = budget.close(pass).ok()?;
+    println!(rt; "ticket {ticket:?} of a budget that closed at {count}").ok()
+}
+
+// Steps a driver of four recurrences, 100 ms apart, until it is done, and once more.
+fn step_driver(rt: &HostRuntime) -> Option<()> {
     let alloc = rt.alloc();
-    let recurs = Plan::recurs(3).ok()?;
+    let recurs = Plan::recurs(4).ok()?;
     let spaced = Plan::spaced(100).ok()?;
     let plan = Plan::meet(alloc, recurs, spaced).ok()?;
     let mut driver = Driver::new(alloc, plan).ok()?;
     show(rt, &driver)?;
-    for at in [0, 100, 200, 300] {
+    for at in [0, 100, 200, 300, 400, 500] {
         let now = Moment::new(at)?;
         if let Some(fault) = refusal(rt, &mut driver, now) {
             print!(rt; "{fault:?}: ").ok()?;

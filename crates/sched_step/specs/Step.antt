@@ -79,8 +79,8 @@ has_crossed (at_both a b) = false
 has_crossed (at_follow crossed a b) = crossed
 
 -- two schedules that were stepped side by side
-abbrev pub both_stepped : Progress × Answer → Progress × Answer → Progress × Answer
-both_stepped a b = (at_both a.0 b.0, both a.1 b.1)
+abbrev pub both_steps : Progress × Answer → Progress × Answer → Progress × Answer
+both_steps a b = (at_both a.0 b.0, both a.1 b.1)
 
 -- the second is stepped, and the first stays as it is
 abbrev pub past_crossing : Progress → Progress × Answer → Progress × Answer
@@ -92,9 +92,9 @@ at_crossing a second b =
     if is_done a.1.decision then past_crossing a.0 b else (at_follow false a.0 second, a.1)
 
 -- the progress after one more event, and the answer to it
-abbrev pub stepped : Schedule → Progress → Event → Progress × Answer
-stepped (leaf l) s e = (at_leaf (leaf_next l (leaf_of s) e.now), leaf_answers l (leaf_of s) e.now)
-stepped (meet a b) s e = both_stepped (stepped a (first_of s) e) (stepped b (second_of s) e)
-stepped (follow a b) s e =
-    if has_crossed s then past_crossing (first_of s) (stepped b (second_of s) e)
-    else at_crossing (stepped a (first_of s) e) (second_of s) (stepped b (second_of s) e)
+abbrev pub step_of : Schedule → Progress → Event → Progress × Answer
+step_of (leaf l) s e = (at_leaf (leaf_next l (leaf_of s) e.now), leaf_answers l (leaf_of s) e.now)
+step_of (meet a b) s e = both_steps (step_of a (first_of s) e) (step_of b (second_of s) e)
+step_of (follow a b) s e =
+    if has_crossed s then past_crossing (first_of s) (step_of b (second_of s) e)
+    else at_crossing (step_of a (first_of s) e) (second_of s) (step_of b (second_of s) e)
