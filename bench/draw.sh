@@ -6,7 +6,7 @@ cd "$(dirname "$0")/.."
 
 work=$(mktemp -d)
 trap 'rm -rf "$work"' EXIT
-(cd crates/bench_draw && rt run) > /dev/null 2>&1
+(cd crates/bench_draw && rt run) >&2
 cp crates/bench_draw/out/bench_draw "$work/draw"
 rustc -O -C target-cpu=x86-64 -o "$work/bare" bench/bare.rs
 

@@ -8,8 +8,8 @@ use lib.ListN.{get_elem?}
 use Rattle.atomic_table.specs.Table.{Step, Act, keeps, Valid, carried_after, stepped, Allows, Splits, Joins}
 use Rattle.atomic_table.proofs.Lists.{at_set, at_snoc, set_else}
 use Rattle.sched_ticket.specs.Lists.{total, below, Each}
-use Rattle.sched_ticket.specs.View.{with_ticket, with_refusal, with_floor, with_mark, with_refused_split, heavier, lighter, part_of, both, blank}
-use Rattle.sched_ticket.specs.Rule.{found, weights, refused_splits, IsMarked, IsRefusal, Fits, IsOrderly, IsKept}
+use Rattle.sched_ticket.specs.View.{with_ticket, with_refusal, with_floor, with_raise, with_mark, with_refused_split, with_part, without_part, part_of, both, blank_view}
+use Rattle.sched_ticket.specs.Rule.{number_weight, weights, splits, refused_splits, IsMarked, IsRefusal, Fits, IsOrderly, IsKept}
 use Rattle.sched_ticket.specs.Steps.{Sat, draws, counts, learns, looks, reads_limit, raises}
 use Rattle.sched_ticket.specs.declared.view.Terms.{Terms}
 use Rattle.sched_ticket.specs.declared.view.Refusal.{Refusal}
@@ -18,6 +18,7 @@ use Rattle.sched_ticket.specs.declared.view.Mark.TheVariants.{Unseen, Sole, Shar
 use Rattle.sched_ticket.specs.declared.view.View.{View}
 use Rattle.sched_ticket.proofs.Sums.{total-append, total-set, term_le, terms_le, rest_le, Each-append, Each-map, below_more}
 use Rattle.sched_ticket.proofs.Totals.{drawn_le, made_le, is_later, is_sound}
+use Rattle.sched_ticket.proofs.Greatest.{greatest-append, greatest-raised, greatest-joined}
 
 -- a mark stays true while another pass gets no lighter
 IsMarked-on : (m : Mark) (all all' weight other : ℕ) → 0 < other → weight + other ≤ all → all ≤ all' → IsMarked all m weight → IsMarked all' m weight
@@ -62,18 +63,23 @@ module _ (k : Terms) where
   moved : (d m l : ℕ) (views : List View) (j : ℕ) (v w : View) (d' m' l' : ℕ)
       → IsOrderly k d m l views → get_elem? views j ≡ some v
       → 0 < v.weight → v.weight ≤ w.weight → weights views + w.weight ≤ 65536 + v.weight
-      → ((h : ℕ → ℕ) → found h w + below h d ≡ found h v + below h d')
+      → ((h : ℕ → ℕ) → number_weight h w + below h d ≡ number_weight h v + below h d')
       → m' + v.weight + v.refused_splits ≡ m + w.weight + w.refused_splits
       → m ≤ m' → l ≤ l' → (k.rises ≡ false → l' ≡ k.limit) → l' ≤ 4294967296
+      → w.splits + v.weight ≡ v.splits + w.weight
+      → (to : ℕ) → w.raised_to ≡ max v.raised_to to → l' ≡ max l to
       → (weights (set views j w) + v.weight ≡ weights views + w.weight → Fits k m' l' (weights (set views j w)) w)
       → IsOrderly k d' m' l' (set views j w)
-  moved d m l views j v w d' m' l' o at live heavy room numbers counted more up fixed small fits =
+  moved d m l views j v w d' m' l' o at live heavy room numbers counted more up fixed small parted to raised reached fits =
       let wide : weights (set views j w) + v.weight ≡ weights views + w.weight = total-set (λ (u : View). u.weight) views j v w at in
-      let splits : refused_splits (set views j w) + v.refused_splits ≡ refused_splits views + w.refused_splits = total-set (λ (u : View). u.refused_splits) views j v w at in
+      let refused : refused_splits (set views j w) + v.refused_splits ≡ refused_splits views + w.refused_splits = total-set (λ (u : View). u.refused_splits) views j v w at in
+      let split : splits (set views j w) + v.splits ≡ splits views + w.splits = total-set (λ (u : View). u.splits) views j v w at in
       record {
-        numbers = λ h. omega (arith, total-set (found h) views j v w at, o.numbers h, numbers h);
+        numbers = λ h. omega (arith, total-set (number_weight h) views j v w at, o.numbers h, numbers h);
         counted = omega (arith, o.counted);
+        split_off = omega (arith, o.split_off);
         few_passes = omega arith;
+        limit_is = reached ∙ ap (λ (x : ℕ). max x to) o.limit_is ∙ sym (greatest-raised k.limit views j v w to at raised);
         rises = omega (arith, o.rises);
         fixed = fixed;
         small = small;
@@ -103,16 +109,16 @@ module _ (k : Terms) where
       let f : Fits k made l (weights views) v = o.each id v at in
       let few = drawn_le k d made l views o in
       let word : (d + 1) % 2 ^ 64 ∷ made ∷ l ∷ [] ≡ (d + 1) ∷ made ∷ l ∷ [] = ap (λ (x : ℕ). x ∷ made ∷ l ∷ []) (mod-eq_of_lt (omega (arith, o.small))) in
-      let next : (w : View) → v.weight ≡ w.weight → v.refused_splits ≡ w.refused_splits → ((h : ℕ → ℕ) → found h w ≡ found h v + h d) → (weights (set views id w) ≡ weights views → Fits k made l (weights (set views id w)) w)
+      let next : (w : View) → v.weight ≡ w.weight → v.refused_splits ≡ w.refused_splits → v.splits ≡ w.splits → v.raised_to ≡ w.raised_to → ((h : ℕ → ℕ) → number_weight h w ≡ number_weight h v + h d) → (weights (set views id w) ≡ weights views → Fits k made l (weights (set views id w)) w)
       → (homes : List (Option ℕ)) → IsKept k (record { words = (d + 1) % 2 ^ 64 ∷ made ∷ l ∷ []; homes = homes; views = set views id w }) =
-      λ w same splits more fits homes. kept (d + 1) made l (set views id w) homes ((d + 1) % 2 ^ 64 ∷ made ∷ l ∷ []) word
-      (moved d made l views id v w (d + 1) made l o at live (omega arith) (omega (arith, o.few_passes)) (λ h. omega (arith, more h, below_more h d)) (omega arith) (omega arith) (omega arith) o.fixed o.small
+      λ w same refused split raised more fits homes. kept (d + 1) made l (set views id w) homes ((d + 1) % 2 ^ 64 ∷ made ∷ l ∷ []) word
+      (moved d made l views id v w (d + 1) made l o at live (omega arith) (omega (arith, o.few_passes)) (λ h. omega (arith, more h, below_more h d)) (omega arith) (omega arith) (omega arith) o.fixed o.small (omega arith) 0 (omega arith) (omega arith)
       (λ wide. fits (omega arith))) in
       let later = is_later k d made l views o id v at in
       dite (dec_le v.floor d)
       (λ high. (
         with_refusal v d,
-        next (with_refusal v d) refl refl (λ h. omega arith) (λ wide. record {
+        next (with_refusal v d) refl refl refl refl (λ h. omega arith) (λ wide. record {
           tickets = f.tickets;
           refusals = (((f.live live).1, high, f.floor), f.refusals);
           floor = f.floor;
@@ -127,7 +133,7 @@ module _ (k : Terms) where
       ))
       (λ not. let low : d < v.floor = lt_of_not-le not in (
         with_ticket v d,
-        next (with_ticket v d) refl refl (λ h. omega arith) (λ wide. record {
+        next (with_ticket v d) refl refl refl refl (λ h. omega arith) (λ wide. record {
           tickets = (omega (arith, f.floor), f.tickets);
           refusals = f.refusals;
           floor = f.floor;
@@ -151,7 +157,7 @@ module _ (k : Terms) where
       (λ many. let w : View = with_refused_split v in (
         w,
         (λ homes. kept d (made + 1) l (set views id w) homes (d ∷ (made + 1) % 2 ^ 64 ∷ l ∷ []) word
-            (moved d made l views id v w d (made + 1) l o at live (omega arith) (omega (arith, o.few_passes)) (λ h. omega arith) (omega arith) (omega arith) (omega arith) o.fixed o.small (λ wide. record {
+            (moved d made l views id v w d (made + 1) l o at live (omega arith) (omega (arith, o.few_passes)) (λ h. omega arith) (omega arith) (omega arith) (omega arith) o.fixed o.small (omega arith) 0 (omega arith) (omega arith) (λ wide. record {
               tickets = f.tickets;
               refusals = f.refusals;
               floor = f.floor;
@@ -164,10 +170,10 @@ module _ (k : Terms) where
             }))),
         ((λ few. absurd (omega arith)), λ _. refl),
       ))
-      (λ not. let few-made : made < 65536 = lt_of_not-le not in let w : View = heavier v in (
+      (λ not. let few-made : made < 65536 = lt_of_not-le not in let w : View = with_part v in (
         w,
         (λ homes. kept d (made + 1) l (set views id w) homes (d ∷ (made + 1) % 2 ^ 64 ∷ l ∷ []) word
-            (moved d made l views id v w d (made + 1) l o at live (omega arith) (omega (arith, o.counted)) (λ h. omega arith) (omega arith) (omega arith) (omega arith) o.fixed o.small (λ wide. record {
+            (moved d made l views id v w d (made + 1) l o at live (omega arith) (omega (arith, o.counted)) (λ h. omega arith) (omega arith) (omega arith) (omega arith) o.fixed o.small (omega arith) 0 (omega arith) (omega arith) (λ wide. record {
               tickets = f.tickets;
               refusals = f.refusals;
               floor = f.floor;
@@ -182,18 +188,19 @@ module _ (k : Terms) where
       )))
 
   -- a pass learns, and no number is drawn and no pass counted
-  told : (d made l : ℕ) (views : List View) (id : ℕ) (v : View) (floor : ℕ) (mark : Mark) (readings l' : ℕ)
+  told : (d made l : ℕ) (views : List View) (id : ℕ) (v : View) (floor : ℕ) (mark : Mark) (readings raised l' to : ℕ)
       → IsOrderly k d made l views → get_elem? views id ≡ some v → 0 < v.weight → v.floor ≤ floor → floor ≤ l' → l ≤ l' → (k.rises ≡ false → l' ≡ k.limit) → l' ≤ 4294967296
-      → IsMarked (weights views) mark v.weight → IsOrderly k d made l' (set views id (record v { floor = floor; mark = mark; readings = readings }))
-  told d made l views id v floor mark readings l' o at live rises most up fixed small marked =
-      let w : View = record v { floor = floor; mark = mark; readings = readings } in
+      → raised ≡ max v.raised_to to → l' ≡ max l to
+      → IsMarked (weights views) mark v.weight → IsOrderly k d made l' (set views id (record v { floor = floor; mark = mark; readings = readings; raised_to = raised }))
+  told d made l views id v floor mark readings raised l' to o at live rises most up fixed small raises reached marked =
+      let w : View = record v { floor = floor; mark = mark; readings = readings; raised_to = raised } in
       let f : Fits k made l (weights views) v = o.each id v at in
-      moved d made l views id v w d made l' o at live (omega arith) (omega (arith, o.few_passes)) (λ h. omega arith) (omega arith) (omega arith) up fixed small (λ wide. record {
+      moved d made l views id v w d made l' o at live (omega arith) (omega (arith, o.few_passes)) (λ h. omega arith) (omega arith) (omega arith) up fixed small (omega arith) to raises reached (λ wide. record {
         tickets = tickets-on l l' v.tickets up f.tickets;
         refusals = refusals-on l l' v.refusals up f.refusals;
         floor = most;
         live = λ h. let t = f.live h in (t.0, omega (arith, t.1));
-        spent = f.spent;
+        spent = λ e. absurd (omega arith);
         few_refusals = f.few_refusals;
         few_refused_splits = f.few_refused_splits;
         too_many_made = f.too_many_made;
@@ -205,7 +212,7 @@ module _ (k : Terms) where
       let v : View = m.0 in
       let f : Fits k made l (weights views) v = o.each id v at in (
         v,
-        (λ homes. kept d made l (set views id v) homes (d ∷ made ∷ l ∷ []) refl (told d made l views id v v.floor v.mark v.readings l o at live (omega arith) f.floor (omega arith) o.fixed o.small f.mark)),
+        (λ homes. kept d made l (set views id v) homes (d ∷ made ∷ l ∷ []) refl (told d made l views id v v.floor v.mark v.readings v.raised_to l 0 o at live (omega arith) f.floor (omega arith) o.fixed o.small (omega arith) (omega arith) f.mark)),
         (refl, is_sound k d made l views o id v at),
       ))
 
@@ -218,7 +225,7 @@ module _ (k : Terms) where
       let rest = rest_le (λ (u : View). u.refused_splits) (λ (u : View). u.weight) views id v (λ i u there. (o.each i u there).few_refused_splits) at in
       let counted : made ≡ weights views + refused_splits views = o.counted in
       let marks : (mark : Mark) → IsMarked (weights views) mark v.weight → (homes : List (Option ℕ)) → IsKept k (record { words = d ∷ made ∷ l ∷ []; homes = homes; views = set views id (with_mark v mark) }) =
-      λ mark marked homes. kept d made l (set views id (with_mark v mark)) homes (d ∷ made ∷ l ∷ []) refl (told d made l views id v v.floor mark v.readings l o at live (omega arith) f.floor (omega arith) o.fixed o.small marked) in
+      λ mark marked homes. kept d made l (set views id (with_mark v mark)) homes (d ∷ made ∷ l ∷ []) refl (told d made l views id v v.floor mark v.readings v.raised_to l 0 o at live (omega arith) f.floor (omega arith) o.fixed o.small (omega arith) (omega arith) marked) in
       dite (ℕ_discrete made (v.weight + v.refused_splits))
       (λ e. (with_mark v Sole, marks Sole (omega arith), ((λ _. refl), λ ne. absurd (ne e))))
       (λ ne. (with_mark v Shared, marks Shared (lt_of_not-le (λ le. ne (omega arith))), ((λ e. absurd (ne e)), λ _. refl))))
@@ -228,7 +235,7 @@ module _ (k : Terms) where
       let v : View = m.0 in
       let f : Fits k made l (weights views) v = o.each id v at in (
         with_floor v l,
-        (λ homes. kept d made l (set views id (with_floor v l)) homes (d ∷ made ∷ l ∷ []) refl (told d made l views id v l v.mark (v.readings + 1) l o at live f.floor (omega arith) (omega arith) o.fixed o.small f.mark)),
+        (λ homes. kept d made l (set views id (with_floor v l)) homes (d ∷ made ∷ l ∷ []) refl (told d made l views id v l v.mark (v.readings + 1) v.raised_to l 0 o at live f.floor (omega arith) (omega arith) o.fixed o.small (omega arith) (omega arith) f.mark)),
         (record { rises = f.floor; fixed = λ e. o.fixed (ap (λ (x : Terms). x.rises) (sym of) ∙ e) ∙ ap (λ (x : Terms). x.limit) (sym of); small = o.small }, refl),
       ))
 
@@ -240,23 +247,24 @@ module _ (k : Terms) where
       let up : l ≤ l' = le-max_left l st.first in
       let least : l' ≤ 4294967296 = omega (arith, o.small) in
       let never : k.rises ≡ false → ⊥ = λ e. let no : true ≡ false = sym rises ∙ e in cc in (
-        with_floor v l',
-        (λ homes. kept d made l' (set views id (with_floor v l')) homes (d ∷ made ∷ l' ∷ []) refl
-            (told d made l views id v l' v.mark (v.readings + 1) l' o at live (omega (arith, f.floor)) (omega arith) up (λ e. absurd (never e)) least f.mark)),
+        with_raise v st.first l',
+        (λ homes. kept d made l' (set views id (with_raise v st.first l')) homes (d ∷ made ∷ l' ∷ []) refl
+            (told d made l views id v l' v.mark (v.readings + 1) (max v.raised_to st.first) l' st.first o at live (omega (arith, f.floor)) (omega arith) up (λ e. absurd (never e)) least refl refl f.mark)),
         (record { rises = omega (arith, f.floor); fixed = λ e. absurd (never (ap (λ (x : Terms). x.rises) (sym of) ∙ e)); small = least }, refl),
       ))
 
-  pub splits_ok : (id : ℕ) (v : View) → 1 < v.weight → length v.refusals < v.weight → v.refused_splits < v.weight → v.mark ≢ Sole → Splits (IsKept k) id v (lighter v) (part_of v)
+  pub splits_ok : (id : ℕ) (v : View) → 1 < v.weight → length v.refusals < v.weight → v.refused_splits < v.weight → v.mark ≢ Sole → Splits (IsKept k) id v (without_part v) (part_of v)
   splits_ok id v heavy some-refusals some-splits not-sole s kept at =
       let views : List View = s.views in
       let o : IsOrderly k kept.drawn kept.made kept.limit views = kept.orderly in
       let f : Fits k kept.made kept.limit (weights views) v = o.each id v at in
-      let left : View = lighter v in
+      let left : View = without_part v in
       let right : View = part_of v in
       let after : List View = set views id left ++ right ∷ [] in
       let weight = total-set (λ (u : View). u.weight) views id v left at in
       let same : weights after ≡ weights views = omega (arith, total-append (λ (u : View). u.weight) (set views id left) (right ∷ [])) in
-      let splits = total-set (λ (u : View). u.refused_splits) views id v left at in
+      let refused = total-set (λ (u : View). u.refused_splits) views id v left at in
+      let split = total-set (λ (u : View). u.splits) views id v left at in
       let live = f.live (omega arith) in
       let F : View → Type 0 = Fits k kept.made kept.limit (weights after) in
       let fits-left : F left = record {
@@ -275,7 +283,7 @@ module _ (k : Terms) where
         refusals = tt;
         floor = f.floor;
         live = λ _. live;
-        spent = λ _. refl;
+        spent = λ _. (refl, refl, refl);
         few_refusals = omega arith;
         few_refused_splits = omega arith;
         too_many_made = λ h. absurd (omega arith);
@@ -287,9 +295,11 @@ module _ (k : Terms) where
         limit = kept.limit;
         words = kept.words;
         orderly = record {
-          numbers = λ h. omega (arith, total-append (found h) (set views id left) (right ∷ []), total-set (found h) views id v left at, o.numbers h);
+          numbers = λ h. omega (arith, total-append (number_weight h) (set views id left) (right ∷ []), total-set (number_weight h) views id v left at, o.numbers h);
           counted = omega (arith, o.counted, total-append (λ (u : View). u.refused_splits) (set views id left) (right ∷ []));
+          split_off = omega (arith, o.split_off, total-append (λ (u : View). u.splits) (set views id left) (right ∷ []));
           few_passes = omega (arith, o.few_passes);
+          limit_is = omega (arith, o.limit_is, greatest-append k.limit (set views id left) right, greatest-raised k.limit views id v left 0 at (omega arith));
           rises = o.rises;
           fixed = o.fixed;
           small = o.small;
@@ -303,20 +313,20 @@ module _ (k : Terms) where
         };
       }
 
-  Fits-blank : (made limit all : ℕ) → Fits k made limit all blank
-  Fits-blank made limit all = record {
+  Fits-blank_view : (made limit all : ℕ) → Fits k made limit all blank_view
+  Fits-blank_view made limit all = record {
     tickets = tt;
     refusals = tt;
     floor = omega arith;
     live = λ h. absurd (omega arith);
-    spent = λ _. refl;
+    spent = λ _. (refl, refl, refl);
     few_refusals = omega arith;
     few_refused_splits = omega arith;
     too_many_made = λ h. absurd (omega arith);
     mark = tt;
   }
 
-  pub joins_ok : (id : ℕ) (v : View) (other : ℕ) (w : View) → 0 < v.weight → Joins (IsKept k) id v other w (both v w) blank
+  pub joins_ok : (id : ℕ) (v : View) (other : ℕ) (w : View) → 0 < v.weight → Joins (IsKept k) id v other w (both v w) blank_view
   joins_ok id v other w live s kept at apart there =
       let views : List View = s.views in
       let o : IsOrderly k kept.drawn kept.made kept.limit views = kept.orderly in
@@ -325,9 +335,9 @@ module _ (k : Terms) where
       let g : Fits k kept.made kept.limit (weights views) w = o.each other w at-other in
       let joined : View = both v w in
       let middle : List View = set views id joined in
-      let after : List View = set middle other blank in
-      let sums : (p : View → ℕ) → total p after + p w + p v ≡ total p views + p joined + p blank =
-      λ p. omega (arith, total-set p views id v joined at, total-set p middle other w blank there) in
+      let after : List View = set middle other blank_view in
+      let sums : (p : View → ℕ) → total p after + p w + p v ≡ total p views + p joined + p blank_view =
+      λ p. omega (arith, total-set p views id v joined at, total-set p middle other w blank_view there) in
       let same : weights after ≡ weights views = omega (arith, sums (λ (u : View). u.weight)) in
       let F : View → Type 0 = Fits k kept.made kept.limit (weights after) in
       let fits-joined : F joined = record {
@@ -347,18 +357,20 @@ module _ (k : Terms) where
         limit = kept.limit;
         words = kept.words;
         orderly = record {
-          numbers = λ h. omega (arith, sums (found h), total-append h v.tickets w.tickets, total-append (λ (r : Refusal). h r.number) v.refusals w.refusals, o.numbers h);
+          numbers = λ h. omega (arith, sums (number_weight h), total-append h v.tickets w.tickets, total-append (λ (r : Refusal). h r.number) v.refusals w.refusals, o.numbers h);
           counted = omega (arith, o.counted, sums (λ (u : View). u.refused_splits));
+          split_off = omega (arith, o.split_off, sums (λ (u : View). u.splits));
           few_passes = omega (arith, o.few_passes);
+          limit_is = o.limit_is ∙ sym (greatest-joined k.limit views id other v w joined blank_view apart at at-other refl refl);
           rises = o.rises;
           fixed = o.fixed;
           small = o.small;
           each = λ by u there'. ⊎_elim
-              (λ (e : (by ≡ other) × (blank ≡ u)). subst F e.1 (Fits-blank kept.made kept.limit (weights after)))
+              (λ (e : (by ≡ other) × (blank_view ≡ u)). subst F e.1 (Fits-blank_view kept.made kept.limit (weights after)))
               (λ (e : (by ≢ other) × (get_elem? middle by ≡ some u)). ⊎_elim
               (λ (t : (by ≡ id) × (joined ≡ u)). subst F t.1 fits-joined)
               (λ (t : (by ≢ id) × (get_elem? views by ≡ some u)). subst (λ (all : ℕ). Fits k kept.made kept.limit all u) (sym same) (o.each by u t.1))
               (at_set views id by joined u e.1))
-              (at_set middle other by blank u there');
+              (at_set middle other by blank_view u there');
         };
       }

@@ -3,28 +3,28 @@ use Rattle.std.proofs.Common.{◌≡◌, ℕ, ◌+◌, ◌<◌, ◌≤◌, List,
 use mathlib.Core.Option.{some}
 use lib.ListN.{get_elem?}
 use Rattle.sched_ticket.specs.Lists.{total, is, once_below}
-use Rattle.sched_ticket.specs.Rule.{found, weights, refused_splits, IsOrderly}
+use Rattle.sched_ticket.specs.Rule.{number_weight, weights, refused_splits, IsOrderly}
 use Rattle.sched_ticket.specs.Steps.{IsLater, IsSound}
 use Rattle.sched_ticket.specs.declared.view.Terms.{Terms}
 use Rattle.sched_ticket.specs.declared.view.View.{View}
 use Rattle.sched_ticket.proofs.Sums.{term_le, total-le, total-plus, total-one, below-one, below-once_below, below-is, once_below-le, total-once_below, from, below-from, none_from, Each-map}
 
 -- a view has found as many numbers as it has tickets and refusals
-pub found-one : (v : View) → found (λ _. 1) v ≡ length v.tickets + length v.refusals
-found-one v = omega (arith, total-one v.tickets, total-one v.refusals)
+pub number_weight-one : (v : View) → number_weight (λ _. 1) v ≡ length v.tickets + length v.refusals
+number_weight-one v = omega (arith, total-one v.tickets, total-one v.refusals)
 
 module _ (k : Terms) (drawn made limit : ℕ) (views : List View) (o : IsOrderly k drawn made limit views) where
   -- the tickets of all views are no more than the limit
   pub tickets_le : total (λ (v : View). length v.tickets) views ≤ limit
   tickets_le =
-      let each : total (λ (v : View). length v.tickets) views ≤ total (found (λ x. once_below x limit)) views =
-      total-le (λ (v : View). length v.tickets) (found (λ x. once_below x limit)) views (λ i u at. omega (arith, total-once_below limit u.tickets (o.each i u at).tickets)) in
+      let each : total (λ (v : View). length v.tickets) views ≤ total (number_weight (λ x. once_below x limit)) views =
+      total-le (λ (v : View). length v.tickets) (number_weight (λ x. once_below x limit)) views (λ i u at. omega (arith, total-once_below limit u.tickets (o.each i u at).tickets)) in
       omega (arith, o.numbers (λ x. once_below x limit), below-once_below limit drawn)
 
   pub drawn_le : drawn ≤ limit + 65536
   drawn_le =
-      let each : total (found (λ _. 1)) views ≤ total (λ (v : View). length v.tickets + v.weight) views =
-      total-le (found (λ _. 1)) (λ (v : View). length v.tickets + v.weight) views (λ i u at. omega (arith, found-one u, (o.each i u at).few_refusals)) in
+      let each : total (number_weight (λ _. 1)) views ≤ total (λ (v : View). length v.tickets + v.weight) views =
+      total-le (number_weight (λ _. 1)) (λ (v : View). length v.tickets + v.weight) views (λ i u at. omega (arith, number_weight-one u, (o.each i u at).few_refusals)) in
       let parts = total-plus (λ (v : View). length v.tickets) (λ (v : View). v.weight) views in
       omega (arith, o.numbers (λ _. 1), below-one drawn, tickets_le, o.few_passes)
 
@@ -37,12 +37,12 @@ module _ (k : Terms) (drawn made limit : ℕ) (views : List View) (o : IsOrderly
     -- the next number comes after all tickets of each pass
     pub is_later : IsLater v drawn
     is_later =
-        let none : total (from drawn) v.tickets ≡ 0 = omega (arith, term_le (found (from drawn)) views by v at, o.numbers (from drawn), below-from drawn drawn (omega arith)) in
-        (none_from drawn v.tickets none, omega (arith, term_le (found (λ _. 1)) views by v at, o.numbers (λ _. 1), below-one drawn, found-one v))
+        let none : total (from drawn) v.tickets ≡ 0 = omega (arith, term_le (number_weight (from drawn)) views by v at, o.numbers (from drawn), below-from drawn drawn (omega arith)) in
+        (none_from drawn v.tickets none, omega (arith, term_le (number_weight (λ _. 1)) views by v at, o.numbers (λ _. 1), below-one drawn, number_weight-one v))
 
     pub is_sound : IsSound v
     is_sound = record {
-      once = λ x. omega (arith, term_le (found (is x)) views by v at, o.numbers (is x), below-is x drawn, once_below-le x drawn);
+      once = λ x. omega (arith, term_le (number_weight (is x)) views by v at, o.numbers (is x), below-is x drawn, once_below-le x drawn);
       small = Each-map (λ t. t < limit) (λ t. t < 4294967296) (λ t lt. omega (arith, o.small)) v.tickets (o.each by v at).tickets;
       few_tickets = omega (arith, term_le (λ (u : View). length u.tickets) views by v at, tickets_le, o.small);
       few_passes = omega (arith, term_le (λ (u : View). u.weight) views by v at, o.few_passes);

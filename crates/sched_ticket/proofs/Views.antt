@@ -5,15 +5,15 @@ use mathlib.Core.Option.{some, some-injective, some-ne-none}
 use native.Mathlib.Decide.{dec_le}
 use lib.ListN.{get_elem?}
 use Rattle.sched_ticket.specs.Lists.{total, Each, is, times, once_below}
-use Rattle.sched_ticket.specs.Rule.{found, weights, IsMarked, IsRefusal, Fits}
-use Rattle.sched_ticket.specs.Laws.{NumbersStandOnce, DrawsAreCounted, EachRefusalIsHigh, TicketsStandOnce, RefusalsAreLate, TicketsStayBelow, EachTicketIsBelow, FloorsStayBelow, PassesAreCounted, EachIsRefusedOnce, WordsStaySmall, SplitsAreRefusedLate, SoleIsAlone, SharedHasAnother}
+use Rattle.sched_ticket.specs.Rule.{number_weight, weights, IsMarked, IsRefusal, Fits}
+use Rattle.sched_ticket.specs.Laws.{NumbersStandOnce, DrawsAreCounted, EachRefusalIsHigh, TicketsStandOnce, RefusalsAreLate, TicketsStayBelow, EachTicketIsBelow, FloorsStayBelow, LimitIsRaised, PassesWereSplit, SpentHasNothing, PassesAreCounted, EachIsRefusedOnce, WordsStaySmall, SplitsAreRefusedLate, SoleIsAlone, SharedHasAnother}
 use Rattle.sched_ticket.specs.declared.view.Terms.{Terms}
 use Rattle.sched_ticket.specs.declared.view.Refusal.{Refusal}
 use Rattle.sched_ticket.specs.declared.view.Mark.{Mark}
 use Rattle.sched_ticket.specs.declared.view.View.{View}
 use Rattle.sched_ticket.proofs.Sums.{term_le, terms_le, total-plus, below-one, below-is, once_below-yes, once_below-no, times-none, from, from-yes, below-from}
-use Rattle.sched_ticket.proofs.Totals.{found-one, tickets_le, drawn_le, made_le}
-use Rattle.sched_ticket.proofs.Whole.{no_refusal, other_refusals}
+use Rattle.sched_ticket.proofs.Totals.{number_weight-one, tickets_le, drawn_le, made_le}
+use Rattle.sched_ticket.proofs.Whole.{is_spent, other_refusals}
 
 -- what is equal at each element has equal sums
 total-same : {A : Type 0} (f g : A → ℕ) (l : List A) → ((i : ℕ) (u : A) → get_elem? l i ≡ some u → f u ≡ g u) → total f l ≡ total g l
@@ -39,8 +39,8 @@ numbers_stand_once k s kept x = kept.orderly.numbers (is x) ∙ below-is x kept.
 
 pub draws_are_counted : DrawsAreCounted
 draws_are_counted k s kept =
-    let each : total (found (λ _. 1)) s.views ≡ total (λ (v : View). length v.tickets + length v.refusals) s.views =
-    total-same (found (λ _. 1)) (λ (v : View). length v.tickets + length v.refusals) s.views (λ i u at. found-one u) in
+    let each : total (number_weight (λ _. 1)) s.views ≡ total (λ (v : View). length v.tickets + length v.refusals) s.views =
+    total-same (number_weight (λ _. 1)) (λ (v : View). length v.tickets + length v.refusals) s.views (λ i u at. number_weight-one u) in
     omega (arith, kept.orderly.numbers (λ _. 1), below-one kept.drawn, total-plus (λ (v : View). length v.tickets) (λ (v : View). length v.refusals) s.views)
 
 pub tickets_stand_once : TicketsStandOnce
@@ -71,8 +71,8 @@ pub refusals_are_late : RefusalsAreLate
 refusals_are_late k s kept by v at keeps some-refused =
     let o = kept.orderly in
     let late : (xs : List Refusal) → 0 < length xs → Each (IsRefusal k kept.limit) xs → 0 < total (λ (r : Refusal). from k.limit r.number) xs = late_sum k kept.limit in
-    let here : 0 < found (from k.limit) v = omega (arith, late v.refusals some-refused (o.each by v at).refusals) in
-    lt_of_not-le (λ (le : kept.drawn ≤ k.limit). omega (arith, term_le (found (from k.limit)) s.views by v at, o.numbers (from k.limit), below-from k.limit kept.drawn le))
+    let here : 0 < number_weight (from k.limit) v = omega (arith, late v.refusals some-refused (o.each by v at).refusals) in
+    lt_of_not-le (λ (le : kept.drawn ≤ k.limit). omega (arith, term_le (number_weight (from k.limit)) s.views by v at, o.numbers (from k.limit), below-from k.limit kept.drawn le))
   where
     late_sum : (k : Terms) (limit : ℕ) (xs : List Refusal) → 0 < length xs → Each (IsRefusal k limit) xs → 0 < total (λ (r : Refusal). from k.limit r.number) xs
     late_sum k limit [] some-there h = absurd (omega arith)
@@ -95,12 +95,7 @@ sole_is_alone k s kept by v at sole other u apart there =
     let f : Fits k kept.made kept.limit (weights s.views) u = kept.orderly.each other u there in
     let all : weights s.views ≡ v.weight = subst (λ (m : Mark). IsMarked (weights s.views) m v.weight) sole (kept.orderly.each by v at).mark in
     let light : u.weight ≡ 0 = omega (arith, terms_le (λ (x : View). x.weight) s.views by other v u apart at there) in
-    record {
-      weight = light;
-      tickets = f.spent light;
-      refusals = no_refusal u.refusals (omega (arith, f.few_refusals));
-      refused_splits = omega (arith, f.few_refused_splits);
-    }
+    is_spent k kept.made kept.limit (weights s.views) u f light
 
 pub shared_has_another : SharedHasAnother
 shared_has_another k s kept by v at shared =
@@ -111,6 +106,15 @@ each_refusal_is_high k s kept by v at = (kept.orderly.each by v at).refusals
 
 pub floors_stay_below : FloorsStayBelow
 floors_stay_below k s kept by v at = (kept.orderly.each by v at).floor
+
+pub limit_is_raised : LimitIsRaised
+limit_is_raised k s kept = kept.orderly.limit_is
+
+pub passes_were_split : PassesWereSplit
+passes_were_split k s kept = kept.orderly.split_off
+
+pub spent_has_nothing : SpentHasNothing
+spent_has_nothing k s kept by v at = is_spent k kept.made kept.limit (weights s.views) v (kept.orderly.each by v at)
 
 pub passes_are_counted : PassesAreCounted
 passes_are_counted k s kept = (kept.orderly.counted, kept.orderly.few_passes)

@@ -6,7 +6,7 @@ use native.Mathlib.Decide.{dec_le}
 use lib.ListN.{get_elem?}
 use Rattle.atomic_table.specs.Table.{State}
 use Rattle.sched_ticket.specs.Lists.{total, below, Each, is, times, once_below, AreBelow}
-use Rattle.sched_ticket.specs.Rule.{found, weights, IsMarked, IsRefusal, Fits, IsKept}
+use Rattle.sched_ticket.specs.Rule.{number_weight, weights, IsMarked, IsRefusal, IsSpent, Fits, IsKept}
 use Rattle.sched_ticket.specs.Calls.{IsWhole}
 use Rattle.sched_ticket.specs.declared.view.Terms.{Terms}
 use Rattle.sched_ticket.specs.declared.view.Refusal.{Refusal}
@@ -15,10 +15,23 @@ use Rattle.sched_ticket.specs.declared.view.Mark.TheVariants.{Sole}
 use Rattle.sched_ticket.specs.declared.view.View.{View}
 use Rattle.sched_ticket.proofs.Sums.{term_le, alone, total-one, below-one, below-is, below-once_below, is-other, once_below-yes, once_below-no, total-once_below, times-none}
 use Rattle.sched_ticket.proofs.Totals.{tickets_le}
+use Rattle.sched_ticket.proofs.Greatest.{greatest-alone}
 
 pub no_refusal : (xs : List Refusal) → length xs ≤ 0 → xs ≡ []
 no_refusal [] h = refl
 no_refusal (x ∷ xs) h = absurd (omega arith)
+
+-- nothing is left of a view that stands for no pass
+pub is_spent : (k : Terms) (made limit all : ℕ) (v : View) → Fits k made limit all v → v.weight ≡ 0 → IsSpent v
+is_spent k made limit all v f light =
+    let spent = f.spent light in record {
+      weight = light;
+      tickets = spent.0;
+      refusals = no_refusal v.refusals (omega (arith, f.few_refusals));
+      splits = spent.1;
+      refused_splits = omega (arith, f.few_refused_splits);
+      raised_to = spent.2;
+    }
 
 module _ (k : Terms) (limit : ℕ) (first : limit ≡ k.limit) where
   -- no refused number is below a limit that was never raised
@@ -38,13 +51,13 @@ module _ (k : Terms) (s : State ℕ View) (kept : IsKept k s) (id : ℕ) (v : Vi
   all_here = subst (λ (m : Mark). IsMarked (weights s.views) m v.weight) sole fits.mark
 
   -- a view of no weight has found no number
-  spent : (h : ℕ → ℕ) (i : ℕ) (u : View) → get_elem? s.views i ≡ some u → u.weight ≡ 0 → found h u ≡ 0
+  spent : (h : ℕ → ℕ) (i : ℕ) (u : View) → get_elem? s.views i ≡ some u → u.weight ≡ 0 → number_weight h u ≡ 0
   spent h i u there e =
       let f : Fits k kept.made kept.limit (weights s.views) u = kept.orderly.each i u there in
-      omega (arith, ap (total h) (f.spent e), ap (total (λ (r : Refusal). h r.number)) (no_refusal u.refusals (omega (arith, f.few_refusals))))
+      omega (arith, ap (total h) (f.spent e).0, ap (total (λ (r : Refusal). h r.number)) (no_refusal u.refusals (omega (arith, f.few_refusals))))
 
-  numbers : (h : ℕ → ℕ) → found h v ≡ below h kept.drawn
-  numbers h = sym (alone (found h) (λ (u : View). u.weight) s.views id v (spent h) at all_here) ∙ kept.orderly.numbers h
+  numbers : (h : ℕ → ℕ) → number_weight h v ≡ below h kept.drawn
+  numbers h = sym (alone (number_weight h) (λ (u : View). u.weight) s.views id v (spent h) at all_here) ∙ kept.orderly.numbers h
 
   drawn_is : kept.drawn ≡ length v.tickets + length v.refusals
   drawn_is = omega (arith, numbers (λ _. 1), total-one v.tickets, total-one v.refusals, below-one kept.drawn)
@@ -68,11 +81,13 @@ module _ (k : Terms) (s : State ℕ View) (kept : IsKept k s) (id : ℕ) (v : Vi
         (λ near. let early : x < kept.drawn = lt_of_not-le near in
         omega (arith, once_below-yes x kept.drawn early, once_below-yes x n (omega arith), other_refusals k kept.limit first x v.refusals low fits.refusals)))
 
-  pub is_whole : IsWhole k v.tickets v.refusals
+  pub is_whole : IsWhole k v
   is_whole = record {
     limit = kept.limit;
     numbers = λ h. numbers h ∙ ap (below h) drawn_is;
-    rises = kept.orderly.rises;
+    passes = omega (arith, kept.orderly.split_off, all_here, alone (λ (u : View). u.splits) (λ (u : View). u.weight) s.views id v (λ i u there e. ((kept.orderly.each i u there).spent e).1) at all_here);
+    limit_is = kept.orderly.limit_is ∙ greatest-alone k.limit s.views id v (λ i u there e. ((kept.orderly.each i u there).spent e).2) at all_here;
+    floor = fits.floor;
     fixed = kept.orderly.fixed;
     small = kept.orderly.small;
     below_limit = fits.tickets;

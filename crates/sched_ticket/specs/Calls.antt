@@ -1,11 +1,10 @@
 -- What each call does to a pass, and when each refusal comes.
-use Rattle.std.specs.Prelude.{◌≡◌, ℕ, ◌+◌, ◌<◌, ◌≤◌, ◌⊎◌, Bool, true, false, List, [], length, min}
-use Rattle.sched_ticket.specs.Lists.{total, below, Each, AreBelow}
-use Rattle.sched_ticket.specs.View.{with_ticket, with_refusal, with_floor, with_refused_split}
-use Rattle.sched_ticket.specs.Rule.{IsRefusal}
+use Rattle.std.specs.Prelude.{◌≡◌, ℕ, ◌+◌, ◌<◌, ◌≤◌, ◌⊎◌, Bool, true, false, [], length, min, max}
+use Rattle.sched_ticket.specs.Lists.{below, Each, AreBelow}
+use Rattle.sched_ticket.specs.View.{with_ticket, with_refusal, with_raise, with_refused_split}
+use Rattle.sched_ticket.specs.Rule.{number_weight, IsRefusal}
 use Rattle.sched_ticket.specs.Steps.{IsLater, IsLimit}
 use Rattle.sched_ticket.specs.declared.view.Terms.{Terms}
-use Rattle.sched_ticket.specs.declared.view.Refusal.{Refusal}
 use Rattle.sched_ticket.specs.declared.view.View.{View}
 use Rattle.sched_ticket.specs.declared.fault.TicketFault.{TicketFault}
 use Rattle.sched_ticket.specs.declared.fault.TicketFault.TheVariants.{LimitTooLarge, NoMemory, TooManyPasses, Fixed}
@@ -57,24 +56,28 @@ DrewNone v w = ((0 < length v.refusals) × (w ≡ v)) ⊎ FoundNone v w
 abbrev pub SplitRefused : View → View → Type 0
 SplitRefused v w = ((0 < v.refused_splits) × (w ≡ v)) ⊎ ((v.refused_splits ≡ 0) × (w ≡ with_refused_split v))
 
--- the limit has become n, the greater of what it was and `to`
+-- the pass raised the limit to `to`, and it is n now: no less than that, and than every limit that the pass had found
 pub record Raised (v : View) (to n : ℕ) (w : View) : Type 0 where
   pub rising : v.terms.rises ≡ true
   pub limit : IsLimit v n
   pub reached : to ≤ n
-  pub gained : w ≡ with_floor v n
+  pub gained : w ≡ with_raise v to n
 
--- These are all tickets and refusals of a budget: every number that was drawn is one of them, once.
--- `limit` is the limit at the close
-pub record IsWhole (k : Terms) (tickets : List ℕ) (refusals : List Refusal) : Type 0 where
+-- The pass stands for all passes of its budget, and its tickets and refusals are every number that was drawn, once.
+-- `limit` is the limit at the close.
+pub record IsWhole (k : Terms) (v : View) : Type 0 where
   pub limit : ℕ
-  pub numbers : (h : ℕ → ℕ) → total h tickets + total (λ (r : Refusal). h r.number) refusals ≡ below h (length tickets + length refusals)
-  pub rises : k.limit ≤ limit
+  -- it stands for the first pass and for all that were split from one
+  pub passes : v.weight ≡ v.splits + 1
+  pub numbers : (h : ℕ → ℕ) → number_weight h v ≡ below h (length v.tickets + length v.refusals)
+  -- the limit is the first one, or the greatest that a pass raised it to
+  pub limit_is : limit ≡ max k.limit v.raised_to
+  pub floor : v.floor ≤ limit
   pub fixed : k.rises ≡ false → limit ≡ k.limit
   pub small : limit ≤ 4294967296
-  pub below_limit : Each (λ t. t < limit) tickets
-  pub high : Each (IsRefusal k limit) refusals
-  pub few : length tickets ≤ limit
+  pub below_limit : Each (λ t. t < limit) v.tickets
+  pub high : Each (IsRefusal k limit) v.refusals
+  pub few : length v.tickets ≤ limit
   -- where the limit was never raised, the tickets are the numbers below the draws made and the limit
-  pub count : limit ≡ k.limit → length tickets ≡ min (length tickets + length refusals) limit
-  pub each_once : limit ≡ k.limit → AreBelow tickets (length tickets)
+  pub count : limit ≡ k.limit → length v.tickets ≡ min (length v.tickets + length v.refusals) limit
+  pub each_once : limit ≡ k.limit → AreBelow v.tickets (length v.tickets)

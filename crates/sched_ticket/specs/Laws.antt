@@ -1,10 +1,10 @@
 -- What the rule says in the words of whoever uses a budget. Each law is the contract of a function of the module `laws`.
-use Rattle.std.specs.Prelude.{◌≡◌, ◌≢◌, ℕ, ◌+◌, ◌<◌, ◌≤◌, false, List, [], length, min}
+use Rattle.std.specs.Prelude.{◌≡◌, ◌≢◌, ℕ, ◌+◌, ◌<◌, ◌≤◌, false, List, length, min}
 use mathlib.Core.Option.{some}
 use lib.ListN.{get_elem?}
 use Rattle.atomic_table.specs.Table.{State}
 use Rattle.sched_ticket.specs.Lists.{total, Each, is, times, once_below}
-use Rattle.sched_ticket.specs.Rule.{found, weights, refused_splits, IsRefusal, IsKept}
+use Rattle.sched_ticket.specs.Rule.{number_weight, weights, splits, refused_splits, greatest, IsRefusal, IsSpent, IsKept}
 use Rattle.sched_ticket.specs.declared.view.Terms.{Terms}
 use Rattle.sched_ticket.specs.declared.view.Mark.TheVariants.{Sole, Shared}
 use Rattle.sched_ticket.specs.declared.view.View.{View}
@@ -25,7 +25,7 @@ refusals_of views = total (λ (v : View). length v.refusals) views
 
 -- each number drawn is in one pass, as a ticket or as a refused number, once
 abbrev pub NumbersStandOnce : Type 0
-NumbersStandOnce = Always (λ k s kept. (x : ℕ) → total (found (is x)) s.views ≡ once_below x kept.drawn)
+NumbersStandOnce = Always (λ k s kept. (x : ℕ) → total (number_weight (is x)) s.views ≡ once_below x kept.drawn)
 
 -- the draws are the tickets and the refusals
 abbrev pub DrawsAreCounted : Type 0
@@ -35,9 +35,11 @@ DrawsAreCounted = Always (λ k s kept. kept.drawn ≡ tickets_of s.views + refus
 abbrev pub EachRefusalIsHigh : Type 0
 EachRefusalIsHigh = OfEachPass (λ k s kept by v. Each (IsRefusal k kept.limit) v.refusals)
 
--- of a budget that keeps its limit the tickets of all passes are the numbers below the draws made and the limit, each in one pass, once
+-- of a budget that keeps its limit the tickets of all passes are the numbers below the draws made and the limit, each
+-- in one pass, once
 abbrev pub TicketsStandOnce : Type 0
-TicketsStandOnce = Always (λ k s kept. k.rises ≡ false → (x : ℕ) → total (λ (v : View). times x v.tickets) s.views ≡ once_below x (min kept.drawn k.limit))
+TicketsStandOnce = Always (λ k s kept. k.rises ≡ false → (x : ℕ) →
+    total (λ (v : View). times x v.tickets) s.views ≡ once_below x (min kept.drawn k.limit))
 
 -- of a budget that keeps its limit there is a refusal only where more was drawn than the limit
 abbrev pub RefusalsAreLate : Type 0
@@ -54,33 +56,43 @@ EachTicketIsBelow = OfEachPass (λ k s kept by v. Each (λ t. t < kept.limit) v.
 abbrev pub FloorsStayBelow : Type 0
 FloorsStayBelow = OfEachPass (λ k s kept by v. v.floor ≤ kept.limit)
 
+-- the limit is the first one, or the greatest that a pass raised it to
+abbrev pub LimitIsRaised : Type 0
+LimitIsRaised = Always (λ k s kept. kept.limit ≡ greatest k.limit s.views)
+
+-- every pass but the first was split from one
+abbrev pub PassesWereSplit : Type 0
+PassesWereSplit = Always (λ k s kept. weights s.views ≡ splits s.views + 1)
+
+-- a view that stands for no pass has nothing
+abbrev pub SpentHasNothing : Type 0
+SpentHasNothing = OfEachPass (λ k s kept by v. v.weight ≡ 0 → IsSpent v)
+
 -- the passes made are those that the views stand for and those that were refused, and at most 65,536 stand
 abbrev pub PassesAreCounted : Type 0
-PassesAreCounted = Always (λ k s kept. (kept.made ≡ weights s.views + refused_splits s.views) × (weights s.views ≤ 65536))
+PassesAreCounted =
+    Always (λ k s kept. (kept.made ≡ weights s.views + refused_splits s.views) × (weights s.views ≤ 65536))
 
 -- each of the passes that a view stands for was refused a ticket once at most, and a split once at most
 abbrev pub EachIsRefusedOnce : Type 0
-EachIsRefusedOnce = OfEachPass (λ k s kept by v. (length v.refusals ≤ v.weight) × (v.refused_splits ≤ v.weight))
+EachIsRefusedOnce =
+    OfEachPass (λ k s kept by v. (length v.refusals ≤ v.weight) × (v.refused_splits ≤ v.weight))
 
 -- no word comes near its end
 abbrev pub WordsStaySmall : Type 0
-WordsStaySmall = Always (λ k s kept. (kept.drawn ≤ kept.limit + 65536) × (kept.made ≤ 131072) × (kept.limit ≤ 4294967296))
+WordsStaySmall =
+    Always (λ k s kept. (kept.drawn ≤ kept.limit + 65536) × (kept.made ≤ 131072) × (kept.limit ≤ 4294967296))
 
 -- a refused split is one past 65,536 passes
 abbrev pub SplitsAreRefusedLate : Type 0
 SplitsAreRefusedLate = OfEachPass (λ k s kept by v. 0 < v.refused_splits → 65536 < kept.made)
 
--- nothing is left of a pass that was joined into another
-pub record IsSpent (v : View) : Type 0 where
-  pub weight : v.weight ≡ 0
-  pub tickets : v.tickets ≡ []
-  pub refusals : v.refusals ≡ []
-  pub refused_splits : v.refused_splits ≡ 0
-
 -- where a pass is marked sole, nothing is left of every other
 abbrev pub SoleIsAlone : Type 0
-SoleIsAlone = OfEachPass (λ k s kept by v. v.mark ≡ Sole → (other : ℕ) (u : View) → other ≢ by → get_elem? s.views other ≡ some u → IsSpent u)
+SoleIsAlone = OfEachPass (λ k s kept by v. v.mark ≡ Sole →
+    (other : ℕ) (u : View) → other ≢ by → get_elem? s.views other ≡ some u → IsSpent u)
 
 -- where a pass is marked shared, another pass stands for some
 abbrev pub SharedHasAnother : Type 0
-SharedHasAnother = OfEachPass (λ k s kept by v. v.mark ≡ Shared → (other : ℕ) × (u : View) × (other ≢ by) × (get_elem? s.views other ≡ some u) × (0 < u.weight))
+SharedHasAnother = OfEachPass (λ k s kept by v. v.mark ≡ Shared →
+    (other : ℕ) × (u : View) × (other ≢ by) × (get_elem? s.views other ≡ some u) × (0 < u.weight))

@@ -1,5 +1,5 @@
 -- What holds of a budget between any two atomic steps, of its three words and of the views of all its passes.
-use Rattle.std.specs.Prelude.{◌≡◌, ℕ, ◌+◌, ◌<◌, ◌≤◌, false, List, [], ◌∷◌, length}
+use Rattle.std.specs.Prelude.{◌≡◌, ℕ, ◌+◌, ◌<◌, ◌≤◌, max, false, List, [], ◌∷◌, length}
 use mathlib.Core.Option.{some}
 use lib.ListN.{get_elem?}
 use Rattle.atomic_table.specs.Table.{State}
@@ -11,8 +11,8 @@ use Rattle.sched_ticket.specs.declared.view.Mark.TheVariants.{Unseen, Sole, Shar
 use Rattle.sched_ticket.specs.declared.view.View.{View}
 
 -- what the numbers weigh that a pass's draws found: its tickets and its refused numbers
-abbrev pub found : (ℕ → ℕ) → View → ℕ
-found h v = total h v.tickets + total (λ (r : Refusal). h r.number) v.refusals
+abbrev pub number_weight : (ℕ → ℕ) → View → ℕ
+number_weight h v = total h v.tickets + total (λ (r : Refusal). h r.number) v.refusals
 
 -- the passes that all views stand for
 abbrev pub weights : List View → ℕ
@@ -20,6 +20,15 @@ weights views = total (λ (v : View). v.weight) views
 
 abbrev pub refused_splits : List View → ℕ
 refused_splits views = total (λ (v : View). v.refused_splits) views
+
+-- the passes that were split from the views' passes
+abbrev pub splits : List View → ℕ
+splits views = total (λ (v : View). v.splits) views
+
+-- the greatest of n and of what the views' passes raised the limit to
+abbrev pub greatest : ℕ → List View → ℕ
+greatest n [] = n
+greatest n (v ∷ views) = max v.raised_to (greatest n views)
 
 -- a mark is true: a sole pass has the weight of all, a shared one has less
 abbrev pub IsMarked : ℕ → Mark → ℕ → Type 0
@@ -31,6 +40,15 @@ IsMarked all Shared weight = weight < all
 abbrev pub IsRefusal : Terms → ℕ → Refusal → Type 0
 IsRefusal k limit r = (k.limit ≤ r.floor) × (r.floor ≤ r.number) × (r.floor ≤ limit)
 
+-- nothing is left of a pass that was joined into another
+pub record IsSpent (v : View) : Type 0 where
+  pub weight : v.weight ≡ 0
+  pub tickets : v.tickets ≡ []
+  pub refusals : v.refusals ≡ []
+  pub splits : v.splits ≡ 0
+  pub refused_splits : v.refused_splits ≡ 0
+  pub raised_to : v.raised_to ≡ 0
+
 -- one view fits the words and the weight of all views
 pub record Fits (k : Terms) (made limit all : ℕ) (v : View) : Type 0 where
   pub tickets : Each (λ t. t < limit) v.tickets
@@ -39,7 +57,7 @@ pub record Fits (k : Terms) (made limit all : ℕ) (v : View) : Type 0 where
   -- a pass that stands for some is of this budget, and knows its first limit
   pub live : 0 < v.weight → (v.terms ≡ k) × (k.limit ≤ v.floor)
   -- one that stands for none has nothing
-  pub spent : v.weight ≡ 0 → v.tickets ≡ []
+  pub spent : v.weight ≡ 0 → (v.tickets ≡ []) × (v.splits ≡ 0) × (v.raised_to ≡ 0)
   pub few_refusals : length v.refusals ≤ v.weight
   pub few_refused_splits : v.refused_splits ≤ v.weight
   pub too_many_made : 0 < v.refused_splits → 65536 < made
@@ -48,10 +66,14 @@ pub record Fits (k : Terms) (made limit all : ℕ) (v : View) : Type 0 where
 -- the words and the views fit together
 pub record IsOrderly (k : Terms) (drawn made limit : ℕ) (views : List View) : Type 0 where
   -- each number below drawn is in one view, as a ticket or as a refused number, once, and no other number is
-  pub numbers : (h : ℕ → ℕ) → total (found h) views ≡ below h drawn
+  pub numbers : (h : ℕ → ℕ) → total (number_weight h) views ≡ below h drawn
   -- the passes made are those that the views stand for and the splits that were refused
   pub counted : made ≡ weights views + refused_splits views
+  -- every pass but the first was split from one
+  pub split_off : weights views ≡ splits views + 1
   pub few_passes : weights views ≤ 65536
+  -- the limit is the first one, or the greatest that a pass raised it to
+  pub limit_is : limit ≡ greatest k.limit views
   pub rises : k.limit ≤ limit
   pub fixed : k.rises ≡ false → limit ≡ k.limit
   pub small : limit ≤ 4294967296

@@ -2,7 +2,7 @@
 use Rattle.std.specs.Prelude.{◌≡◌, ◌≢◌, ℕ, ◌+◌, ◌<◌, ◌≤◌, false, length, max}
 use Rattle.atomic_table.specs.Table.{Me, Step}
 use Rattle.sched_ticket.specs.Lists.{Each, times}
-use Rattle.sched_ticket.specs.View.{with_ticket, with_refusal, with_floor, with_mark, with_refused_split, heavier}
+use Rattle.sched_ticket.specs.View.{with_ticket, with_refusal, with_floor, with_raise, with_mark, with_refused_split, with_part}
 use Rattle.sched_ticket.specs.declared.view.Mark.TheVariants.{Sole, Shared}
 use Rattle.sched_ticket.specs.declared.view.View.{View}
 
@@ -22,10 +22,12 @@ abbrev pub IsLater : View → ℕ → Type 0
 IsLater v k = Each (λ t. t < k) v.tickets × (length v.tickets ≤ k)
 
 abbrev pub draws : Then
-draws s m k n = IsLater m.0 k × (k < m.0.floor → Sees m n (with_ticket m.0 k)) × (m.0.floor ≤ k → Sees m n (with_refusal m.0 k))
+draws s m k n =
+    IsLater m.0 k × (k < m.0.floor → Sees m n (with_ticket m.0 k)) × (m.0.floor ≤ k → Sees m n (with_refusal m.0 k))
 
 abbrev pub counts : Then
-counts s m made n = (made < 65536 → Sees m n (heavier m.0)) × (65536 ≤ made → Sees m n (with_refused_split m.0))
+counts s m made n =
+    (made < 65536 → Sees m n (with_part m.0)) × (65536 ≤ made → Sees m n (with_refused_split m.0))
 
 -- what holds of a pass's tickets and weight, whatever was joined into it
 pub record IsSound (v : View) : Type 0 where
@@ -38,7 +40,9 @@ abbrev pub learns : Then
 learns s m found n = (n ≡ m) × IsSound m.0
 
 abbrev pub looks : Then
-looks s m made n = (made ≡ m.0.weight + m.0.refused_splits → Sees m n (with_mark m.0 Sole)) × (made ≢ m.0.weight + m.0.refused_splits → Sees m n (with_mark m.0 Shared))
+looks s m made n =
+    (made ≡ m.0.weight + m.0.refused_splits → Sees m n (with_mark m.0 Sole))
+    × (made ≢ m.0.weight + m.0.refused_splits → Sees m n (with_mark m.0 Shared))
 
 -- a limit that a pass finds is none below its floor, and the first one where the budget keeps its limit
 pub record IsLimit (v : View) (limit : ℕ) : Type 0 where
@@ -50,4 +54,5 @@ abbrev pub reads_limit : Then
 reads_limit s m limit n = IsLimit m.0 limit × Sees m n (with_floor m.0 limit)
 
 abbrev pub raises : Then
-raises s m before n = let limit = max before s.first in IsLimit m.0 limit × Sees m n (with_floor m.0 limit)
+raises s m before n =
+    let limit = max before s.first in IsLimit m.0 limit × Sees m n (with_raise m.0 s.first limit)

@@ -88,7 +88,7 @@ impl Budget {
     pub fn close(self, pass: Pass) -> Result<u64, (Budget, Pass, PassesOut)>
         requires { IsOf self pass }
         ensures count { IfOk result (λ n. n ≡ length pass.has.tickets) }
-        ensures whole { OnOk result (IsWhole self.terms pass.has.tickets pass.has.refusals) }
+        ensures whole { OnOk result (IsWhole self.terms pass.has) }
         ensures fixed { IfOk result (λ n. self.terms.rises ≡ false →
             (n ≡ min (n + length pass.has.refusals) self.terms.limit) × AreBelow pass.has.tickets n) }
         ensures err { IfErr result
@@ -133,7 +133,7 @@ impl Budget {
         requires of { seat.table_id ≡ self.table }
         requires live { 0 < seat.me.0.weight }
         requires sole { seat.me.0.mark ≡ Mark.Sole }
-        ensures { IsWhole self.terms seat.me.0.tickets seat.me.0.refusals }
+        ensures { IsWhole self.terms seat.me.0 }
     {
         let Budget { table, terms: _ } = self;
         table.close_with(seat).free();

@@ -32,6 +32,7 @@ impl<N: Naming> Model for Job<N> {
 }
 
 impl<N: Naming> Job<N> {
+    /// A job that draws with this pass of the budget `N`.
     pub fn new(pass: Pass) -> Job<N>
         requires { IsOf N.budget pass }
         ensures { result ≡ pass }
@@ -44,6 +45,7 @@ impl<N: Naming> Job<N> {
         }
     }
 
+    /// Draws a ticket with the job's pass, as `Pass::draw` does.
     pub fn draw(&mut self, budget: &Budget) -> Option<u64>
         requires { budget.now ≡ N.budget }
         ensures some { IfSome result (λ k. Drew self.old.has k self.new.has) }
@@ -54,12 +56,14 @@ impl<N: Naming> Job<N> {
         ticket
     }
 
+    /// How many tickets the job's pass has.
     pub fn granted(&self) -> u64
         ensures { result ≡ length self.now.has.tickets }
     {
         self.granted
     }
 
+    /// The job's pass, to be joined with others.
     pub fn into_pass(self) -> Pass
         ensures same { result ≡ self }
         ensures of { IsOf N.budget result }
@@ -93,7 +97,7 @@ fn draw_each<N: Naming>(
 }
 
 /// Two threads draw for two jobs under their locks. What the budget gave out is what the jobs were granted.
-/// It is None where the budget counts no more passes.
+/// It is None where the budget counts no more passes, or where another pass of it is alive or was dropped.
 pub fn two_jobs<N: Naming + Send + Sync, R: Threads + Wait + Sync>(
     rt: &R,
     budget: Budget,

@@ -1,6 +1,6 @@
 //! The pass: the right to draw tickets of a budget, and what was drawn with it.
 ghost use Rattle.std.specs.Prelude.{◌≡◌, ◌+◌, ◌<◌, ◌≤◌, true, false, [], ◌∷◌, length, None, IfOk, IfErr, OnOk, IfSome, IfNone, MatchOption};
-ghost use Rattle.sched_ticket.specs.View.{fresh, part_of, with_split, both};
+ghost use Rattle.sched_ticket.specs.View.{fresh_view, part_of, with_split, both};
 ghost use Rattle.sched_ticket.specs.Steps.{IsSound};
 ghost use Rattle.sched_ticket.specs.Held.{IsOf};
 ghost use Rattle.sched_ticket.specs.Calls.{Asked, Drew, DrewNone, SplitRefused, Raised, RefusesRaise};
@@ -43,7 +43,7 @@ impl Model for Pass {
 impl Pass {
     pub(crate) fn start(seat: Seat) -> Pass
         requires bare { seat.me.1 ≡ [] }
-        requires new { seat.me.0 ≡ fresh seat.me.0.terms seat.me.0.floor 1 }
+        requires new { seat.me.0 ≡ fresh_view seat.me.0.terms seat.me.0.floor 1 }
         requires fixed { seat.me.0.terms.rises ≡ false → seat.me.0.floor ≡ seat.me.0.terms.limit }
         ensures { (result.table ≡ seat.table_id) × (result.has ≡ seat.me.0) }
     {

@@ -3,15 +3,15 @@
 //! | Step | On the word | The stepping pass |
 //! |---|---|---|
 //! | `Draw` | 1 more drawn | gains the number found: a ticket below its floor, else a refusal |
-//! | `Count` | 1 more made | gains a weight where fewer than 65,536 were made, else a refused split |
-//! | `Part` | none changes | gives one weight to a new pass, and counts it |
+//! | `Count` | 1 more made | stands for one more, and counts a split, where fewer than 65,536 were made; else gains a refused split |
+//! | `Part` | none changes | gives that one to a new pass |
 //! | `Merge` | none changes | takes in another pass, which is spent |
 //! | `Learn` | none changes | learns that its tickets are distinct |
 //! | `Look` | made is read | is marked sole or shared |
 //! | `ReadLimit` | limit is read | its floor becomes the limit |
-//! | `Raise` | limit becomes the greater of itself and the number given | its floor becomes the new limit |
+//! | `Raise` | limit becomes the greater of itself and the number given | its floor becomes the new limit, and it keeps the greatest number that it gave |
 ghost use Rattle.sched_ticket.specs.Rule.{IsKept};
-ghost use Rattle.sched_ticket.specs.View.{first_view, blank, lighter, part_of, both};
+ghost use Rattle.sched_ticket.specs.View.{first_view, blank_view, without_part, part_of, both};
 ghost use Rattle.sched_ticket.specs.Steps.{draws, counts, learns, looks, reads_limit, raises};
 
 use crate::view::{Terms, View};
@@ -41,7 +41,7 @@ impl Play<u8, View> for Count {
 pub(crate) struct Part;
 
 impl Split<View> for Part {
-    ghost left = { lighter };
+    ghost left = { without_part };
 
     ghost right = { part_of };
 }
@@ -51,7 +51,7 @@ pub(crate) struct Merge;
 impl Join<View> for Merge {
     ghost both = { both };
 
-    ghost spent = { blank };
+    ghost spent = { blank_view };
 }
 
 pub(crate) struct Learn;

@@ -258,6 +258,8 @@ fn sixteen_threads(rt: HostRuntime) -> Result<(), Fail> {
     let drained = drain(&rt, rt.alloc(), 10000, 16)?;
     assert_eq!(rt; drained.count, 10000);
     assert_eq!(rt; drained.drawn.len(), 17);
+    // This thread comes after the workers were refused.
+    assert_eq!(rt; drained.drawn.first().map(|mine| mine.len()), Some(0));
     let all = all_of(rt.alloc(), drained.drawn.as_slice())?;
     assert_eq!(rt; all.len(), 10000);
     assert!(rt; all.iter().enumerate().all(|(i, t)| *t == i as u64));

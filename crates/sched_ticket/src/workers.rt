@@ -15,13 +15,14 @@ use std::thread::{Threads, map_vec};
 pub struct Drained {
     /// How many tickets the budget gave out.
     pub count: u64,
-    /// The tickets of each worker, in the order drawn.
+    /// The tickets of this thread and then those of each worker, each list in the order drawn.
     pub drawn: Vec<Vec<u64>>,
 }
 
 /// Why a budget was not drained.
 #[derive(Clone, Copy, Debug, PartialEq, Eq, Drop)]
 pub enum DrainFault {
+    /// A budget was not made or a pass not split, or memory was refused.
     Refused(TicketFault),
     /// A pass is missing. No clause rules it out, and no run meets it.
     PassesOut,

@@ -1,4 +1,4 @@
-use Rattle.sched_ticket.proofs.Views.{tickets_stay_below, each_ticket_is_below, floors_stay_below}
+use Rattle.sched_ticket.proofs.Views.{tickets_stay_below, each_ticket_is_below, floors_stay_below, limit_is_raised}
 use Rattle.sched_ticket.proofs.laws.tickets_stay_below.Goals as goal
 
 pub returns-clause-all : goal.returns-clause-all
@@ -9,3 +9,6 @@ returns-clause-each c = each_ticket_is_below
 
 pub returns-clause-floors : goal.returns-clause-floors
 returns-clause-floors c = floors_stay_below
+
+pub returns-clause-limit : goal.returns-clause-limit
+returns-clause-limit c = limit_is_raised

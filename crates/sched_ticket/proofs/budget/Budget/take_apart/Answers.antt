@@ -11,4 +11,4 @@ returns c =
     let v = c.args.seat.me.0 in
     let last = c.close_with.ensures.values.2 in
     let terms = c.self.invariant.about_is ∙ ap (λ (b : Name). b.terms) c.self.view_is in
-    subst (λ (k : Terms). IsWhole k v.tickets v.refusals) terms (is_whole _ last.0 last.1.0 _ v last.1.1 c.requires.sole)
+    subst (λ (k : Terms). IsWhole k v) terms (is_whole _ last.0 last.1.0 _ v last.1.1 c.requires.sole)
