@@ -8,10 +8,12 @@ work=$(mktemp -d)
 trap 'rm -rf "$work"' EXIT
 failed=0
 rt=$(command -v rt || echo /opt/rattle/bin/rt)
-toolchain=$(dirname "$(dirname "$(readlink -f "$rt")")")/toolchain/bin
+toolchain=$(dirname "$("$rt" doc)")/toolchain/bin
 "$top/bin/zsched" plan --steps 0 <"$top/plans/three-times.json"
 (cd "$top/crates/refused_growths" && "$rt" run >&2)
-"$toolchain/clang" -O1 -shared -fPIC -nostdlib -fuse-ld="$toolchain/ld.lld" -o "$work/refuse.so" "$top/tests/refuse.c"
+compiler=("$toolchain/clang" "-fuse-ld=$toolchain/ld.lld")
+[ -x "$toolchain/clang" ] || compiler=(cc)
+"${compiler[@]}" -O1 -shared -fPIC -nostdlib -o "$work/refuse.so" "$top/tests/refuse.c"
 printf 'zsched: no memory\n' >"$work/no_memory"
 
 # with_refused GROWTH PROGRAM WORD..: a run in which this growth is refused; $work/refused is empty where none was

@@ -63,11 +63,11 @@ pub record Raised (v : View) (to n : ℕ) (w : View) : Type 0 where
   pub reached : to ≤ n
   pub gained : w ≡ with_raise v to n
 
--- The pass stands for all passes of its budget, and its tickets and refusals are every number that was drawn, once.
--- `limit` is the limit at the close.
+-- What is true of a pass that stands for all passes of its budget: its tickets and refusals are the numbers from 0 on,
+-- each once. `limit` is the limit at the close.
 pub record IsWhole (k : Terms) (v : View) : Type 0 where
   pub limit : ℕ
-  -- it stands for the first pass and for all that were split from one
+  -- it stands for one pass more than were split from its passes
   pub passes : v.weight ≡ v.splits + 1
   pub numbers : (h : ℕ → ℕ) → number_weight h v ≡ below h (length v.tickets + length v.refusals)
   -- the limit is the first one, or the greatest that a pass raised it to
