@@ -1,5 +1,5 @@
 -- What reading a whole input and writing a whole text do to the bytes left and the bytes taken.
-use Rattle.std.specs.Prelude.{◌≡◌, ℕ, ◌+◌, ◌≤◌, List, ◌++◌, length, Option, Result, Err}
+use Rattle.std.specs.Prelude.{◌≡◌, ℕ, ◌≤◌, List, ◌++◌, length, Option, Result, Err}
 use Rattle.std.specs.Io.KnownBytes.{Consumes, Appends, IsAtEnd}
 use Rattle.sched_cli.specs.Failures.{next_count}
 use Rattle.sched_cli.specs.declared.faults.PrintFault.{PrintFault}
