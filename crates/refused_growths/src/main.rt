@@ -4,6 +4,8 @@
 //! with each growth refused in turn; status 5 says that memory was refused to something else than such a call.
 #![tactic(auto)]
 
+ghost use Rattle.std.specs.Prelude.{◌≡◌, ◌+◌, length, IfSome, IfNone};
+
 use sched_driver::{DriveFault, Driver};
 use sched_plan::{Plan, Val};
 use sched_ticket::Budget;
@@ -53,7 +55,10 @@ fn step_driver(rt: &HostRuntime) -> Option<()> {
 }
 
 // Gives the driver an event at this moment, and answers why it was refused, if it was.
-fn refusal(rt: &HostRuntime, driver: &mut Driver, now: Moment) -> Option<DriveFault> {
+fn refusal(rt: &HostRuntime, driver: &mut Driver, now: Moment) -> Option<DriveFault>
+    ensures unchanged { IfSome result (λ _. driver.new ≡ driver.old) }
+    ensures one_more { IfNone result (length driver.new.journal ≡ length driver.old.journal + 1) }
+{
     let words = [2147483648; 4];
     driver
         .next(rt.alloc(), Tick { now, words }, Val::unit())

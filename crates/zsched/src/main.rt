@@ -1,6 +1,10 @@
 //! `zsched` prints what a recurrence schedule would do: it passes words, streams and statuses on, and nothing else.
 #![tactic(auto)]
 
+ghost use Rattle.std.specs.Prelude.{◌≡◌, MatchResult};
+ghost use Rattle.std.specs.Process.{exit_status};
+ghost use Rattle.sched_cli.specs.Status.{print_status};
+
 use sched_cli::{Asked, Counted, PlanOptions, PrintFault, WordsFault, print_plan, read_words};
 use std::process::ExitCode;
 use std::{env, io};
@@ -51,7 +55,9 @@ fn plan(rt: &HostRuntime, options: &PlanOptions) -> Result<(), PrintFault> {
 }
 
 // The status of what was printed, with its line on standard error where it stopped at a fault.
-fn ended(rt: &HostRuntime, printed: Result<(), PrintFault>) -> ExitCode {
+fn ended(rt: &HostRuntime, printed: Result<(), PrintFault>) -> ExitCode
+    ensures { MatchResult printed (λ _. exit_status result ≡ 0) (λ fault. exit_status result ≡ print_status fault) }
+{
     match printed {
         Ok(()) => ExitCode::SUCCESS,
         Err(fault) => {
