@@ -1,0 +1,23 @@
+# What the benchmarks share; sourced by them.
+
+# the machine
+machine() {
+    echo "$(uname -srm), $(nproc) cores, $(awk -F': ' '/model name/ { print $2; exit }' /proc/cpuinfo)"
+}
+
+# the least of seven runs, in nanoseconds
+least() {
+    local best=0 from to
+    for _ in 1 2 3 4 5 6 7; do
+        from=$(date +%s%N)
+        "$@" > /dev/null
+        to=$(date +%s%N)
+        if [ "$best" = 0 ] || [ $((to - from)) -lt "$best" ]; then best=$((to - from)); fi
+    done
+    echo "$best"
+}
+
+# per_unit UNITS SHORT LONG: nanoseconds that one unit takes, by two lengths of run, so that starting does not count
+per_unit() {
+    awk -v n="$1" -v a="$2" -v b="$3" 'BEGIN { printf "%.2f", (b - a) / n }'
+}
