@@ -1,13 +1,17 @@
 -- What a schedule answers on a history, as a function of the whole list of events, oldest first.
-use Rattle.std.specs.Prelude.{ℕ, ◌+◌, ◌-◌, ◌%◌, max, Bool, true, false, if◌then◌else◌, nat_lt, List, [], ◌∷◌, drop, length, reverse, find, Option, Some, None}
+use Rattle.std.specs.Prelude.{ℕ, ◌+◌, ◌-◌, ◌%◌, max, Bool, true, false, if◌then◌else◌, nat_lt, nat_le, List, [], ◌∷◌, drop, length, reverse, find, Option, Some, None}
 use Rattle.sched_time.specs.Capped.{capped}
 use Rattle.sched_time.specs.declared.starts.Decision.{Decision}
 use Rattle.sched_time.specs.declared.starts.Decision.TheVariants.{Go, Done}
-use Rattle.sched_plan.specs.Datum.{num, pair}
-use Rattle.sched_plan.specs.Schedule.{Schedule, leaf, meet, follow}
+use Rattle.sched_plan.specs.Datum.{unit, num, pair}
+use Rattle.sched_plan.specs.Schedule.{Schedule, leaf, one, two}
 use Rattle.sched_plan.specs.History.{first_moment, last_moment, repeats, prefixes}
 use Rattle.sched_plan.specs.declared.leaves.Leaf.{Leaf}
 use Rattle.sched_plan.specs.declared.leaves.Leaf.TheVariants.{Forever, Recurs, Spaced, Fixed}
+use Rattle.sched_plan.specs.declared.nodes.One.{One}
+use Rattle.sched_plan.specs.declared.nodes.One.TheVariants.{Within, Nothing}
+use Rattle.sched_plan.specs.declared.nodes.Two.{Two}
+use Rattle.sched_plan.specs.declared.nodes.Two.TheVariants.{Meet, Follow}
 use Rattle.sched_plan.specs.declared.history.Event.{Event}
 use Rattle.sched_plan.specs.declared.history.Answer.{Answer}
 
@@ -68,8 +72,26 @@ abbrev pub follow_answer : (List Event → Answer) → (List Event → Answer) �
 follow_answer front rest None h = front h
 follow_answer front rest (Some p) h = rest (from_end_of p h)
 
+-- a schedule that is done once so much time has passed since the first event, as ZIO's `upTo`
+abbrev pub up_to : ℕ → List Event → Answer → Answer
+up_to d h a = if nat_le d (last_moment h - first_moment h) then record { output = a.output; decision = Done } else a
+
+-- the decision alone
+abbrev pub silent : Answer → Answer
+silent a = record { output = unit; decision = a.decision }
+
+-- what a node over one schedule answers, where the schedule has these answers
+abbrev pub changed : One → (List Event → Answer) → List Event → Answer
+changed (Within d) f h = up_to d h (f h)
+changed Nothing f h = silent (f h)
+
+-- what a node over two schedules answers, where the schedules have these answers
+abbrev pub combined : Two → (List Event → Answer) → (List Event → Answer) → List Event → Answer
+combined Meet f g h = both (f h) (g h)
+combined Follow f g h = follow_answer f g (crossing f h) h
+
 -- what the schedule answers at the last event of the history
 abbrev pub answer : Schedule → List Event → Answer
 answer (leaf l) h = leaf_answer l h
-answer (meet a b) h = both (answer a h) (answer b h)
-answer (follow a b) h = follow_answer (answer a) (answer b) (crossing (answer a) h) h
+answer (one k a) h = changed k (answer a) h
+answer (two k a b) h = combined k (answer a) (answer b) h

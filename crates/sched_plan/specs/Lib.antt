@@ -1,10 +1,14 @@
 pub mod Datum
 pub mod DatumText
+pub mod DatumCode
+pub mod DatumSize
 pub mod Val
 pub mod ValFalls
 pub mod Schedule
+pub mod ScheduleCode
 pub mod Plan
 pub mod PlanFalls
 pub mod History
+pub mod EventCode
 pub mod HistoryLaws
 pub mod Answer

@@ -3,10 +3,12 @@
 
 mod history;
 mod leaves;
+mod nodes;
 mod plans;
 mod values;
 
 pub use history::{Answer, Event};
 pub use leaves::Leaf;
+pub use nodes::{One, Two};
 pub use plans::{MOST_DEPTH, MOST_NODES, Plan, PlanFault, PlanShape};
 pub use values::{Val, ValShape};

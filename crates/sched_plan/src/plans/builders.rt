@@ -1,9 +1,10 @@
-ghost use Rattle.std.specs.Prelude.{◌≡◌, ◌+◌, max, IfOk, IfErr};
-ghost use Rattle.sched_plan.specs.Schedule.{leaf, meet, follow, nodes_of, depth_of};
+ghost use Rattle.std.specs.Prelude.{◌≡◌, ◌+◌, max, IsTrue};
+ghost use Rattle.sched_plan.specs.Schedule.{leaf, one, two, one_in_range, nodes_of, depth_of};
 ghost use Rattle.sched_plan.specs.Plan.{built_plan, Builds, counts_or_fault};
 
 use super::{MOST_DEPTH, MOST_NODES, Plan, PlanFault, PlanShape};
 use crate::leaves::Leaf;
+use crate::nodes::{One, Two};
 use sched_time::Millis;
 use std::alloc::Global;
 
@@ -43,42 +44,72 @@ impl Plan {
         Ok(Plan::of_leaf(Leaf::Fixed(length)))
     }
 
+    /// The plan, but done once `length` milliseconds have passed since the first event.
+    /// Refused as `OutOfRange` past `FAR`, `TooDeep`, `TooMany` or `NoMemory`; the plan is then dropped.
+    pub fn within(alloc: Global, length: u64, plan: Plan) -> Result<Plan, PlanFault>
+        ensures { Builds result (one (One.Within length) plan) }
+    {
+        let length = Millis::new(length).ok_or(PlanFault::OutOfRange)?;
+        Plan::over_one(alloc, One::Within(length), plan)
+    }
+
+    /// The plan's decisions, with nothing as output.
+    /// Refused as `TooDeep`, `TooMany` or `NoMemory`; the plan is then dropped.
+    pub fn nothing(alloc: Global, plan: Plan) -> Result<Plan, PlanFault>
+        ensures { Builds result (one One.Nothing plan) }
+    {
+        Plan::over_one(alloc, One::Nothing, plan)
+    }
+
     /// Goes on while both plans do, at the later start, and gives the pair of their outputs.
     /// Refused as `TooDeep`, `TooMany` or `NoMemory`; both plans are then dropped.
     pub fn meet(alloc: Global, first: Plan, second: Plan) -> Result<Plan, PlanFault>
-        ensures { Builds result (meet first second) }
+        ensures { Builds result (two Two.Meet first second) }
     {
-        let (nodes, depth) = within_limits(&first, &second)?;
-        let (first, second) = boxed(alloc, first, second)?;
-        Ok(Plan {
-            shape: PlanShape::Meet(first, second),
-            nodes,
-            depth,
-        })
+        Plan::over_two(alloc, Two::Meet, first, second)
     }
 
     /// The first plan until it is done; the event at which it is done and all later ones go to the second.
     /// Refused as `TooDeep`, `TooMany` or `NoMemory`; both plans are then dropped.
     pub fn follow(alloc: Global, first: Plan, second: Plan) -> Result<Plan, PlanFault>
-        ensures { Builds result (follow first second) }
+        ensures { Builds result (two Two.Follow first second) }
     {
-        let (nodes, depth) = within_limits(&first, &second)?;
-        let (first, second) = boxed(alloc, first, second)?;
+        Plan::over_two(alloc, Two::Follow, first, second)
+    }
+
+    // The plan of a node over this one.
+    fn over_one(alloc: Global, node: One, plan: Plan) -> Result<Plan, PlanFault>
+        requires { IsTrue (one_in_range node) }
+        ensures { Builds result (one node plan) }
+    {
+        let (nodes, depth) = within_limits(plan.nodes + 1, plan.depth + 1)?;
+        let plan = Box::new(alloc, plan).map_err(|_| PlanFault::NoMemory)?;
         Ok(Plan {
-            shape: PlanShape::Follow(first, second),
+            shape: PlanShape::One(node, plan),
+            nodes,
+            depth,
+        })
+    }
+
+    // The plan of a node over both.
+    fn over_two(alloc: Global, node: Two, first: Plan, second: Plan) -> Result<Plan, PlanFault>
+        ensures { Builds result (two node first second) }
+    {
+        let deeper = first.depth.max(second.depth);
+        let (nodes, depth) = within_limits(first.nodes + second.nodes + 1, deeper + 1)?;
+        let plans = Box::new(alloc, (first, second)).map_err(|_| PlanFault::NoMemory)?;
+        Ok(Plan {
+            shape: PlanShape::Two(node, plans),
             nodes,
             depth,
         })
     }
 }
 
-// The nodes and the depth of a node over both plans, if they are within the limits.
-fn within_limits(first: &Plan, second: &Plan) -> Result<(usize, usize), PlanFault>
-    ensures { result ≡ counts_or_fault
-        (nodes_of first.now + nodes_of second.now + 1) (max (depth_of first.now) (depth_of second.now) + 1) }
+// Both counts, if they are within the limits.
+fn within_limits(nodes: usize, depth: usize) -> Result<(usize, usize), PlanFault>
+    ensures { result ≡ counts_or_fault nodes depth }
 {
-    let nodes = first.nodes + second.nodes + 1;
-    let depth = first.depth.max(second.depth) + 1;
     if depth > MOST_DEPTH {
         return Err(PlanFault::TooDeep);
     }
@@ -86,14 +117,4 @@ fn within_limits(first: &Plan, second: &Plan) -> Result<(usize, usize), PlanFaul
         return Err(PlanFault::TooMany);
     }
     Ok((nodes, depth))
-}
-
-// Both plans on the heap.
-fn boxed(alloc: Global, first: Plan, second: Plan) -> Result<(Box<Plan>, Box<Plan>), PlanFault>
-    ensures ok { IfOk result (λ r. (r.0.value ≡ first) × (r.1.value ≡ second)) }
-    ensures err { IfErr result (λ fault. fault ≡ PlanFault.NoMemory) }
-{
-    let first = Box::new(alloc, first).map_err(|_| PlanFault::NoMemory)?;
-    let second = Box::new(alloc, second).map_err(|_| PlanFault::NoMemory)?;
-    Ok((first, second))
 }
