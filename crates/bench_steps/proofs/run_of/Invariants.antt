@@ -3,5 +3,5 @@ use Rattle.sched_step.specs.Progress.{fits}
 use Rattle.bench_steps.proofs.run_of.Given as goal
 
 -- the state fits from the start on that was planned last
-abbrev pub invariant-loop-for : goal.invariant-loop-for
-invariant-loop-for l = (later : ℕ) → l.now ≤ later → IsTrue (fits l.plan l.state later)
+abbrev pub invariant-loop : goal.invariant-loop
+invariant-loop l = (later : ℕ) → l.now ≤ later → IsTrue (fits l.plan l.state later)
