@@ -1,5 +1,5 @@
 -- How a course begins.
-use Rattle.std.proofs.Common.{◌≡◌, ℕ, Bool, true, false, List, [], ◌∷◌, Option, refl, sym, ap, subst}
+use Rattle.std.proofs.Common.{◌≡◌, ℕ, Bool, false, List, [], ◌∷◌, Option, ap, subst}
 use Rattle.rand_core.specs.Stream.{Stream}
 use Rattle.sched_time.specs.declared.numbers.Tick.{Tick}
 use Rattle.sched_task.specs.Words.{next_four}

@@ -5,6 +5,8 @@
 mod clocks;
 mod endings;
 mod tasks;
+#[cfg(test)]
+mod tests;
 mod timed;
 mod words;
 

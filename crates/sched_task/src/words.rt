@@ -3,8 +3,8 @@ ghost use Rattle.std.specs.Prelude.{◌≡◌};
 ghost use Rattle.rand_core.specs.Steps.{stream_of, steps_u32};
 ghost use Rattle.sched_task.specs.Words.{next_four};
 
-use rand_core::utils::{self, NextWord};
 use rand_core::Rng;
+use rand_core::utils::{self, NextWord};
 
 /// The next four 32-bit words of a generator, for lanes 0 to 3.
 pub fn four_words<G: Rng>(rng: &mut G) -> [u32; 4]
@@ -17,6 +17,9 @@ pub fn four_words<G: Rng>(rng: &mut G) -> [u32; 4]
     [lane_0, lane_1, lane_2, lane_3]
 }
 
+// The middle of the 32-bit numbers.
+const MIDDLE: u32 = 2147483648;
+
 /// A generator whose 32-bit words are all 2147483648, the middle of their range.
 #[derive(Clone, Copy, Debug)]
 pub struct MidWords;
@@ -25,7 +28,7 @@ impl NextWord<u32> for MidWords {
     ghost step = { λ rng. (2147483648, rng) };
 
     fn next_word(&mut self) -> u32 {
-        2147483648
+        MIDDLE
     }
 }
 
