@@ -17,6 +17,14 @@ fn millis(rt: &impl Abort, duration: u64) -> Millis {
     Millis::new(duration).expect(rt, "the duration is in range")
 }
 
+// The moments at which the task was polled.
+fn assert_polled(rt: &impl Abort, task: &Paced, want: &[u64]) {
+    assert_eq!(rt; task.moments.len(), want.len());
+    for (polled, at) in task.moments.iter().zip(want.iter()) {
+        assert_eq!(rt; polled.get(), *at);
+    }
+}
+
 // Is won at its last poll, and waits this long after each poll before that. It notes the moments of its polls.
 #[derive(Drop)]
 struct Paced {
@@ -40,7 +48,7 @@ impl Paced {
 }
 
 impl Task for Paced {
-    ghost use Rattle.std.specs.Prelude.{◌≡◌, None, if◌then◌else◌, is_some, refl};
+    ghost use Rattle.std.specs.Prelude.{◌≡◌, true, None, if◌then◌else◌, is_some, refl};
 
     ghost ended = { λ task. task.over };
 

@@ -1,21 +1,19 @@
 use super::*;
 
 #[test]
-fn no_task_takes_no_turn(rt: HostRuntime) -> Result<(), Fail> {
+fn no_task_takes_no_turn(rt: HostRuntime) {
     let mut tasks: [Paced; 0] = [];
     let mut clock = VirtualClock::at(moment(&rt, 0));
     assert_eq!(rt;
         WheelLoop::run(&rt, &mut tasks, &mut clock, &mut MidWords, 0),
         Ok(0)
     );
-    Ok(())
 }
 
-// Three polls and two waits; after four turns the last poll is left for a further call.
+// Three polls and two waits.
 #[test]
-fn turns_are_polls_and_waits(rt: HostRuntime) -> Result<(), Fail> {
-    let pause = Some(millis(&rt, 100));
-    let mut tasks = [Paced::new(rt.alloc(), 3, pause)];
+fn turns_are_polls_and_waits(rt: HostRuntime) {
+    let mut tasks = [Paced::new(rt.alloc(), 3, Some(millis(&rt, 100)))];
     let mut clock = VirtualClock::at(moment(&rt, 0));
     assert_eq!(rt;
         WheelLoop::run(&rt, &mut tasks, &mut clock, &mut MidWords, 9),
@@ -23,20 +21,22 @@ fn turns_are_polls_and_waits(rt: HostRuntime) -> Result<(), Fail> {
     );
     assert_eq!(rt; tasks[0].over(), Some(How::Won));
     assert_eq!(rt; clock.now().get(), 200);
+    assert_polled(&rt, &tasks[0], &[0, 100, 200]);
+}
 
-    let mut tasks = [Paced::new(rt.alloc(), 3, pause)];
+// The third poll is left for a further call.
+#[test]
+fn a_further_call_goes_on(rt: HostRuntime) {
+    let mut tasks = [Paced::new(rt.alloc(), 3, Some(millis(&rt, 100)))];
     let mut clock = VirtualClock::at(moment(&rt, 0));
     let stopped = WheelLoop::run(&rt, &mut tasks, &mut clock, &mut MidWords, 4);
     assert_eq!(rt; stopped, Err(LoopStop::TurnsSpent));
-    assert_eq!(rt; tasks[0].due().map(Moment::get), Some(200));
+    assert_polled(&rt, &tasks[0], &[0, 100]);
     assert_eq!(rt;
         WheelLoop::run(&rt, &mut tasks, &mut clock, &mut MidWords, 1),
         Ok(1)
     );
-    for (polled, want) in tasks[0].moments.iter().zip([0, 100, 200]) {
-        assert_eq!(rt; polled.get(), want);
-    }
-    Ok(())
+    assert_polled(&rt, &tasks[0], &[0, 100, 200]);
 }
 
 // Task k waits for k + 1 after its first poll, so each wait is for one task: 200 polls and 100 waits.
@@ -52,30 +52,26 @@ fn each_of_many_waits_for_its_own_moment(rt: HostRuntime) -> Result<(), Fail> {
         Ok(300)
     );
     assert_eq!(rt; clock.now().get(), 100);
-    let mut pause = 0;
-    for task in tasks.iter() {
-        pause += 1;
-        assert_eq!(rt; task.moments.len(), 2);
-        assert_eq!(rt; task.moments[1].get(), pause);
+    for (pause, task) in (1..=100).zip(tasks.iter()) {
+        assert_polled(&rt, task, &[0, pause]);
     }
     Ok(())
 }
 
 #[test]
-fn a_moment_may_be_the_last_one(rt: HostRuntime) -> Result<(), Fail> {
+fn a_moment_may_be_the_last_one(rt: HostRuntime) {
     let mut tasks = [Paced::new(rt.alloc(), 2, Some(millis(&rt, 4611686018427387903)))];
     let mut clock = VirtualClock::at(moment(&rt, 0));
     assert_eq!(rt;
         WheelLoop::run(&rt, &mut tasks, &mut clock, &mut MidWords, 9),
         Ok(3)
     );
-    assert_eq!(rt; tasks[0].moments[1].get(), 4611686018427387903);
-    Ok(())
+    assert_polled(&rt, &tasks[0], &[0, 4611686018427387903]);
 }
 
 // What waits for nothing uses up all turns by polls; what was over is not polled.
 #[test]
-fn a_task_that_is_never_over_spends_all_turns(rt: HostRuntime) -> Result<(), Fail> {
+fn a_task_that_is_never_over_spends_all_turns(rt: HostRuntime) {
     let mut tasks = [
         Paced::new(rt.alloc(), 1, None),
         Paced::new(rt.alloc(), 100, None),
@@ -84,20 +80,19 @@ fn a_task_that_is_never_over_spends_all_turns(rt: HostRuntime) -> Result<(), Fai
     let mut clock = VirtualClock::at(moment(&rt, 3));
     let stopped = WheelLoop::run(&rt, &mut tasks, &mut clock, &mut MidWords, 10);
     assert_eq!(rt; stopped, Err(LoopStop::TurnsSpent));
-    assert_eq!(rt; tasks[1].moments.len(), 10);
-    assert_eq!(rt; tasks[0].moments.len(), 0);
+    assert_polled(&rt, &tasks[1], &[3; 10]);
+    assert_polled(&rt, &tasks[0], &[]);
     assert_eq!(rt; tasks[0].over(), Some(How::Cancelled));
     tasks[1].cancel();
     assert_eq!(rt;
         WheelLoop::run(&rt, &mut tasks, &mut clock, &mut MidWords, 0),
         Ok(0)
     );
-    Ok(())
 }
 
 // A task that never waits does not keep another from its moment.
 #[test]
-fn tasks_take_turns(rt: HostRuntime) -> Result<(), Fail> {
+fn tasks_take_turns(rt: HostRuntime) {
     let mut tasks = [
         Paced::new(rt.alloc(), 6, None),
         Paced::new(rt.alloc(), 3, Some(millis(&rt, 0))),
@@ -105,7 +100,6 @@ fn tasks_take_turns(rt: HostRuntime) -> Result<(), Fail> {
     let mut clock = VirtualClock::at(moment(&rt, 0));
     let stopped = WheelLoop::run(&rt, &mut tasks, &mut clock, &mut MidWords, 6);
     assert_eq!(rt; stopped, Err(LoopStop::TurnsSpent));
-    assert_eq!(rt; tasks[0].moments.len(), 3);
+    assert_polled(&rt, &tasks[0], &[0; 3]);
     assert_eq!(rt; tasks[1].over(), Some(How::Won));
-    Ok(())
 }
