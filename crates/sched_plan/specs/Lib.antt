@@ -7,4 +7,8 @@ pub mod Plan
 pub mod PlanFalls
 pub mod History
 pub mod HistoryLaws
+pub mod Rounds
+pub mod Outputs
+pub mod Sequences
+pub mod Delays
 pub mod Answer
