@@ -11,4 +11,8 @@ pub mod PlanFalls
 pub mod History
 pub mod EventCode
 pub mod HistoryLaws
+pub mod Rounds
+pub mod Outputs
+pub mod Sequences
+pub mod Delays
 pub mod Answer
