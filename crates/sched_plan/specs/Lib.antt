@@ -15,4 +15,5 @@ pub mod Rounds
 pub mod Outputs
 pub mod Sequences
 pub mod Delays
+pub mod Gates
 pub mod Answer
