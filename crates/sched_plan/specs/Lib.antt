@@ -8,7 +8,11 @@ pub mod PlanFalls
 pub mod History
 pub mod HistoryLaws
 pub mod Rounds
+pub mod RoundLaws
 pub mod Outputs
+pub mod OutputLaws
 pub mod Sequences
+pub mod SequenceLaws
 pub mod Delays
+pub mod DelayLaws
 pub mod Answer
