@@ -1,5 +1,5 @@
 -- Worked examples of the leaves, computed with the definitions alone.
-use Rattle.std.specs.Prelude.{◌≡◌, ℕ, List, [], ◌∷◌, refl}
+use Rattle.std.specs.Prelude.{◌≡◌, [], ◌∷◌, refl}
 use Rattle.sched_time.specs.declared.starts.Decision.TheVariants.{Go, Done}
 use Rattle.sched_plan.specs.Datum.{unit, num, pair}
 use Rattle.sched_plan.specs.Schedule.{leaf}

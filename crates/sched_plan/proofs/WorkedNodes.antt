@@ -2,14 +2,14 @@
 use Rattle.std.specs.Prelude.{◌≡◌, ℕ, true, false, List, [], ◌∷◌, map, refl}
 use Rattle.sched_time.specs.declared.starts.Decision.TheVariants.{Go, Done}
 use Rattle.sched_plan.specs.Datum.{Datum, unit, num, pair, list, items_of}
-use Rattle.sched_plan.specs.Schedule.{Schedule, leaf, one, two}
+use Rattle.sched_plan.specs.Schedule.{leaf, one, two}
 use Rattle.sched_plan.specs.declared.leaves.Leaf.TheVariants.{Forever, Recurs, Spaced, Linear, Exponential, Identity, Lone}
 use Rattle.sched_plan.specs.declared.nodes.Side.TheVariants.{Input, Output}
 use Rattle.sched_plan.specs.declared.nodes.Test.TheVariants.{Below, AtLeast, Equal}
 use Rattle.sched_plan.specs.declared.nodes.Fold.TheVariants.{Sum, Count, Max, List as All}
 use Rattle.sched_plan.specs.declared.nodes.One.TheVariants.{Gate, Gather, Add, Set, Cap, AddOut, Jitter, Within, Renew, RenewIdle, First, Second}
 use Rattle.sched_plan.specs.declared.nodes.Two.TheVariants.{Meet, Join, Follow, Feed}
-use Rattle.sched_plan.proofs.Worked.{answers, answers_on, gives, with_inputs, with_words, middle_word}
+use Rattle.sched_plan.proofs.Worked.{answers, answers_on, gives, with_inputs, with_words}
 
 -- the numbers as a list
 abbrev numbers : List ℕ → Datum

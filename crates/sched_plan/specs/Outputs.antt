@@ -36,16 +36,26 @@ numbers_in (pair a b ∷ ds) = numbers_in ds
 numbers_in (list items ∷ ds) = numbers_in ds
 
 -- the sum of the numbers
-abbrev pub sum_of : List Datum → Datum
-sum_of ds = num (capped (sum (numbers_in ds)))
+abbrev pub sum_in : List Datum → ℕ
+sum_in ds = capped (sum (numbers_in ds))
 
 -- how many values there are
-abbrev pub count_of : List Datum → Datum
-count_of ds = num (capped (length ds))
+abbrev pub count_in : List Datum → ℕ
+count_in ds = capped (length ds)
 
 -- the greatest of the numbers, 0 where there is none
+abbrev pub greatest_in : List Datum → ℕ
+greatest_in ds = fold max 0 (numbers_in ds)
+
+-- the same as values
+abbrev pub sum_of : List Datum → Datum
+sum_of ds = num (sum_in ds)
+
+abbrev pub count_of : List Datum → Datum
+count_of ds = num (count_in ds)
+
 abbrev pub greatest_of : List Datum → Datum
-greatest_of ds = num (fold max 0 (numbers_in ds))
+greatest_of ds = num (greatest_in ds)
 
 -- all of the values, in order
 abbrev pub list_of : List Datum → Datum

@@ -40,8 +40,8 @@ leaf_code (Lone delay) = row 12 delay 0 0 0
 abbrev leaf_at : ℕ → ℕ → ℕ → ℕ → Leaf
 leaf_at tag a b c =
     let leaves =
-        Forever ∷ Recurs a ∷ Spaced a ∷ Fixed a ∷ Windowed a ∷ Linear a ∷ Exponential a b ∷ ExponentialMilli a b ∷
-        Fibonacci a ∷ Elapsed ∷ Identity ∷ Unfold a b c ∷ Lone a ∷ [] in
+    Forever ∷ Recurs a ∷ Spaced a ∷ Fixed a ∷ Windowed a ∷ Linear a ∷ Exponential a b ∷ ExponentialMilli a b ∷
+    Fibonacci a ∷ Elapsed ∷ Identity ∷ Unfold a b c ∷ Lone a ∷ [] in
     get_or leaves tag Forever
 
 abbrev side_code : Side → ℕ
@@ -94,8 +94,8 @@ one_code Nothing = row 12 0 0 0 0
 abbrev one_at : ℕ → ℕ → ℕ → ℕ → ℕ → One
 one_at tag a b c d =
     let nodes =
-        Gate (side_at a) (truth_at b) (test_at c) d ∷ Gather (fold_at a) ∷ Add a ∷ Set a ∷ Cap a ∷ AddOut ∷ Jitter a b c ∷
-        Within a ∷ Renew a ∷ RenewIdle a ∷ First ∷ Second ∷ Nothing ∷ [] in
+    Gate (side_at a) (truth_at b) (test_at c) d ∷ Gather (fold_at a) ∷ Add a ∷ Set a ∷ Cap a ∷ AddOut ∷ Jitter a b c ∷
+    Within a ∷ Renew a ∷ RenewIdle a ∷ First ∷ Second ∷ Nothing ∷ [] in
     get_or nodes tag Nothing
 
 abbrev two_code : Two → Gv

@@ -17,9 +17,15 @@ pub enum Leaf {
     /// Waits this delay, then twice as long, three times as long and so on.
     Linear(Millis),
     /// Waits `base`, and then each time `factor` times as long.
-    Exponential { base: Millis, factor: u64 },
+    Exponential {
+        base: Millis,
+        factor: u64,
+    },
     /// Waits `base`, and then each time `thousandths` thousandths as long, rounded down.
-    ExponentialMilli { base: Millis, thousandths: u64 },
+    ExponentialMilli {
+        base: Millis,
+        thousandths: u64,
+    },
     /// Waits this delay times the Fibonacci numbers 1, 1, 2, 3, 5 and so on.
     Fibonacci(Millis),
     /// Goes on at once, and gives the time since the first event.

@@ -2,6 +2,7 @@
 #![tactic(auto)]
 
 mod history;
+pub mod laws;
 mod leaves;
 mod nodes;
 mod plans;

@@ -49,7 +49,11 @@ pub enum One {
     /// Each delay made longer by the output, where that is a number.
     AddOut,
     /// Each delay times a ratio between `least` and `most` thousandths, which the random word of the lane picks.
-    Jitter { lane: usize, least: u64, most: u64 },
+    Jitter {
+        lane: usize,
+        least: u64,
+        most: u64,
+    },
     /// The plan, but done once this much time has passed since the first event.
     Within(Millis),
     /// The plan, begun anew at the first event at which this much time has passed since it last began.
