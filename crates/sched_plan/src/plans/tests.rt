@@ -55,72 +55,93 @@ const FAR: u64 = 4611686018427387903;
 
 const REFUSED: Option<PlanFault> = Some(PlanFault::OutOfRange);
 
+// The leaf at this place, with k as its parameter or as one of them: at places 0 to 9 a number up to `FAR`, at 10 and
+// 11 a length, at 12 and 13 a factor, and after them none.
+fn leaf(place: usize, k: u64) -> Result<Plan, PlanFault> {
+    match place {
+        0 => Plan::recurs(k),
+        1 => Plan::spaced(k),
+        2 => Plan::linear(k),
+        3 => Plan::fibonacci(k),
+        4 => Plan::lone(k),
+        5 => Plan::exponential(k, 5),
+        6 => Plan::exponential_milli(k, 5),
+        7 => Plan::unfold(k, 5, 7),
+        8 => Plan::unfold(5, k, 7),
+        9 => Plan::unfold(5, 7, k),
+        10 => Plan::fixed(k),
+        11 => Plan::windowed(k),
+        12 => Plan::exponential(7, k),
+        13 => Plan::exponential_milli(7, k),
+        14 => Plan::forever(),
+        15 => Plan::elapsed(),
+        _ => Plan::identity(),
+    }
+}
+
+// The node over the plan at this place: 0 to 4 have a number up to `FAR`, 5 and 6 a length, 7 to 9 are jitters, and
+// those after them have no parameter.
+fn over_one(alloc: Global, place: usize, k: u64, plan: Plan) -> Result<Plan, PlanFault> {
+    match place {
+        0 => Plan::gate(alloc, Side::Input, true, Test::Below, k, plan),
+        1 => Plan::add(alloc, k, plan),
+        2 => Plan::set(alloc, k, plan),
+        3 => Plan::cap(alloc, k, plan),
+        4 => Plan::within(alloc, k, plan),
+        5 => Plan::renew(alloc, k, plan),
+        6 => Plan::renew_idle(alloc, k, plan),
+        7 => Plan::jitter(alloc, k, 5, 7, plan),
+        8 => Plan::jitter(alloc, 3, k, 7, plan),
+        9 => Plan::jitter(alloc, 3, 0, k, plan),
+        10 => Plan::gather(alloc, Fold::List, plan),
+        11 => Plan::add_out(alloc, plan),
+        12 => Plan::first(alloc, plan),
+        13 => Plan::second(alloc, plan),
+        _ => Plan::nothing(alloc, plan),
+    }
+}
+
+// The node over both plans at this place.
+fn over_two(alloc: Global, place: usize, first: Plan, second: Plan) -> Result<Plan, PlanFault> {
+    match place {
+        0 => Plan::meet(alloc, first, second),
+        1 => Plan::join(alloc, first, second),
+        2 => Plan::follow(alloc, first, second),
+        _ => Plan::feed(alloc, first, second),
+    }
+}
+
 #[test]
 fn leaves_have_one_node(rt: HostRuntime) -> Result<(), Fail> {
-    let leaves = vec![in rt.alloc();
-        Plan::forever()?,
-        Plan::recurs(3)?,
-        Plan::spaced(0)?,
-        Plan::fixed(1)?,
-        Plan::windowed(1)?,
-        Plan::linear(0)?,
-        Plan::exponential(0, 1)?,
-        Plan::exponential_milli(0, 1)?,
-        Plan::fibonacci(0)?,
-        Plan::elapsed()?,
-        Plan::identity()?,
-        Plan::unfold(0, 0, 0)?,
-        Plan::lone(0)?,
-    ]?;
-    assert_eq!(rt; leaves.len(), 13);
-    for leaf in &leaves {
-        assert_eq!(rt; leaf.nodes(), 1);
-        assert_eq!(rt; leaf.depth(), 1);
+    for place in 0..17 {
+        let leaf = leaf(place, 1)?;
+        assert_eq!(rt; leaf.nodes(), 1, "leaf {place}");
+        assert_eq!(rt; leaf.depth(), 1, "leaf {place}");
     }
     Ok(())
 }
 
 #[test]
-fn numbers_of_leaves_end_at_far(rt: HostRuntime) {
+fn numbers_end_at_far(rt: HostRuntime) -> Result<(), Fail> {
     for (number, want) in [
         (0, None),
         (FAR, None),
         (FAR + 1, REFUSED),
         (u64::MAX, REFUSED),
     ] {
-        assert_eq!(rt; Plan::recurs(number).err(), want, "recurs {number}");
-        assert_eq!(rt; Plan::spaced(number).err(), want, "spaced {number}");
-        assert_eq!(rt; Plan::linear(number).err(), want, "linear {number}");
-        assert_eq!(rt; Plan::fibonacci(number).err(), want, "fibonacci {number}");
-        assert_eq!(rt; Plan::lone(number).err(), want, "lone {number}");
-        assert_eq!(rt;
-            Plan::unfold(number, 1, 1).err(),
-            want,
-            "unfold of {number}"
-        );
-        assert_eq!(rt;
-            Plan::unfold(1, number, 1).err(),
-            want,
-            "unfold by {number}"
-        );
-        assert_eq!(rt;
-            Plan::unfold(1, 1, number).err(),
-            want,
-            "unfold and {number}"
-        );
-        assert_eq!(rt;
-            Plan::exponential(number, 2).err(),
-            want,
-            "exponential of {number}"
-        );
-        let milli = Plan::exponential_milli(number, 2);
-        assert_eq!(rt; milli.err(), want, "exponential_milli of {number}");
+        for place in 0..10 {
+            assert_eq!(rt; leaf(place, number).err(), want, "leaf {place} of {number}");
+        }
+        for place in 0..5 {
+            let built = over_one(rt.alloc(), place, number, Plan::forever()?);
+            assert_eq!(rt; built.err(), want, "node {place} of {number}");
+        }
     }
+    Ok(())
 }
 
 #[test]
 fn lengths_begin_at_one(rt: HostRuntime) -> Result<(), Fail> {
-    let alloc = rt.alloc();
     for (length, want) in [
         (0, REFUSED),
         (1, None),
@@ -128,12 +149,13 @@ fn lengths_begin_at_one(rt: HostRuntime) -> Result<(), Fail> {
         (FAR + 1, REFUSED),
         (u64::MAX, REFUSED),
     ] {
-        assert_eq!(rt; Plan::fixed(length).err(), want, "fixed {length}");
-        assert_eq!(rt; Plan::windowed(length).err(), want, "windowed {length}");
-        let renew = Plan::renew(alloc, length, Plan::forever()?);
-        assert_eq!(rt; renew.err(), want, "renew {length}");
-        let renew_idle = Plan::renew_idle(alloc, length, Plan::forever()?);
-        assert_eq!(rt; renew_idle.err(), want, "renew_idle {length}");
+        for place in 10..12 {
+            assert_eq!(rt; leaf(place, length).err(), want, "leaf {place} of {length}");
+        }
+        for place in 5..7 {
+            let built = over_one(rt.alloc(), place, length, Plan::forever()?);
+            assert_eq!(rt; built.err(), want, "node {place} of {length}");
+        }
     }
     Ok(())
 }
@@ -149,42 +171,13 @@ fn factors_have_ranges(rt: HostRuntime) {
         (1000001, REFUSED, REFUSED),
         (u64::MAX, REFUSED, REFUSED),
     ] {
+        assert_eq!(rt; leaf(12, factor).err(), whole, "exponential by {factor}");
         assert_eq!(rt;
-            Plan::exponential(1, factor).err(),
-            whole,
-            "exponential by {factor}"
+            leaf(13, factor).err(),
+            thousandths,
+            "exponential_milli by {factor}"
         );
-        let milli = Plan::exponential_milli(1, factor);
-        assert_eq!(rt; milli.err(), thousandths, "exponential_milli by {factor}");
     }
-}
-
-#[test]
-fn numbers_of_nodes_end_at_far(rt: HostRuntime) -> Result<(), Fail> {
-    let alloc = rt.alloc();
-    for (number, want) in [
-        (0, None),
-        (FAR, None),
-        (FAR + 1, REFUSED),
-        (u64::MAX, REFUSED),
-    ] {
-        let within = Plan::within(alloc, number, Plan::forever()?);
-        assert_eq!(rt; within.err(), want, "within {number}");
-        let add = Plan::add(alloc, number, Plan::forever()?);
-        assert_eq!(rt; add.err(), want, "add {number}");
-        let set = Plan::set(alloc, number, Plan::forever()?);
-        assert_eq!(rt; set.err(), want, "set {number}");
-        let cap = Plan::cap(alloc, number, Plan::forever()?);
-        assert_eq!(rt; cap.err(), want, "cap {number}");
-        let gate = gate(alloc, number, Plan::forever()?);
-        assert_eq!(rt; gate.err(), want, "gate {number}");
-    }
-    Ok(())
-}
-
-// A gate that lets inputs below the bound through.
-fn gate(alloc: Global, bound: u64, plan: Plan) -> Result<Plan, PlanFault> {
-    Plan::gate(alloc, Side::Input, true, Test::Below, bound, plan)
 }
 
 #[test]
@@ -245,64 +238,35 @@ fn nodes_over_one_end_at_32(rt: HostRuntime) -> Result<(), Fail> {
 #[test]
 fn ranges_come_before_depth(rt: HostRuntime) -> Result<(), Fail> {
     let alloc = rt.alloc();
-    for (number, want) in [(FAR, PlanFault::TooDeep), (FAR + 1, PlanFault::OutOfRange)] {
-        let deepest = || under(alloc, 31);
-        let want = Some(want);
-        assert_eq!(rt;
-            Plan::within(alloc, number, deepest()?).err(),
-            want,
-            "within"
-        );
-        assert_eq!(rt; Plan::renew(alloc, number, deepest()?).err(), want, "renew");
-        assert_eq!(rt;
-            Plan::renew_idle(alloc, number, deepest()?).err(),
-            want,
-            "renew_idle"
-        );
-        assert_eq!(rt; Plan::add(alloc, number, deepest()?).err(), want, "add");
-        assert_eq!(rt; Plan::set(alloc, number, deepest()?).err(), want, "set");
-        assert_eq!(rt; Plan::cap(alloc, number, deepest()?).err(), want, "cap");
-        assert_eq!(rt; gate(alloc, number, deepest()?).err(), want, "gate");
-    }
-    for (lane, want) in [(3, PlanFault::TooDeep), (4, PlanFault::OutOfRange)] {
-        let jitter = Plan::jitter(alloc, lane, 0, 1, under(alloc, 31)?);
-        assert_eq!(rt; jitter.err(), Some(want), "jitter by lane {lane}");
+    for place in 0..8 {
+        let built = over_one(alloc, place, FAR + 1, under(alloc, 31)?);
+        assert_eq!(rt; built.err(), REFUSED, "node {place} of too much");
+        let built = over_one(alloc, place, 3, under(alloc, 31)?);
+        assert_eq!(rt; built.err(), Some(PlanFault::TooDeep), "node {place} of 3");
     }
     Ok(())
 }
 
 #[test]
-fn each_node_is_deeper_by_one(rt: HostRuntime) -> Result<(), Fail> {
+fn each_node_is_one_more_and_deeper(rt: HostRuntime) -> Result<(), Fail> {
     let alloc = rt.alloc();
-    for times in [30, 31] {
-        let plan = || under(alloc, times);
-        let built = [
-            gate(alloc, 5, plan()?).err(),
-            Plan::gather(alloc, Fold::List, plan()?).err(),
-            Plan::add(alloc, 5, plan()?).err(),
-            Plan::set(alloc, 5, plan()?).err(),
-            Plan::cap(alloc, 5, plan()?).err(),
-            Plan::add_out(alloc, plan()?).err(),
-            Plan::jitter(alloc, 0, 0, 5, plan()?).err(),
-            Plan::within(alloc, 5, plan()?).err(),
-            Plan::renew(alloc, 5, plan()?).err(),
-            Plan::renew_idle(alloc, 5, plan()?).err(),
-            Plan::first(alloc, plan()?).err(),
-            Plan::second(alloc, plan()?).err(),
-            Plan::nothing(alloc, plan()?).err(),
-            Plan::meet(alloc, Plan::forever()?, plan()?).err(),
-            Plan::join(alloc, plan()?, Plan::forever()?).err(),
-            Plan::follow(alloc, Plan::forever()?, plan()?).err(),
-            Plan::feed(alloc, plan()?, Plan::forever()?).err(),
-        ];
-        let want = if times == 31 {
-            Some(PlanFault::TooDeep)
-        } else {
-            None
-        };
-        for (at, fault) in built.iter().enumerate() {
-            assert_eq!(rt; *fault, want, "node {at} over {times}");
-        }
+    for place in 0..15 {
+        let deepest = over_one(alloc, place, 3, under(alloc, 30)?)?;
+        assert_eq!(rt; deepest.depth(), 32, "node {place}");
+        assert_eq!(rt; deepest.nodes(), 32, "node {place}");
+        let built = over_one(alloc, place, 3, under(alloc, 31)?);
+        assert_eq!(rt; built.err(), Some(PlanFault::TooDeep), "node {place}");
+    }
+    for place in 0..4 {
+        let deepest = over_two(alloc, place, under(alloc, 30)?, under(alloc, 2)?)?;
+        assert_eq!(rt; deepest.depth(), 32, "node {place} over two");
+        assert_eq!(rt; deepest.nodes(), 35, "node {place} over two");
+        let built = over_two(alloc, place, under(alloc, 2)?, under(alloc, 31)?);
+        assert_eq!(rt;
+            built.err(),
+            Some(PlanFault::TooDeep),
+            "node {place} over two"
+        );
     }
     Ok(())
 }
@@ -350,90 +314,41 @@ fn too_deep_comes_before_too_many(rt: HostRuntime) -> Result<(), Fail> {
 // Plans that all differ: in a leaf, in its parameter, in the node, in the order of its parts, or deeper down.
 fn different(alloc: Global) -> Result<Vec<Plan>, Fail> {
     let mut plans = Vec::new(alloc);
-    for built in [
-        Plan::forever(),
-        Plan::elapsed(),
-        Plan::identity(),
-        nested(alloc, 2),
-        chained(alloc, 2),
-    ] {
-        keep(&mut plans, built?)?;
+    keep(&mut plans, nested(alloc, 2)?)?;
+    keep(&mut plans, chained(alloc, 2)?)?;
+    for place in 14..17 {
+        keep(&mut plans, leaf(place, 0)?)?;
     }
     for k in 1..3 {
-        different_leaves(&mut plans, k)?;
-        different_over_one(alloc, &mut plans, k)?;
-        different_over_two(alloc, &mut plans, k)?;
+        for place in 0..14 {
+            keep(&mut plans, leaf(place, k)?)?;
+        }
+        for place in 0..15 {
+            keep(&mut plans, over_one(alloc, place, k, Plan::recurs(k)?)?)?;
+        }
+        for place in 0..4 {
+            let (one, other) = (Plan::recurs(k)?, Plan::forever()?);
+            keep(&mut plans, over_two(alloc, place, one, other)?)?;
+            let (one, other) = (Plan::recurs(k)?, Plan::forever()?);
+            keep(&mut plans, over_two(alloc, place, other, one)?)?;
+        }
     }
+    for fold in [Fold::Sum, Fold::Count, Fold::Max, Fold::List] {
+        keep(&mut plans, Plan::gather(alloc, fold, Plan::forever()?)?)?;
+    }
+    keep_gates(alloc, &mut plans)?;
     Ok(plans)
 }
 
-fn different_leaves(plans: &mut Vec<Plan>, k: u64) -> Result<(), Fail> {
-    for built in [
-        Plan::recurs(k),
-        Plan::spaced(k),
-        Plan::fixed(k),
-        Plan::windowed(k),
-        Plan::linear(k),
-        Plan::exponential(k, 5),
-        Plan::exponential(7, k),
-        Plan::exponential_milli(k, 5),
-        Plan::exponential_milli(7, k),
-        Plan::fibonacci(k),
-        Plan::unfold(k, 5, 7),
-        Plan::unfold(5, k, 7),
-        Plan::unfold(5, 7, k),
-        Plan::lone(k),
-    ] {
-        keep(plans, built?)?;
-    }
-    Ok(())
-}
-
-fn different_over_one(alloc: Global, plans: &mut Vec<Plan>, k: u64) -> Result<(), Fail> {
-    for fold in [Fold::Sum, Fold::Count, Fold::Max, Fold::List] {
-        keep(plans, Plan::gather(alloc, fold, Plan::recurs(k)?)?)?;
-    }
+// Gates by each choice of side, wanted result and test.
+fn keep_gates(alloc: Global, plans: &mut Vec<Plan>) -> Result<(), Fail> {
     for side in [Side::Input, Side::Output] {
         for want in [true, false] {
             for test in [Test::Below, Test::AtLeast, Test::Equal] {
-                keep(
-                    plans,
-                    Plan::gate(alloc, side, want, test, k, Plan::forever()?)?,
-                )?;
+                let gate = Plan::gate(alloc, side, want, test, 3, Plan::forever()?)?;
+                keep(plans, gate)?;
             }
         }
-    }
-    for built in [
-        Plan::add(alloc, k, Plan::forever()?),
-        Plan::set(alloc, k, Plan::forever()?),
-        Plan::cap(alloc, k, Plan::forever()?),
-        Plan::jitter(alloc, k, 5, 7, Plan::forever()?),
-        Plan::jitter(alloc, 3, k, 7, Plan::forever()?),
-        Plan::jitter(alloc, 3, 0, k, Plan::forever()?),
-        Plan::within(alloc, k, Plan::recurs(k)?),
-        Plan::within(alloc, k, Plan::forever()?),
-        Plan::renew(alloc, k, Plan::forever()?),
-        Plan::renew_idle(alloc, k, Plan::forever()?),
-        Plan::add_out(alloc, Plan::recurs(k)?),
-        Plan::first(alloc, Plan::recurs(k)?),
-        Plan::second(alloc, Plan::recurs(k)?),
-        Plan::nothing(alloc, Plan::recurs(k)?),
-    ] {
-        keep(plans, built?)?;
-    }
-    Ok(())
-}
-
-fn different_over_two(alloc: Global, plans: &mut Vec<Plan>, k: u64) -> Result<(), Fail> {
-    for built in [
-        Plan::meet(alloc, Plan::recurs(k)?, Plan::forever()?),
-        Plan::meet(alloc, Plan::forever()?, Plan::recurs(k)?),
-        Plan::join(alloc, Plan::recurs(k)?, Plan::forever()?),
-        Plan::follow(alloc, Plan::recurs(k)?, Plan::forever()?),
-        Plan::feed(alloc, Plan::recurs(k)?, Plan::forever()?),
-        Plan::feed(alloc, Plan::forever()?, Plan::recurs(k)?),
-    ] {
-        keep(plans, built?)?;
     }
     Ok(())
 }
