@@ -8,7 +8,7 @@ use Rattle.sched_time.specs.Capped.{capped}
 use Rattle.sched_plan.specs.Datum.{Datum, unit, num, pair, list}
 use Rattle.sched_plan.specs.History.{first_moment, last_moment, IsHistory, prefixes}
 use Rattle.sched_plan.specs.HistoryLaws.{prefixes-push}
-use Rattle.sched_plan.specs.Outputs.{goes_on, outputs, before_last, earlier_outputs, numbers_in, sum_in, count_in, greatest_in, with_input, fed}
+use Rattle.sched_plan.specs.Outputs.{goes_on, outputs, before_last, earlier_outputs, numbers_in, sum_in, count_in, greatest_in, number_of, with_input, fed}
 use Rattle.sched_plan.specs.declared.history.Event.{Event}
 use Rattle.sched_plan.specs.declared.history.Answer.{Answer}
 
@@ -43,13 +43,6 @@ before_last-push (d ∷ c ∷ h) e = ap (λ g. d ∷ g) (before_last-push (c ∷
 -- what a step finds of earlier outputs are all outputs so far
 pub earlier_outputs-push : (f : List Event → Answer) (h : List Event) (e : Event) → earlier_outputs f (h ++ e ∷ []) ≡ outputs f h
 earlier_outputs-push f h e = ap (outputs f) (before_last-push h e)
-
--- the number that a value is, 0 where it is none
-abbrev pub number_of : Datum → ℕ
-number_of unit = 0
-number_of (num n) = n
-number_of (pair a b) = 0
-number_of (list items) = 0
 
 -- the numbers of a value alone
 sum_of_one : (d : Datum) → sum (numbers_in (d ∷ [])) ≡ number_of d

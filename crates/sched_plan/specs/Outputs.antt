@@ -35,6 +35,13 @@ numbers_in (num n ∷ ds) = n ∷ numbers_in ds
 numbers_in (pair a b ∷ ds) = numbers_in ds
 numbers_in (list items ∷ ds) = numbers_in ds
 
+-- the number that a value is, 0 where it is none
+abbrev pub number_of : Datum → ℕ
+number_of unit = 0
+number_of (num n) = n
+number_of (pair a b) = 0
+number_of (list items) = 0
+
 -- the sum of the numbers
 abbrev pub sum_in : List Datum → ℕ
 sum_in ds = capped (sum (numbers_in ds))
