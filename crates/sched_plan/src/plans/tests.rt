@@ -279,6 +279,10 @@ fn nodes_end_at_256(rt: HostRuntime) -> Result<(), Fail> {
     assert_eq!(rt; most.depth(), 8);
     assert_eq!(rt; full_and_two(alloc)?.nodes(), 129);
     let too_many = Some(PlanFault::TooMany);
+    let half = Plan::nothing(alloc, full(alloc)?)?;
+    assert_eq!(rt; half.nodes(), 128);
+    let twin = half.copy(alloc)?;
+    assert_eq!(rt; Plan::meet(alloc, half, twin).err(), too_many);
     let full_plan = Plan::nothing(alloc, most)?;
     assert_eq!(rt; full_plan.nodes(), 256);
     assert_eq!(rt; full_plan.depth(), 9);
