@@ -1,6 +1,6 @@
 ghost use Rattle.std.specs.Prelude.{◌≡◌, ◌≤◌, ◌↔◌, ◌++◌, IsTrue, IsSome, IfSome, IfOk, OnOk, string_bytes};
 ghost use Rattle.sched_time.specs.declared.numbers.TheConstants.{FAR};
-ghost use Rattle.sched_plan.specs.Datum.{unit, num, pair, list, items_of};
+ghost use Rattle.sched_plan.specs.Datum.{unit, num, pair, list, items_of, as_number, first_part, second_part};
 ghost use Rattle.sched_plan.specs.DatumText.{text_of, items_text};
 
 use sched_time::{Millis, NoMemory};
@@ -24,13 +24,15 @@ pub enum ValShape {
     /// A number.
     Num(Millis),
     /// Two values as one.
-    Pair(Box<Val>, Box<Val>),
+    Pair(Box<(Val, Val)>),
     /// Values in order.
     List(Vec<Val>),
 }
 
 impl Model for Val {
-    ghost use Rattle.sched_plan.specs.Datum.{Datum, coded_datum, datum_size};
+    ghost use Rattle.sched_plan.specs.Datum.{Datum};
+    ghost use Rattle.sched_plan.specs.DatumCode.{coded_datum};
+    ghost use Rattle.sched_plan.specs.DatumSize.{datum_size};
 
     ghost Value = { Datum };
 
@@ -72,10 +74,9 @@ impl Val {
     pub fn pair(alloc: Global, first: Val, second: Val) -> Result<Val, NoMemory>
         ensures { IfOk result (λ v. v ≡ pair first second) }
     {
-        let first = Box::new(alloc, first)?;
-        let second = Box::new(alloc, second)?;
+        let both = Box::new(alloc, (first, second))?;
         Ok(Val {
-            shape: ValShape::Pair(first, second),
+            shape: ValShape::Pair(both),
         })
     }
 
@@ -95,6 +96,36 @@ impl Val {
         &self.shape
     }
 
+    /// The number, or `None` where the value is no number.
+    pub fn as_num(&self) -> Option<Millis>
+        ensures { result ≡ as_number self.now }
+    {
+        match &self.shape {
+            ValShape::Num(number) => Some(*number),
+            _ => None,
+        }
+    }
+
+    /// The first part of a pair; nothing where the value is no pair.
+    pub fn into_first(self) -> Val
+        ensures { result ≡ first_part self }
+    {
+        match self.shape {
+            ValShape::Pair(both) => Box::into_inner(both).0,
+            _ => Val::unit(),
+        }
+    }
+
+    /// The second part of a pair; nothing where the value is no pair.
+    pub fn into_second(self) -> Val
+        ensures { result ≡ second_part self }
+    {
+        match self.shape {
+            ValShape::Pair(both) => Box::into_inner(both).1,
+            _ => Val::unit(),
+        }
+    }
+
     /// An equal value. Refused only for want of memory.
     #[cycle(copy)]
     pub fn copy(&self, alloc: Global) -> Result<Val, NoMemory>
@@ -103,9 +134,10 @@ impl Val {
         let shape = match &self.shape {
             ValShape::Unit => ValShape::Unit,
             ValShape::Num(number) => ValShape::Num(*number),
-            ValShape::Pair(first, second) => {
-                let first = Box::new(alloc, first.copy(alloc)?)?;
-                ValShape::Pair(first, Box::new(alloc, second.copy(alloc)?)?)
+            ValShape::Pair(both) => {
+                let first = both.0.copy(alloc)?;
+                let second = both.1.copy(alloc)?;
+                ValShape::Pair(Box::new(alloc, (first, second))?)
             }
             ValShape::List(items) => ValShape::List(copy_items(alloc, items)?),
         };
@@ -120,7 +152,7 @@ impl Val {
         match (&self.shape, &other.shape) {
             (ValShape::Unit, ValShape::Unit) => true,
             (ValShape::Num(a), ValShape::Num(b)) => a == b,
-            (ValShape::Pair(a, b), ValShape::Pair(c, d)) => a.same(c) && b.same(d),
+            (ValShape::Pair(a), ValShape::Pair(b)) => a.0.same(&b.0) && a.1.same(&b.1),
             (ValShape::List(a), ValShape::List(b)) => same_items(a, b),
             _ => false,
         }
@@ -143,11 +175,11 @@ impl Val {
         match &self.shape {
             ValShape::Unit => out.push_str("()")?,
             ValShape::Num(number) => write!(out, "{}", number.get())?,
-            ValShape::Pair(first, second) => {
+            ValShape::Pair(both) => {
                 out.push_str("(")?;
-                first.write_to(out)?;
+                both.0.write_to(out)?;
                 out.push_str(", ")?;
-                second.write_to(out)?;
+                both.1.write_to(out)?;
                 out.push_str(")")?;
             }
             ValShape::List(items) => {
@@ -319,13 +351,35 @@ mod tests {
     }
 
     #[test]
+    fn parts_of_a_pair(rt: HostRuntime) -> Result<(), Fail> {
+        let alloc = rt.alloc();
+        let pair = || Val::pair(alloc, number(&rt, 3), Val::list(Vec::new(alloc)));
+        assert!(rt; pair()?.into_first().same(&number(&rt, 3)));
+        assert!(rt; pair()?.into_second().same(&Val::list(Vec::new(alloc))));
+        assert_text(&rt, alloc, number(&rt, 3).into_first(), "()")?;
+        assert_text(&rt, alloc, nested(&rt, alloc)?.into_second(), "()")?;
+        Ok(())
+    }
+
+    #[test]
+    fn numbers_alone_are_numbers(rt: HostRuntime) -> Result<(), Fail> {
+        let alloc = rt.alloc();
+        assert_eq!(rt; number(&rt, 7).as_num().map(Millis::get), Some(7));
+        assert!(rt; Val::unit().as_num().is_none());
+        let pair = Val::pair(alloc, number(&rt, 1), number(&rt, 2))?;
+        assert!(rt; pair.as_num().is_none());
+        assert!(rt; nested(&rt, alloc)?.as_num().is_none());
+        Ok(())
+    }
+
+    #[test]
     fn shape_of_a_pair(rt: HostRuntime) -> Result<(), Fail> {
         let pair = Val::pair(rt.alloc(), number(&rt, 3), Val::unit())?;
-        let ValShape::Pair(first, second) = pair.shape() else {
+        let ValShape::Pair(both) = pair.shape() else {
             panic!(rt; "a pair is a pair");
         };
-        assert!(rt; first.same(&number(&rt, 3)));
-        assert!(rt; second.same(&Val::unit()));
+        assert!(rt; both.0.same(&number(&rt, 3)));
+        assert!(rt; both.1.same(&Val::unit()));
         Ok(())
     }
 }

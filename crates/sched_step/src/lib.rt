@@ -1,11 +1,20 @@
 //! Stepping a schedule: its state after the events so far, and what it answers to the next one.
 #![tactic(auto)]
 
+mod advance;
+mod answers;
+mod changes;
+mod kept;
 mod leaves;
+mod lists;
+mod marks;
 mod states;
 mod steps;
 #[cfg(test)]
 mod tests;
+mod times;
+mod trees;
+mod turns;
 
 pub use sched_plan::{Answer, Event};
 pub use states::{State, initial};
