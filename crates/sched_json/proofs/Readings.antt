@@ -1,12 +1,13 @@
 -- What a reading answers follows from what its parts answer.
-use Rattle.std.proofs.Common.{◌≡◌, Bool, true, false, ◌||◌, Result, Ok, Err, IsTrue, List, [], ◌∷◌, length, refl, arith}
-use Rattle.serde_json.specs.View.{view, items_view}
-use Rattle.serde_json.specs.declared.value.Value.{Value}
-use Rattle.sched_plan.specs.Schedule.{Schedule}
+use Rattle.std.proofs.Common.{◌≡◌, Bool, true, false, ◌||◌, Option, Some, List, Result, Ok, Err, IsTrue, refl}
 use Rattle.sched_plan.specs.declared.plans.PlanFault.TheVariants.{OutOfRange, TooDeep, TooMany, NoMemory}
-use Rattle.sched_cli.specs.declared.reading.ReadFault.{ReadFault}
-use Rattle.sched_cli.specs.declared.reading.ReadFault.TheVariants.{NotAPlan, Plan}
-use Rattle.sched_cli.specs.Reading.{Reading, Reads, found_value, then_read, read_on, reading_of, parts_of_items, two_plans}
+use Rattle.sched_json.specs.declared.faults.ReadFault.{ReadFault}
+use Rattle.sched_json.specs.declared.faults.ReadFault.TheVariants.{NotAPlan, Plan}
+use Rattle.serde_json.specs.Data.{Data}
+use Rattle.sched_plan.specs.Schedule.{Schedule}
+use Rattle.sched_json.specs.Reading.{Reading, Reads, found_value, then_read, read_on}
+use Rattle.sched_json.specs.Forms.{Part, two_of, both_plans}
+use Rattle.sched_json.specs.PlanOf.{part_of, reading_of}
 
 asked_first : (a b : Bool) → IsTrue a → IsTrue (a || b)
 asked_first true b h = refl
@@ -41,12 +42,11 @@ Reads-fault (Plan TooMany) r next h = rw (← h) refl
 Reads-fault (Plan NoMemory) r next h = asked_on r.asked r.answer next h
 
 -- of two plans the first was read, and the second gave a fault
-pub two_plans-second : (vs : List Value) (a b : Value) (after_a after_b : List Value) (first : Schedule) (fault : ReadFault)
-    → vs ≡ a ∷ after_a → after_a ≡ b ∷ after_b → length after_b ≡ 0
-    → Ok first ≡ (reading_of (view a)).answer → Reads {A = Schedule} (Err fault) (reading_of (view b))
-    → Reads {A = Schedule × Schedule} (Err fault) (two_plans (parts_of_items (items_view vs)))
-two_plans-second vs a b after_a [] first fault at_a at_b ends is h =
-    let rest : Schedule → Reading (Schedule × Schedule) = λ x. then_read (reading_of (view b)) (λ y. found_value (x, y)) in
-    let second : Reads {A = Schedule × Schedule} (Err fault) (rest first) = Reads-fault fault (reading_of (view b)) (λ y. found_value (first, y)) h in
-    rw (at_a, at_b) (Reads-then_read (Err fault) (reading_of (view a)) rest first is second)
-two_plans-second vs a b after_a (v ∷ vs') first fault at_a at_b ends is h = absurd (omega arith)
+pub both_plans-second : (items : List Part) (a b : Data) (first : Schedule) (fault : ReadFault)
+    → two_of items ≡ Some (part_of a, part_of b)
+    → Ok first ≡ (reading_of a).answer → Reads {A = Schedule} (Err fault) (reading_of b)
+    → Reads {A = Schedule × Schedule} (Err fault) (both_plans items)
+both_plans-second items a b first fault two is h =
+    let next : Schedule → Reading (Schedule × Schedule) = λ x. then_read (reading_of b) (λ y. found_value (x, y)) in
+    let second : Reads {A = Schedule × Schedule} (Err fault) (next first) = Reads-fault fault (reading_of b) (λ y. found_value (first, y)) h in
+    rw two (Reads-then_read (Err fault) (reading_of a) next first is second)

@@ -1,9 +1,11 @@
-use super::{ReadFault, read_plan};
-use crate::tests::texts::{nested, node};
+use crate::{ReadFault, read_plan};
 use sched_plan::{Plan, PlanFault};
 use serde_json::Value;
 use std::alloc::{AllocError, Global};
 use std::test::Fail;
+use texts::{nested, node};
+
+mod texts;
 
 const OUT_OF_RANGE: ReadFault = ReadFault::Plan(PlanFault::OutOfRange);
 

@@ -4,8 +4,8 @@ use Rattle.serde_json.specs.Data.{Data, number, unsigned, string, array, object,
 use Rattle.sched_plan.specs.Schedule.{leaf, meet, follow}
 use Rattle.sched_plan.specs.declared.leaves.Leaf.TheVariants.{Forever, Recurs, Spaced}
 use Rattle.sched_plan.specs.declared.plans.PlanFault.TheVariants.{OutOfRange, TooDeep}
-use Rattle.sched_cli.specs.declared.reading.ReadFault.TheVariants.{NotAPlan, Plan}
-use Rattle.sched_cli.specs.Reading.{reading_of, plan_of}
+use Rattle.sched_json.specs.declared.faults.ReadFault.TheVariants.{NotAPlan, Plan}
+use Rattle.sched_json.specs.PlanOf.{reading_of, plan_of}
 
 -- {"name":value}
 abbrev pub node : List ℕ → Data → Data
