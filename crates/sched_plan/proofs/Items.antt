@@ -1,5 +1,6 @@
 use Rattle.std.proofs.Common.{◌≡◌, ℕ, zero, suc, ◌<◌, List, [], ◌∷◌, length, get_or, refl, ap, arith}
-use Rattle.sched_plan.specs.Datum.{Datum, list, items_of, datum_size, items_size}
+use Rattle.sched_plan.specs.Datum.{Datum, list, items_of}
+use Rattle.sched_plan.specs.DatumSize.{datum_size, items_size}
 
 -- an item of a list has fewer parts than all the items together
 item_smaller : (ds : List Datum) (i : ℕ) (d : Datum) → i < length ds → d ≡ get_or ds i d → datum_size d < items_size (items_of ds)

@@ -1,8 +1,7 @@
 -- Histories: the events that a schedule was given, oldest first.
-use Rattle.std.specs.Prelude.{refl, ◌≤◌, ℕ, ◌-◌, List, [], ◌∷◌, map, length}
-use Rattle.std.specs.Coded.{Coded, code_by, coded×, coded_ℕ, coded_list}
+use Rattle.std.specs.Prelude.{◌≤◌, ℕ, ◌-◌, List, [], ◌∷◌, map, length}
 use Rattle.sched_time.specs.Capped.{capped}
-use Rattle.sched_plan.specs.Datum.{Datum, coded_datum}
+use Rattle.sched_plan.specs.Datum.{Datum, unit}
 use Rattle.sched_plan.specs.declared.history.Event.{Event}
 
 -- the moment of the first event, or 0 where there is none
@@ -15,6 +14,18 @@ abbrev pub last_moment : List Event → ℕ
 last_moment [] = 0
 last_moment (e ∷ []) = e.now
 last_moment (e ∷ d ∷ h) = last_moment (d ∷ h)
+
+-- the input of the last event, or nothing where there is none
+abbrev pub last_input : List Event → Datum
+last_input [] = unit
+last_input (e ∷ []) = e.input
+last_input (e ∷ d ∷ h) = last_input (d ∷ h)
+
+-- the random words of the last event, lanes 0 to 3
+abbrev pub last_words : List Event → List ℕ
+last_words [] = []
+last_words (e ∷ []) = e.words
+last_words (e ∷ d ∷ h) = last_words (d ∷ h)
 
 -- the moments never fall
 abbrev pub IsHistory : List Event → Type 0
@@ -30,9 +41,3 @@ repeats h = capped (length h - 1)
 abbrev pub prefixes : List Event → List (List Event)
 prefixes [] = []
 prefixes (e ∷ h) = (e ∷ []) ∷ map (λ p. e ∷ p) (prefixes h)
-
--- an event is stored as its parts
-abbrev pub coded_event : Coded Event
-coded_event =
-    code_by (ℕ × (List ℕ × Datum)) (coded× coded_ℕ (coded× (coded_list coded_ℕ) coded_datum))
-    (λ e. (e.now, (e.words, e.input))) (λ p. record { now = p.0; words = p.1.0; input = p.1.1 }) (λ _. refl)

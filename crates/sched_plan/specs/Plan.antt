@@ -1,15 +1,15 @@
 use Rattle.std.specs.Prelude.{◌≡◌, ℕ, ◌≤◌, nat_lt, if◌then◌else◌, not, IsTrue, Result, Ok, Err}
-use Rattle.sched_plan.specs.Schedule.{Schedule, leaf, meet, follow, nodes_of, depth_of, node_in_range, is_valid}
+use Rattle.sched_plan.specs.Schedule.{Schedule, leaf, one, two, nodes_of, depth_of, node_in_range, is_valid}
 use Rattle.sched_plan.specs.declared.plans.PlanFault.{PlanFault}
 use Rattle.sched_plan.specs.declared.plans.PlanFault.TheVariants.{OutOfRange, TooDeep, TooMany, NoMemory}
 use Rattle.sched_plan.specs.declared.plans.PlanShape.{PlanShape}
-use Rattle.sched_plan.specs.declared.plans.PlanShape.TheVariants.{Leaf, Meet, Follow}
+use Rattle.sched_plan.specs.declared.plans.PlanShape.TheVariants.{Leaf, One, Two}
 
 -- the schedule of this shape
 abbrev pub schedule_of : PlanShape → Schedule
 schedule_of (Leaf l) = leaf l
-schedule_of (Meet a b) = meet a.value b.value
-schedule_of (Follow a b) = follow a.value b.value
+schedule_of (One k a) = one k a.value
+schedule_of (Two k p) = two k p.value.0 p.value.1
 
 -- what is true of every plan: its counts are those of the schedule, within the limits, and the schedule is valid
 pub record IsSound (s : Schedule) (nodes depth : ℕ) : Type 0 where

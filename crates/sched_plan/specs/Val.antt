@@ -6,5 +6,5 @@ use Rattle.sched_plan.specs.declared.values.ValShape.TheVariants.{Unit, Num, Pai
 abbrev pub datum_of : ValShape → Datum
 datum_of Unit = unit
 datum_of (Num n) = num n
-datum_of (Pair a b) = pair a.value b.value
+datum_of (Pair p) = pair p.value.0 p.value.1
 datum_of (Items ds) = list (items_of ds.items)

@@ -1,7 +1,8 @@
 -- Each part of a value is smaller than the value.
 use Rattle.std.specs.Prelude.{◌+◌, ◌≤◌, max, List, [], ◌∷◌}
 use Rattle.std.proofs.Common.{arith}
-use Rattle.sched_plan.specs.Datum.{Datum, items_of, datum_size, items_size}
+use Rattle.sched_plan.specs.Datum.{Datum, items_of}
+use Rattle.sched_plan.specs.DatumSize.{datum_size, items_size}
 use Rattle.sched_plan.specs.Val.{datum_of}
 use Rattle.sched_plan.specs.declared.values.ValShape.{ValShape}
 use Rattle.sched_plan.specs.declared.values.ValShape.TheVariants.{Unit, Num, Pair, List as Items}
@@ -17,5 +18,5 @@ most_le-items_size (d ∷ ds) = omega (arith, most_le-items_size ds)
 pub deep_le-datum_size : (s : ValShape) → max (deep-ValShape s) 0 ≤ datum_size (datum_of s)
 deep_le-datum_size Unit = omega arith
 deep_le-datum_size (Num n) = omega arith
-deep_le-datum_size (Pair a b) = omega arith
+deep_le-datum_size (Pair p) = omega arith
 deep_le-datum_size (Items ds) = omega (arith, most_le-items_size ds.items)

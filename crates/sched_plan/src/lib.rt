@@ -2,11 +2,14 @@
 #![tactic(auto)]
 
 mod history;
+pub mod laws;
 mod leaves;
+mod nodes;
 mod plans;
 mod values;
 
 pub use history::{Answer, Event};
 pub use leaves::Leaf;
+pub use nodes::{Fold, One, Side, Test, Two};
 pub use plans::{MOST_DEPTH, MOST_NODES, Plan, PlanFault, PlanShape};
 pub use values::{Val, ValShape};

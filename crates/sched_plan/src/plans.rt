@@ -1,7 +1,8 @@
 ghost use Rattle.std.specs.Prelude.{◌≡◌, ◌≤◌, ◌↔◌, true, IsTrue, IfOk};
-ghost use Rattle.sched_plan.specs.Schedule.{nodes_of, depth_of, is_valid, leaf_in_range, leaf as leaf_schedule};
+ghost use Rattle.sched_plan.specs.Schedule.{nodes_of, depth_of, is_valid};
 
 use crate::leaves::Leaf;
+use crate::nodes::{One, Two};
 use sched_time::NoMemory;
 use std::alloc::Global;
 use std::marker::Model;
@@ -44,15 +45,16 @@ pub struct Plan {
 pub enum PlanShape {
     /// A recurrence of its own.
     Leaf(Leaf),
-    /// Goes on while both do, at the later start.
-    Meet(Box<Plan>, Box<Plan>),
-    /// The first plan until it is done, then the second.
-    Follow(Box<Plan>, Box<Plan>),
+    /// A node over one plan.
+    One(One, Box<Plan>),
+    /// A node over two plans, which stand in one box.
+    Two(Two, Box<(Plan, Plan)>),
 }
 
 impl Model for Plan {
     ghost use Rattle.std.specs.Prelude.{◌≡◌, ◌≤◌, true};
-    ghost use Rattle.sched_plan.specs.Schedule.{Schedule, coded_schedule, nodes_of, depth_of, is_valid};
+    ghost use Rattle.sched_plan.specs.Schedule.{Schedule, nodes_of, depth_of, is_valid};
+    ghost use Rattle.sched_plan.specs.ScheduleCode.{coded_schedule};
 
     ghost Value = { Schedule };
 
@@ -72,7 +74,7 @@ impl Model for Plan {
 }
 
 impl Plan {
-    ghost use Rattle.sched_plan.specs.Plan.{schedule_of, built_plan, Builds};
+    ghost use Rattle.sched_plan.specs.Plan.{schedule_of};
 
     /// The shape at the top, for a caller to match on.
     pub fn shape(&self) -> &PlanShape
@@ -104,13 +106,13 @@ impl Plan {
     {
         let shape = match &self.shape {
             PlanShape::Leaf(leaf) => PlanShape::Leaf(*leaf),
-            PlanShape::Meet(first, second) => {
-                let first = Box::new(alloc, first.copy(alloc)?)?;
-                PlanShape::Meet(first, Box::new(alloc, second.copy(alloc)?)?)
+            PlanShape::One(node, plan) => {
+                PlanShape::One(*node, Box::new(alloc, plan.copy(alloc)?)?)
             }
-            PlanShape::Follow(first, second) => {
-                let first = Box::new(alloc, first.copy(alloc)?)?;
-                PlanShape::Follow(first, Box::new(alloc, second.copy(alloc)?)?)
+            PlanShape::Two(node, plans) => {
+                let first = plans.0.copy(alloc)?;
+                let second = plans.1.copy(alloc)?;
+                PlanShape::Two(*node, Box::new(alloc, (first, second))?)
             }
         };
         Ok(Plan {
@@ -126,21 +128,11 @@ impl Plan {
     {
         match (&self.shape, &other.shape) {
             (PlanShape::Leaf(a), PlanShape::Leaf(b)) => a == b,
-            (PlanShape::Meet(a, b), PlanShape::Meet(c, d)) => a.same(c) && b.same(d),
-            (PlanShape::Follow(a, b), PlanShape::Follow(c, d)) => a.same(c) && b.same(d),
+            (PlanShape::One(k, a), PlanShape::One(l, b)) => k == l && a.same(b),
+            (PlanShape::Two(k, a), PlanShape::Two(l, b)) => {
+                k == l && a.0.same(&b.0) && a.1.same(&b.1)
+            }
             _ => false,
-        }
-    }
-
-    // The plan of one leaf.
-    fn of_leaf(leaf: Leaf) -> Plan
-        requires { IsTrue (leaf_in_range leaf) }
-        ensures { result ≡ leaf_schedule leaf }
-    {
-        Plan {
-            shape: PlanShape::Leaf(leaf),
-            nodes: 1,
-            depth: 1,
         }
     }
 }

@@ -24,13 +24,15 @@ pub enum ValShape {
     /// A number.
     Num(Millis),
     /// Two values as one.
-    Pair(Box<Val>, Box<Val>),
+    Pair(Box<(Val, Val)>),
     /// Values in order.
     List(Vec<Val>),
 }
 
 impl Model for Val {
-    ghost use Rattle.sched_plan.specs.Datum.{Datum, coded_datum, datum_size};
+    ghost use Rattle.sched_plan.specs.Datum.{Datum};
+    ghost use Rattle.sched_plan.specs.DatumCode.{coded_datum};
+    ghost use Rattle.sched_plan.specs.DatumSize.{datum_size};
 
     ghost Value = { Datum };
 
@@ -72,10 +74,9 @@ impl Val {
     pub fn pair(alloc: Global, first: Val, second: Val) -> Result<Val, NoMemory>
         ensures { IfOk result (λ v. v ≡ pair first second) }
     {
-        let first = Box::new(alloc, first)?;
-        let second = Box::new(alloc, second)?;
+        let both = Box::new(alloc, (first, second))?;
         Ok(Val {
-            shape: ValShape::Pair(first, second),
+            shape: ValShape::Pair(both),
         })
     }
 
@@ -103,9 +104,10 @@ impl Val {
         let shape = match &self.shape {
             ValShape::Unit => ValShape::Unit,
             ValShape::Num(number) => ValShape::Num(*number),
-            ValShape::Pair(first, second) => {
-                let first = Box::new(alloc, first.copy(alloc)?)?;
-                ValShape::Pair(first, Box::new(alloc, second.copy(alloc)?)?)
+            ValShape::Pair(both) => {
+                let first = both.0.copy(alloc)?;
+                let second = both.1.copy(alloc)?;
+                ValShape::Pair(Box::new(alloc, (first, second))?)
             }
             ValShape::List(items) => ValShape::List(copy_items(alloc, items)?),
         };
@@ -120,7 +122,7 @@ impl Val {
         match (&self.shape, &other.shape) {
             (ValShape::Unit, ValShape::Unit) => true,
             (ValShape::Num(a), ValShape::Num(b)) => a == b,
-            (ValShape::Pair(a, b), ValShape::Pair(c, d)) => a.same(c) && b.same(d),
+            (ValShape::Pair(a), ValShape::Pair(b)) => a.0.same(&b.0) && a.1.same(&b.1),
             (ValShape::List(a), ValShape::List(b)) => same_items(a, b),
             _ => false,
         }
@@ -143,11 +145,11 @@ impl Val {
         match &self.shape {
             ValShape::Unit => out.push_str("()")?,
             ValShape::Num(number) => write!(out, "{}", number.get())?,
-            ValShape::Pair(first, second) => {
+            ValShape::Pair(both) => {
                 out.push_str("(")?;
-                first.write_to(out)?;
+                both.0.write_to(out)?;
                 out.push_str(", ")?;
-                second.write_to(out)?;
+                both.1.write_to(out)?;
                 out.push_str(")")?;
             }
             ValShape::List(items) => {
@@ -321,11 +323,11 @@ mod tests {
     #[test]
     fn shape_of_a_pair(rt: HostRuntime) -> Result<(), Fail> {
         let pair = Val::pair(rt.alloc(), number(&rt, 3), Val::unit())?;
-        let ValShape::Pair(first, second) = pair.shape() else {
+        let ValShape::Pair(both) = pair.shape() else {
             panic!(rt; "a pair is a pair");
         };
-        assert!(rt; first.same(&number(&rt, 3)));
-        assert!(rt; second.same(&Val::unit()));
+        assert!(rt; both.0.same(&number(&rt, 3)));
+        assert!(rt; both.1.same(&Val::unit()));
         Ok(())
     }
 }

@@ -1,84 +1,67 @@
-ghost use Rattle.std.specs.Prelude.{◌≡◌, ◌+◌, max, IfOk, IfErr};
-ghost use Rattle.sched_plan.specs.Schedule.{leaf, meet, follow, nodes_of, depth_of};
+//! A builder for each node. Those over plans take them by value, and drop them at a refusal.
+ghost use Rattle.std.specs.Prelude.{◌≡◌, IsTrue, Ok, Err, if◌then◌else◌, nat_le, ◌&&◌};
+ghost use Rattle.sched_time.specs.declared.numbers.TheConstants.{FAR};
+ghost use Rattle.sched_plan.specs.Schedule.{leaf as leaf_schedule, one, two, leaf_in_range, one_in_range};
 ghost use Rattle.sched_plan.specs.Plan.{built_plan, Builds, counts_or_fault};
 
 use super::{MOST_DEPTH, MOST_NODES, Plan, PlanFault, PlanShape};
 use crate::leaves::Leaf;
+use crate::nodes::{One, Two};
 use sched_time::Millis;
 use std::alloc::Global;
 
+mod delays;
+mod leaves;
+mod outputs;
+mod pairs;
+mod rounds;
+
 impl Plan {
-    /// Goes on for ever, at once. Never refused.
-    pub fn forever() -> Result<Plan, PlanFault>
-        ensures { result ≡ built_plan (leaf Leaf.Forever) }
+    // The plan of one leaf.
+    fn of_leaf(leaf: Leaf) -> Plan
+        requires { IsTrue (leaf_in_range leaf) }
+        ensures { result ≡ leaf_schedule leaf }
     {
-        Ok(Plan::of_leaf(Leaf::Forever))
-    }
-
-    /// Goes on at once, `count` times. Refused as `OutOfRange` past `FAR`.
-    pub fn recurs(count: u64) -> Result<Plan, PlanFault>
-        ensures { result ≡ built_plan (leaf (Leaf.Recurs count)) }
-    {
-        let count = Millis::new(count).ok_or(PlanFault::OutOfRange)?;
-        Ok(Plan::of_leaf(Leaf::Recurs(count)))
-    }
-
-    /// Goes on `delay` milliseconds after each event. Refused as `OutOfRange` past `FAR`.
-    pub fn spaced(delay: u64) -> Result<Plan, PlanFault>
-        ensures { result ≡ built_plan (leaf (Leaf.Spaced delay)) }
-    {
-        let delay = Millis::new(delay).ok_or(PlanFault::OutOfRange)?;
-        Ok(Plan::of_leaf(Leaf::Spaced(delay)))
-    }
-
-    /// Goes on at the boundaries of intervals of `length` milliseconds, the first of which begins at the first
-    /// event. Refused as `OutOfRange` at 0 and past `FAR`.
-    pub fn fixed(length: u64) -> Result<Plan, PlanFault>
-        ensures { result ≡ built_plan (leaf (Leaf.Fixed length)) }
-    {
-        if length == 0 {
-            return Err(PlanFault::OutOfRange);
+        Plan {
+            shape: PlanShape::Leaf(leaf),
+            nodes: 1,
+            depth: 1,
         }
-        let length = Millis::new(length).ok_or(PlanFault::OutOfRange)?;
-        Ok(Plan::of_leaf(Leaf::Fixed(length)))
     }
 
-    /// Goes on while both plans do, at the later start, and gives the pair of their outputs.
-    /// Refused as `TooDeep`, `TooMany` or `NoMemory`; both plans are then dropped.
-    pub fn meet(alloc: Global, first: Plan, second: Plan) -> Result<Plan, PlanFault>
-        ensures { Builds result (meet first second) }
+    // The plan of a node over this one.
+    fn over_one(alloc: Global, node: One, plan: Plan) -> Result<Plan, PlanFault>
+        requires { IsTrue (one_in_range node) }
+        ensures { Builds result (one node plan) }
     {
-        let (nodes, depth) = within_limits(&first, &second)?;
-        let (first, second) = boxed(alloc, first, second)?;
+        let (nodes, depth) = within_limits(plan.nodes + 1, plan.depth + 1)?;
+        let plan = Box::new(alloc, plan).map_err(|_| PlanFault::NoMemory)?;
         Ok(Plan {
-            shape: PlanShape::Meet(first, second),
+            shape: PlanShape::One(node, plan),
             nodes,
             depth,
         })
     }
 
-    /// The first plan until it is done; the event at which it is done and all later ones go to the second.
-    /// Refused as `TooDeep`, `TooMany` or `NoMemory`; both plans are then dropped.
-    pub fn follow(alloc: Global, first: Plan, second: Plan) -> Result<Plan, PlanFault>
-        ensures { Builds result (follow first second) }
+    // The plan of a node over both.
+    fn over_two(alloc: Global, node: Two, first: Plan, second: Plan) -> Result<Plan, PlanFault>
+        ensures { Builds result (two node first second) }
     {
-        let (nodes, depth) = within_limits(&first, &second)?;
-        let (first, second) = boxed(alloc, first, second)?;
+        let deeper = first.depth.max(second.depth);
+        let (nodes, depth) = within_limits(first.nodes + second.nodes + 1, deeper + 1)?;
+        let plans = Box::new(alloc, (first, second)).map_err(|_| PlanFault::NoMemory)?;
         Ok(Plan {
-            shape: PlanShape::Follow(first, second),
+            shape: PlanShape::Two(node, plans),
             nodes,
             depth,
         })
     }
 }
 
-// The nodes and the depth of a node over both plans, if they are within the limits.
-fn within_limits(first: &Plan, second: &Plan) -> Result<(usize, usize), PlanFault>
-    ensures { result ≡ counts_or_fault
-        (nodes_of first.now + nodes_of second.now + 1) (max (depth_of first.now) (depth_of second.now) + 1) }
+// Both counts, if they are within the limits.
+fn within_limits(nodes: usize, depth: usize) -> Result<(usize, usize), PlanFault>
+    ensures { result ≡ counts_or_fault nodes depth }
 {
-    let nodes = first.nodes + second.nodes + 1;
-    let depth = first.depth.max(second.depth) + 1;
     if depth > MOST_DEPTH {
         return Err(PlanFault::TooDeep);
     }
@@ -88,12 +71,19 @@ fn within_limits(first: &Plan, second: &Plan) -> Result<(usize, usize), PlanFaul
     Ok((nodes, depth))
 }
 
-// Both plans on the heap.
-fn boxed(alloc: Global, first: Plan, second: Plan) -> Result<(Box<Plan>, Box<Plan>), PlanFault>
-    ensures ok { IfOk result (λ r. (r.0.value ≡ first) × (r.1.value ≡ second)) }
-    ensures err { IfErr result (λ fault. fault ≡ PlanFault.NoMemory) }
+// The number as a duration or a count, up to `FAR`.
+fn in_range(number: u64) -> Result<Millis, PlanFault>
+    ensures { result ≡ (if nat_le number FAR then Ok number else Err PlanFault.OutOfRange) }
 {
-    let first = Box::new(alloc, first).map_err(|_| PlanFault::NoMemory)?;
-    let second = Box::new(alloc, second).map_err(|_| PlanFault::NoMemory)?;
-    Ok((first, second))
+    Millis::new(number).ok_or(PlanFault::OutOfRange)
+}
+
+// The number as the length of an interval or a round, from 1 to `FAR`.
+fn length_in_range(number: u64) -> Result<Millis, PlanFault>
+    ensures { result ≡ (if nat_le 1 number && nat_le number FAR then Ok number else Err PlanFault.OutOfRange) }
+{
+    if number == 0 {
+        return Err(PlanFault::OutOfRange);
+    }
+    in_range(number)
 }

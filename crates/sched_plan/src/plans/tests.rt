@@ -1,5 +1,6 @@
 use super::{Plan, PlanFault, PlanShape};
 use crate::leaves::Leaf;
+use crate::nodes::{One, Two};
 use std::alloc::Global;
 use std::test::Fail;
 
@@ -17,6 +18,15 @@ fn chained(alloc: Global, times: u64) -> Result<Plan, PlanFault> {
     let mut plan = Plan::forever()?;
     for _ in 0..times {
         plan = Plan::follow(alloc, plan, Plan::forever()?)?;
+    }
+    Ok(plan)
+}
+
+// `forever` under so many nodes over one plan.
+fn under(alloc: Global, times: u64) -> Result<Plan, PlanFault> {
+    let mut plan = Plan::forever()?;
+    for _ in 0..times {
+        plan = Plan::nothing(alloc, plan)?;
     }
     Ok(plan)
 }
@@ -57,7 +67,8 @@ fn leaves_have_one_node(rt: HostRuntime) -> Result<(), Fail> {
 }
 
 #[test]
-fn parameters_have_ranges(rt: HostRuntime) {
+fn parameters_have_ranges(rt: HostRuntime) -> Result<(), Fail> {
+    let alloc = rt.alloc();
     for (parameter, fits) in [
         (1, true),
         (4611686018427387903, true),
@@ -72,10 +83,14 @@ fn parameters_have_ranges(rt: HostRuntime) {
         assert_eq!(rt; Plan::recurs(parameter).err(), want, "recurs {parameter}");
         assert_eq!(rt; Plan::spaced(parameter).err(), want, "spaced {parameter}");
         assert_eq!(rt; Plan::fixed(parameter).err(), want, "fixed {parameter}");
+        let within = Plan::within(alloc, parameter, Plan::forever()?);
+        assert_eq!(rt; within.err(), want, "within {parameter}");
     }
     assert_eq!(rt; Plan::recurs(0).err(), None);
     assert_eq!(rt; Plan::spaced(0).err(), None);
+    assert_eq!(rt; Plan::within(alloc, 0, Plan::forever()?).err(), None);
     assert_eq!(rt; Plan::fixed(0).err(), Some(PlanFault::OutOfRange));
+    Ok(())
 }
 
 #[test]
@@ -99,6 +114,27 @@ fn depth_ends_at_32(rt: HostRuntime) -> Result<(), Fail> {
 }
 
 #[test]
+fn nodes_over_one_end_at_32(rt: HostRuntime) -> Result<(), Fail> {
+    let alloc = rt.alloc();
+    let deepest = under(alloc, 31)?;
+    assert_eq!(rt; deepest.depth(), 32);
+    assert_eq!(rt; deepest.nodes(), 32);
+    assert_eq!(rt;
+        Plan::nothing(alloc, deepest).err(),
+        Some(PlanFault::TooDeep)
+    );
+    // A length out of range is found first.
+    for (length, fault) in [
+        (4611686018427387903, PlanFault::TooDeep),
+        (4611686018427387904, PlanFault::OutOfRange),
+    ] {
+        let within = Plan::within(alloc, length, under(alloc, 31)?);
+        assert_eq!(rt; within.err(), Some(fault), "within {length}");
+    }
+    Ok(())
+}
+
+#[test]
 fn nodes_end_at_256(rt: HostRuntime) -> Result<(), Fail> {
     let alloc = rt.alloc();
     let most = twice_full(alloc)?;
@@ -106,6 +142,14 @@ fn nodes_end_at_256(rt: HostRuntime) -> Result<(), Fail> {
     assert_eq!(rt; most.depth(), 8);
     assert_eq!(rt; full_and_two(alloc)?.nodes(), 129);
     let too_many = Some(PlanFault::TooMany);
+    let full_plan = Plan::nothing(alloc, most)?;
+    assert_eq!(rt; full_plan.nodes(), 256);
+    assert_eq!(rt; full_plan.depth(), 9);
+    assert_eq!(rt;
+        Plan::nothing(alloc, full_plan.copy(alloc)?).err(),
+        too_many
+    );
+    assert_eq!(rt; Plan::within(alloc, 5, full_plan).err(), too_many);
     assert_eq!(rt;
         Plan::meet(alloc, full(alloc)?, full_and_two(alloc)?).err(),
         too_many
@@ -140,6 +184,9 @@ fn different(alloc: Global) -> Result<Vec<Plan>, Fail> {
         keep(&mut plans, Plan::recurs(k)?)?;
         keep(&mut plans, Plan::spaced(k)?)?;
         keep(&mut plans, Plan::fixed(k)?)?;
+        keep(&mut plans, Plan::nothing(alloc, Plan::recurs(k)?)?)?;
+        keep(&mut plans, Plan::within(alloc, k, Plan::recurs(k)?)?)?;
+        keep(&mut plans, Plan::within(alloc, k, Plan::forever()?)?)?;
         keep(
             &mut plans,
             Plan::meet(alloc, Plan::recurs(k)?, Plan::forever()?)?,
@@ -185,12 +232,23 @@ fn copies_are_the_same(rt: HostRuntime) -> Result<(), Fail> {
 }
 
 #[test]
+fn shape_of_a_within(rt: HostRuntime) -> Result<(), Fail> {
+    let plan = Plan::within(rt.alloc(), 7, Plan::recurs(2)?)?;
+    let PlanShape::One(One::Within(length), below) = plan.shape() else {
+        panic!(rt; "a within is a within");
+    };
+    assert_eq!(rt; length.get(), 7);
+    assert!(rt; below.same(&Plan::recurs(2)?));
+    Ok(())
+}
+
+#[test]
 fn shape_of_a_follow(rt: HostRuntime) -> Result<(), Fail> {
     let plan = Plan::follow(rt.alloc(), Plan::recurs(2)?, Plan::forever()?)?;
-    let PlanShape::Follow(first, second) = plan.shape() else {
+    let PlanShape::Two(Two::Follow, plans) = plan.shape() else {
         panic!(rt; "a follow is a follow");
     };
-    assert!(rt; first.same(&Plan::recurs(2)?));
-    assert!(rt; matches!(second.shape(), PlanShape::Leaf(Leaf::Forever)));
+    assert!(rt; plans.0.same(&Plan::recurs(2)?));
+    assert!(rt; matches!(plans.1.shape(), PlanShape::Leaf(Leaf::Forever)));
     Ok(())
 }

@@ -1,5 +1,6 @@
 use Rattle.std.proofs.Common.{◌≡◌, take}
-use Rattle.sched_plan.specs.Datum.{items_of, datum_size, items_size}
+use Rattle.sched_plan.specs.Datum.{items_of}
+use Rattle.sched_plan.specs.DatumSize.{datum_size, items_size}
 use Rattle.sched_plan.proofs.values.+copy.Given as goal
 
 abbrev pub decreases-Val::copy : goal.decreases-Val::copy

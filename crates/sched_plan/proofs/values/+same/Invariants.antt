@@ -1,5 +1,6 @@
 use Rattle.std.proofs.Common.{◌≡◌, length, take}
-use Rattle.sched_plan.specs.Datum.{items_of, datum_size, items_size}
+use Rattle.sched_plan.specs.Datum.{items_of}
+use Rattle.sched_plan.specs.DatumSize.{datum_size, items_size}
 use Rattle.sched_plan.proofs.values.+same.Given as goal
 
 abbrev pub decreases-Val::same : goal.decreases-Val::same

@@ -1,5 +1,6 @@
 use Rattle.std.proofs.Common.{◌≡◌, ◌++◌, drop, cond, nat_eq, string_bytes}
-use Rattle.sched_plan.specs.Datum.{items_of, datum_size, items_size}
+use Rattle.sched_plan.specs.Datum.{items_of}
+use Rattle.sched_plan.specs.DatumSize.{datum_size, items_size}
 use Rattle.sched_plan.specs.DatumText.{items_text, more_text}
 use Rattle.sched_plan.proofs.values.+text.Given as goal
 
