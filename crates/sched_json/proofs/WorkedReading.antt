@@ -1,7 +1,8 @@
 -- Worked examples, computed with the definitions alone: which plan a JSON value spells, or its first fault.
 use Rattle.std.specs.Prelude.{◌≡◌, ℕ, zero, suc, codes, List, Ok, Err, true, false, refl}
 use Rattle.serde_json.specs.Data.{Data, number, unsigned, string, array, object, no_items, item, no_members, member}
-use Rattle.sched_plan.specs.Schedule.{leaf, meet, follow}
+use Rattle.sched_plan.specs.Schedule.{leaf, two}
+use Rattle.sched_plan.specs.declared.nodes.Two.TheVariants.{Meet, Follow}
 use Rattle.sched_plan.specs.declared.leaves.Leaf.TheVariants.{Forever, Recurs, Spaced}
 use Rattle.sched_plan.specs.declared.plans.PlanFault.TheVariants.{OutOfRange, TooDeep}
 use Rattle.sched_json.specs.declared.faults.ReadFault.TheVariants.{NotAPlan, Plan}
@@ -32,11 +33,11 @@ nested zero = forever
 nested (suc n) = of_two (codes "meet") (nested n) forever
 
 pub meet_of_recurs_and_spaced : plan_of (of_two (codes "meet") (of_number (codes "recurs") 3) (of_number (codes "spaced") 100)) ≡
-    Ok (meet (leaf (Recurs 3)) (leaf (Spaced 100)))
+    Ok (two Meet (leaf (Recurs 3)) (leaf (Spaced 100)))
 meet_of_recurs_and_spaced = refl
 
 pub follow_of_forever_and_recurs : plan_of (of_two (codes "follow") forever (of_number (codes "recurs") 2)) ≡
-    Ok (follow (leaf Forever) (leaf (Recurs 2)))
+    Ok (two Follow (leaf Forever) (leaf (Recurs 2)))
 follow_of_forever_and_recurs = refl
 
 pub number_is_no_plan : plan_of seven ≡ Err NotAPlan

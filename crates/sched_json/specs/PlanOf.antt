@@ -1,31 +1,42 @@
 -- Which plan a JSON value spells, or the first fault found in it.
-use Rattle.std.specs.Prelude.{ℕ, if◌then◌else◌, bytes_eq, List, [], ◌∷◌, Result}
+use Rattle.std.specs.Prelude.{ℕ, List, [], ◌∷◌, Option, Some, None, Result}
 use Rattle.serde_json.specs.Data.{Data, string, array, object, Items, no_items, item, Members, no_members, member}
-use Rattle.sched_plan.specs.Schedule.{Schedule}
+use Rattle.sched_plan.specs.Schedule.{Schedule, one, two}
 use Rattle.sched_plan.specs.declared.leaves.Leaf.{Leaf}
 use Rattle.sched_json.specs.declared.faults.ReadFault.{ReadFault}
-use Rattle.sched_json.specs.Reading.{Reading, not_a_plan, built_leaf}
-use Rattle.sched_json.specs.Forms.{Part, read_by}
-use Rattle.sched_json.specs.Nodes.{string_rows, member_rows}
+use Rattle.sched_json.specs.Reading.{Reading, found_value, not_a_plan, then_read, built_leaf, built_node}
+use Rattle.sched_json.specs.Forms.{Part, Spelt, of_leaf, over_one, over_two, spelt_by, meant_by}
+use Rattle.sched_json.specs.Nodes.{names, from_pairs}
 
-abbrev pub leaf_by : List (List ℕ × Leaf) → List ℕ → Reading Schedule
-leaf_by [] name = not_a_plan
-leaf_by (row ∷ rows) name = if bytes_eq name row.0 then built_leaf row.1 else leaf_by rows name
+-- two plans, from left to right
+abbrev pub both_plans : Part → Part → Reading (Schedule × Schedule)
+both_plans a b = then_read a.plan (λ first. then_read b.plan (λ second. found_value (first, second)))
+
+-- once a node's own form is right its plans are read, and then its builder is asked
+abbrev pub reading_of_node : Option Spelt → Reading Schedule
+reading_of_node None = not_a_plan
+reading_of_node (Some (of_leaf l)) = built_leaf l
+reading_of_node (Some (over_one k a)) = then_read a.plan (λ s. built_node (one k s))
+reading_of_node (Some (over_two k a b)) = then_read (both_plans a b) (λ p. built_node (two k p.0 p.1))
+
+abbrev pub reading_of_leaf : Option Leaf → Reading Schedule
+reading_of_leaf None = not_a_plan
+reading_of_leaf (Some l) = built_leaf l
 
 -- what comes of reading a string as a plan
-abbrev pub string_node : List ℕ → Reading Schedule
-string_node name = leaf_by string_rows name
+abbrev pub reading_of_name : List ℕ → Reading Schedule
+reading_of_name name = reading_of_leaf (meant_by names name)
 
 abbrev mutual
   -- what comes of reading a JSON value as a plan: a node is a string or an object with exactly one member
   pub reading_of : Data → Reading Schedule
-  reading_of (string name) = string_node name
+  reading_of (string name) = reading_of_name name
   reading_of (object members) = reading_of_members members
   reading_of _ = not_a_plan
 
   pub reading_of_members : Members → Reading Schedule
   reading_of_members (member name value no_members) =
-      read_by member_rows name (record { json = value; plan = reading_of value }) (parts_of value)
+      reading_of_node (spelt_by from_pairs name (record { json = value; plan = reading_of value }) (parts_of value))
   reading_of_members _ = not_a_plan
 
   -- the items of an array
@@ -40,10 +51,6 @@ abbrev mutual
 -- a value as a part of a node
 abbrev pub part_of : Data → Part
 part_of d = record { json = d; plan = reading_of d }
-
--- what comes of reading the node of this name over this value
-abbrev pub named_node : List ℕ → Data → Reading Schedule
-named_node name value = read_by member_rows name (part_of value) (parts_of value)
 
 -- the plan that a JSON value spells, or the first fault: first a node's own form, then its plans from left to
 -- right, then what its builder refuses

@@ -1,5 +1,5 @@
 -- What comes of reading JSON: what is found or the first fault, and whether memory was asked for on the way.
-use Rattle.std.specs.Prelude.{◌≡◌, ℕ, Bool, false, ◌||◌, Option, Some, None, Result, Ok, Err, is_ok, IsTrue}
+use Rattle.std.specs.Prelude.{◌≡◌, Bool, false, ◌||◌, Option, Some, None, Result, Ok, Err, is_ok, IsTrue}
 use Rattle.sched_plan.specs.Schedule.{Schedule, leaf}
 use Rattle.sched_plan.specs.Plan.{built_plan}
 use Rattle.sched_plan.specs.declared.leaves.Leaf.{Leaf}
@@ -24,10 +24,10 @@ found_value x = record { answer = Ok x; asked = false }
 abbrev pub not_a_plan : {A : Type 0} → Reading A
 not_a_plan = record { answer = Err NotAPlan; asked = false }
 
--- what is there, or no form of a node
-abbrev pub or_no_plan : {A : Type 0} → Option A → Reading A
-or_no_plan (Some x) = found_value x
-or_no_plan None = not_a_plan
+-- what is there, or the fault of a value that has not the form of a node
+abbrev pub or_not_a_plan : {A : Type 0} → Option A → Result A ReadFault
+or_not_a_plan (Some x) = Ok x
+or_not_a_plan None = Err NotAPlan
 
 abbrev pub read_on : {A B : Type 0} → Bool → Result A ReadFault → (A → Reading B) → Reading B
 read_on asked (Err fault) next = record { answer = Err fault; asked = asked }

@@ -1,4 +1,8 @@
-use sched_plan::PlanFault;
+ghost use Rattle.sched_plan.specs.Schedule.{Schedule};
+ghost use Rattle.sched_plan.specs.Plan.{Builds};
+ghost use Rattle.sched_json.specs.Reading.{Reads, built_node};
+
+use sched_plan::{Plan, PlanFault};
 
 /// Why a JSON value is not read as a plan.
 #[derive(Clone, Copy, Debug, PartialEq, Eq)]
@@ -18,4 +22,11 @@ impl From<PlanFault> for ReadFault {
     fn from(fault: PlanFault) -> Self {
         ReadFault::Plan(fault)
     }
+}
+
+/// What a builder over other plans answered.
+pub(crate) fn built(answer: Result<Plan, PlanFault>) -> Result<Plan, ReadFault>
+    ensures { (s : Schedule) → Builds answer s → Reads result (built_node s) }
+{
+    answer.map_err(ReadFault::Plan)
 }

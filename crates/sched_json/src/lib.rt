@@ -7,6 +7,7 @@ mod leaves;
 mod plans;
 #[cfg(test)]
 mod tests;
+mod words;
 
 pub use faults::ReadFault;
 pub use plans::read_plan;
