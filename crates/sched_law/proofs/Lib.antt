@@ -1,0 +1,3 @@
+pub mod Lists
+pub mod Journals
+pub mod Law
