@@ -10,10 +10,10 @@ ghost use Rattle.sched_cli.specs.Whole.{count_of_reads, count_of_writes};
 
 use crate::faults::PrintFault;
 use crate::options::PlanOptions;
-use crate::reading::{ReadFault, read_plan};
 use crate::streams::{Sink, Source};
 use crate::whole::{put_all, put_long, read_all};
 use sched_driver::{DriveFault, Driver};
+use sched_json::{ReadFault, read_plan};
 use sched_plan::{Plan, PlanFault, Val};
 use sched_time::{Moment, NoMemory, Tick};
 use serde_json::Value;
