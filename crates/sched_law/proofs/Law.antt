@@ -40,7 +40,7 @@ record Ready (kind : Kind) (v : Past) (t : Tick) : Type 0 where
   undenied : v.denied ≡ false
   unspent : is_spent v.driver ≡ false
 
-or_false : (a b : Bool) → (a || b) ≡ false → (a ≡ false) × (b ≡ false)
+pub or_false : (a b : Bool) → (a || b) ≡ false → (a ≡ false) × (b ≡ false)
 or_false true b e = absurd cc
 or_false false b e = (refl, e)
 
