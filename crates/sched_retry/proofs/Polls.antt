@@ -23,10 +23,19 @@ use Rattle.sched_retry.specs.AfterLoss.{AfterLoss, with_step}
 use Rattle.sched_retry.specs.declared.losses.Then.{Then}
 use Rattle.sched_retry.specs.declared.losses.Then.TheVariants.{Breaks, Exhausts, Overdraws, Recurs}
 
+-- the fallback is asked
+abbrev pub asks_fallback : Happened → Bool
+asks_fallback asks = true
+asks_fallback asks_in_vain = true
+asks_fallback falls = true
+asks_fallback _ = false
+
 -- a retry after a poll: it keeps its law, and the poll was one
 pub record Settled (kind : Kind) (v : Retrying) (t : Tick) (ready : Bool) (u : Retrying) : Type 0 where
   pub law : RetryLaw kind u
   pub poll : RetryPoll kind v t ready u
+  -- no fallback was asked in it
+  pub run : asks_fallback poll.poll.happened ≡ false
 
 same_tickets : (p q : Held) → q ≡ p → length q.has.tickets ≡ length p.has.tickets
 same_tickets p q same = ap (λ (h : Held). length h.has.tickets) same
@@ -92,9 +101,9 @@ next kind v t h q = record {
 }
 
 pub settles : (kind : Kind) (v : Retrying) (t : Tick) (h : Happened) (q : Held) → draws kind ≡ true → RetryLaw kind v →
-    v.past.over ≡ None → May kind v.past t h → Draws h v.pass q → IsOf v.budget q →
+    v.past.over ≡ None → May kind v.past t h → Draws h v.pass q → IsOf v.budget q → asks_fallback h ≡ false →
     Settled kind v t (is_some (after kind v.past t h).over) (next kind v t h q)
-settles kind v t h q drawn law unended may draws of = record {
+settles kind v t h q drawn law unended may draws of run = record {
   law = record {
     law = law_after kind v.past t h law.law may;
     granted = granted_after kind v t h q drawn law.granted draws;
@@ -108,29 +117,38 @@ settles kind v t h q drawn law unended may draws of = record {
     budget = refl;
     untaken = rw unended refl;
   };
+  run = run;
 }
 
 -- a retry that is over stays as it is
-pub rests_over : (kind : Kind) (v : Retrying) (t : Tick) → is_some v.past.over ≡ true → RetryPoll kind v t true v
-rests_over kind v t over = record {
-  poll = record { happened = stays; may = inl over; leaves = refl; ready_is = sym over };
-  pass = refl;
-  budget = refl;
-  untaken = rw over refl;
+pub rests_over : (kind : Kind) (v : Retrying) (t : Tick) → RetryLaw kind v → is_some v.past.over ≡ true → Settled kind v t true v
+rests_over kind v t law over = record {
+  law = law;
+  poll = record {
+    poll = record { happened = stays; may = inl over; leaves = refl; ready_is = sym over };
+    pass = refl;
+    budget = refl;
+    untaken = rw over refl;
+  };
+  run = refl;
 }
 
-untaken_false : (kind : Kind) (v : Retrying) → RetryLaw kind v → v.past.over ≡ None → v.untaken ≡ false
+pub untaken_false : (kind : Kind) (v : Retrying) → RetryLaw kind v → v.past.over ≡ None → v.untaken ≡ false
 untaken_false kind v law unended =
     by_test v.untaken (λ yes. let bad = rw unended at (law.untaken yes) in absurd (cc)) (λ no. no)
 
 -- one that waits for a later moment stays as it is
 pub rests_waiting : (kind : Kind) (v : Retrying) (t : Tick) → RetryLaw kind v → v.past.over ≡ None →
-    IsSomeAnd (waits_for v.past) (λ m. t.now < m) → RetryPoll kind v t false v
+    IsSomeAnd (waits_for v.past) (λ m. t.now < m) → Settled kind v t false v
 rests_waiting kind v t law unended waits = record {
-  poll = record { happened = stays; may = inr waits; leaves = refl; ready_is = ap is_some (sym unended) };
-  pass = refl;
-  budget = refl;
-  untaken = untaken_false kind v law unended ∙ rw unended refl;
+  law = law;
+  poll = record {
+    poll = record { happened = stays; may = inr waits; leaves = refl; ready_is = ap is_some (sym unended) };
+    pass = refl;
+    budget = refl;
+    untaken = untaken_false kind v law unended ∙ rw unended refl;
+  };
+  run = refl;
 }
 
 -- What is known of the fields of a retry before a poll that polls a run.
@@ -164,7 +182,7 @@ module _ (kind : Kind) (r : Runs) (over : Option How) (denied : Bool) (p : Held)
   abbrev v : Retrying
   v = retrying r over denied p b untaken
 
-  settled : (h : Happened) (q : Held) → May kind v.past t h → Draws h p q → IsOf b q →
+  settled : (h : Happened) (q : Held) → May kind v.past t h → Draws h p q → IsOf b q → asks_fallback h ≡ false →
       Settled kind v t (is_some (after kind v.past t h).over) (next kind v t h q)
   settled h q = settles kind v t h q now.drawn now.law now.can.unended
 
@@ -175,7 +193,7 @@ module _ (kind : Kind) (r : Runs) (over : Option How) (denied : Bool) (p : Held)
   pub pends : (s : Runs) → s ≡ with_run r t → Settled kind v t false (retrying s over denied p b untaken)
   pends s left =
       let none : is_some over ≡ false = ap is_some now.can.unended in
-      let was = settled runs_on p now.can refl now.law.of in
+      let was = settled runs_on p now.can refl now.law.of refl in
       let same : next kind v t runs_on p ≡ retrying s over denied p b untaken =
           (λ i. record { past = past_of (sym left i) over denied (length p.has.tickets); pass = p; budget = b;
             untaken = (none ∙ sym unended_untaken) i }) in
@@ -184,18 +202,18 @@ module _ (kind : Kind) (r : Runs) (over : Option How) (denied : Bool) (p : Held)
   pub cannot_start : (s : Runs) → (is_running r ≡ false) × (s ≡ r) →
       Settled kind v t true (retrying s (Some (Broken NoMemory)) denied p b true)
   cannot_start s left =
-      let was = settled cannot_begin p (now.can, left.0) refl now.law.of in
+      let was = settled cannot_begin p (now.can, left.0) refl now.law.of refl in
       subst (λ (s : Runs). Settled kind v t true (retrying s (Some (Broken NoMemory)) denied p b true)) (sym left.1) was
 
   pub is_starved : (s : Runs) → s ≡ with_run r t → Settled kind v t true (retrying s (Some (Broken NoMemory)) denied p b true)
   is_starved s left =
-      let was = settled starves p now.can refl now.law.of in
+      let was = settled starves p now.can refl now.law.of refl in
       subst (λ (s : Runs). Settled kind v t true (retrying s (Some (Broken NoMemory)) denied p b true)) (sym left) was
 
   pub wins : (s : Runs) (ran : Ran) → calls kind ran ≡ false → s ≡ with_finished r t ran →
       Settled kind v t true (retrying s (Some (final kind)) denied p b true)
   wins s ran uncalled left =
-      let was = settled (ends ran) p (now.can, uncalled) refl now.law.of in
+      let was = settled (ends ran) p (now.can, uncalled) refl now.law.of refl in
       subst (λ (s : Runs). Settled kind v t true (retrying s (Some (final kind)) denied p b true)) (sym left) was
 
   -- the retry after a failure, by what came of it
@@ -230,24 +248,24 @@ module _ (kind : Kind) (r : Runs) (over : Option How) (denied : Bool) (p : Held)
       AfterLoss (with_finished r t (Lost code)) p t code came_to s q → IsOf b q →
       Settled kind v t (ready_after came_to) (loses_to came_to s q)
   lost_on (Breaks fault) code s q called came of =
-      let was = settled (breaks (Lost code) fault) q (now.can, called, came.0) came.2 of in
+      let was = settled (breaks (Lost code) fault) q (now.can, called, came.0) came.2 of refl in
       subst (λ (u : Retrying). Settled kind v t true u)
           (λ i. record { past = past_of (sym came.1 i) (Some (Broken fault)) denied (sym (same_tickets p q came.2) i); pass = q; budget = b; untaken = true })
           was
   lost_on Exhausts code s q called came of =
-      let was = settled (exhausts (Lost code)) q (record { can = now.can; called = called; room = came.0.0 }, came.0.2) came.1 of in
+      let was = settled (exhausts (Lost code)) q (record { can = now.can; called = called; room = came.0.0 }, came.0.2) came.1 of refl in
       subst (λ (u : Retrying). Settled kind v t (is_some (stop kind ScheduleDone)) u)
           (λ i. record { past = past_of (sym came.0.1 i) (stop kind ScheduleDone) denied (sym (same_tickets p q came.1) i); pass = q; budget = b; untaken = is_some (stop kind ScheduleDone) })
           was
   lost_on Overdraws code s q called came of =
-      let was = settled (overdraws (Lost code)) q (record { can = now.can; called = called; room = came.0.0 }, came.0.2, now.drawn) came.1 of in
+      let was = settled (overdraws (Lost code)) q (record { can = now.can; called = called; room = came.0.0 }, came.0.2, now.drawn) came.1 of refl in
       subst (λ (u : Retrying). Settled kind v t (is_some (stop kind BudgetRefused)) u)
           (λ i. record { past = past_of (sym came.0.1 i) (stop kind BudgetRefused) true (sym (refused_tickets p q came.1) i); pass = q; budget = b; untaken = is_some (stop kind BudgetRefused) })
           was
   lost_on Recurs code s q called came of =
       let none : is_some over ≡ false = ap is_some now.can.unended in
       let h = recurs (Lost code) in
-      let was = settled h q (record { can = now.can; called = called; room = came.0.0 }, came.0.2) came.1 of in
+      let was = settled h q (record { can = now.can; called = called; room = came.0.0 }, came.0.2) came.1 of refl in
       let granted : (if draws kind then length p.has.tickets + 1 else length p.has.tickets) ≡ length q.has.tickets =
           rw now.drawn (sym (drew_tickets p q came.1.0 came.1.1)) in
       let same : next kind v t h q ≡ retrying s over denied q b untaken =

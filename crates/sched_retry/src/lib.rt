@@ -6,4 +6,5 @@ mod losses;
 mod retry;
 
 pub use endings::Ending;
+pub use losses::{Then, after_loss};
 pub use retry::Retry;

@@ -23,7 +23,7 @@ pub enum Then {
 }
 
 /// Steps the schedule with the code of a failure, and draws a ticket where it goes on.
-pub(crate) fn after_loss<X: Effect>(
+pub fn after_loss<X: Effect>(
     alloc: Global,
     runner: &mut Runner<X>,
     pass: &mut Pass,

@@ -1,4 +1,5 @@
 use Rattle.std.proofs.Common.{◌≡◌, Bool, true, false, IfSome, Some, is_some, Result, sym, ap, ◌∙◌, refl, subst}
+use Rattle.std.specs.Option.{is_none}
 use Rattle.sched_effect.specs.Runs.{ran_by}
 use Rattle.sched_effect.specs.declared.ran.Ran.TheVariants.{Won, Lost}
 use Rattle.sched_law.specs.Runner.{with_finished}
@@ -79,7 +80,7 @@ invariant_of-self-in-Ok-Some g c =
     let left : c.poll_run.new.self ≡ with_finished c.self.inside.runner c.args.tick.now (Won (g.X.Item.Coded.coded c.in-Finished-Ok.item)) =
         subst (λ (run : Result _ _). c.poll_run.new.self ≡ with_finished c.self.inside.runner c.args.tick.now (ran_by g.X.Item.Coded.coded g.X.Fault.Coded.coded run))
             c.in-Finished-Ok.field-0-is c.in-Finished-Ok.ensures.polls in
-    ((goes_on c.self.inside.runner c.self.inside.over (is_some c.self.inside.ending) c.args.tick.now now c.poll_run.new.self c.step.new.self c.code.result (g.X.Item.Coded.coded c.in-Finished-Ok.item) c.code.ensures left c.in-Ok-Some.ensures.stepped c.in-Ok-Some.ensures.room (sym c.in-Ok-Some.ensures.spent)).law, if_none c.self.inside.ending _ (unended_untaken c.self.inside.runner c.self.inside.over (is_some c.self.inside.ending) c.args.tick.now now))
+    ((goes_on c.self.inside.runner c.self.inside.over (is_some c.self.inside.ending) c.args.tick.now now c.poll_run.new.self c.step.new.self c.code.result (g.X.Item.Coded.coded c.in-Finished-Ok.item) c.code.ensures left c.in-Ok-Some.ensures.stepped c.in-Ok-Some.ensures.room (sym c.in-Ok-Some.ensures.spent ∙ ap is_none c.in-Ok-Some.field-0-is)).law, if_none c.self.inside.ending _ (unended_untaken c.self.inside.runner c.self.inside.over (is_some c.self.inside.ending) c.args.tick.now now))
 
 pub returns-in-Ok-Some-clause-poll : goal.returns-in-Ok-Some-clause-poll
 returns-in-Ok-Some-clause-poll g c =
@@ -88,7 +89,7 @@ returns-in-Ok-Some-clause-poll g c =
     let left : c.poll_run.new.self ≡ with_finished c.self.inside.runner c.args.tick.now (Won (g.X.Item.Coded.coded c.in-Finished-Ok.item)) =
         subst (λ (run : Result _ _). c.poll_run.new.self ≡ with_finished c.self.inside.runner c.args.tick.now (ran_by g.X.Item.Coded.coded g.X.Fault.Coded.coded run))
             c.in-Finished-Ok.field-0-is c.in-Finished-Ok.ensures.polls in
-    polled_as _ _ _ _ _ c.self.view_is (goes_on c.self.inside.runner c.self.inside.over (is_some c.self.inside.ending) c.args.tick.now now c.poll_run.new.self c.step.new.self c.code.result (g.X.Item.Coded.coded c.in-Finished-Ok.item) c.code.ensures left c.in-Ok-Some.ensures.stepped c.in-Ok-Some.ensures.room (sym c.in-Ok-Some.ensures.spent)).poll
+    polled_as _ _ _ _ _ c.self.view_is (goes_on c.self.inside.runner c.self.inside.over (is_some c.self.inside.ending) c.args.tick.now now c.poll_run.new.self c.step.new.self c.code.result (g.X.Item.Coded.coded c.in-Finished-Ok.item) c.code.ensures left c.in-Ok-Some.ensures.stepped c.in-Ok-Some.ensures.room (sym c.in-Ok-Some.ensures.spent ∙ ap is_none c.in-Ok-Some.field-0-is)).poll
 
 pub invariant_of-self-in-Ok-None : goal.invariant_of-self-in-Ok-None
 invariant_of-self-in-Ok-None g c =
@@ -97,7 +98,7 @@ invariant_of-self-in-Ok-None g c =
     let left : c.poll_run.new.self ≡ with_finished c.self.inside.runner c.args.tick.now (Won (g.X.Item.Coded.coded c.in-Finished-Ok.item)) =
         subst (λ (run : Result _ _). c.poll_run.new.self ≡ with_finished c.self.inside.runner c.args.tick.now (ran_by g.X.Item.Coded.coded g.X.Fault.Coded.coded run))
             c.in-Finished-Ok.field-0-is c.in-Finished-Ok.ensures.polls in
-    ((is_done c.self.inside.runner c.self.inside.over (is_some c.self.inside.ending) c.args.tick.now now c.poll_run.new.self c.step.new.self c.code.result (g.X.Item.Coded.coded c.in-Finished-Ok.item) c.code.ensures left c.in-Ok-None.ensures.stepped c.in-Ok-None.ensures.room (sym c.in-Ok-None.ensures.spent)).law, refl)
+    ((is_done c.self.inside.runner c.self.inside.over (is_some c.self.inside.ending) c.args.tick.now now c.poll_run.new.self c.step.new.self c.code.result (g.X.Item.Coded.coded c.in-Finished-Ok.item) c.code.ensures left c.in-Ok-None.ensures.stepped c.in-Ok-None.ensures.room (sym c.in-Ok-None.ensures.spent ∙ ap is_none c.in-Ok-None.field-0-is)).law, refl)
 
 pub returns-in-Ok-None-clause-poll : goal.returns-in-Ok-None-clause-poll
 returns-in-Ok-None-clause-poll g c =
@@ -106,7 +107,7 @@ returns-in-Ok-None-clause-poll g c =
     let left : c.poll_run.new.self ≡ with_finished c.self.inside.runner c.args.tick.now (Won (g.X.Item.Coded.coded c.in-Finished-Ok.item)) =
         subst (λ (run : Result _ _). c.poll_run.new.self ≡ with_finished c.self.inside.runner c.args.tick.now (ran_by g.X.Item.Coded.coded g.X.Fault.Coded.coded run))
             c.in-Finished-Ok.field-0-is c.in-Finished-Ok.ensures.polls in
-    polled_as _ _ _ _ _ c.self.view_is (is_done c.self.inside.runner c.self.inside.over (is_some c.self.inside.ending) c.args.tick.now now c.poll_run.new.self c.step.new.self c.code.result (g.X.Item.Coded.coded c.in-Finished-Ok.item) c.code.ensures left c.in-Ok-None.ensures.stepped c.in-Ok-None.ensures.room (sym c.in-Ok-None.ensures.spent)).poll
+    polled_as _ _ _ _ _ c.self.view_is (is_done c.self.inside.runner c.self.inside.over (is_some c.self.inside.ending) c.args.tick.now now c.poll_run.new.self c.step.new.self c.code.result (g.X.Item.Coded.coded c.in-Finished-Ok.item) c.code.ensures left c.in-Ok-None.ensures.stepped c.in-Ok-None.ensures.room (sym c.in-Ok-None.ensures.spent ∙ ap is_none c.in-Ok-None.field-0-is)).poll
 
 pub invariant_of-self-in-Err : goal.invariant_of-self-in-Err
 invariant_of-self-in-Err g c =
@@ -117,8 +118,8 @@ invariant_of-self-in-Err g c =
             c.in-Finished-Ok.field-0-is c.in-Finished-Ok.ensures.polls in
     ((breaks_by c.self.inside.runner c.self.inside.over (is_some c.self.inside.ending) c.args.tick.now now c.poll_run.new.self c.step.new.self c.code.result (g.X.Item.Coded.coded c.in-Finished-Ok.item) c.code.ensures left c.in-Err.cause c.in-Err.ensures.refused c.in-Err.ensures.unchanged).law, refl)
 
-pub returns-in-Err-clause-poll : goal.returns-in-Err-clause-poll
-returns-in-Err-clause-poll g c =
+pub returns-clause-poll : goal.returns-clause-poll
+returns-clause-poll g c =
     let now = ready c.self.inside.runner c.self.inside.over (is_some c.self.inside.ending) c.args.tick.now c.args.self.now
         c.self.view_is c.self.invariant.0 (sym c.is_some.ensures ∙ c.if-is_some.false) c.if-rests.ensures in
     let left : c.poll_run.new.self ≡ with_finished c.self.inside.runner c.args.tick.now (Won (g.X.Item.Coded.coded c.in-Finished-Ok.item)) =

@@ -11,14 +11,14 @@ use Rattle.sched_retry.proofs.retry.Retry.poll_at.Goals as goal
 
 pub returns-then-is_some-clause-poll : goal.returns-then-is_some-clause-poll
 returns-then-is_some-clause-poll g c =
-    rests_over retry c.args.self.now c.args.tick.now
-        (ap (λ (v : Retrying). is_some v.past.over) (sym c.self.view_is) ∙ sym c.is_some.ensures ∙ c.if-is_some.true)
+    (rests_over retry c.args.self.now c.args.tick.now (subst (λ (v : Retrying). RetryLaw retry v) c.self.view_is c.self.invariant.0)
+        (ap (λ (v : Retrying). is_some v.past.over) (sym c.self.view_is) ∙ sym c.is_some.ensures ∙ c.if-is_some.true)).poll
 
 pub returns-then-rests-clause-poll : goal.returns-then-rests-clause-poll
 returns-then-rests-clause-poll g c =
-    rests_waiting retry c.args.self.now c.args.tick.now (subst (λ (v : Retrying). RetryLaw retry v) c.self.view_is c.self.invariant.0)
+    (rests_waiting retry c.args.self.now c.args.tick.now (subst (λ (v : Retrying). RetryLaw retry v) c.self.view_is c.self.invariant.0)
         (ap (λ (v : Retrying). v.past.over) (sym c.self.view_is) ∙ none_of c.self.inside.over (sym c.is_some.ensures ∙ c.if-is_some.false))
-        c.if-rests.ensures
+        c.if-rests.ensures).poll
 
 pub invariant_of-self : goal.invariant_of-self
 invariant_of-self g c =
