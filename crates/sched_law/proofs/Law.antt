@@ -40,11 +40,11 @@ record Ready (kind : Kind) (v : Past) (t : Tick) : Type 0 where
   undenied : v.denied ≡ false
   unspent : is_spent v.driver ≡ false
 
-or_false : (a b : Bool) → (a || b) ≡ false → (a ≡ false) × (b ≡ false)
+pub or_false : (a b : Bool) → (a || b) ≡ false → (a ≡ false) × (b ≡ false)
 or_false true b e = absurd cc
 or_false false b e = (refl, e)
 
-or_true : (a b : Bool) → (a || b) ≡ true → a ≡ false → b ≡ true
+pub or_true : (a b : Bool) → (a || b) ≡ true → a ≡ false → b ≡ true
 or_true a b e isnt = rw isnt at e
 
 some_and : {A : Type 0} (o : Option A) (P : A → Type 0) → IsSome o → IfSome o P → IsSomeAnd o P

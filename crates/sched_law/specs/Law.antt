@@ -16,6 +16,12 @@ abbrev pub is_broken : Option How → Bool
 is_broken (Some (Broken fault)) = true
 is_broken _ = false
 
+-- the ending says that the schedule was done, or that the budget refused a ticket
+abbrev pub is_stop : Option How → Bool
+is_stop (Some ScheduleDone) = true
+is_stop (Some BudgetRefused) = true
+is_stop _ = false
+
 -- a run may be left unfinished by this ending, or while there is none
 abbrev pub may_leave_a_run : Option How → Bool
 may_leave_a_run None = true

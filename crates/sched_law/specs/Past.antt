@@ -1,5 +1,6 @@
 -- What a task has done so far.
 use Rattle.std.specs.Prelude.{◌≡◌, ℕ, ◌+◌, Bool, true, false, not, ◌||◌, ◌&&◌, if◌then◌else◌, nat_lt, List, [], map, filter, count_by, take, length, Option, Some, None, is_some, IfSome, option_and_then}
+use mathlib.Core.Path.{ap}
 use Rattle.sched_time.specs.Decision.{start_of}
 use Rattle.sched_time.specs.declared.starts.Decision.{Decision}
 use Rattle.sched_plan.specs.Datum.{Datum, num}
@@ -79,3 +80,7 @@ waits_for v = if is_some v.over || (is_under_way v || v.denied) then None else n
 -- 1 where it holds
 abbrev pub bit : Bool → ℕ
 bit b = if b then 1 else 0
+
+-- what is over waits for nothing
+pub waits_for-over : (v : Past) → is_some v.over ≡ true → waits_for v ≡ None
+waits_for-over v over = ap (λ b. if b || (is_under_way v || v.denied) then None else next_start_of v.driver) over
