@@ -1,5 +1,4 @@
 pub mod PrintFaults
 pub mod Printed
 pub mod PrintSteps
-mod Readings
-pub mod WorkedReading
+pub mod Written

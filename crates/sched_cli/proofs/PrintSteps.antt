@@ -1,7 +1,5 @@
 -- What one event does to what is true while a plan's lines are written.
 use Rattle.std.proofs.Common.{◌≡◌, ℕ, ◌+◌, ◌≤◌, List, [], ◌∷◌, ◌++◌, length, Option, Some, None, Err, sym, ◌∙◌, ap, subst, append_assoc, arith, length-append}
-use Rattle.std.specs.Io.KnownBytes.{Appends}
-use Rattle.std.proofs.KnownBytes.{Appends-trans}
 use Rattle.sched_time.specs.Capped.{capped}
 use Rattle.sched_time.specs.Decision.{start_of}
 use Rattle.sched_time.specs.declared.numbers.TheConstants.{FAR}
@@ -16,11 +14,12 @@ use Rattle.sched_step.specs.Starts.{StartsBy}
 use Rattle.sched_driver.specs.Driven.{Driven, next_start_of, after}
 use Rattle.sched_cli.specs.PlanText.{event_at, next_moment, run, line_text, lines_text, plan_text}
 use Rattle.sched_cli.specs.Printing.{WritesText}
-use Rattle.sched_cli.specs.Whole.{WritesFront, StopsWriting}
+use Rattle.sched_cli.specs.Whole.{IsFront, WritesFront, WritesAllBut, StopsWriting}
 use Rattle.sched_cli.specs.declared.options.PlanOptions.{PlanOptions}
 use Rattle.sched_cli.specs.declared.faults.PrintFault.{PrintFault}
 use Rattle.sched_cli.specs.declared.faults.PrintFault.TheVariants.{ReadFailed, TooLong, NotJson, NotAPlan, OutOfRange, TooDeep, TooMany, NoMemory, NotStarted, WriteFailed, Unfinished, Mixed}
 use Rattle.sched_cli.proofs.Printed.{IsPrinted, IsFront-trans, run-grows, lines_text-push, front_of_plan, end_of_plan, next_moment-push}
+use Rattle.sched_cli.proofs.Written.{grows, moves, stops}
 
 by_start : (now start : ℕ) (d : Decision) → StartsBy now d → Some start ≡ start_of d → now ≤ start
 by_start now start (Go t) from is =
@@ -39,12 +38,37 @@ pub last_after : (d next : Driven) (e : Event) → next ≡ after d e → e.now 
 last_after d next e stepped = sym (ap (λ x. last_moment x.journal) stepped ∙ last_moment-push d.journal e)
 
 -- where printing stops between two lines, a front of the text is written
-pub stopped : (s : Schedule) (o : PlanOptions) (n now : ℕ) (d : Driven) (old new : Option (List ℕ)) →
-    IsPrinted s o n now d old new → n ≤ o.steps → WritesFront old new (plan_text s o)
-stopped s o n now d old new printed within = (lines_text s (run s o n), front_of_plan s o n within, printed.wrote)
+pub stopped : (s : Schedule) (o : PlanOptions) (n now : ℕ) (d : Driven) (pending : List ℕ) (old new : Option (List ℕ)) →
+    IsPrinted s o n now d pending old new → n ≤ o.steps → WritesFront old new (plan_text s o)
+stopped s o n now d pending old new printed within =
+    let front = printed.wrote.0 in
+    (front, IsFront-trans front (lines_text s (run s o n)) (plan_text s o) (pending, printed.wrote.1) (front_of_plan s o n within), printed.wrote.2)
 
-module _ (s : Schedule) (o : PlanOptions) (n now : ℕ) (d next : Driven) (old mid : Option (List ℕ))
-    (printed : IsPrinted s o n now d old mid) (stepped : next ≡ after d (event_at o now)) where
+-- after the last step all of the text is written but what is pending
+pub all_steps : (s : Schedule) (o : PlanOptions) (n now : ℕ) (d : Driven) (pending : List ℕ) (old new : Option (List ℕ)) →
+    IsPrinted s o n now d pending old new → n ≡ o.steps → WritesAllBut old new (plan_text s o) pending
+all_steps s o n now d pending old new printed last =
+    subst (λ k. WritesAllBut old new (lines_text s (run s o k)) pending) last printed.wrote
+
+-- where writing stops in a front of the text, it stops in the text
+front_of_text : (old new : Option (List ℕ)) (front text : List ℕ) (fault : PrintFault) → IsFront front text →
+    WritesText old new front (Err fault) → WritesText old new text (Err fault)
+front_of_text old new front text WriteFailed is wrote = (wrote.0, IsFront-trans wrote.0 front text wrote.1 is, wrote.2)
+front_of_text old new front text NoMemory is wrote = (wrote.0, IsFront-trans wrote.0 front text wrote.1 is, wrote.2)
+front_of_text old new front text ReadFailed is wrote = absurd wrote
+front_of_text old new front text TooLong is wrote = absurd wrote
+front_of_text old new front text NotJson is wrote = absurd wrote
+front_of_text old new front text NotAPlan is wrote = absurd wrote
+front_of_text old new front text OutOfRange is wrote = absurd wrote
+front_of_text old new front text TooDeep is wrote = absurd wrote
+front_of_text old new front text TooMany is wrote = absurd wrote
+front_of_text old new front text NotStarted is wrote = absurd wrote
+front_of_text old new front text Unfinished is wrote = absurd wrote
+front_of_text old new front text Mixed is wrote = absurd wrote
+
+module _ (s : Schedule) (o : PlanOptions) (n now : ℕ) (d next : Driven) (pending more : List ℕ) (old mid : Option (List ℕ))
+    (printed : IsPrinted s o n now d pending old mid) (stepped : next ≡ after d (event_at o now))
+    (more_is : more ≡ pending ++ line_text next.plan next.journal) where
   -- the driver after the event at `now`
   driven_next : next ≡ record { plan = s; journal = run s o n ++ event_at o now ∷ [] }
   driven_next = stepped ∙ (λ i. record { plan = printed.plan_is i; journal = printed.run_is i ++ event_at o now ∷ [] })
@@ -53,29 +77,29 @@ module _ (s : Schedule) (o : PlanOptions) (n now : ℕ) (d next : Driven) (old m
   grown = run-grows s o n now printed.next_is
 
   -- the lines so far and the driver's last line are the lines of the longer run
-  pub lines_next : (line : List ℕ) → line ≡ line_text next.plan next.journal → lines_text s (run s o n) ++ line ≡ lines_text s (run s o (n + 1))
-  lines_next line is =
-      ap (λ l. lines_text s (run s o n) ++ l) (is ∙ ap (λ x. line_text x.plan x.journal) driven_next)
+  lines_next : lines_text s (run s o n) ++ line_text next.plan next.journal ≡ lines_text s (run s o (n + 1))
+  lines_next =
+      ap (λ l. lines_text s (run s o n) ++ l) (ap (λ x. line_text x.plan x.journal) driven_next)
       ∙ sym (lines_text-push s (run s o n) (event_at o now)) ∙ ap (λ h. lines_text s h) (sym grown)
 
-  wrote_next : (new : Option (List ℕ)) (line : List ℕ) → line ≡ line_text next.plan next.journal → Appends mid new line →
-      Appends old new (lines_text s (run s o (n + 1)))
-  wrote_next new line is put =
-      subst (λ text. Appends old new text) (lines_next line is) (Appends-trans old mid new (lines_text s (run s o n)) line printed.wrote put)
+  -- once the line is pending, all of the longer run's lines are written but what is pending
+  pub one_more : WritesAllBut old mid (lines_text s (run s o (n + 1))) more
+  one_more =
+      subst (λ text. WritesAllBut old mid text more) lines_next
+      (grows old mid (lines_text s (run s o n)) pending printed.wrote (line_text next.plan next.journal) more more_is)
 
-  -- where the plan is done, all of the text is written
-  pub finished : (new : Option (List ℕ)) (line : List ℕ) → line ≡ line_text next.plan next.journal → Appends mid new line →
-      n + 1 ≤ o.steps → None ≡ next_start_of next → Appends old new (plan_text s o)
-  finished new line is put within done =
+  -- where the plan is done, that is all of the text
+  pub finished : n + 1 ≤ o.steps → None ≡ next_start_of next → WritesAllBut old mid (plan_text s o) more
+  finished within done =
       let ends : next_moment s o (run s o (n + 1)) ≡ None =
       ap (next_moment s o) grown ∙ next_moment-push s o (run s o n) (event_at o now) None (done ∙ ap next_start_of driven_next) in
-      subst (λ text. Appends old new text) (sym (end_of_plan s o (n + 1) within ends)) (wrote_next new line is put)
+      subst (λ text. WritesAllBut old mid text more) (sym (end_of_plan s o (n + 1) within ends)) one_more
 
-  -- where it goes on, one more line is written and the next event is at its start and the time that its work took
-  pub goes_on : (new : Option (List ℕ)) (line : List ℕ) (start then : ℕ) → line ≡ line_text next.plan next.journal → Appends mid new line →
+  -- where it goes on, the next event is at its start and the time that its work took
+  pub goes_on : (rest : List ℕ) (new : Option (List ℕ)) (start then : ℕ) → WritesAllBut mid new more rest →
       Some start ≡ next_start_of next → StartsBy now (answer next.plan next.journal).decision → now ≤ FAR →
-      then ≡ capped (start + o.took) → IsPrinted s o (n + 1) then next old new
-  goes_on new line start then is put going from in_range then_is =
+      then ≡ capped (start + o.took) → IsPrinted s o (n + 1) then next rest old new
+  goes_on rest new start then put going from in_range then_is =
       let planned : Some start ≡ next_start_of (record { plan = s; journal = run s o n ++ event_at o now ∷ [] }) = going ∙ ap next_start_of driven_next in
       let not_before : now ≤ start =
       starts_from s (run s o n) (event_at o now) now start
@@ -89,29 +113,12 @@ module _ (s : Schedule) (o : PlanOptions) (n now : ℕ) (d next : Driven) (old m
             ∙ ap Some (sym then_is);
         later = omega arith;
         count = ap (λ x. length x.journal) stepped ∙ length-append d.journal (event_at o now ∷ []) ∙ ap (λ k. k + 1) printed.count;
-        wrote = wrote_next new line is put;
+        wrote = moves old mid (lines_text s (run s o (n + 1))) more one_more new rest put;
       }
 
   -- where a write fails, a front of the text is written
-  pub stopped_in_line : (new : Option (List ℕ)) (line : List ℕ) (fault : PrintFault) → line ≡ line_text next.plan next.journal →
-      n + 1 ≤ o.steps → StopsWriting fault mid new line → WritesText old new (plan_text s o) (Err fault)
-  stopped_in_line new line WriteFailed is within stop =
-      let lines = lines_text s (run s o n) in
-      let front = stop.0 in (
-        lines ++ front,
-        IsFront-trans (lines ++ front) (lines_text s (run s o (n + 1))) (plan_text s o)
-            (stop.1.0, sym (lines_next line is) ∙ ap (λ l. lines ++ l) stop.1.1 ∙ sym (append_assoc lines front stop.1.0))
-            (front_of_plan s o (n + 1) within),
-        Appends-trans old mid new lines front printed.wrote stop.2,
-      )
-  stopped_in_line new line ReadFailed is within stop = absurd stop
-  stopped_in_line new line TooLong is within stop = absurd stop
-  stopped_in_line new line NotJson is within stop = absurd stop
-  stopped_in_line new line NotAPlan is within stop = absurd stop
-  stopped_in_line new line OutOfRange is within stop = absurd stop
-  stopped_in_line new line TooDeep is within stop = absurd stop
-  stopped_in_line new line TooMany is within stop = absurd stop
-  stopped_in_line new line NoMemory is within stop = absurd stop
-  stopped_in_line new line NotStarted is within stop = absurd stop
-  stopped_in_line new line Unfinished is within stop = absurd stop
-  stopped_in_line new line Mixed is within stop = absurd stop
+  pub stopped_in_line : (new : Option (List ℕ)) (fault : PrintFault) → n + 1 ≤ o.steps → StopsWriting fault mid new more →
+      WritesText old new (plan_text s o) (Err fault)
+  stopped_in_line new fault within stop =
+      front_of_text old new (lines_text s (run s o (n + 1))) (plan_text s o) fault (front_of_plan s o (n + 1) within)
+      (stops old mid (lines_text s (run s o (n + 1))) more one_more new fault stop)

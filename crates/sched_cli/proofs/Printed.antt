@@ -1,7 +1,6 @@
 -- What is true while a plan's lines are written, one event after another.
 use Rattle.std.proofs.Common.{◌≡◌, ℕ, zero, suc, ◌+◌, ◌-◌, ◌≤◌, List, [], ◌∷◌, ◌++◌, length, flat_map, Option, Some, None, option_map, refl, sym, ◌∙◌, ap, subst, append_assoc, arith, add-one}
 use Rattle.std.proofs.lemmas.List.{append-nil, flat_map_more}
-use Rattle.std.specs.Io.KnownBytes.{Appends}
 use Rattle.std.proofs.KnownBytes.{Appends-nil}
 use Rattle.sched_time.specs.Capped.{capped}
 use Rattle.sched_plan.specs.Schedule.{Schedule}
@@ -10,7 +9,7 @@ use Rattle.sched_plan.specs.HistoryLaws.{prefixes-push}
 use Rattle.sched_plan.specs.declared.history.Event.{Event}
 use Rattle.sched_driver.specs.Driven.{Driven, next_start_of}
 use Rattle.sched_cli.specs.PlanText.{event_at, next_moment, and_at, run, line_text, lines_text, plan_text}
-use Rattle.sched_cli.specs.Whole.{IsFront}
+use Rattle.sched_cli.specs.Whole.{IsFront, WritesAllBut}
 use Rattle.sched_cli.specs.declared.options.PlanOptions.{PlanOptions}
 
 -- a longer history has one line more
@@ -74,21 +73,22 @@ pub next_moment-push : (s : Schedule) (o : PlanOptions) (h : List Event) (e : Ev
 next_moment-push s o [] e start is = ap (option_map (λ t. capped (t + o.took))) (sym is)
 next_moment-push s o (d ∷ h) e start is = ap (option_map (λ t. capped (t + o.took))) (sym is)
 
--- n lines of the plan are written, and the next event is at `now`
-pub record IsPrinted (s : Schedule) (o : PlanOptions) (n now : ℕ) (d : Driven) (old new : Option (List ℕ)) : Type 0 where
+-- n lines of the plan are written but for what is pending, and the next event is at `now`
+pub record IsPrinted (s : Schedule) (o : PlanOptions) (n now : ℕ) (d : Driven) (pending : List ℕ) (old new : Option (List ℕ)) : Type 0 where
   pub plan_is : d.plan ≡ s
   pub run_is : d.journal ≡ run s o n
   pub next_is : next_moment s o (run s o n) ≡ Some now
   pub later : last_moment d.journal ≤ now
   pub count : length d.journal ≡ n
-  pub wrote : Appends old new (lines_text s (run s o n))
+  pub wrote : WritesAllBut old new (lines_text s (run s o n)) pending
 
-pub printed_init : (s : Schedule) (o : PlanOptions) (d : Driven) (w : Option (List ℕ)) → d.plan ≡ s → d.journal ≡ [] → IsPrinted s o 0 o.from d w w
-printed_init s o d w plan fresh = record {
+pub printed_init : (s : Schedule) (o : PlanOptions) (d : Driven) (pending : List ℕ) (w : Option (List ℕ)) → d.plan ≡ s → d.journal ≡ [] →
+    pending ≡ [] → IsPrinted s o 0 o.from d pending w w
+printed_init s o d pending w plan fresh empty = record {
   plan_is = plan;
   run_is = fresh;
   next_is = refl;
   later = rw fresh (omega arith);
   count = ap length fresh;
-  wrote = Appends-nil w;
+  wrote = ([], sym empty, Appends-nil w);
 }

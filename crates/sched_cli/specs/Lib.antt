@@ -3,6 +3,5 @@ pub mod Failures
 pub mod Options
 pub mod Status
 pub mod Whole
-pub mod Reading
 pub mod PlanText
 pub mod Printing

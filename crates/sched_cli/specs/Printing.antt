@@ -5,12 +5,12 @@ use Rattle.serde_json.specs.Data.{Data}
 use Rattle.serde_json.specs.Read.{read}
 use Rattle.sched_plan.specs.Schedule.{Schedule}
 use Rattle.sched_plan.specs.declared.plans.PlanFault.TheVariants as refused
-use Rattle.sched_cli.specs.Reading.{plan_of}
+use Rattle.sched_json.specs.PlanOf.{plan_of}
+use Rattle.sched_json.specs.declared.faults.ReadFault.{ReadFault}
+use Rattle.sched_json.specs.declared.faults.ReadFault.TheVariants as reading
 use Rattle.sched_cli.specs.PlanText.{plan_text}
 use Rattle.sched_cli.specs.Whole.{IsWholeInput, StopsReading, WritesFront}
 use Rattle.sched_cli.specs.declared.options.PlanOptions.{PlanOptions}
-use Rattle.sched_cli.specs.declared.reading.ReadFault.{ReadFault}
-use Rattle.sched_cli.specs.declared.reading.ReadFault.TheVariants as reading
 use Rattle.sched_cli.specs.declared.faults.PrintFault.{PrintFault}
 use Rattle.sched_cli.specs.declared.faults.PrintFault.TheVariants.{ReadFailed, TooLong, NotJson, NotAPlan, OutOfRange, TooDeep, TooMany, NoMemory, NotStarted, WriteFailed, Unfinished, Mixed}
 

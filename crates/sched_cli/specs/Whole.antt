@@ -30,6 +30,10 @@ IsFront front text = (rest : List ℕ) × (text ≡ front ++ rest)
 abbrev pub WritesFront : Option (List ℕ) → Option (List ℕ) → List ℕ → Type 0
 WritesFront taken taken' text = (front : List ℕ) × IsFront front text × Appends taken taken' front
 
+-- all of the text was written but what is still pending
+abbrev pub WritesAllBut : Option (List ℕ) → Option (List ℕ) → List ℕ → List ℕ → Type 0
+WritesAllBut taken taken' text pending = (front : List ℕ) × (text ≡ front ++ pending) × Appends taken taken' front
+
 -- writing stopped at a fault: after a front of the text
 abbrev pub StopsWriting : PrintFault → Option (List ℕ) → Option (List ℕ) → List ℕ → Type 0
 StopsWriting WriteFailed taken taken' text = WritesFront taken taken' text

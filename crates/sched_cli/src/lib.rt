@@ -1,11 +1,10 @@
-//! What the program `zsched` reads and writes: its command line, its streams, its plans and its faults.
+//! What the program `zsched` reads and writes: its command line, its streams, what it prints and its faults.
 #![tactic(auto)]
 
 mod counts;
 mod faults;
 mod options;
 mod printing;
-mod reading;
 mod streams;
 #[cfg(test)]
 mod tests;
@@ -16,7 +15,6 @@ pub use counts::Counted;
 pub use faults::{PrintFault, WordsFault};
 pub use options::{Asked, MOST_STEPS, PlanOptions};
 pub use printing::print_plan;
-pub use reading::{ReadFault, read_plan};
 pub use streams::{Sink, Source};
 pub use whole::LONGEST_INPUT;
 pub use words::read_words;

@@ -1,4 +1,4 @@
-ghost use Rattle.std.specs.Prelude.{◌≡◌, ◌<◌, ◌≤◌, length, string_bytes, IfOk, IfErr};
+ghost use Rattle.std.specs.Prelude.{◌≡◌, ◌<◌, ◌≤◌, ◌++◌, length, string_bytes, IfOk, IfErr, OnOk};
 ghost use Rattle.sched_time.specs.declared.numbers.TheConstants.{FAR};
 ghost use Rattle.sched_plan.specs.History.{last_moment};
 ghost use Rattle.sched_plan.specs.Answer.{answer};
@@ -10,10 +10,10 @@ ghost use Rattle.sched_cli.specs.Whole.{count_of_reads, count_of_writes};
 
 use crate::faults::PrintFault;
 use crate::options::PlanOptions;
-use crate::reading::{ReadFault, read_plan};
 use crate::streams::{Sink, Source};
-use crate::whole::{put_all, read_all};
+use crate::whole::{put_all, put_long, read_all};
 use sched_driver::{DriveFault, Driver};
+use sched_json::{ReadFault, read_plan};
 use sched_plan::{Plan, PlanFault, Val};
 use sched_time::{Moment, NoMemory, Tick};
 use serde_json::Value;
@@ -59,7 +59,7 @@ fn plan_in(alloc: Global, bytes: &[u8]) -> Result<Plan, PrintFault>
     }
 }
 
-// Writes the plan's lines.
+// Writes the plan's lines, many at a time.
 fn write_plan<W: Sink>(
     alloc: Global,
     plan: Plan,
@@ -70,17 +70,18 @@ fn write_plan<W: Sink>(
     ensures counts { W.failures writer.new ≡ count_of_writes result (W.failures writer.old) }
 {
     let mut driver = Driver::new(alloc, plan)?;
+    let mut lines = String::new(alloc);
     let mut now = options.from;
     for _step in 0..options.steps {
         step_at(alloc, &mut driver, now, options)?;
-        let line = last_line(alloc, &driver, now)?;
-        put_all(writer, line.as_bytes())?;
+        add_line(alloc, &mut lines, &driver, now)?;
         let Some(start) = driver.next_start() else {
-            return Ok(());
+            return put_all(writer, lines.as_bytes());
         };
+        put_long(writer, &mut lines)?;
         now = start.plus(options.took);
     }
-    Ok(())
+    put_all(writer, lines.as_bytes())
 }
 
 // Steps the driver with the event at `now`.
@@ -105,22 +106,21 @@ fn step_at(
     }
 }
 
-// The line of the driver's last event, which was at `now`.
-fn last_line(alloc: Global, driver: &Driver, now: Moment) -> Result<String, NoMemory>
+// Adds the line of the driver's last event, which was at `now`.
+fn add_line(alloc: Global, lines: &mut String, driver: &Driver, now: Moment) -> Result<(), NoMemory>
     requires some { 0 < length driver.now.journal }
     requires last { now ≡ last_moment driver.now.journal }
-    ensures line { IfOk result (λ line. string_bytes line ≡ line_text driver.now.plan driver.now.journal) }
-    ensures in_range { IfOk result (λ _. now ≤ FAR) }
+    ensures line { OnOk result (string_bytes lines.new ≡ string_bytes lines.old ++ line_text driver.now.plan driver.now.journal) }
+    ensures in_range { OnOk result (now ≤ FAR) }
 {
     let Some(output) = driver.last() else {
         unreachable!()
     };
     let output = output.text(alloc)?;
-    let mut line = String::new(alloc);
-    write!(line, "{}: {}", now.get(), output)?;
+    write!(lines, "{}: {}", now.get(), output)?;
     match driver.next_start() {
-        Some(start) => write!(line, " next {}\n", start.get())?,
-        None => line.push_str(" done\n")?,
+        Some(start) => write!(lines, " next {}\n", start.get())?,
+        None => lines.push_str(" done\n")?,
     }
-    Ok(line)
+    Ok(())
 }

@@ -3,5 +3,5 @@ mod command_lines;
 mod fakes;
 mod fault_lines;
 mod printed_plans;
-pub(crate) mod texts;
+mod texts;
 mod whole_streams;

@@ -1,6 +1,6 @@
-ghost use Rattle.std.specs.Prelude.{◌≡◌, MatchResult};
+ghost use Rattle.std.specs.Prelude.{◌≡◌, MatchResult, string_bytes};
 ghost use Rattle.std.specs.Io.KnownBytes.{Appends};
-ghost use Rattle.sched_cli.specs.Whole.{IsWholeInput, StopsReading, StopsWriting, count_of_reads, count_of_writes};
+ghost use Rattle.sched_cli.specs.Whole.{IsWholeInput, StopsReading, WritesAllBut, StopsWriting, count_of_reads, count_of_writes};
 
 use crate::faults::PrintFault;
 use crate::streams::{Sink, Source};
@@ -12,7 +12,7 @@ pub const LONGEST_INPUT: usize = 1048576;
 // The most bytes that are read, and the most reads: an input may be seen to be too long by one byte.
 const MOST_READS: usize = LONGEST_INPUT + 1;
 
-// The most bytes of one read.
+// The most bytes of one read, and the fewest that are written before the last ones.
 const CHUNK: usize = 8192;
 
 /// Reads an input to its end, in at most 1,048,577 reads that take at most as many bytes.
@@ -42,6 +42,21 @@ pub(crate) fn read_all<R: Source>(alloc: Global, reader: &mut R) -> Result<Vec<u
         }
     }
     unreachable!()
+}
+
+/// Writes what is pending once it fills a write of 8,192 bytes or more, and keeps none of it then. Refused with
+/// `WriteFailed` at the first write that fails or takes no byte; then exactly a front of it was written.
+pub(crate) fn put_long<W: Sink>(writer: &mut W, pending: &mut String) -> Result<(), PrintFault>
+    ensures bytes { MatchResult result
+        (λ _. WritesAllBut (W.taken writer.old) (W.taken writer.new) (string_bytes pending.old) (string_bytes pending.new))
+        (λ fault. StopsWriting fault (W.taken writer.old) (W.taken writer.new) (string_bytes pending.old)) }
+    ensures counts { W.failures writer.new ≡ count_of_writes result (W.failures writer.old) }
+{
+    if pending.len() >= CHUNK {
+        put_all(writer, pending.as_bytes())?;
+        pending.clear();
+    }
+    Ok(())
 }
 
 /// Writes all of `bytes`. Refused with `WriteFailed` at the first write that fails or takes no byte;

@@ -1,2 +1,5 @@
 pub mod Worked
+pub mod WorkedLeaves
+pub mod WorkedNodes
+pub mod WorkedRounds
 pub mod Items

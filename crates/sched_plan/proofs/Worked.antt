@@ -23,9 +23,20 @@ at ms = map (λ m. record { now = m; words = middle_word ∷ middle_word ∷ mid
 abbrev pub gives : Datum → Decision → Answer
 gives output decision = record { output = output; decision = decision }
 
--- the answers at each event in turn
+-- events at moment 0 with these inputs
+abbrev pub with_inputs : List Datum → List Event
+with_inputs ds = map (λ d. record { now = 0; words = middle_word ∷ middle_word ∷ middle_word ∷ middle_word ∷ []; input = d }) ds
+
+-- events at these moments, with these random words each
+abbrev pub with_words : List ℕ → List ℕ → List Event
+with_words ws ms = map (λ m. record { now = m; words = ws; input = num 0 }) ms
+
+-- the answers at each event of the history in turn
+abbrev pub answers_on : Schedule → List Event → List Answer
+answers_on s h = map (answer s) (prefixes h)
+
 abbrev pub answers : Schedule → List ℕ → List Answer
-answers s ms = map (answer s) (prefixes (at ms))
+answers s ms = answers_on s (at ms)
 
 pub meet_of_recurs_and_spaced : answers (two Meet (leaf (Recurs 3)) (leaf (Spaced 100))) (0 ∷ 100 ∷ 200 ∷ 300 ∷ []) ≡
     gives (pair (num 0) (num 0)) (Go 100) ∷ gives (pair (num 1) (num 1)) (Go 200) ∷

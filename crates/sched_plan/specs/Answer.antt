@@ -1,17 +1,24 @@
 -- What a schedule answers on a history, as a function of the whole list of events, oldest first.
-use Rattle.std.specs.Prelude.{ℕ, ◌+◌, ◌-◌, ◌%◌, max, Bool, true, false, if◌then◌else◌, nat_lt, nat_le, List, [], ◌∷◌, drop, length, reverse, find, Option, Some, None}
+use Rattle.std.specs.Prelude.{ℕ, ◌+◌, ◌-◌, ◌%◌, min, max, Bool, true, false, if◌then◌else◌, nat_eq, nat_lt, nat_le, List, [], ◌∷◌, drop, length, reverse, find, get_or, Option, Some, None}
 use Rattle.sched_time.specs.Capped.{capped}
 use Rattle.sched_time.specs.declared.starts.Decision.{Decision}
 use Rattle.sched_time.specs.declared.starts.Decision.TheVariants.{Go, Done}
-use Rattle.sched_plan.specs.Datum.{unit, num, pair}
+use Rattle.sched_plan.specs.Datum.{Datum, unit, num, pair, first_part, second_part}
 use Rattle.sched_plan.specs.Schedule.{Schedule, leaf, one, two}
-use Rattle.sched_plan.specs.History.{first_moment, last_moment, repeats, prefixes}
+use Rattle.sched_plan.specs.History.{first_moment, last_moment, last_input, last_words, repeats, prefixes}
+use Rattle.sched_plan.specs.Sequences.{linear_at, exponential_at, milli_at, fibonacci_at, unfold_at}
+use Rattle.sched_plan.specs.Outputs.{earlier_outputs, sum_of, count_of, greatest_of, list_of, fed}
+use Rattle.sched_plan.specs.Rounds.{last_block, last_run}
+use Rattle.sched_plan.specs.Delays.{added, added_out, jittered, moved}
+use Rattle.sched_plan.specs.Gates.{gated}
 use Rattle.sched_plan.specs.declared.leaves.Leaf.{Leaf}
-use Rattle.sched_plan.specs.declared.leaves.Leaf.TheVariants.{Forever, Recurs, Spaced, Fixed}
+use Rattle.sched_plan.specs.declared.leaves.Leaf.TheVariants.{Forever, Recurs, Spaced, Fixed, Windowed, Linear, Exponential, ExponentialMilli, Fibonacci, Elapsed, Identity, Unfold, Lone}
+use Rattle.sched_plan.specs.declared.nodes.Fold.{Fold}
+use Rattle.sched_plan.specs.declared.nodes.Fold.TheVariants.{Sum, Count, Max, List as All}
 use Rattle.sched_plan.specs.declared.nodes.One.{One}
-use Rattle.sched_plan.specs.declared.nodes.One.TheVariants.{Within, Nothing}
+use Rattle.sched_plan.specs.declared.nodes.One.TheVariants.{Gate, Gather, Add, Set, Cap, AddOut, Jitter, Within, Renew, RenewIdle, First, Second, Nothing}
 use Rattle.sched_plan.specs.declared.nodes.Two.{Two}
-use Rattle.sched_plan.specs.declared.nodes.Two.TheVariants.{Meet, Follow}
+use Rattle.sched_plan.specs.declared.nodes.Two.TheVariants.{Meet, Join, Follow, Feed}
 use Rattle.sched_plan.specs.declared.history.Event.{Event}
 use Rattle.sched_plan.specs.declared.history.Answer.{Answer}
 
@@ -37,16 +44,46 @@ fixed_plan d f (e ∷ earlier) =
 abbrev pub fixed_start : ℕ → List Event → ℕ
 fixed_start d h = fixed_plan d (first_moment h) (reverse h)
 
--- what a recurrence of its own decides at the last event
+-- The output of a recurrence of its own. Those that have no number of their own give how often they have recurred
+-- before this event.
+abbrev pub leaf_output : Leaf → List Event → Datum
+leaf_output Forever h = num (repeats h)
+leaf_output (Recurs count) h = num (repeats h)
+leaf_output (Spaced delay) h = num (repeats h)
+leaf_output (Fixed length) h = num (repeats h)
+leaf_output (Windowed length) h = num (repeats h)
+leaf_output (Linear delay) h = num (linear_at delay (length h))
+leaf_output (Exponential base factor) h = num (exponential_at base factor (length h))
+leaf_output (ExponentialMilli base thousandths) h = num (milli_at base thousandths (length h))
+leaf_output (Fibonacci delay) h = num (fibonacci_at delay (length h))
+leaf_output Elapsed h = num (last_moment h - first_moment h)
+leaf_output Identity h = last_input h
+leaf_output (Unfold seed factor more) h = num (unfold_at seed factor more (length h))
+leaf_output (Lone delay) h = num (if nat_eq (length h) 1 then delay else 0)
+
+-- goes on so much after the last event
+abbrev pub go_after : ℕ → List Event → Decision
+go_after delay h = Go (capped (last_moment h + delay))
+
+-- what it decides at the last event
 abbrev pub leaf_decision : Leaf → List Event → Decision
 leaf_decision Forever h = Go (last_moment h)
 leaf_decision (Recurs count) h = if nat_lt (length h - 1) count then Go (last_moment h) else Done
-leaf_decision (Spaced delay) h = Go (capped (last_moment h + delay))
+leaf_decision (Spaced delay) h = go_after delay h
 leaf_decision (Fixed d) h = Go (fixed_start d h)
+leaf_decision (Windowed d) h = Go (next_boundary d (first_moment h) (last_moment h))
+leaf_decision (Linear delay) h = go_after (linear_at delay (length h)) h
+leaf_decision (Exponential base factor) h = go_after (exponential_at base factor (length h)) h
+leaf_decision (ExponentialMilli base thousandths) h = go_after (milli_at base thousandths (length h)) h
+leaf_decision (Fibonacci delay) h = go_after (fibonacci_at delay (length h)) h
+leaf_decision Elapsed h = Go (last_moment h)
+leaf_decision Identity h = Go (last_moment h)
+leaf_decision (Unfold seed factor more) h = Go (last_moment h)
+leaf_decision (Lone delay) h = if nat_eq (length h) 1 then go_after delay h else Done
 
--- its output is how often it has recurred before this event
+-- what it answers
 abbrev pub leaf_answer : Leaf → List Event → Answer
-leaf_answer l h = record { output = num (repeats h); decision = leaf_decision l h }
+leaf_answer l h = record { output = leaf_output l h; decision = leaf_decision l h }
 
 -- the intervals of both: going on at the later start where both go on, else done
 abbrev pub later : Decision → Decision → Decision
@@ -54,9 +91,19 @@ later (Go s) (Go t) = Go (max s t)
 later (Go s) Done = Done
 later Done d = Done
 
+-- the intervals of either: going on at the earlier start where both go on, and where one does at its start
+abbrev pub earlier : Decision → Decision → Decision
+earlier (Go s) (Go t) = Go (min s t)
+earlier (Go s) Done = Go s
+earlier Done d = d
+
 -- two schedules side by side, as ZIO's `&&`: the pair of outputs, while both go on
 abbrev pub both : Answer → Answer → Answer
 both a b = record { output = pair a.output b.output; decision = later a.decision b.decision }
+
+-- two schedules side by side, as ZIO's `||`: the pair of outputs, while one goes on
+abbrev pub either : Answer → Answer → Answer
+either a b = record { output = pair a.output b.output; decision = earlier a.decision b.decision }
 
 -- the shortest prefix of the history on which a schedule with these answers is done, if there is one
 abbrev pub crossing : (List Event → Answer) → List Event → Option (List Event)
@@ -72,23 +119,60 @@ abbrev pub follow_answer : (List Event → Answer) → (List Event → Answer) �
 follow_answer front rest None h = front h
 follow_answer front rest (Some p) h = rest (from_end_of p h)
 
+-- the second schedule, as ZIO's `>>>`, while both go on
+abbrev pub through : Answer → Answer → Answer
+through a b = record { output = b.output; decision = later a.decision b.decision }
+
 -- a schedule that is done once so much time has passed since the first event, as ZIO's `upTo`
 abbrev pub up_to : ℕ → List Event → Answer → Answer
 up_to d h a = if nat_le d (last_moment h - first_moment h) then record { output = a.output; decision = Done } else a
 
+-- the decision, at a start moved by what is made of its delay from now on
+abbrev pub moved_decision : (ℕ → ℕ) → ℕ → Decision → Decision
+moved_decision delay now (Go start) = Go (moved delay now start)
+moved_decision delay now Done = Done
+
+-- an answer with each delay changed
+abbrev pub shifted : (ℕ → ℕ) → List Event → Answer → Answer
+shifted delay h a = record { output = a.output; decision = moved_decision delay (last_moment h) a.decision }
+
+-- what is made of outputs
+abbrev pub gathered : Fold → List Datum → Datum
+gathered Sum ds = sum_of ds
+gathered Count ds = count_of ds
+gathered Max ds = greatest_of ds
+gathered All ds = list_of ds
+
+-- an answer with this output in place of its own
+abbrev pub giving : Datum → Answer → Answer
+giving output a = record { output = output; decision = a.decision }
+
 -- the decision alone
 abbrev pub silent : Answer → Answer
-silent a = record { output = unit; decision = a.decision }
+silent a = giving unit a
 
 -- what a node over one schedule answers, where the schedule has these answers
 abbrev pub changed : One → (List Event → Answer) → List Event → Answer
+changed (Gate side want test bound) f h = gated side want test bound (last_input h) (f h)
+changed (Gather fold) f h = giving (gathered fold (earlier_outputs f h)) (f h)
+changed (Add d) f h = shifted (added d) h (f h)
+changed (Set d) f h = shifted (λ _. d) h (f h)
+changed (Cap d) f h = shifted (λ delay. min delay d) h (f h)
+changed AddOut f h = shifted (added_out (f h).output) h (f h)
+changed (Jitter lane least most) f h = shifted (jittered least most (get_or (last_words h) lane 0)) h (f h)
 changed (Within d) f h = up_to d h (f h)
+changed (Renew d) f h = f (last_block d h)
+changed (RenewIdle d) f h = f (last_run d h)
+changed First f h = giving (first_part (f h).output) (f h)
+changed Second f h = giving (second_part (f h).output) (f h)
 changed Nothing f h = silent (f h)
 
 -- what a node over two schedules answers, where the schedules have these answers
 abbrev pub combined : Two → (List Event → Answer) → (List Event → Answer) → List Event → Answer
 combined Meet f g h = both (f h) (g h)
+combined Join f g h = either (f h) (g h)
 combined Follow f g h = follow_answer f g (crossing f h) h
+combined Feed f g h = through (f h) (g (fed f h))
 
 -- what the schedule answers at the last event of the history
 abbrev pub answer : Schedule → List Event → Answer

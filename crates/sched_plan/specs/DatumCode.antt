@@ -6,7 +6,7 @@ use base.Stored.{Gv, gnil, gnum, gcons}
 use mathlib.Core.Path.{sym, ◌∙◌, ap}
 
 abbrev mutual
-  datum_code : Datum → Gv
+  pub datum_code : Datum → Gv
   datum_code unit = gcons (gnum 0) (gcons gnil gnil)
   datum_code (num n) = gcons (gnum 1) (gcons (gnum n) gnil)
   datum_code (pair a b) = gcons (gnum 2) (gcons (datum_code a) (datum_code b))
@@ -24,7 +24,7 @@ number_from (gnum n) = n
 number_from _ = 0
 
 abbrev mutual
-  datum_from : Gv → Datum
+  pub datum_from : Gv → Datum
   datum_from (gcons (gnum tag) (gcons a b)) = datum_at tag (number_from a) (datum_from a) (datum_from b) (items_from a)
   datum_from _ = unit
 

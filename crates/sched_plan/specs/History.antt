@@ -1,6 +1,7 @@
 -- Histories: the events that a schedule was given, oldest first.
 use Rattle.std.specs.Prelude.{◌≤◌, ℕ, ◌-◌, List, [], ◌∷◌, map, length}
 use Rattle.sched_time.specs.Capped.{capped}
+use Rattle.sched_plan.specs.Datum.{Datum, unit}
 use Rattle.sched_plan.specs.declared.history.Event.{Event}
 
 -- the moment of the first event, or 0 where there is none
@@ -13,6 +14,18 @@ abbrev pub last_moment : List Event → ℕ
 last_moment [] = 0
 last_moment (e ∷ []) = e.now
 last_moment (e ∷ d ∷ h) = last_moment (d ∷ h)
+
+-- the input of the last event, or nothing where there is none
+abbrev pub last_input : List Event → Datum
+last_input [] = unit
+last_input (e ∷ []) = e.input
+last_input (e ∷ d ∷ h) = last_input (d ∷ h)
+
+-- the random words of the last event, lanes 0 to 3
+abbrev pub last_words : List Event → List ℕ
+last_words [] = []
+last_words (e ∷ []) = e.words
+last_words (e ∷ d ∷ h) = last_words (d ∷ h)
 
 -- the moments never fall
 abbrev pub IsHistory : List Event → Type 0

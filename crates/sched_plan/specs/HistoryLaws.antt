@@ -1,7 +1,7 @@
 -- What one more event does to a history.
 use Rattle.std.proofs.Common.{◌≡◌, ◌≤◌, List, [], ◌∷◌, ◌++◌, map, refl, ap, ◌∙◌}
 use Rattle.std.proofs.lemmas.List.{map-append}
-use Rattle.sched_plan.specs.History.{last_moment, IsHistory, prefixes}
+use Rattle.sched_plan.specs.History.{last_moment, last_input, last_words, IsHistory, prefixes}
 use Rattle.sched_plan.specs.declared.history.Event.{Event}
 
 -- the last moment is that of the event that came last
@@ -9,6 +9,18 @@ pub last_moment-push : (h : List Event) (e : Event) → last_moment (h ++ e ∷ 
 last_moment-push [] e = refl
 last_moment-push (d ∷ []) e = refl
 last_moment-push (d ∷ c ∷ h) e = last_moment-push (c ∷ h) e
+
+-- the last input is that of the event that came last
+pub last_input-push : (h : List Event) (e : Event) → last_input (h ++ e ∷ []) ≡ e.input
+last_input-push [] e = refl
+last_input-push (d ∷ []) e = refl
+last_input-push (d ∷ c ∷ h) e = last_input-push (c ∷ h) e
+
+-- the last words are those of the event that came last
+pub last_words-push : (h : List Event) (e : Event) → last_words (h ++ e ∷ []) ≡ e.words
+last_words-push [] e = refl
+last_words-push (d ∷ []) e = refl
+last_words-push (d ∷ c ∷ h) e = last_words-push (c ∷ h) e
 
 -- a history goes on with an event that is not before its last
 pub IsHistory-push : (h : List Event) (e : Event) → IsHistory h → last_moment h ≤ e.now → IsHistory (h ++ e ∷ [])

@@ -9,6 +9,16 @@ pub mod ScheduleCode
 pub mod Plan
 pub mod PlanFalls
 pub mod History
-pub mod EventCode
 pub mod HistoryLaws
+pub mod EventCode
+pub mod Sequences
+pub mod SequenceLaws
+pub mod Outputs
+pub mod OutputLaws
+pub mod Rounds
+pub mod RoundLaws
+pub mod Delays
+pub mod DelayLaws
+pub mod Gates
 pub mod Answer
+pub mod Laws

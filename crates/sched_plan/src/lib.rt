@@ -2,6 +2,7 @@
 #![tactic(auto)]
 
 mod history;
+pub mod laws;
 mod leaves;
 mod nodes;
 mod plans;
@@ -9,6 +10,6 @@ mod values;
 
 pub use history::{Answer, Event};
 pub use leaves::Leaf;
-pub use nodes::{One, Two};
+pub use nodes::{Fold, One, Side, Test, Two};
 pub use plans::{MOST_DEPTH, MOST_NODES, Plan, PlanFault, PlanShape};
 pub use values::{Val, ValShape};

@@ -1,5 +1,5 @@
 ghost use Rattle.std.specs.Prelude.{◌≡◌, ◌≤◌, ◌↔◌, true, IsTrue, IfOk};
-ghost use Rattle.sched_plan.specs.Schedule.{nodes_of, depth_of, is_valid, leaf_in_range, leaf as leaf_schedule};
+ghost use Rattle.sched_plan.specs.Schedule.{nodes_of, depth_of, is_valid};
 
 use crate::leaves::Leaf;
 use crate::nodes::{One, Two};
@@ -74,7 +74,7 @@ impl Model for Plan {
 }
 
 impl Plan {
-    ghost use Rattle.sched_plan.specs.Plan.{schedule_of, built_plan, Builds};
+    ghost use Rattle.sched_plan.specs.Plan.{schedule_of};
 
     /// The shape at the top, for a caller to match on.
     pub fn shape(&self) -> &PlanShape
@@ -133,18 +133,6 @@ impl Plan {
                 k == l && a.0.same(&b.0) && a.1.same(&b.1)
             }
             _ => false,
-        }
-    }
-
-    // The plan of one leaf.
-    fn of_leaf(leaf: Leaf) -> Plan
-        requires { IsTrue (leaf_in_range leaf) }
-        ensures { result ≡ leaf_schedule leaf }
-    {
-        Plan {
-            shape: PlanShape::Leaf(leaf),
-            nodes: 1,
-            depth: 1,
         }
     }
 }

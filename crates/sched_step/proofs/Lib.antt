@@ -1,4 +1,6 @@
 pub mod History
 pub mod Prefixes
 pub mod Fixed
+pub mod Moments
+pub mod KeepsList
 pub mod laws

@@ -1,14 +1,16 @@
-ghost use Rattle.std.specs.Prelude.{◌≡◌, ◌+◌, ◌<◌, ◌≤◌, [], IfOk, IsTrue};
-ghost use Rattle.std.specs.Option.{ForSome};
+ghost use Rattle.std.specs.Prelude.{◌≡◌, ◌+◌, ◌*◌, ◌/◌, ◌<◌, ◌≤◌, [], if◌then◌else◌, nat_lt, IfOk, IsTrue};
 ghost use Rattle.sched_time.specs.Capped.{capped};
+ghost use Rattle.sched_time.specs.declared.starts.Decision.{Decision};
 ghost use Rattle.sched_plan.specs.Datum.{num};
 ghost use Rattle.sched_plan.specs.Schedule.{leaf_in_range};
 ghost use Rattle.sched_step.specs.Progress.{leaf_view, leaf_keeps, leaf_began};
 ghost use Rattle.sched_step.specs.StateOf.{leaf_state, event_of};
-ghost use Rattle.sched_step.specs.Step.{leaf_from, leaf_next, leaf_answers, first_planned, next_fixed};
+ghost use Rattle.sched_step.specs.Step.{count_of, output_next, output_after, started_of, planned_of, is_spent, leaf_from, leaf_next, leaf_answers, first_planned, next_fixed};
 
+use crate::changes::at_most_far;
+use crate::times::{go_after, go_at, next_boundary, time_between, view_moment};
 use sched_plan::{Answer, Leaf, Val};
-use sched_time::{Decision, Interval, Millis, Moment, NoMemory, Tick};
+use sched_time::{Decision, Millis, Moment, NoMemory, Tick};
 use std::alloc::Global;
 
 // What is kept of a leaf's events.
@@ -18,6 +20,22 @@ pub(crate) enum LeafState {
     Counted(Millis),
     /// How many there were and, once there was one, the first moment and the start planned last.
     Planned(Millis, Option<(Moment, Moment)>),
+    /// How many there were and, once there was one, the first moment.
+    Windows(Millis, Option<Moment>),
+    /// The product that the next one puts out.
+    Product(Millis),
+    /// The scaled number that the next one puts out.
+    Scaled(Millis),
+    /// The numbers that the next two put out.
+    Summands(Millis, Millis),
+    /// The first moment, once there was one.
+    Started(Option<Moment>),
+    /// Nothing.
+    Blank,
+    /// The number that the next one puts out.
+    Unfolded(Millis),
+    /// Whether there was one.
+    Spent(bool),
 }
 
 impl LeafState {
@@ -25,11 +43,20 @@ impl LeafState {
     pub(crate) fn initial(leaf: Leaf) -> LeafState
         ensures { result ≡ leaf_state leaf [] }
     {
+        let none = Millis::from(0);
         match leaf {
-            Leaf::Forever | Leaf::Recurs(_) | Leaf::Spaced(_) => LeafState::Counted(Millis::from(
-                0,
-            )),
-            Leaf::Fixed(_) => LeafState::Planned(Millis::from(0), None),
+            Leaf::Forever | Leaf::Recurs(_) | Leaf::Spaced(_) | Leaf::Linear(_) => {
+                LeafState::Counted(none)
+            }
+            Leaf::Fixed(_) => LeafState::Planned(none, None),
+            Leaf::Windowed(_) => LeafState::Windows(none, None),
+            Leaf::Exponential { base, .. } => LeafState::Product(base.times(1)),
+            Leaf::ExponentialMilli { base, .. } => LeafState::Scaled(base),
+            Leaf::Fibonacci(delay) => LeafState::Summands(delay.times(1), delay.times(1)),
+            Leaf::Elapsed => LeafState::Started(None),
+            Leaf::Identity => LeafState::Blank,
+            Leaf::Unfold { seed, .. } => LeafState::Unfolded(seed),
+            Leaf::Lone(_) => LeafState::Spent(false),
         }
     }
 
@@ -49,7 +76,10 @@ impl LeafState {
         ensures { IfOk result (λ v. v ≡ leaf_view self.now) }
     {
         match *self {
-            LeafState::Counted(count) => Ok(Val::from(count)),
+            LeafState::Counted(number)
+            | LeafState::Product(number)
+            | LeafState::Scaled(number)
+            | LeafState::Unfolded(number) => Ok(Val::from(number)),
             LeafState::Planned(count, None) => Val::pair(alloc, Val::from(count), Val::unit()),
             LeafState::Planned(count, Some((first, start))) => {
                 let planned = Val::pair(
@@ -59,6 +89,15 @@ impl LeafState {
                 )?;
                 Val::pair(alloc, Val::from(count), planned)
             }
+            LeafState::Windows(count, first) => {
+                Val::pair(alloc, Val::from(count), view_moment(first))
+            }
+            LeafState::Summands(one, other) => {
+                Val::pair(alloc, Val::from(one), Val::from(other))
+            }
+            LeafState::Started(first) => Ok(view_moment(first)),
+            LeafState::Blank => Ok(Val::unit()),
+            LeafState::Spent(spent) => Ok(Val::from(Millis::from(u32::from(spent)))),
         }
     }
 
@@ -67,8 +106,19 @@ impl LeafState {
         ensures { result ≡ leaf_keeps leaf self }
     {
         match (leaf, self) {
-            (Leaf::Forever | Leaf::Recurs(_) | Leaf::Spaced(_), LeafState::Counted(_)) => true,
+            (
+                Leaf::Forever | Leaf::Recurs(_) | Leaf::Spaced(_) | Leaf::Linear(_),
+                LeafState::Counted(_),
+            ) => true,
             (Leaf::Fixed(_), LeafState::Planned(_, _)) => true,
+            (Leaf::Windowed(_), LeafState::Windows(_, _)) => true,
+            (Leaf::Exponential { .. }, LeafState::Product(_)) => true,
+            (Leaf::ExponentialMilli { .. }, LeafState::Scaled(_)) => true,
+            (Leaf::Fibonacci(_), LeafState::Summands(_, _)) => true,
+            (Leaf::Elapsed, LeafState::Started(_)) => true,
+            (Leaf::Identity, LeafState::Blank) => true,
+            (Leaf::Unfold { .. }, LeafState::Unfolded(_)) => true,
+            (Leaf::Lone(_), LeafState::Spent(_)) => true,
             _ => false,
         }
     }
@@ -78,38 +128,161 @@ impl LeafState {
         ensures { result ≡ leaf_began self now }
     {
         match self {
-            LeafState::Planned(_, Some((first, _))) => first <= now,
+            LeafState::Planned(_, Some((first, _)))
+            | LeafState::Windows(_, Some(first))
+            | LeafState::Started(Some(first)) => first <= now,
             _ => true,
         }
     }
 
-    /// The state after one more event, and what the leaf answers to it.
-    pub(crate) fn step(self, leaf: Leaf, tick: &Tick, input: &Val) -> (LeafState, Answer)
-        requires valid { IsTrue (leaf_in_range leaf) }
-        requires keeps { IsTrue (leaf_keeps leaf self) }
-        requires began { IsTrue (leaf_began self tick.now.now) }
-        ensures { result ≡
-            (leaf_next leaf self (event_of tick.entry.now input.now), leaf_answers leaf self (event_of tick.entry.now input.now)) }
+    /// Notes in `next` the state after one more event, and gives what the leaf answers to it. It takes memory for the
+    /// output alone.
+    pub(crate) fn step(
+        self,
+        alloc: Global,
+        leaf: &Leaf,
+        next: &mut LeafState,
+        tick: &Tick,
+        input: &Val,
+    ) -> Result<Answer, NoMemory>
+        requires { IsTrue (leaf_in_range leaf.now) }
+        ensures next { IfOk result (λ _. next.new ≡ leaf_next leaf.now self (event_of tick.entry.now input.now)) }
+        ensures answer { IfOk result
+            (λ answer. answer ≡ leaf_answers leaf.now self (event_of tick.entry.now input.now)) }
     {
         let now = tick.now;
+        match *leaf {
+            Leaf::Forever => {
+                *next = LeafState::Counted(one_more(self.count()));
+                Ok(giving(self.count(), go_at(now)))
+            }
+            Leaf::Recurs(most) => {
+                *next = LeafState::Counted(one_more(self.count()));
+                Ok(giving(self.count(), go_below(self.count(), most, now)))
+            }
+            Leaf::Spaced(delay) => {
+                *next = LeafState::Counted(one_more(self.count()));
+                Ok(giving(self.count(), go_after(now, delay)))
+            }
+            Leaf::Fixed(length) => {
+                let start = next_fixed(length, self.planned(), now);
+                let first = first_planned(self.planned(), now);
+                *next = LeafState::Planned(one_more(self.count()), Some((first, start)));
+                Ok(giving(self.count(), go_at(start)))
+            }
+            Leaf::Windowed(length) => {
+                let first = self.started().unwrap_or(now);
+                *next = LeafState::Windows(one_more(self.count()), Some(first));
+                Ok(giving(self.count(), go_at(next_boundary(length, first, now))))
+            }
+            Leaf::Linear(delay) => {
+                let count = one_more(self.count());
+                *next = LeafState::Counted(count);
+                let delay = delay.times(count.get());
+                Ok(giving(delay, go_after(now, delay)))
+            }
+            Leaf::Exponential { factor, .. } => {
+                let delay = self.output();
+                *next = LeafState::Product(delay.times(factor));
+                Ok(giving(delay, go_after(now, delay)))
+            }
+            Leaf::ExponentialMilli { thousandths, .. } => {
+                let delay = self.output();
+                *next = LeafState::Scaled(scaled(delay, thousandths));
+                Ok(giving(delay, go_after(now, delay)))
+            }
+            Leaf::Fibonacci(_) => {
+                let delay = self.output();
+                let after = self.output_after();
+                *next = LeafState::Summands(after, delay.plus(after));
+                Ok(giving(delay, go_after(now, delay)))
+            }
+            Leaf::Elapsed => {
+                let first = self.started().unwrap_or(now);
+                *next = LeafState::Started(Some(first));
+                Ok(giving(time_between(first, now), go_at(now)))
+            }
+            Leaf::Identity => {
+                *next = LeafState::Blank;
+                Ok(Answer {
+                    output: input.copy(alloc)?,
+                    decision: go_at(now),
+                })
+            }
+            Leaf::Unfold { factor, more, .. } => {
+                let number = self.output();
+                *next = LeafState::Unfolded(factor.times(number.get()).plus(more));
+                Ok(giving(number, go_at(now)))
+            }
+            Leaf::Lone(delay) => {
+                *next = LeafState::Spent(true);
+                Ok(lone(self.is_spent(), delay, now))
+            }
+        }
+    }
+
+    // How many events it counted, or 0.
+    fn count(self) -> Millis
+        ensures { result ≡ count_of self }
+    {
         match self {
-            LeafState::Counted(count) => {
-                let decision = match leaf {
-                    Leaf::Recurs(most) if most.get() <= count.get() => Decision::Done,
-                    Leaf::Spaced(delay) => Decision::Go(Interval::after(now.plus(delay))),
-                    _ => Decision::Go(Interval::after(now)),
-                };
-                (LeafState::Counted(one_more(count)), answer(count, decision))
-            }
-            LeafState::Planned(count, planned) => {
-                let Leaf::Fixed(length) = leaf else {
-                    unreachable!()
-                };
-                let (first, start) = fixed_next(length, planned, now);
-                let decision = Decision::Go(Interval::after(start));
-                let kept = LeafState::Planned(one_more(count), Some((first, start)));
-                (kept, answer(count, decision))
-            }
+            LeafState::Counted(count)
+            | LeafState::Planned(count, _)
+            | LeafState::Windows(count, _) => count,
+            _ => Millis::from(0),
+        }
+    }
+
+    // What the next event puts out, or 0.
+    fn output(self) -> Millis
+        ensures { result ≡ output_next self }
+    {
+        match self {
+            LeafState::Product(number)
+            | LeafState::Scaled(number)
+            | LeafState::Summands(number, _)
+            | LeafState::Unfolded(number) => number,
+            _ => Millis::from(0),
+        }
+    }
+
+    // What the event after that puts out, or 0.
+    fn output_after(self) -> Millis
+        ensures { result ≡ output_after self }
+    {
+        match self {
+            LeafState::Summands(_, number) => number,
+            _ => Millis::from(0),
+        }
+    }
+
+    // The first moment, if there was one.
+    fn started(self) -> Option<Moment>
+        ensures { result ≡ started_of self }
+    {
+        match self {
+            LeafState::Windows(_, first) | LeafState::Started(first) => first,
+            _ => None,
+        }
+    }
+
+    // The first moment and the start planned last, if there was one.
+    fn planned(self) -> Option<(Moment, Moment)>
+        ensures { result ≡ planned_of self }
+    {
+        match self {
+            LeafState::Planned(_, planned) => planned,
+            _ => None,
+        }
+    }
+
+    // Whether the one event is past.
+    fn is_spent(self) -> bool
+        ensures { result ≡ is_spent self }
+    {
+        match self {
+            LeafState::Spent(spent) => spent,
+            _ => false,
         }
     }
 }
@@ -121,30 +294,70 @@ fn one_more(count: Millis) -> Millis
     count.plus(Millis::from(1))
 }
 
-// What a leaf answers after so many events.
-fn answer(count: Millis, decision: Decision) -> Answer
-    ensures { result ≡ record { output = num count; decision = decision } }
+// An answer with a number.
+fn giving(number: Millis, decision: Decision) -> Answer
+    ensures { result ≡ record { output = num number; decision = decision } }
 {
     Answer {
-        output: Val::from(count),
+        output: Val::from(number),
         decision,
     }
 }
 
-// The first moment and the next start of intervals of `length`, from the first moment and the start planned last: a
-// schedule that is behind goes on at once, else at the next boundary.
-fn fixed_next(length: Millis, planned: Option<(Moment, Moment)>, now: Moment) -> (Moment, Moment)
-    requires some { 0 < length }
-    requires order { ForSome planned (λ p. p.0 ≤ now) }
-    ensures { result ≡ (first_planned planned now, next_fixed length planned now) }
+// Going on at once while there were fewer events.
+fn go_below(count: Millis, most: Millis, now: Moment) -> Decision
+    ensures { result ≡ (if nat_lt count most then Decision.Go now else Decision.Done) }
+{
+    if count.get() < most.get() {
+        go_at(now)
+    } else {
+        Decision::Done
+    }
+}
+
+// The next start of intervals of `length`, from the first moment and the start planned last: a schedule that is behind
+// goes on at once, else at the next boundary.
+fn next_fixed(length: Millis, planned: Option<(Moment, Moment)>, now: Moment) -> Moment
+    requires { 0 < length }
+    ensures { result ≡ next_fixed length planned now }
 {
     let Some((first, start)) = planned else {
-        return (now, now.plus(length));
+        return now.plus(length);
     };
     if start.plus(length).get() < now.get() {
-        return (first, now);
+        return now;
     }
-    let past = now.since(first).get() % length.get();
-    let rest = Millis::new(length.get() - past).unwrap();
-    (first, now.plus(rest))
+    next_boundary(length, first, now)
+}
+
+// The first moment: the one that is kept, else that of this event.
+fn first_planned(planned: Option<(Moment, Moment)>, now: Moment) -> Moment
+    ensures { result ≡ first_planned planned now }
+{
+    match planned {
+        Some((first, _)) => first,
+        None => now,
+    }
+}
+
+// The number in thousandths, rounded down.
+fn scaled(number: Millis, thousandths: u64) -> Millis
+    requires { thousandths ≤ 1000000 }
+    ensures { result ≡ capped (number * thousandths / 1000) }
+{
+    at_most_far(u128::from(number.get()) * u128::from(thousandths) / 1000)
+}
+
+// What is answered to a first event, and to a later one.
+fn lone(spent: bool, delay: Millis, now: Moment) -> Answer
+    ensures { result ≡ record {
+      output = num (if spent then 0 else delay);
+      decision = (if spent then Decision.Done else Decision.Go (capped (now + delay)));
+    } }
+{
+    if spent {
+        giving(Millis::from(0), Decision::Done)
+    } else {
+        giving(delay, go_after(now, delay))
+    }
 }

@@ -225,7 +225,8 @@ fn renewed_state_is_the_initial_one(rt: HostRuntime) -> Result<(), Fail> {
     let plan = Plan::meet(alloc, Plan::fixed(100)?, turns)?;
     let mut state = assert_answers(&rt, alloc, &plan, &[(7, "(0, 0)", Some(107))])?;
     assert_view(&rt, alloc, &state, "((1, (7, 107)), (1, (1, 1)))")?;
-    assert!(rt; state.fits(&plan, moment(&rt, FAR)));
+    let far = Moment::new(FAR).ok_or("FAR is a moment")?;
+    assert!(rt; state.fits(&plan, far));
     state.renew(&plan);
     assert_view(&rt, alloc, &state, "((0, ()), (0, (0, 0)))")?;
     Ok(())

@@ -215,6 +215,36 @@ fn the_most_events_have_4096_lines(rt: HostRuntime) -> Result<(), Fail> {
     Ok(())
 }
 
+// The 4,096 lines are 60,330 bytes, and each write but the last is of 8,192 bytes or a line's end more.
+#[test]
+fn many_lines_are_few_writes(rt: HostRuntime) -> Result<(), Fail> {
+    let options = options(4096, 0, 0).ok_or("out of range")?;
+    let lines = counted_lines(rt.alloc(), 4096)?;
+    assert_eq!(rt; lines.len(), 60330);
+    let writer = Halting::steady(Vec::new(rt.alloc()), 100000);
+    let input = br#""forever""#.as_slice();
+    let (printed, writer) = printing(rt.alloc(), input, writer, &options);
+    assert_eq!(rt; printed, (Ok(()), 0, 0));
+    assert_eq!(rt; writer.inner.as_slice(), lines.as_bytes());
+    assert_eq!(rt; writer.calls, 8);
+    for works in 0..8u64 {
+        let writer = Halting::failing_after(Vec::new(rt.alloc()), 100000, works);
+        let (printed, writer) = printing(rt.alloc(), input, writer, &options);
+        assert_eq!(rt;
+            printed,
+            (Err(PrintFault::WriteFailed), 0, 1),
+            "at write {works}"
+        );
+        assert!(rt; lines.as_bytes().starts_with(writer.inner.as_slice()));
+        assert!(rt;
+            writer.inner.len() as u64 >= works * 8192,
+            "at write {works}"
+        );
+        assert_eq!(rt; writer.calls, works + 1);
+    }
+    Ok(())
+}
+
 // The output of meets of `forever` nested on the left so many times, at the first event.
 fn nested_output(alloc: Global, times: u64) -> Result<String, AllocError> {
     let mut output = String::from_str(alloc, "0")?;

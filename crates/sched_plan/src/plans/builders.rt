@@ -1,5 +1,7 @@
-ghost use Rattle.std.specs.Prelude.{◌≡◌, ◌+◌, max, IsTrue};
-ghost use Rattle.sched_plan.specs.Schedule.{leaf, one, two, one_in_range, nodes_of, depth_of};
+//! A builder for each node. Those over plans take them by value, and drop them at a refusal.
+ghost use Rattle.std.specs.Prelude.{◌≡◌, IsTrue, Ok, Err, if◌then◌else◌, nat_le, ◌&&◌};
+ghost use Rattle.sched_time.specs.declared.numbers.TheConstants.{FAR};
+ghost use Rattle.sched_plan.specs.Schedule.{leaf as leaf_schedule, one, two, leaf_in_range, one_in_range};
 ghost use Rattle.sched_plan.specs.Plan.{built_plan, Builds, counts_or_fault};
 
 use super::{MOST_DEPTH, MOST_NODES, Plan, PlanFault, PlanShape};
@@ -8,73 +10,23 @@ use crate::nodes::{One, Two};
 use sched_time::Millis;
 use std::alloc::Global;
 
+mod delays;
+mod leaves;
+mod outputs;
+mod pairs;
+mod rounds;
+
 impl Plan {
-    /// Goes on for ever, at once. Never refused.
-    pub fn forever() -> Result<Plan, PlanFault>
-        ensures { result ≡ built_plan (leaf Leaf.Forever) }
+    // The plan of one leaf.
+    fn of_leaf(leaf: Leaf) -> Plan
+        requires { IsTrue (leaf_in_range leaf) }
+        ensures { result ≡ leaf_schedule leaf }
     {
-        Ok(Plan::of_leaf(Leaf::Forever))
-    }
-
-    /// Goes on at once, `count` times. Refused as `OutOfRange` past `FAR`.
-    pub fn recurs(count: u64) -> Result<Plan, PlanFault>
-        ensures { result ≡ built_plan (leaf (Leaf.Recurs count)) }
-    {
-        let count = Millis::new(count).ok_or(PlanFault::OutOfRange)?;
-        Ok(Plan::of_leaf(Leaf::Recurs(count)))
-    }
-
-    /// Goes on `delay` milliseconds after each event. Refused as `OutOfRange` past `FAR`.
-    pub fn spaced(delay: u64) -> Result<Plan, PlanFault>
-        ensures { result ≡ built_plan (leaf (Leaf.Spaced delay)) }
-    {
-        let delay = Millis::new(delay).ok_or(PlanFault::OutOfRange)?;
-        Ok(Plan::of_leaf(Leaf::Spaced(delay)))
-    }
-
-    /// Goes on at the boundaries of intervals of `length` milliseconds, the first of which begins at the first
-    /// event. Refused as `OutOfRange` at 0 and past `FAR`.
-    pub fn fixed(length: u64) -> Result<Plan, PlanFault>
-        ensures { result ≡ built_plan (leaf (Leaf.Fixed length)) }
-    {
-        if length == 0 {
-            return Err(PlanFault::OutOfRange);
+        Plan {
+            shape: PlanShape::Leaf(leaf),
+            nodes: 1,
+            depth: 1,
         }
-        let length = Millis::new(length).ok_or(PlanFault::OutOfRange)?;
-        Ok(Plan::of_leaf(Leaf::Fixed(length)))
-    }
-
-    /// The plan, but done once `length` milliseconds have passed since the first event.
-    /// Refused as `OutOfRange` past `FAR`, `TooDeep`, `TooMany` or `NoMemory`; the plan is then dropped.
-    pub fn within(alloc: Global, length: u64, plan: Plan) -> Result<Plan, PlanFault>
-        ensures { Builds result (one (One.Within length) plan) }
-    {
-        let length = Millis::new(length).ok_or(PlanFault::OutOfRange)?;
-        Plan::over_one(alloc, One::Within(length), plan)
-    }
-
-    /// The plan's decisions, with nothing as output.
-    /// Refused as `TooDeep`, `TooMany` or `NoMemory`; the plan is then dropped.
-    pub fn nothing(alloc: Global, plan: Plan) -> Result<Plan, PlanFault>
-        ensures { Builds result (one One.Nothing plan) }
-    {
-        Plan::over_one(alloc, One::Nothing, plan)
-    }
-
-    /// Goes on while both plans do, at the later start, and gives the pair of their outputs.
-    /// Refused as `TooDeep`, `TooMany` or `NoMemory`; both plans are then dropped.
-    pub fn meet(alloc: Global, first: Plan, second: Plan) -> Result<Plan, PlanFault>
-        ensures { Builds result (two Two.Meet first second) }
-    {
-        Plan::over_two(alloc, Two::Meet, first, second)
-    }
-
-    /// The first plan until it is done; the event at which it is done and all later ones go to the second.
-    /// Refused as `TooDeep`, `TooMany` or `NoMemory`; both plans are then dropped.
-    pub fn follow(alloc: Global, first: Plan, second: Plan) -> Result<Plan, PlanFault>
-        ensures { Builds result (two Two.Follow first second) }
-    {
-        Plan::over_two(alloc, Two::Follow, first, second)
     }
 
     // The plan of a node over this one.
@@ -117,4 +69,21 @@ fn within_limits(nodes: usize, depth: usize) -> Result<(usize, usize), PlanFault
         return Err(PlanFault::TooMany);
     }
     Ok((nodes, depth))
+}
+
+// The number as a duration or a count, up to `FAR`.
+fn in_range(number: u64) -> Result<Millis, PlanFault>
+    ensures { result ≡ (if nat_le number FAR then Ok number else Err PlanFault.OutOfRange) }
+{
+    Millis::new(number).ok_or(PlanFault::OutOfRange)
+}
+
+// The number as the length of an interval or a round, from 1 to `FAR`.
+fn length_in_range(number: u64) -> Result<Millis, PlanFault>
+    ensures { result ≡ (if nat_le 1 number && nat_le number FAR then Ok number else Err PlanFault.OutOfRange) }
+{
+    if number == 0 {
+        return Err(PlanFault::OutOfRange);
+    }
+    in_range(number)
 }

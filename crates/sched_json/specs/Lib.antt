@@ -1,0 +1,5 @@
+pub mod Reading
+pub mod Words
+pub mod Forms
+pub mod Nodes
+pub mod PlanOf

@@ -1,0 +1,41 @@
+//! Tests of the forms that the tables of nodes spell, and of which fault is answered first.
+use crate::{ReadFault, read_plan};
+use sched_plan::{Plan, PlanFault};
+use serde_json::Value;
+use std::alloc::Global;
+use std::process::Abort;
+use std::test::Fail;
+
+mod first_faults;
+mod forms;
+mod limits;
+mod texts;
+
+const OUT_OF_RANGE: ReadFault = ReadFault::Plan(PlanFault::OutOfRange);
+
+const TOO_DEEP: ReadFault = ReadFault::Plan(PlanFault::TooDeep);
+
+const TOO_MANY: ReadFault = ReadFault::Plan(PlanFault::TooMany);
+
+// The plan of a JSON text.
+fn plan_of(alloc: Global, text: &str) -> Result<Plan, Fail> {
+    let value = Value::from_str(alloc, text)?;
+    Ok(read_plan(alloc, &value)?)
+}
+
+// The fault of a JSON text, if it has one. Want of memory is no answer, but ends the test.
+fn fault_of(alloc: Global, text: &str) -> Result<Option<ReadFault>, Fail> {
+    let value = Value::from_str(alloc, text)?;
+    match read_plan(alloc, &value).err() {
+        Some(ReadFault::Plan(PlanFault::NoMemory)) => Err(PlanFault::NoMemory)?,
+        fault => Ok(fault),
+    }
+}
+
+// Asserts that each text has this fault.
+fn refuses(rt: &impl Abort, alloc: Global, texts: &[&str], fault: ReadFault) -> Result<(), Fail> {
+    for text in texts {
+        assert_eq!(rt; fault_of(alloc, text)?, Some(fault), "{text}");
+    }
+    Ok(())
+}

@@ -1,0 +1,7 @@
+//! What holds of the definitions, on every history. Each function does nothing: its contract is a law.
+ghost use Rattle.sched_plan.specs.Laws.{WholeFactorsAgree};
+
+/// `Plan::exponential_milli` of 1,000 times a factor answers as `Plan::exponential` of that factor does.
+pub fn whole_factors_agree()
+    ensures { WholeFactorsAgree }
+{}

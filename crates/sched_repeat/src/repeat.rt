@@ -1,0 +1,221 @@
+//! Repeats.
+ghost use Rattle.std.specs.Prelude.{◌≡◌, ◌<◌, ◌≤◌, false, [], is_some, IfSome, IsSomeAnd, MatchBool};
+ghost use Rattle.futures.specs.Task.{Keeps};
+ghost use Rattle.sched_task.specs.Polls.{is_ready};
+ghost use Rattle.sched_law.specs.Past.{nothing_yet, waits_for};
+ghost use Rattle.sched_repeat.specs.Repeating.{RepeatLaw, RepeatPoll, gives_up};
+ghost use Rattle.sched_repeat.specs.Ending.{RepeatFits};
+
+use crate::endings::RepeatEnding;
+use futures::task::{Context, Poll};
+use sched_driver::Driver;
+use sched_effect::{Coded, Effect};
+use sched_law::{Polled, Runner};
+use sched_task::{How, RunFault, Task};
+use sched_time::{Moment, Tick};
+use std::alloc::Global;
+use std::marker::Model;
+
+/// An effect that is run again after each success, as its driver's schedule says, until it fails or the schedule is done.
+#[derive(Drop)]
+pub struct Repeat<X: Effect> {
+    runner: Runner<X>,
+    over: Option<How>,
+    ending: Option<RepeatEnding<X::Fault>>,
+}
+
+impl<X: Effect> Model for Repeat<X> {
+    ghost use Rattle.std.specs.Prelude.{false, is_some, IfSome};
+    ghost use Rattle.sched_law.specs.Runner.{past_of};
+    ghost use Rattle.sched_repeat.specs.Repeating.{Repeating, coded_repeating, RepeatLaw};
+
+    ghost Value = { Repeating };
+
+    ghost coded = { coded_repeating };
+
+    ghost use Rattle.sched_repeat.specs.Ending.{RepeatFits};
+
+    ghost view = { λ r. record { past = past_of r.runner r.over false 0; untaken = is_some r.ending } };
+
+    ghost invariant = { λ r. RepeatLaw record { past = past_of r.runner r.over false 0; untaken = is_some r.ending } × IfSome r.ending (RepeatFits X.Fault.coded r.over r.runner.runs) };
+}
+
+impl<X: Effect> Repeat<X> {
+    /// A repeat that has not begun. It takes no memory.
+    pub fn new(alloc: Global, effect: X, driver: Driver) -> Repeat<X>
+        requires journal { driver.journal ≡ [] }
+        requires effect { X.fresh effect }
+        ensures past { result.past ≡ nothing_yet driver.plan }
+        ensures untaken { result.untaken ≡ false }
+    {
+        Repeat {
+            runner: Runner::new(alloc, effect, driver),
+            over: None,
+            ending: None,
+        }
+    }
+
+    /// Polls the repeat once at the tick, and is ready where it is over.
+    ///
+    /// A run is polled, or begun, save where the repeat is over or waits for a later moment. A failure ends it. A success
+    /// steps the schedule; where that goes on, the repeat waits for the start planned. A refused step or growth ends it as
+    /// `Broken`.
+    pub fn poll_at(&mut self, alloc: Global, tick: &Tick, cx: &mut Context<'_>) -> Poll<()>
+        ensures poll { RepeatPoll self.old tick.entry.now (is_ready result) self.new }
+        ensures answers { is_ready result ≡ is_some self.new.past.over }
+        ensures kept { Keeps cx.old cx.new }
+    {
+        if self.over.is_some() {
+            return Poll::Ready(());
+        }
+        if self.rests(tick.now) {
+            return Poll::Pending;
+        }
+        match self.runner.poll_run(tick, cx) {
+            Polled::Pending => Poll::Pending,
+            Polled::CannotBegin => {
+                self.over = Some(How::Broken(RunFault::NoMemory));
+                self.ending = Some(RepeatEnding::Broken(RunFault::NoMemory));
+                Poll::Ready(())
+            }
+            Polled::Starved => {
+                self.over = Some(How::Broken(RunFault::NoMemory));
+                self.ending = Some(RepeatEnding::Broken(RunFault::NoMemory));
+                Poll::Ready(())
+            }
+            Polled::Finished(Err(fault)) => {
+                self.over = Some(How::Failed);
+                self.ending = Some(RepeatEnding::Failed(fault));
+                Poll::Ready(())
+            }
+            Polled::Finished(Ok(item)) => match self.runner.step(alloc, tick, item.code()) {
+                Ok(Some(_)) => Poll::Pending,
+                Ok(None) => {
+                    self.over = Some(How::ScheduleDone);
+                    self.ending = Some(RepeatEnding::ScheduleDone);
+                    Poll::Ready(())
+                }
+                Err(cause) => {
+                    self.over = Some(How::Broken(cause));
+                    self.ending = Some(RepeatEnding::Broken(cause));
+                    Poll::Ready(())
+                }
+            },
+        }
+    }
+
+    // Whether it waits for a moment after this one.
+    fn rests(&self, now: Moment) -> bool
+        ensures { MatchBool result (IsSomeAnd (waits_for self.now.past) (λ m. now < m)) (IfSome (waits_for self.now.past) (λ m. m ≤ now)) }
+    {
+        match self.due() {
+            Some(start) => now.get() < start.get(),
+            None => false,
+        }
+    }
+
+    /// The moment that it waits for, or `None` where it waits for none.
+    pub fn due(&self) -> Option<Moment>
+        ensures { result ≡ waits_for self.now.past }
+    {
+        if self.over.is_some() {
+            None
+        } else {
+            self.runner.due()
+        }
+    }
+
+    /// How it ended, or `None` where it is not over. Whenever it is asked, the law of a repeat holds.
+    pub fn over(&self) -> Option<How>
+        ensures over { result ≡ self.now.past.over }
+        ensures law { RepeatLaw self.now }
+    {
+        self.over
+    }
+
+    /// Ends a repeat that is not over as `Cancelled`; one that is over stays as it is.
+    pub fn cancel(&mut self)
+        ensures { self.new ≡ gives_up self.old }
+    {
+        if self.over.is_none() {
+            self.over = Some(How::Cancelled);
+            self.ending = Some(RepeatEnding::Cancelled);
+        }
+    }
+
+    /// The ending, once, where the repeat is over; `None` before that and after it was taken.
+    pub fn take_ending(&mut self) -> Option<RepeatEnding<X::Fault>>
+        ensures once { is_some result ≡ self.old.untaken }
+        ensures taken { self.new ≡ record self.old { untaken = false } }
+        ensures fits { IfSome result (RepeatFits X.Fault.coded self.old.past.over self.old.past.runs) }
+    {
+        self.ending.take()
+    }
+
+    /// The driver, with the journal of the successes.
+    pub fn driver(&self) -> &Driver
+        ensures { result.now ≡ self.now.past.driver }
+    {
+        self.runner.driver()
+    }
+
+    /// The effect, with its finished runs.
+    pub fn effect(&self) -> &X
+        ensures { X.finished result.now ≡ self.now.past.runs }
+    {
+        self.runner.effect()
+    }
+
+    /// The moments at which runs were begun.
+    pub fn begun(&self) -> &[Moment]
+        ensures { result.now ≡ self.now.past.begun }
+    {
+        self.runner.begun()
+    }
+
+    /// The effect and the driver.
+    pub fn into_parts(self) -> (X, Driver)
+        ensures runs { X.finished result.0 ≡ self.past.runs }
+        ensures driver { result.1 ≡ self.past.driver }
+    {
+        let Repeat {
+            runner,
+            over: _,
+            ending: _,
+        } = self;
+        let (effect, driver, _) = runner.into_parts();
+        (effect, driver)
+    }
+}
+
+impl<X: Effect> Task for Repeat<X> {
+    ghost use Rattle.std.specs.Prelude.{◌≡◌};
+    ghost use Rattle.sched_law.specs.Past.{waits_for as start_of, waits_for-over};
+    ghost use Rattle.sched_repeat.specs.Repeating.{RepeatPoll, gives_up as given_up};
+
+    ghost ended = { λ v. v.past.over };
+
+    ghost waits_for = { λ v. start_of v.past };
+
+    ghost one_poll = { RepeatPoll };
+
+    ghost gives_up = { λ v u. u ≡ given_up v };
+
+    ghost rests = { λ v over. waits_for-over v.past over };
+
+    fn poll_at(&mut self, alloc: Global, tick: &Tick, cx: &mut Context<'_>) -> Poll<()> {
+        Repeat::poll_at(self, alloc, tick, cx)
+    }
+
+    fn due(&self) -> Option<Moment> {
+        Repeat::due(self)
+    }
+
+    fn over(&self) -> Option<How> {
+        Repeat::over(self)
+    }
+
+    fn cancel(&mut self) {
+        Repeat::cancel(self)
+    }
+}

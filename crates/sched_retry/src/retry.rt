@@ -1,0 +1,275 @@
+//! Retries.
+ghost use Rattle.std.specs.Prelude.{◌≡◌, ◌+◌, ◌≤◌, true, false, [], length, ◌<◌, is_some, IfSome, IsSomeAnd, MatchBool};
+ghost use Rattle.futures.specs.Task.{Keeps};
+ghost use Rattle.sched_task.specs.Polls.{is_ready};
+ghost use Rattle.sched_ticket.specs.Held.{IsOf};
+ghost use Rattle.sched_law.specs.Kind.{retry};
+ghost use Rattle.sched_law.specs.Past.{nothing_yet, waits_for, bit};
+ghost use Rattle.sched_retry.specs.Retrying.{RetryLaw, RetryPoll, gives_up};
+ghost use Rattle.sched_law.specs.Law.{is_stop};
+ghost use Rattle.sched_retry.specs.Ending.{EndingFits};
+
+use crate::endings::Ending;
+use crate::losses::{Then, after_loss};
+use futures::task::{Context, Poll};
+use sched_driver::Driver;
+use sched_effect::{Coded, Effect};
+use sched_law::{Polled, Runner};
+use sched_task::{How, RunFault, Task};
+use sched_ticket::{Budget, Pass};
+use sched_time::{Moment, Tick};
+use std::alloc::Global;
+use std::marker::Model;
+
+/// An effect that is run until it succeeds, again after each failure as its driver's schedule says, with a ticket of the
+/// budget for each retry.
+#[derive(Drop)]
+pub struct Retry<'a, X: Effect> {
+    runner: Runner<X>,
+    over: Option<How>,
+    denied: bool,
+    ending: Option<Ending<X::Item, X::Fault>>,
+    pass: Pass,
+    budget: &'a Budget,
+}
+
+impl<'a, X: Effect> Model for Retry<'a, X> {
+    ghost use Rattle.std.specs.Prelude.{is_some, IfSome};
+    ghost use Rattle.sched_law.specs.Kind.{retry};
+    ghost use Rattle.sched_retry.specs.Retrying.{Retrying, coded_retrying, retrying, RetryLaw};
+
+    ghost Value = { Retrying };
+
+    ghost coded = { coded_retrying };
+
+    ghost use Rattle.sched_retry.specs.Ending.{EndingFits};
+
+    ghost view = { λ r. retrying r.runner r.over r.denied r.pass r.budget.now (is_some r.ending) };
+
+    ghost invariant = { λ r. RetryLaw retry (retrying r.runner r.over r.denied r.pass r.budget.now (is_some r.ending)) × IfSome r.ending (EndingFits X.Item.coded X.Fault.coded r.over r.runner.runs) };
+}
+
+impl<'a, X: Effect> Retry<'a, X> {
+    /// A retry that has not begun. It takes no memory.
+    pub fn new(
+        alloc: Global,
+        effect: X,
+        driver: Driver,
+        pass: Pass,
+        budget: &'a Budget,
+    ) -> Retry<'a, X>
+        requires journal { driver.journal ≡ [] }
+        requires effect { X.fresh effect }
+        requires pass { pass.has.tickets ≡ [] }
+        requires of { IsOf budget.now pass }
+        ensures past { result.past ≡ nothing_yet driver.plan }
+        ensures pass { result.pass ≡ pass }
+        ensures budget { result.budget ≡ budget.entry.now }
+        ensures untaken { result.untaken ≡ false }
+    {
+        Retry {
+            runner: Runner::new(alloc, effect, driver),
+            over: None,
+            denied: false,
+            ending: None,
+            pass,
+            budget,
+        }
+    }
+
+    /// Polls the retry once at the tick, and is ready where it is over.
+    ///
+    /// A run is polled, or begun, save where the retry is over or waits for a later moment. A success ends it. A failure
+    /// steps the schedule; where that goes on, a ticket is drawn, and with one the retry waits for the start planned.
+    /// A refused step or growth ends it as `Broken`.
+    pub fn poll_at(&mut self, alloc: Global, tick: &Tick, cx: &mut Context<'_>) -> Poll<()>
+        ensures poll { RetryPoll retry self.old tick.entry.now (is_ready result) self.new }
+        ensures answers { is_ready result ≡ is_some self.new.past.over }
+        ensures kept { Keeps cx.old cx.new }
+    {
+        if self.over.is_some() {
+            return Poll::Ready(());
+        }
+        if self.rests(tick.now) {
+            return Poll::Pending;
+        }
+        match self.runner.poll_run(tick, cx) {
+            Polled::Pending => Poll::Pending,
+            Polled::CannotBegin => {
+                self.over = Some(How::Broken(RunFault::NoMemory));
+                self.ending = Some(Ending::Broken(RunFault::NoMemory));
+                Poll::Ready(())
+            }
+            Polled::Starved => {
+                self.over = Some(How::Broken(RunFault::NoMemory));
+                self.ending = Some(Ending::Broken(RunFault::NoMemory));
+                Poll::Ready(())
+            }
+            Polled::Finished(Ok(item)) => {
+                self.over = Some(How::Won);
+                self.ending = Some(Ending::Won(item));
+                Poll::Ready(())
+            }
+            Polled::Finished(Err(fault)) => {
+                let code = fault.code();
+                match after_loss(
+                    alloc,
+                    &mut self.runner,
+                    &mut self.pass,
+                    self.budget,
+                    tick,
+                    code,
+                ) {
+                    Then::Recurs => Poll::Pending,
+                    Then::Breaks(cause) => {
+                        self.over = Some(How::Broken(cause));
+                        self.ending = Some(Ending::Broken(cause));
+                        Poll::Ready(())
+                    }
+                    Then::Exhausts => {
+                        self.over = Some(How::ScheduleDone);
+                        self.ending = Some(Ending::ScheduleDone(fault));
+                        Poll::Ready(())
+                    }
+                    Then::Overdraws => {
+                        self.denied = true;
+                        self.over = Some(How::BudgetRefused);
+                        self.ending = Some(Ending::BudgetRefused(fault));
+                        Poll::Ready(())
+                    }
+                }
+            }
+        }
+    }
+
+    // Whether it waits for a moment after this one.
+    fn rests(&self, now: Moment) -> bool
+        ensures { MatchBool result (IsSomeAnd (waits_for self.now.past) (λ m. now < m)) (IfSome (waits_for self.now.past) (λ m. m ≤ now)) }
+    {
+        match self.due() {
+            Some(start) => now.get() < start.get(),
+            None => false,
+        }
+    }
+
+    /// The moment that it waits for, or `None` where it waits for none.
+    pub fn due(&self) -> Option<Moment>
+        ensures { result ≡ waits_for self.now.past }
+    {
+        if self.over.is_some() || self.denied {
+            None
+        } else {
+            self.runner.due()
+        }
+    }
+
+    /// How it ended, or `None` where it is not over. Whenever it is asked, the law of a retry holds.
+    pub fn over(&self) -> Option<How>
+        ensures over { result ≡ self.now.past.over }
+        ensures law { RetryLaw retry self.now }
+    {
+        self.over
+    }
+
+    /// Ends a retry that is not over as `Cancelled`; one that is over stays as it is.
+    pub fn cancel(&mut self)
+        ensures { self.new ≡ gives_up self.old }
+    {
+        if self.over.is_none() {
+            self.over = Some(How::Cancelled);
+            self.ending = Some(Ending::Cancelled);
+        }
+    }
+
+    /// The ending, once, where the retry is over; `None` before that and after it was taken.
+    pub fn take_ending(&mut self) -> Option<Ending<X::Item, X::Fault>>
+        ensures once { is_some result ≡ self.old.untaken }
+        ensures taken { self.new ≡ record self.old { untaken = false } }
+        ensures fits { IfSome result (EndingFits X.Item.coded X.Fault.coded self.old.past.over self.old.past.runs) }
+    {
+        self.ending.take()
+    }
+
+    /// The driver, with the journal of the failures.
+    pub fn driver(&self) -> &Driver
+        ensures { result.now ≡ self.now.past.driver }
+    {
+        self.runner.driver()
+    }
+
+    /// The effect, with its finished runs.
+    pub fn effect(&self) -> &X
+        ensures { X.finished result.now ≡ self.now.past.runs }
+    {
+        self.runner.effect()
+    }
+
+    /// The moments at which runs were begun.
+    pub fn begun(&self) -> &[Moment]
+        ensures { result.now ≡ self.now.past.begun }
+    {
+        self.runner.begun()
+    }
+
+    /// How many tickets it was granted: those of its pass. They are as many as the journal's events, less one where the
+    /// schedule was done or the budget refused a ticket.
+    pub fn granted(&self) -> u64
+        ensures granted { result ≡ self.now.past.granted }
+        ensures tickets { result ≡ length self.now.pass.has.tickets }
+        ensures events { result + bit (is_stop self.now.past.over) ≡ length self.now.past.driver.journal }
+    {
+        self.pass.count()
+    }
+
+    /// The effect, the driver and the pass.
+    pub fn into_parts(self) -> (X, Driver, Pass)
+        ensures runs { X.finished result.0 ≡ self.entry.past.runs }
+        ensures driver { result.1 ≡ self.entry.past.driver }
+        ensures pass { result.2 ≡ self.entry.pass }
+        ensures of { IsOf self.entry.budget result.2 }
+    {
+        let Retry {
+            runner,
+            over: _,
+            denied: _,
+            ending: _,
+            pass,
+            budget: _,
+        } = self;
+        let (effect, driver, _) = runner.into_parts();
+        (effect, driver, pass)
+    }
+}
+
+impl<'a, X: Effect> Task for Retry<'a, X> {
+    ghost use Rattle.std.specs.Prelude.{◌≡◌};
+    ghost use Rattle.sched_law.specs.Kind.{retry};
+    ghost use Rattle.sched_law.specs.Past.{waits_for as start_of, waits_for-over};
+    ghost use Rattle.sched_retry.specs.Retrying.{RetryPoll, gives_up as given_up};
+
+    ghost ended = { λ v. v.past.over };
+
+    ghost waits_for = { λ v. start_of v.past };
+
+    ghost one_poll = { RetryPoll retry };
+
+    ghost gives_up = { λ v u. u ≡ given_up v };
+
+    ghost rests = { λ v over. waits_for-over v.past over };
+
+    fn poll_at(&mut self, alloc: Global, tick: &Tick, cx: &mut Context<'_>) -> Poll<()> {
+        Retry::poll_at(self, alloc, tick, cx)
+    }
+
+    fn due(&self) -> Option<Moment> {
+        Retry::due(self)
+    }
+
+    fn over(&self) -> Option<How> {
+        Retry::over(self)
+    }
+
+    fn cancel(&mut self) {
+        Retry::cancel(self)
+    }
+}

@@ -1,0 +1,17 @@
+//! What a loop needs of a task: polls at moments, a moment waited for, and how it ended; with the clocks and the random
+//! words that a poll is given, and one task as a future.
+#![tactic(auto)]
+
+mod clocks;
+mod endings;
+mod tasks;
+#[cfg(test)]
+mod tests;
+mod timed;
+mod words;
+
+pub use clocks::{Clock, VirtualClock};
+pub use endings::{How, RunFault};
+pub use tasks::Task;
+pub use timed::Timed;
+pub use words::{MidWords, four_words};

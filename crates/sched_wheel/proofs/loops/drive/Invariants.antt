@@ -1,0 +1,6 @@
+use Rattle.std.proofs.Common.{◌≡◌, ◌≤◌, length}
+use Rattle.sched_wheel.specs.Polled.{EachPolled}
+use Rattle.sched_wheel.proofs.loops.drive.Given as goal
+
+abbrev pub invariant-loop-used : goal.invariant-loop-used
+invariant-loop-used g l = (l.agenda.count ≡ length l.tasks) × EachPolled g.T.Task.ended g.T.Task.waits_for g.T.Task.one_poll l.fn.tasks l.tasks

@@ -1,0 +1,10 @@
+//! A loop over many tasks on one thread: each is polled when its moment has come, and where all of them wait, so does the
+//! loop.
+#![tactic(auto)]
+
+mod agenda;
+mod loops;
+#[cfg(test)]
+mod tests;
+
+pub use loops::{LoopStop, WheelLoop};

@@ -1,0 +1,92 @@
+use crate::{LoopStop, WheelLoop};
+use futures::task::{Context, Poll};
+use sched_task::{Clock, How, MidWords, Task, VirtualClock};
+use sched_time::{Millis, Moment, Tick};
+use std::alloc::Global;
+use std::process::Abort;
+use std::test::Fail;
+
+mod clocks;
+mod rows;
+
+fn moment(rt: &impl Abort, at: u64) -> Moment {
+    Moment::new(at).expect(rt, "the moment is in range")
+}
+
+fn millis(rt: &impl Abort, duration: u64) -> Millis {
+    Millis::new(duration).expect(rt, "the duration is in range")
+}
+
+// The moments at which the task was polled.
+fn assert_polled(rt: &impl Abort, task: &Paced, want: &[u64]) {
+    assert_eq!(rt; task.moments.len(), want.len());
+    for (polled, at) in task.moments.iter().zip(want.iter()) {
+        assert_eq!(rt; polled.get(), *at);
+    }
+}
+
+// Is won at its last poll, and waits this long after each poll before that. It notes the moments of its polls.
+#[derive(Drop)]
+struct Paced {
+    left: u64,
+    pause: Option<Millis>,
+    due: Option<Moment>,
+    over: Option<How>,
+    moments: Vec<Moment>,
+}
+
+impl Paced {
+    fn new(alloc: Global, polls: u64, pause: Option<Millis>) -> Paced {
+        Paced {
+            left: polls,
+            pause,
+            due: None,
+            over: None,
+            moments: Vec::new(alloc),
+        }
+    }
+}
+
+impl Task for Paced {
+    ghost use Rattle.std.specs.Prelude.{◌≡◌, true, None, if◌then◌else◌, is_some, refl};
+
+    ghost ended = { λ task. task.over };
+
+    ghost waits_for = { λ task. if is_some task.over then None else task.due };
+
+    ghost one_poll = { λ task tick ready after. ready ≡ is_some after.over };
+
+    ghost gives_up = { λ task after. is_some after.over ≡ true };
+
+    ghost rests = { λ task over. rw over refl };
+
+    fn poll_at(&mut self, _alloc: Global, tick: &Tick, _cx: &mut Context<'_>) -> Poll<()> {
+        if self.over.is_some() {
+            return Poll::Ready(());
+        }
+        if self.moments.push(tick.now).is_err() || self.left <= 1 {
+            self.over = Some(How::Won);
+            return Poll::Ready(());
+        }
+        self.left -= 1;
+        self.due = match self.pause {
+            Some(pause) => Some(tick.now.plus(pause)),
+            None => None,
+        };
+        Poll::Pending
+    }
+
+    fn due(&self) -> Option<Moment> {
+        if self.over.is_some() { None } else { self.due }
+    }
+
+    fn over(&self) -> Option<How> {
+        self.over
+    }
+
+    fn cancel(&mut self) {
+        if self.over.is_none() {
+            self.over = Some(How::Cancelled);
+        }
+    }
+}

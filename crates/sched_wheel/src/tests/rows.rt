@@ -1,0 +1,105 @@
+use super::*;
+
+#[test]
+fn no_task_takes_no_turn(rt: HostRuntime) {
+    let mut tasks: [Paced; 0] = [];
+    let mut clock = VirtualClock::at(moment(&rt, 0));
+    assert_eq!(rt;
+        WheelLoop::run(&rt, &mut tasks, &mut clock, &mut MidWords, 0),
+        Ok(0)
+    );
+}
+
+// Three polls and two waits.
+#[test]
+fn turns_are_polls_and_waits(rt: HostRuntime) {
+    let mut tasks = [Paced::new(rt.alloc(), 3, Some(millis(&rt, 100)))];
+    let mut clock = VirtualClock::at(moment(&rt, 0));
+    assert_eq!(rt;
+        WheelLoop::run(&rt, &mut tasks, &mut clock, &mut MidWords, 9),
+        Ok(5)
+    );
+    assert_eq!(rt; tasks[0].over(), Some(How::Won));
+    assert_eq!(rt; clock.now().get(), 200);
+    assert_polled(&rt, &tasks[0], &[0, 100, 200]);
+}
+
+// The third poll is left for a further call.
+#[test]
+fn a_further_call_goes_on(rt: HostRuntime) {
+    let mut tasks = [Paced::new(rt.alloc(), 3, Some(millis(&rt, 100)))];
+    let mut clock = VirtualClock::at(moment(&rt, 0));
+    let stopped = WheelLoop::run(&rt, &mut tasks, &mut clock, &mut MidWords, 4);
+    assert_eq!(rt; stopped, Err(LoopStop::TurnsSpent));
+    assert_polled(&rt, &tasks[0], &[0, 100]);
+    assert_eq!(rt;
+        WheelLoop::run(&rt, &mut tasks, &mut clock, &mut MidWords, 1),
+        Ok(1)
+    );
+    assert_polled(&rt, &tasks[0], &[0, 100, 200]);
+}
+
+// Task k waits for k + 1 after its first poll, so each wait is for one task: 200 polls and 100 waits.
+#[test]
+fn each_of_many_waits_for_its_own_moment(rt: HostRuntime) -> Result<(), Fail> {
+    let mut tasks = Vec::with_capacity(rt.alloc(), 100)?;
+    for pause in 1..=100 {
+        tasks.push(Paced::new(rt.alloc(), 2, Some(millis(&rt, pause))))?;
+    }
+    let mut clock = VirtualClock::at(moment(&rt, 0));
+    assert_eq!(rt;
+        WheelLoop::run(&rt, &mut tasks, &mut clock, &mut MidWords, 1000),
+        Ok(300)
+    );
+    assert_eq!(rt; clock.now().get(), 100);
+    for (pause, task) in (1..=100).zip(tasks.iter()) {
+        assert_polled(&rt, task, &[0, pause]);
+    }
+    Ok(())
+}
+
+#[test]
+fn a_moment_may_be_the_last_one(rt: HostRuntime) {
+    let mut tasks = [Paced::new(rt.alloc(), 2, Some(millis(&rt, 4611686018427387903)))];
+    let mut clock = VirtualClock::at(moment(&rt, 0));
+    assert_eq!(rt;
+        WheelLoop::run(&rt, &mut tasks, &mut clock, &mut MidWords, 9),
+        Ok(3)
+    );
+    assert_polled(&rt, &tasks[0], &[0, 4611686018427387903]);
+}
+
+// What waits for nothing uses up all turns by polls; what was over is not polled.
+#[test]
+fn a_task_that_is_never_over_spends_all_turns(rt: HostRuntime) {
+    let mut tasks = [
+        Paced::new(rt.alloc(), 1, None),
+        Paced::new(rt.alloc(), 100, None),
+    ];
+    tasks[0].cancel();
+    let mut clock = VirtualClock::at(moment(&rt, 3));
+    let stopped = WheelLoop::run(&rt, &mut tasks, &mut clock, &mut MidWords, 10);
+    assert_eq!(rt; stopped, Err(LoopStop::TurnsSpent));
+    assert_polled(&rt, &tasks[1], &[3; 10]);
+    assert_polled(&rt, &tasks[0], &[]);
+    assert_eq!(rt; tasks[0].over(), Some(How::Cancelled));
+    tasks[1].cancel();
+    assert_eq!(rt;
+        WheelLoop::run(&rt, &mut tasks, &mut clock, &mut MidWords, 0),
+        Ok(0)
+    );
+}
+
+// A task that never waits does not keep another from its moment.
+#[test]
+fn tasks_take_turns(rt: HostRuntime) {
+    let mut tasks = [
+        Paced::new(rt.alloc(), 6, None),
+        Paced::new(rt.alloc(), 3, Some(millis(&rt, 0))),
+    ];
+    let mut clock = VirtualClock::at(moment(&rt, 0));
+    let stopped = WheelLoop::run(&rt, &mut tasks, &mut clock, &mut MidWords, 6);
+    assert_eq!(rt; stopped, Err(LoopStop::TurnsSpent));
+    assert_polled(&rt, &tasks[0], &[0; 3]);
+    assert_eq!(rt; tasks[1].over(), Some(How::Won));
+}
