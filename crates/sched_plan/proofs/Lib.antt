@@ -3,3 +3,4 @@ pub mod WorkedLeaves
 pub mod WorkedNodes
 pub mod WorkedRounds
 pub mod Items
+pub mod Starts

@@ -21,4 +21,5 @@ pub mod Delays
 pub mod DelayLaws
 pub mod Gates
 pub mod Answer
+pub mod PrefixLaws
 pub mod Laws

@@ -18,23 +18,23 @@ use base.Stored.{Gv, gnil, gnum, gcons}
 use mathlib.Core.Path.{sym, ◌∙◌, ap}
 
 -- the tag of a kind and up to four parameters
-abbrev row : ℕ → ℕ → ℕ → ℕ → ℕ → Gv
-row tag a b c d = gcons (gnum tag) (gcons (gcons (gnum a) (gnum b)) (gcons (gnum c) (gnum d)))
+abbrev tagged : ℕ → ℕ → ℕ → ℕ → ℕ → Gv
+tagged tag a b c d = gcons (gnum tag) (gcons (gcons (gnum a) (gnum b)) (gcons (gnum c) (gnum d)))
 
 abbrev leaf_code : Leaf → Gv
-leaf_code Forever = row 0 0 0 0 0
-leaf_code (Recurs count) = row 1 count 0 0 0
-leaf_code (Spaced delay) = row 2 delay 0 0 0
-leaf_code (Fixed length) = row 3 length 0 0 0
-leaf_code (Windowed length) = row 4 length 0 0 0
-leaf_code (Linear delay) = row 5 delay 0 0 0
-leaf_code (Exponential base factor) = row 6 base factor 0 0
-leaf_code (ExponentialMilli base thousandths) = row 7 base thousandths 0 0
-leaf_code (Fibonacci delay) = row 8 delay 0 0 0
-leaf_code Elapsed = row 9 0 0 0 0
-leaf_code Identity = row 10 0 0 0 0
-leaf_code (Unfold seed factor more) = row 11 seed factor more 0
-leaf_code (Lone delay) = row 12 delay 0 0 0
+leaf_code Forever = tagged 0 0 0 0 0
+leaf_code (Recurs count) = tagged 1 count 0 0 0
+leaf_code (Spaced delay) = tagged 2 delay 0 0 0
+leaf_code (Fixed length) = tagged 3 length 0 0 0
+leaf_code (Windowed length) = tagged 4 length 0 0 0
+leaf_code (Linear delay) = tagged 5 delay 0 0 0
+leaf_code (Exponential base factor) = tagged 6 base factor 0 0
+leaf_code (ExponentialMilli base thousandths) = tagged 7 base thousandths 0 0
+leaf_code (Fibonacci delay) = tagged 8 delay 0 0 0
+leaf_code Elapsed = tagged 9 0 0 0 0
+leaf_code Identity = tagged 10 0 0 0 0
+leaf_code (Unfold seed factor more) = tagged 11 seed factor more 0
+leaf_code (Lone delay) = tagged 12 delay 0 0 0
 
 -- the leaves in the order of their tags
 abbrev leaf_at : ℕ → ℕ → ℕ → ℕ → Leaf
@@ -76,19 +76,19 @@ abbrev fold_at : ℕ → Fold
 fold_at tag = get_or (Sum ∷ Count ∷ Max ∷ All ∷ []) tag Sum
 
 abbrev one_code : One → Gv
-one_code (Gate side want test bound) = row 0 (side_code side) (truth_code want) (test_code test) bound
-one_code (Gather fold) = row 1 (fold_code fold) 0 0 0
-one_code (Add delay) = row 2 delay 0 0 0
-one_code (Set delay) = row 3 delay 0 0 0
-one_code (Cap delay) = row 4 delay 0 0 0
-one_code AddOut = row 5 0 0 0 0
-one_code (Jitter lane least most) = row 6 lane least most 0
-one_code (Within length) = row 7 length 0 0 0
-one_code (Renew length) = row 8 length 0 0 0
-one_code (RenewIdle length) = row 9 length 0 0 0
-one_code First = row 10 0 0 0 0
-one_code Second = row 11 0 0 0 0
-one_code Nothing = row 12 0 0 0 0
+one_code (Gate side want test bound) = tagged 0 (side_code side) (truth_code want) (test_code test) bound
+one_code (Gather fold) = tagged 1 (fold_code fold) 0 0 0
+one_code (Add delay) = tagged 2 delay 0 0 0
+one_code (Set delay) = tagged 3 delay 0 0 0
+one_code (Cap delay) = tagged 4 delay 0 0 0
+one_code AddOut = tagged 5 0 0 0 0
+one_code (Jitter lane least most) = tagged 6 lane least most 0
+one_code (Within length) = tagged 7 length 0 0 0
+one_code (Renew length) = tagged 8 length 0 0 0
+one_code (RenewIdle length) = tagged 9 length 0 0 0
+one_code First = tagged 10 0 0 0 0
+one_code Second = tagged 11 0 0 0 0
+one_code Nothing = tagged 12 0 0 0 0
 
 -- the nodes over one schedule in the order of their tags
 abbrev one_at : ℕ → ℕ → ℕ → ℕ → ℕ → One
