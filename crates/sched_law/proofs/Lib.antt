@@ -3,3 +3,4 @@ pub mod Fields
 pub mod Journals
 pub mod Law
 pub mod Events
+mod Worked

@@ -40,20 +40,20 @@ values_from (gcons a b) = datum_from a ∷ values_from b
 values_from _ = []
 
 -- a tag and two parts
-abbrev row : ℕ → Gv → Gv → Gv
-row tag a b = gcons (gnum tag) (gcons a b)
+abbrev tagged : ℕ → Gv → Gv → Gv
+tagged tag a b = gcons (gnum tag) (gcons a b)
 
 abbrev leaf_code : LeafState → Gv
-leaf_code (Counted n) = row 0 (gnum n) gnil
-leaf_code (Planned n p) = row 1 (gnum n) (plan_code p)
-leaf_code (Windows n m) = row 2 (gnum n) (moment_code m)
-leaf_code (Product x) = row 3 (gnum x) gnil
-leaf_code (Scaled x) = row 4 (gnum x) gnil
-leaf_code (Summands x y) = row 5 (gnum x) (gnum y)
-leaf_code (Started m) = row 6 gnil (moment_code m)
-leaf_code Blank = row 7 gnil gnil
-leaf_code (Unfolded x) = row 8 (gnum x) gnil
-leaf_code (Spent b) = row 9 (gnum (bit b)) gnil
+leaf_code (Counted n) = tagged 0 (gnum n) gnil
+leaf_code (Planned n p) = tagged 1 (gnum n) (plan_code p)
+leaf_code (Windows n m) = tagged 2 (gnum n) (moment_code m)
+leaf_code (Product x) = tagged 3 (gnum x) gnil
+leaf_code (Scaled x) = tagged 4 (gnum x) gnil
+leaf_code (Summands x y) = tagged 5 (gnum x) (gnum y)
+leaf_code (Started m) = tagged 6 gnil (moment_code m)
+leaf_code Blank = tagged 7 gnil gnil
+leaf_code (Unfolded x) = tagged 8 (gnum x) gnil
+leaf_code (Spent b) = tagged 9 (gnum (bit b)) gnil
 
 -- the leaves' states in the order of their tags
 abbrev leaf_at : ℕ → Gv → Gv → LeafState

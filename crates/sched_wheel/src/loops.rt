@@ -1,6 +1,6 @@
 //! The loop.
-ghost use Rattle.std.specs.Prelude.{◌≡◌, ◌≤◌, ◌<◌, true, false, All, Any, HoldsAt, length, IfOk, IfErr, IfSome, OnOk, OnErr, is_some};
-ghost use Rattle.sched_wheel.specs.Polled.{EachPolled, IsOpen};
+ghost use Rattle.std.specs.Prelude.{◌≡◌, ◌≤◌, ◌<◌, true, false, All, Any, HoldsAt, length, IfOk, IfErr, IfSome, OnOk, OnErr, OnSome, is_some};
+ghost use Rattle.sched_wheel.specs.Polled.{EachPolled, IsGiven, IsLeft, IsOpen, IsTold};
 
 use crate::agenda::Agenda;
 use futures::task::{Context, Doorbell, Poll, Queue};
@@ -56,7 +56,7 @@ impl WheelLoop {
         ensures turns { IfOk result (λ used. used ≤ turns) }
         ensures over { IfOk result (λ _. All (λ task. is_some (T.ended task) ≡ true) tasks.new) }
         ensures spent { IfErr result (λ stop. stop ≡ LoopStop.TurnsSpent → Any (λ task. is_some (T.ended task) ≡ false) tasks.new) }
-        ensures polled { EachPolled T.ended T.waits_for T.one_poll tasks.old tasks.new }
+        ensures polled { EachPolled T.ended T.waits_for T.one_poll (IsGiven C.tells (G.stream rng.old)) tasks.old tasks.new }
     {
         let Ok(queue) = Queue::new(rt, Doorbell::spinning()) else {
             return Err(LoopStop::NoMemory);
@@ -74,7 +74,7 @@ impl WheelLoop {
     }
 }
 
-#[tactic(auto, using(crate::proofs::Polls::each_same, crate::proofs::Polls::each_then))]
+#[tactic(auto, using(crate::proofs::Polls::each_same, crate::proofs::Polls::left_same))]
 fn drive<T: Task, C: Clock, G: Rng>(
     alloc: Global,
     tasks: &mut [T],
@@ -86,7 +86,7 @@ fn drive<T: Task, C: Clock, G: Rng>(
     ensures turns { IfOk result (λ used. used ≤ turns) }
     ensures over { IfOk result (λ _. All (λ task. is_some (T.ended task) ≡ true) tasks.new) }
     ensures spent { IfErr result (λ stop. stop ≡ LoopStop.TurnsSpent → Any (λ task. is_some (T.ended task) ≡ false) tasks.new) }
-    ensures polled { EachPolled T.ended T.waits_for T.one_poll tasks.old tasks.new }
+    ensures polled { EachPolled T.ended T.waits_for T.one_poll (IsGiven C.tells (G.stream rng.old)) tasks.old tasks.new }
 {
     let mut agenda = begin(alloc, tasks, clock)?;
     for used in 0..turns {
@@ -124,7 +124,7 @@ fn begin<T: Task, C: Clock>(alloc: Global, tasks: &[T], clock: &mut C) -> Result
 }
 
 // One poll or one wait. `false`, and nothing done, where no task is left.
-#[tactic(auto, using(crate::proofs::Polls::each_same))]
+#[tactic(auto, using(crate::proofs::Polls::each_same, crate::proofs::Polls::left_same))]
 fn take_turn<T: Task, C: Clock, G: Rng>(
     alloc: Global,
     agenda: &mut Agenda,
@@ -135,20 +135,21 @@ fn take_turn<T: Task, C: Clock, G: Rng>(
 ) -> Result<bool, NoMemory>
     requires { agenda.old.count ≡ length tasks.old }
     ensures count { agenda.new.count ≡ length tasks.new }
-    ensures polled { EachPolled T.ended T.waits_for T.one_poll tasks.old tasks.new }
+    ensures left { IsLeft (G.stream rng.old) (G.stream rng.new) }
+    ensures polled { EachPolled T.ended T.waits_for T.one_poll (IsGiven C.tells (G.stream rng.old)) tasks.old tasks.new }
 {
     let Some(number) = next_due(agenda, tasks, clock)? else {
         return wait_for_least(agenda, clock);
     };
     let moment = agenda.moment();
-    if let Poll::Pending = poll_task(alloc, tasks, number, moment, rng, cx) {
+    if let Poll::Pending = poll_task::<T, C, G>(alloc, tasks, number, moment, rng, cx) {
         agenda.put(number, tasks[number].due())?;
     }
     Ok(true)
 }
 
 // Polls the task with this number at the moment, with the next four words.
-fn poll_task<T: Task, G: Rng>(
+fn poll_task<T: Task, C: Clock, G: Rng>(
     alloc: Global,
     tasks: &mut [T],
     number: usize,
@@ -157,9 +158,11 @@ fn poll_task<T: Task, G: Rng>(
     cx: &mut Context<'_>,
 ) -> Poll<()>
     requires inside { number < length tasks.old }
+    requires told { IsTold C.tells moment }
     requires was_open { HoldsAt (IsOpen T.ended T.waits_for moment) tasks.old number }
     ensures count { length tasks.new ≡ length tasks.old }
-    ensures polled { EachPolled T.ended T.waits_for T.one_poll tasks.old tasks.new }
+    ensures left { IsLeft (G.stream rng.old) (G.stream rng.new) }
+    ensures polled { EachPolled T.ended T.waits_for T.one_poll (IsGiven C.tells (G.stream rng.old)) tasks.old tasks.new }
 {
     let words = four_words(rng);
     tasks[number].poll_at(alloc, &Tick { now: moment, words }, cx)
@@ -185,13 +188,14 @@ fn next_due<T: Task, C: Clock>(
 ) -> Result<Option<usize>, NoMemory>
     requires { agenda.old.count ≡ length tasks.now }
     ensures count { agenda.new.count ≡ agenda.old.count }
-    ensures open { IfOk result (λ found. IfSome found (λ number. (number < length tasks.now)
+    ensures told { IfOk result (λ found. OnSome found (IsTold C.tells agenda.new.moment)) }
+    ensures was_open { IfOk result (λ found. IfSome found (λ number. (number < length tasks.now)
         × HoldsAt (IsOpen T.ended T.waits_for agenda.new.moment) tasks.now number)) }
 {
     if !agenda.has_ready() {
         return Ok(None);
     }
-    agenda.reach(clock.now())?;
+    agenda.reach(ask(clock))?;
     while let Some(number) = agenda.next() {
         let Some(task) = tasks.get(number) else {
             continue;
@@ -205,4 +209,11 @@ fn next_due<T: Task, C: Clock>(
         }
     }
     Ok(None)
+}
+
+// A fresh answer of the clock.
+fn ask<C: Clock>(clock: &mut C) -> Moment
+    ensures { IsTold C.tells result }
+{
+    clock.now()
 }

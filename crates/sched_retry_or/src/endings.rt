@@ -1,0 +1,16 @@
+//! What a retry with a fallback hands out once it is over.
+
+use sched_task::RunFault;
+
+/// How a retry with a fallback ended, with what it ended with.
+#[derive(Drop)]
+pub enum RetryOrEnding<I: Drop, F: Drop> {
+    /// The first success.
+    Won(I),
+    /// What the fallback gave in the place of the last failure.
+    Fallen(Result<I, F>),
+    /// It was cancelled.
+    Cancelled,
+    /// It could not go on.
+    Broken(RunFault),
+}

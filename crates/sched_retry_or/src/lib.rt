@@ -1,0 +1,8 @@
+//! Retries that ask a fallback in the end.
+#![tactic(auto)]
+
+mod endings;
+mod retry_or;
+
+pub use endings::RetryOrEnding;
+pub use retry_or::RetryOr;

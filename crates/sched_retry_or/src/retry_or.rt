@@ -1,0 +1,323 @@
+//! Retries with a fallback.
+ghost use Rattle.std.specs.Prelude.{◌≡◌, ◌<◌, ◌≤◌, true, false, [], length, is_some, IfSome, IsSomeAnd, MatchBool, if◌then◌else◌};
+ghost use Rattle.futures.specs.Task.{Keeps};
+ghost use Rattle.sched_driver.specs.Driven.{last_output};
+ghost use Rattle.sched_effect.specs.Runs.{Falls};
+ghost use Rattle.sched_task.specs.Polls.{is_ready};
+ghost use Rattle.sched_ticket.specs.Held.{IsOf};
+ghost use Rattle.sched_law.specs.Past.{nothing_yet, waits_for};
+ghost use Rattle.sched_retry_or.specs.Falling.{FallingLaw, FallingPoll, gives_up};
+ghost use Rattle.sched_retry_or.specs.Ending.{RetryOrFits};
+
+use crate::endings::RetryOrEnding;
+use futures::task::{Context, Poll};
+use sched_driver::Driver;
+use sched_effect::{Coded, Effect, Fallback};
+use sched_law::{Polled, Runner};
+use sched_retry::{Then, after_loss};
+use sched_task::{How, RunFault, Task};
+use sched_ticket::{Budget, Pass};
+use sched_time::{Moment, NoMemory, Tick};
+use std::alloc::Global;
+use std::marker::Model;
+
+/// A retry that asks a fallback where its schedule is done or the budget has no ticket, and answers what that gives.
+#[derive(Drop)]
+pub struct RetryOr<'a, X: Effect, F: Fallback<X>> {
+    runner: Runner<X>,
+    over: Option<How>,
+    denied: bool,
+    fault: Option<X::Fault>,
+    ending: Option<RetryOrEnding<X::Item, X::Fault>>,
+    pass: Pass,
+    budget: &'a Budget,
+    fallback: F,
+}
+
+impl<'a, X: Effect, F: Fallback<X>> Model for RetryOr<'a, X, F> {
+    ghost use Rattle.std.specs.Prelude.{length, is_some, IfSome};
+    ghost use Rattle.sched_law.specs.Runner.{past_of};
+    ghost use Rattle.sched_retry.specs.Retrying.{retrying};
+    ghost use Rattle.sched_retry_or.specs.Falling.{Falling, coded_falling, FallingLaw, KeepsFault};
+
+    ghost Value = { Falling };
+
+    ghost coded = { coded_falling };
+
+    ghost use Rattle.sched_retry_or.specs.Ending.{RetryOrFits};
+
+    ghost view = { λ r. record { retrying = retrying r.runner r.over r.denied r.pass r.budget.now (is_some r.ending); asked = F.asked r.fallback; answered = F.answered r.fallback } };
+
+    ghost invariant = { λ r. FallingLaw record { retrying = retrying r.runner r.over r.denied r.pass r.budget.now (is_some r.ending); asked = F.asked r.fallback; answered = F.answered r.fallback } × IfSome r.ending (RetryOrFits X.Item.coded X.Fault.coded r.over r.runner.runs (F.answered r.fallback)) × KeepsFault X.Fault.coded (past_of r.runner r.over r.denied (length r.pass.has.tickets)) r.fault };
+}
+
+// Asks the fallback with the fault and the driver's last output.
+fn ask<X: Effect, F: Fallback<X>>(
+    runner: &Runner<X>,
+    fault: &X::Fault,
+    fallback: &mut F,
+    cx: &mut Context<'_>,
+) -> Poll<Result<Result<X::Item, X::Fault>, NoMemory>>
+    requires { is_some (last_output runner.now.driver) ≡ true }
+    ensures falls { IsSomeAnd (last_output runner.now.driver) (λ output. Falls X.Item.coded X.Fault.coded result
+        (X.Fault.coded fault.now) output (F.asked fallback.new) (F.answered fallback.new)) }
+    ensures kept { Keeps cx.old cx.new }
+{
+    let output = runner.driver().last().unwrap();
+    fallback.poll_fallback(fault, output, cx)
+}
+
+impl<'a, X: Effect, F: Fallback<X>> RetryOr<'a, X, F> {
+    /// A retry that has not begun, with its fallback. It takes no memory.
+    pub fn new(
+        alloc: Global,
+        effect: X,
+        driver: Driver,
+        pass: Pass,
+        budget: &'a Budget,
+        fallback: F,
+    ) -> RetryOr<'a, X, F>
+        requires journal { driver.journal ≡ [] }
+        requires effect { X.fresh effect }
+        requires pass { pass.has.tickets ≡ [] }
+        requires of { IsOf budget.now pass }
+        ensures past { result.retrying.past ≡ nothing_yet driver.plan }
+        ensures pass { result.retrying.pass ≡ pass }
+        ensures budget { result.retrying.budget ≡ budget.entry.now }
+        ensures untaken { result.retrying.untaken ≡ false }
+        ensures asked { result.asked ≡ F.asked fallback }
+        ensures answered { result.answered ≡ F.answered fallback }
+    {
+        RetryOr {
+            runner: Runner::new(alloc, effect, driver),
+            over: None,
+            denied: false,
+            fault: None,
+            ending: None,
+            pass,
+            budget,
+            fallback,
+        }
+    }
+
+    /// Polls the retry once at the tick, and is ready where it is over.
+    ///
+    /// It is polled as `Retry` is, save that it does not end where the schedule is done or the budget has no ticket: then
+    /// each later poll asks the fallback once, with the last failure and the driver's last output, until it answers.
+    pub fn poll_at(&mut self, alloc: Global, tick: &Tick, cx: &mut Context<'_>) -> Poll<()>
+        ensures poll { FallingPoll self.old tick.entry.now (is_ready result) self.new }
+        ensures answers { is_ready result ≡ is_some self.new.retrying.past.over }
+        ensures kept { Keeps cx.old cx.new }
+    {
+        if self.over.is_some() {
+            return Poll::Ready(());
+        }
+        if self.rests(tick.now) {
+            return Poll::Pending;
+        }
+        if let Some(fault) = &self.fault {
+            return match ask(&self.runner, fault, &mut self.fallback, cx) {
+                Poll::Pending => Poll::Pending,
+                Poll::Ready(Err(_)) => {
+                    self.over = Some(How::Broken(RunFault::NoMemory));
+                    self.ending = Some(RetryOrEnding::Broken(RunFault::NoMemory));
+                    Poll::Ready(())
+                }
+                Poll::Ready(Ok(run)) => {
+                    self.over = Some(stopped_by(self.denied));
+                    self.ending = Some(RetryOrEnding::Fallen(run));
+                    Poll::Ready(())
+                }
+            };
+        }
+        match self.runner.poll_run(tick, cx) {
+            Polled::Pending => Poll::Pending,
+            Polled::CannotBegin => {
+                self.over = Some(How::Broken(RunFault::NoMemory));
+                self.ending = Some(RetryOrEnding::Broken(RunFault::NoMemory));
+                Poll::Ready(())
+            }
+            Polled::Starved => {
+                self.over = Some(How::Broken(RunFault::NoMemory));
+                self.ending = Some(RetryOrEnding::Broken(RunFault::NoMemory));
+                Poll::Ready(())
+            }
+            Polled::Finished(Ok(item)) => {
+                self.over = Some(How::Won);
+                self.ending = Some(RetryOrEnding::Won(item));
+                Poll::Ready(())
+            }
+            Polled::Finished(Err(fault)) => {
+                let code = fault.code();
+                match after_loss(
+                    alloc,
+                    &mut self.runner,
+                    &mut self.pass,
+                    self.budget,
+                    tick,
+                    code,
+                ) {
+                    Then::Recurs => Poll::Pending,
+                    Then::Breaks(cause) => {
+                        self.over = Some(How::Broken(cause));
+                        self.ending = Some(RetryOrEnding::Broken(cause));
+                        Poll::Ready(())
+                    }
+                    Then::Exhausts => {
+                        self.fault = Some(fault);
+                        Poll::Pending
+                    }
+                    Then::Overdraws => {
+                        self.denied = true;
+                        self.fault = Some(fault);
+                        Poll::Pending
+                    }
+                }
+            }
+        }
+    }
+
+    // Whether it waits for a moment after this one.
+    fn rests(&self, now: Moment) -> bool
+        ensures { MatchBool result (IsSomeAnd (waits_for self.now.retrying.past) (λ m. now < m)) (IfSome (waits_for self.now.retrying.past) (λ m. m ≤ now)) }
+    {
+        match self.due() {
+            Some(start) => now.get() < start.get(),
+            None => false,
+        }
+    }
+
+    /// The moment that it waits for, or `None` where it waits for none, as while its fallback is asked.
+    pub fn due(&self) -> Option<Moment>
+        ensures { result ≡ waits_for self.now.retrying.past }
+    {
+        if self.over.is_some() || self.denied {
+            None
+        } else {
+            self.runner.due()
+        }
+    }
+
+    /// How it ended, or `None` where it is not over. Whenever it is asked, the law of a retry holds.
+    pub fn over(&self) -> Option<How>
+        ensures over { result ≡ self.now.retrying.past.over }
+        ensures law { FallingLaw self.now }
+    {
+        self.over
+    }
+
+    /// Ends a retry that is not over as `Cancelled`; one that is over stays as it is.
+    pub fn cancel(&mut self)
+        ensures { self.new ≡ gives_up self.old }
+    {
+        if self.over.is_none() {
+            self.over = Some(How::Cancelled);
+            self.ending = Some(RetryOrEnding::Cancelled);
+        }
+    }
+
+    /// The ending, once, where the retry is over; `None` before that and after it was taken.
+    pub fn take_ending(&mut self) -> Option<RetryOrEnding<X::Item, X::Fault>>
+        ensures once { is_some result ≡ self.old.retrying.untaken }
+        ensures taken { self.new ≡ record self.old { retrying = record self.old.retrying { untaken = false } } }
+        ensures fits { IfSome result (RetryOrFits X.Item.coded X.Fault.coded
+            self.old.retrying.past.over self.old.retrying.past.runs self.old.answered) }
+    {
+        self.ending.take()
+    }
+
+    /// The driver, with the journal of the failures.
+    pub fn driver(&self) -> &Driver
+        ensures { result.now ≡ self.now.retrying.past.driver }
+    {
+        self.runner.driver()
+    }
+
+    /// The effect, with its finished runs.
+    pub fn effect(&self) -> &X
+        ensures { X.finished result.now ≡ self.now.retrying.past.runs }
+    {
+        self.runner.effect()
+    }
+
+    /// The moments at which runs were begun.
+    pub fn begun(&self) -> &[Moment]
+        ensures { result.now ≡ self.now.retrying.past.begun }
+    {
+        self.runner.begun()
+    }
+
+    /// How many tickets it was granted: those of its pass.
+    pub fn granted(&self) -> u64
+        ensures granted { result ≡ self.now.retrying.past.granted }
+        ensures tickets { result ≡ length self.now.retrying.pass.has.tickets }
+    {
+        self.pass.count()
+    }
+
+    /// The effect, the driver, the pass and the fallback.
+    pub fn into_parts(self) -> (X, Driver, Pass, F)
+        ensures runs { X.finished result.0 ≡ self.entry.retrying.past.runs }
+        ensures driver { result.1 ≡ self.entry.retrying.past.driver }
+        ensures pass { result.2 ≡ self.entry.retrying.pass }
+        ensures of { IsOf self.entry.retrying.budget result.2 }
+        ensures asked { F.asked result.3 ≡ self.entry.asked }
+        ensures answered { F.answered result.3 ≡ self.entry.answered }
+    {
+        let RetryOr {
+            runner,
+            over: _,
+            denied: _,
+            fault: _,
+            ending: _,
+            pass,
+            budget: _,
+            fallback,
+        } = self;
+        let (effect, driver, _) = runner.into_parts();
+        (effect, driver, pass, fallback)
+    }
+}
+
+// Why no run begins any more.
+fn stopped_by(denied: bool) -> How
+    ensures { result ≡ (if denied then How.BudgetRefused else How.ScheduleDone) }
+{
+    if denied {
+        How::BudgetRefused
+    } else {
+        How::ScheduleDone
+    }
+}
+
+impl<'a, X: Effect, F: Fallback<X>> Task for RetryOr<'a, X, F> {
+    ghost use Rattle.std.specs.Prelude.{◌≡◌};
+    ghost use Rattle.sched_law.specs.Past.{waits_for as start_of, waits_for-over};
+    ghost use Rattle.sched_retry_or.specs.Falling.{FallingPoll, gives_up as given_up};
+
+    ghost ended = { λ v. v.retrying.past.over };
+
+    ghost waits_for = { λ v. start_of v.retrying.past };
+
+    ghost one_poll = { FallingPoll };
+
+    ghost gives_up = { λ v u. u ≡ given_up v };
+
+    ghost rests = { λ v over. waits_for-over v.retrying.past over };
+
+    fn poll_at(&mut self, alloc: Global, tick: &Tick, cx: &mut Context<'_>) -> Poll<()> {
+        RetryOr::poll_at(self, alloc, tick, cx)
+    }
+
+    fn due(&self) -> Option<Moment> {
+        RetryOr::due(self)
+    }
+
+    fn over(&self) -> Option<How> {
+        RetryOr::over(self)
+    }
+
+    fn cancel(&mut self) {
+        RetryOr::cancel(self)
+    }
+}
