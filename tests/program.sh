@@ -40,6 +40,13 @@ wants 0 '0: (0, 0) next 100\n100: (1, 1) next 200\n200: (2, 2) next 300\n300: (3
 wants 0 '' '' plan --steps 0
 input '{"fixed":100}'
 wants 0 '0: 0 next 100\n350: 1 next 350\n600: 2 next 600\n' '' plan --took 250 --steps 3
+input '{"gather":["list",{"renew":[100,{"follow":[{"recurs":1},{"spaced":60}]}]}]}'
+wants 0 '0: [] next 0\n0: [0] next 60\n60: [0, 0] next 120\n120: [0, 0, 1] next 120\n' '' plan --steps 4
+input '{"add_out":{"cap":[15,{"jitter":[0,500,1500,{"linear":10}]}]}}'
+wants 0 '0: 10 next 15\n15: 20 next 45\n45: 30 next 90\n' '' plan --steps 3 --word 0
+input '{"feed":["identity",{"gate":["input",true,"below",9,"elapsed"]}]}'
+wants 0 '5: 0 next 5\n' '' plan --steps 1 --from 5 --input 8
+wants 0 '5: 0 done\n' '' plan --from 5 --input 9
 helps --help
 helps plan --help
 wants 2 '' 'zsched: bad command line\n'
@@ -55,13 +62,18 @@ input '{"recurs":3'
 wants 3 '' 'zsched: not JSON\n' plan
 input '{"recurs":-1}'
 wants 3 '' 'zsched: not a plan\n' plan
-input '{"exponential":[1,2]}'
+input '{"exponential":[1]}'
 wants 3 '' 'zsched: not a plan\n' plan
 input '{"fixed":0}'
 wants 3 '' 'zsched: number out of range\n' plan
 
 deep='"forever"'
 for _ in $(seq 32); do deep="{\"meet\":[$deep,\"forever\"]}"; done
+printf '%s' "$deep" >"$work/in"
+wants 3 '' 'zsched: too deep\n' plan
+
+deep='"forever"'
+for _ in $(seq 32); do deep="{\"nothing\":$deep}"; done
 printf '%s' "$deep" >"$work/in"
 wants 3 '' 'zsched: too deep\n' plan
 

@@ -77,6 +77,8 @@ refuses_calls() {
 refuses 0 "$(cat "$top/plans/three-times.json")" plan
 cmp "$work/out.whole" "$top/crates/zsched/stdout" || failed=1
 refuses 0 '{"follow":[{"recurs":2},{"fixed":50}]}' plan --steps 5
+refuses 0 '{"gather":["list",{"renew":[100,{"follow":[{"recurs":1},{"spaced":60}]}]}]}' plan --steps 5
+refuses 0 '{"nothing":{"join":[{"feed":["identity",{"fibonacci":3}]},{"within":[9,"elapsed"]}]}}' plan --steps 4
 refuses 3 '{"meet":[{"fixed":0},"forever"]}' plan
 refuses 3 '{"meet":[' plan
 refuses 2 '' plan --steps 4097

@@ -2,6 +2,8 @@
 mod command_lines;
 mod fakes;
 mod fault_lines;
+mod printed_nodes;
 mod printed_plans;
+mod printings;
 mod texts;
 mod whole_streams;

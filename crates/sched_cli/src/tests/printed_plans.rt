@@ -1,10 +1,8 @@
 use super::fakes::Halting;
+use super::printings::{options, printing, prints, refuses, with_input};
 use super::texts::{nested, node};
-use crate::{Counted, MOST_STEPS, PlanOptions, PrintFault, print_plan};
-use sched_time::{Millis, Moment};
+use crate::PrintFault;
 use std::alloc::{AllocError, Global};
-use std::io::{Read, Write};
-use std::process::Abort;
 use std::test::Fail;
 
 // The intersection of three recurrences and a spacing of 100 ms, and its four lines.
@@ -12,59 +10,6 @@ const PLAN: &str = r#"{"meet":[{"recurs":3},{"spaced":100}]}"#;
 
 const LINES: &str =
     "0: (0, 0) next 100\n100: (1, 1) next 200\n200: (2, 2) next 300\n300: (3, 3) done\n";
-
-// The options of a command line that gives these three, where they are in range.
-fn options(steps: u64, from: u64, took: u64) -> Option<PlanOptions> {
-    with_input(steps, from, took, 0, 2147483648)
-}
-
-// The options of a command line that gives them all, where they are in range.
-fn with_input(steps: u64, from: u64, took: u64, input: u64, word: u32) -> Option<PlanOptions> {
-    if steps > MOST_STEPS {
-        return None;
-    }
-    let from = Moment::new(from)?;
-    let took = Millis::new(took)?;
-    let input = Millis::new(input)?;
-    Some(PlanOptions {
-        steps,
-        from,
-        took,
-        input,
-        word,
-    })
-}
-
-// What a printing answered, and how many of its reads and of its writes failed.
-type Printed = (Result<(), PrintFault>, u64, u64);
-
-// Prints from the reader to the writer, and gives the writer back.
-fn printing<R: Read + Drop, W: Write>(
-    alloc: Global,
-    reader: R,
-    writer: W,
-    options: &PlanOptions,
-) -> (Printed, W) {
-    let mut reader = Counted::new(reader);
-    let mut writer = Counted::new(writer);
-    let answer = print_plan(alloc, &mut reader, &mut writer, options);
-    let printed = (answer, reader.failures(), writer.failures());
-    (printed, writer.into_inner())
-}
-
-// Asserts that the input is printed as these lines, with no failed call.
-fn prints(rt: &impl Abort, alloc: Global, input: &[u8], options: &PlanOptions, lines: &str) {
-    let (printed, taken) = printing(alloc, input, Vec::new(alloc), options);
-    assert_eq!(rt; printed, (Ok(()), 0, 0), "{lines}");
-    assert_eq!(rt; taken.as_slice(), lines.as_bytes(), "{lines}");
-}
-
-// Asserts that the input is refused with this fault, with nothing written and no failed call.
-fn refuses(rt: &impl Abort, alloc: Global, input: &[u8], options: &PlanOptions, fault: PrintFault) {
-    let (printed, taken) = printing(alloc, input, Vec::new(alloc), options);
-    assert_eq!(rt; printed, (Err(fault), 0, 0));
-    assert!(rt; taken.is_empty(), "{fault:?}");
-}
 
 #[test]
 fn each_event_has_its_line(rt: HostRuntime) -> Result<(), Fail> {

@@ -18,3 +18,12 @@ pub(crate) fn nested(alloc: Global, name: &str, times: u64) -> Result<String, Al
     }
     Ok(text)
 }
+
+/// `forever` under so many nodes of this name.
+pub(crate) fn under(alloc: Global, name: &str, times: u64) -> Result<String, AllocError> {
+    let mut text = String::from_str(alloc, "\"forever\"")?;
+    for _ in 0..times {
+        text = format!(in alloc; "{{\"{name}\":{text}}}")?;
+    }
+    Ok(text)
+}

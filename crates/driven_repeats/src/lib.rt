@@ -1,0 +1,5 @@
+//! Repeats that the loop drives, by tests alone.
+#![tactic(auto)]
+
+#[cfg(test)]
+mod tests;
