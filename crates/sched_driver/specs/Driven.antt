@@ -3,8 +3,9 @@ use Rattle.std.specs.Prelude.{ℕ, List, [], ◌∷◌, ◌++◌, Option, Some, 
 use Rattle.std.specs.Coded.{Coded, code_by, coded×, coded_list}
 use Rattle.sched_time.specs.Decision.{start_of}
 use Rattle.sched_plan.specs.Datum.{Datum}
-use Rattle.sched_plan.specs.Schedule.{Schedule, coded_schedule}
-use Rattle.sched_plan.specs.History.{coded_event}
+use Rattle.sched_plan.specs.Schedule.{Schedule}
+use Rattle.sched_plan.specs.ScheduleCode.{coded_schedule}
+use Rattle.sched_plan.specs.EventCode.{coded_event}
 use Rattle.sched_plan.specs.Answer.{answer}
 use Rattle.sched_plan.specs.declared.history.Event.{Event}
 use Rattle.sched_plan.specs.declared.history.Answer.{Answer}

@@ -6,7 +6,7 @@ ghost use Rattle.sched_step.specs.Starts.{StartsBy};
 ghost use Rattle.sched_driver.specs.Driven.{last_output, next_start_of, after};
 
 use sched_plan::{Answer, Event, Plan, Val};
-use sched_step::{State, initial, step};
+use sched_step::{State, initial};
 use sched_time::{Decision, Moment, NoMemory, Tick};
 use std::alloc::Global;
 use std::marker::Model;
@@ -94,7 +94,7 @@ impl Driver {
         if self.journal.reserve(1).is_err() {
             return Err(DriveFault::NoMemory);
         }
-        let (state, answer) = step(alloc, &self.plan, &self.state, &tick, &input)?;
+        let answer = self.state.advance(alloc, &self.plan, &tick, &input)?;
         let decision = answer.decision;
         let words = tick.words;
         self.journal.push_reserved(Event {
@@ -102,7 +102,6 @@ impl Driver {
             words,
             input,
         });
-        self.state = state;
         self.last = Some(answer);
         Ok(decision)
     }

@@ -1,4 +1,4 @@
 pub mod History
 pub mod Prefixes
 pub mod Fixed
-pub mod Law
+pub mod laws

@@ -1,6 +1,10 @@
 pub mod Progress
-pub mod State
-pub mod StateFalls
+pub mod ProgressCode
+pub mod ProgressSize
+pub mod Phases
+pub mod Kept
+pub mod Tree
+pub mod TreeFalls
 pub mod StateOf
 pub mod Step
 pub mod Starts

@@ -1,23 +1,33 @@
 -- The state of a schedule after a history, as a function of the whole list of events, oldest first.
-use Rattle.std.specs.Prelude.{◌≡◌, ℕ, true, false, List, [], ◌∷◌, length, Option, Some, None}
+use Rattle.std.specs.Prelude.{◌≡◌, ℕ, List, [], ◌∷◌, length, Option, Some, None}
 use Rattle.sched_time.specs.Capped.{capped}
 use Rattle.sched_time.specs.declared.numbers.Tick.{Tick}
 use Rattle.sched_plan.specs.Datum.{Datum}
-use Rattle.sched_plan.specs.Schedule.{Schedule, leaf, meet, follow}
-use Rattle.sched_plan.specs.History.{first_moment}
-use Rattle.sched_plan.specs.Answer.{answer, crossing, from_end_of, fixed_start}
+use Rattle.sched_plan.specs.Schedule.{Schedule, leaf, one, two}
+use Rattle.sched_plan.specs.Answer.{answer, leaf_answer, crossing, from_end_of, fixed_start}
 use Rattle.sched_plan.specs.declared.leaves.Leaf.{Leaf}
 use Rattle.sched_plan.specs.declared.leaves.Leaf.TheVariants.{Forever, Recurs, Spaced, Fixed}
+use Rattle.sched_plan.specs.declared.nodes.One.{One}
+use Rattle.sched_plan.specs.declared.nodes.One.TheVariants.{Within, Nothing}
+use Rattle.sched_plan.specs.declared.nodes.Two.{Two}
+use Rattle.sched_plan.specs.declared.nodes.Two.TheVariants.{Meet, Follow}
 use Rattle.sched_plan.specs.declared.history.Event.{Event}
 use Rattle.sched_plan.specs.declared.history.Answer.{Answer}
 use Rattle.sched_step.specs.declared.leaves.LeafState.{LeafState}
 use Rattle.sched_step.specs.declared.leaves.LeafState.TheVariants.{Counted, Planned}
-use Rattle.sched_step.specs.Progress.{Progress, at_leaf, at_both, at_follow}
+use Rattle.sched_step.specs.declared.turns.Turn.{Turn}
+use Rattle.sched_step.specs.declared.turns.Turn.TheVariants.{Together, Uncrossed, Crossed}
+use Rattle.sched_step.specs.Progress.{Kept, none_kept, since, Progress, at_leaf, at_one, at_two}
+
+-- the moment of the first event, if there was one
+abbrev pub began_at : List Event → Option ℕ
+began_at [] = None
+began_at (e ∷ h) = Some e.now
 
 -- the first moment and the start planned last; none before the first event
 abbrev pub first_and_start : ℕ → List Event → Option (ℕ × ℕ)
 first_and_start d [] = None
-first_and_start d (e ∷ h) = Some (first_moment (e ∷ h), fixed_start d (e ∷ h))
+first_and_start d (e ∷ h) = Some (e.now, fixed_start d (e ∷ h))
 
 -- the number of events, with what the leaf keeps of them
 abbrev pub leaf_state : Leaf → List Event → LeafState
@@ -26,17 +36,61 @@ leaf_state (Recurs count) h = Counted (capped (length h))
 leaf_state (Spaced delay) h = Counted (capped (length h))
 leaf_state (Fixed d) h = Planned (capped (length h)) (first_and_start d h)
 
--- before the crossing the first schedule has all events; after it those up to and with the crossing one,
--- and the second those from the crossing one on
-abbrev pub follow_state : (List Event → Progress) → (List Event → Progress) → Option (List Event) → List Event → Progress
-follow_state front rest None h = at_follow false (front h) (rest [])
-follow_state front rest (Some p) h = at_follow true (front p) (rest (from_end_of p h))
+-- what a node over one schedule keeps, where the schedule has these answers
+abbrev pub kept_of : One → (List Event → Answer) → List Event → Kept
+kept_of (Within d) f h = since (began_at h)
+kept_of Nothing f h = none_kept
+
+-- the events that the schedule under a node has been given
+abbrev pub seen : One → List Event → List Event
+seen (Within d) h = h
+seen Nothing h = h
+
+-- of two schedules in turn it is the first one's until there is a crossing
+abbrev pub turn_at : Option (List Event) → Turn
+turn_at None = Uncrossed
+turn_at (Some p) = Crossed
+
+-- the first of two schedules in turn has all events before the crossing, and after it those up to and with the
+-- crossing one
+abbrev pub up_to_crossing : Option (List Event) → List Event → List Event
+up_to_crossing None h = h
+up_to_crossing (Some p) h = p
+
+-- the second has those from the crossing one on
+abbrev pub from_crossing : Option (List Event) → List Event → List Event
+from_crossing None h = []
+from_crossing (Some p) h = from_end_of p h
+
+-- whose turn it is of two schedules, where the first has these answers
+abbrev pub turn_of : Two → (List Event → Answer) → List Event → Turn
+turn_of Meet f h = Together
+turn_of Follow f h = turn_at (crossing f h)
+
+-- the events that the first of two schedules has been given
+abbrev pub first_seen : Two → (List Event → Answer) → List Event → List Event
+first_seen Meet f h = h
+first_seen Follow f h = up_to_crossing (crossing f h) h
+
+-- the events that the second of two schedules has been given
+abbrev pub second_seen : Two → (List Event → Answer) → List Event → List Event
+second_seen Meet f h = h
+second_seen Follow f h = from_crossing (crossing f h) h
 
 -- how far the schedule has come after the history
 abbrev pub state_of : Schedule → List Event → Progress
 state_of (leaf l) h = at_leaf (leaf_state l h)
-state_of (meet a b) h = at_both (state_of a h) (state_of b h)
-state_of (follow a b) h = follow_state (state_of a) (state_of b) (crossing (answer a) h) h
+state_of (one k a) h = at_one (kept_of k (answer a) h) (state_of a (seen k h))
+state_of (two k a b) h =
+    at_two (turn_of k (answer a) h) (state_of a (first_seen k (answer a) h)) (state_of b (second_seen k (answer a) h))
+
+-- what a node keeps before the first event, whatever the schedule under it would answer
+abbrev pub first_kept : One → Kept
+first_kept k = kept_of k (leaf_answer Forever) []
+
+-- whose turn it is before the first event
+abbrev pub first_turn : Two → Turn
+first_turn k = turn_of k (leaf_answer Forever) []
 
 -- the event of this tick and input
 abbrev pub event_of : Tick → Datum → Event

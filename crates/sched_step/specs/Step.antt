@@ -1,19 +1,28 @@
 -- One step as the code makes it, from the kept progress alone. That it meets the definition over whole histories is
 -- what `step` ensures.
-use Rattle.std.specs.Prelude.{ℕ, ◌+◌, Bool, true, false, if◌then◌else◌, nat_lt, Option, Some, None}
+use Rattle.std.specs.Prelude.{ℕ, ◌+◌, ◌-◌, Bool, false, if◌then◌else◌, nat_lt, nat_le, [], Option, Some, None}
 use Rattle.sched_time.specs.Capped.{capped}
 use Rattle.sched_time.specs.declared.starts.Decision.{Decision}
 use Rattle.sched_time.specs.declared.starts.Decision.TheVariants.{Go, Done}
 use Rattle.sched_plan.specs.Datum.{num}
-use Rattle.sched_plan.specs.Schedule.{Schedule, leaf, meet, follow}
-use Rattle.sched_plan.specs.Answer.{both, is_done, next_boundary}
+use Rattle.sched_plan.specs.Schedule.{Schedule, leaf, one, two}
+use Rattle.sched_plan.specs.Answer.{both, silent, is_done, next_boundary}
 use Rattle.sched_plan.specs.declared.leaves.Leaf.{Leaf}
 use Rattle.sched_plan.specs.declared.leaves.Leaf.TheVariants.{Forever, Recurs, Spaced, Fixed}
+use Rattle.sched_plan.specs.declared.nodes.One.{One}
+use Rattle.sched_plan.specs.declared.nodes.One.TheVariants.{Within, Nothing}
+use Rattle.sched_plan.specs.declared.nodes.Two.{Two}
+use Rattle.sched_plan.specs.declared.nodes.Two.TheVariants.{Meet, Follow}
 use Rattle.sched_plan.specs.declared.history.Event.{Event}
 use Rattle.sched_plan.specs.declared.history.Answer.{Answer}
 use Rattle.sched_step.specs.declared.leaves.LeafState.{LeafState}
 use Rattle.sched_step.specs.declared.leaves.LeafState.TheVariants.{Counted, Planned}
-use Rattle.sched_step.specs.Progress.{Progress, at_leaf, at_both, at_follow}
+use Rattle.sched_step.specs.declared.turns.Turn.{Turn}
+use Rattle.sched_step.specs.declared.turns.Turn.TheVariants.{Together, Uncrossed, Crossed}
+use Rattle.sched_step.specs.Progress.{Kept, none_kept, since, Progress, at_leaf, at_one, at_two}
+use Rattle.sched_step.specs.StateOf.{leaf_state, first_kept, first_turn, state_of}
+
+-- Leaves.
 
 -- how many events a leaf has counted
 abbrev pub count_of : LeafState → ℕ
@@ -30,71 +39,145 @@ abbrev pub next_fixed : ℕ → Option (ℕ × ℕ) → ℕ → ℕ
 next_fixed d None now = capped (now + d)
 next_fixed d (Some p) now = if nat_lt (capped (p.1 + d)) now then now else next_boundary d p.0 now
 
--- the first moment: the one that is kept, else that of this event
-abbrev pub first_kept : Option (ℕ × ℕ) → ℕ → ℕ
-first_kept None now = now
-first_kept (Some p) now = p.0
+-- the first moment of `fixed d`: the one that is kept, else that of this event
+abbrev pub first_planned : Option (ℕ × ℕ) → ℕ → ℕ
+first_planned None now = now
+first_planned (Some p) now = p.0
 
 -- a leaf's state after one more event
-abbrev pub leaf_next : Leaf → LeafState → ℕ → LeafState
-leaf_next Forever s now = Counted (capped (count_of s + 1))
-leaf_next (Recurs count) s now = Counted (capped (count_of s + 1))
-leaf_next (Spaced delay) s now = Counted (capped (count_of s + 1))
-leaf_next (Fixed d) s now =
-    Planned (capped (count_of s + 1)) (Some (first_kept (planned_of s) now, next_fixed d (planned_of s) now))
+abbrev pub leaf_next : Leaf → LeafState → Event → LeafState
+leaf_next Forever s e = Counted (capped (count_of s + 1))
+leaf_next (Recurs count) s e = Counted (capped (count_of s + 1))
+leaf_next (Spaced delay) s e = Counted (capped (count_of s + 1))
+leaf_next (Fixed d) s e =
+    Planned (capped (count_of s + 1)) (Some (first_planned (planned_of s) e.now, next_fixed d (planned_of s) e.now))
 
 -- what a leaf decides at one more event
-abbrev pub leaf_decides : Leaf → LeafState → ℕ → Decision
-leaf_decides Forever s now = Go now
-leaf_decides (Recurs count) s now = if nat_lt (count_of s) count then Go now else Done
-leaf_decides (Spaced delay) s now = Go (capped (now + delay))
-leaf_decides (Fixed d) s now = Go (next_fixed d (planned_of s) now)
+abbrev pub leaf_decides : Leaf → LeafState → Event → Decision
+leaf_decides Forever s e = Go e.now
+leaf_decides (Recurs count) s e = if nat_lt (count_of s) count then Go e.now else Done
+leaf_decides (Spaced delay) s e = Go (capped (e.now + delay))
+leaf_decides (Fixed d) s e = Go (next_fixed d (planned_of s) e.now)
 
 -- what a leaf answers to one more event
-abbrev pub leaf_answers : Leaf → LeafState → ℕ → Answer
-leaf_answers l s now = record { output = num (count_of s); decision = leaf_decides l s now }
+abbrev pub leaf_answers : Leaf → LeafState → Event → Answer
+leaf_answers l s e = record { output = num (count_of s); decision = leaf_decides l s e }
 
--- a leaf's state
-abbrev pub leaf_of : Progress → LeafState
-leaf_of (at_leaf s) = s
-leaf_of (at_both a b) = Counted 0
-leaf_of (at_follow crossed a b) = Counted 0
+-- Nodes over one schedule.
 
--- how far the first of two schedules has come
-abbrev pub first_of : Progress → Progress
-first_of (at_leaf s) = at_leaf s
-first_of (at_both a b) = a
-first_of (at_follow crossed a b) = a
+-- the moment that is kept, else that of this event
+abbrev pub kept_or_now : Option ℕ → ℕ → ℕ
+kept_or_now None now = now
+kept_or_now (Some m) now = m
 
--- how far the second of two schedules has come
-abbrev pub second_of : Progress → Progress
-second_of (at_leaf s) = at_leaf s
-second_of (at_both a b) = b
-second_of (at_follow crossed a b) = b
+-- the moment that a node keeps, if it keeps one
+abbrev pub since_of : Kept → Option ℕ
+since_of none_kept = None
+since_of (since m) = m
 
--- whether the first of two schedules in turn is done
-abbrev pub has_crossed : Progress → Bool
-has_crossed (at_leaf s) = false
-has_crossed (at_both a b) = false
-has_crossed (at_follow crossed a b) = crossed
+-- whether the schedule under the node begins anew at an event at `now`
+abbrev pub begins : One → Kept → ℕ → Bool
+begins (Within d) s now = false
+begins Nothing s now = false
+
+-- what the node keeps after one more event, to which the schedule under it gave this answer
+abbrev pub one_next : One → Kept → Event → Answer → Kept
+one_next (Within d) s e a = since (Some (kept_or_now (since_of s) e.now))
+one_next Nothing s e a = none_kept
+
+-- the answer, but done where so much time has passed
+abbrev pub ended : Bool → Answer → Answer
+ended over a = if over then record { output = a.output; decision = Done } else a
+
+-- what the node answers to one more event, to which the schedule under it gave this answer
+abbrev pub one_answers : One → Kept → Event → Answer → Answer
+one_answers (Within d) s e a = ended (nat_le d (e.now - kept_or_now (since_of s) e.now)) a
+one_answers Nothing s e a = silent a
+
+-- the node's step over that of the schedule under it, whose progress before the first event is `start`
+abbrev pub one_step : One → Progress → (Progress → Event → Progress × Answer) → Kept → Progress → Event → Progress × Answer
+one_step k start step s p e =
+    let r = step (if begins k s e.now then start else p) e in
+    (at_one (one_next k s e r.1) r.0, one_answers k s e r.1)
+
+-- Nodes over two schedules.
 
 -- two schedules that were stepped side by side
-abbrev pub both_steps : Progress × Answer → Progress × Answer → Progress × Answer
-both_steps a b = (at_both a.0 b.0, both a.1 b.1)
+abbrev pub side_by_side : Progress × Answer → Progress × Answer → Answer → Progress × Answer
+side_by_side a b given = (at_two Together a.0 b.0, given)
 
 -- the second is stepped, and the first stays as it is
 abbrev pub past_crossing : Progress → Progress × Answer → Progress × Answer
-past_crossing first b = (at_follow true first b.0, b.1)
+past_crossing first b = (at_two Crossed first b.0, b.1)
 
 -- the first was stepped: where it is done, the second answers the same event
 abbrev pub at_crossing : Progress × Answer → Progress → Progress × Answer → Progress × Answer
 at_crossing a second b =
-    if is_done a.1.decision then past_crossing a.0 b else (at_follow false a.0 second, a.1)
+    if is_done a.1.decision then past_crossing a.0 b else (at_two Uncrossed a.0 second, a.1)
+
+-- one of two schedules in turn is stepped, and both at the crossing
+abbrev pub follow_step : (Progress → Event → Progress × Answer) → (Progress → Event → Progress × Answer) → Turn → Progress → Progress → Event → Progress × Answer
+follow_step front rest Together p q e = at_crossing (front p e) q (rest q e)
+follow_step front rest Uncrossed p q e = at_crossing (front p e) q (rest q e)
+follow_step front rest Crossed p q e = past_crossing p (rest q e)
+
+-- the node's step over those of both schedules
+abbrev pub two_step : Two → (Progress → Event → Progress × Answer) → (Progress → Event → Progress × Answer) → Turn → Progress → Progress → Event → Progress × Answer
+two_step Meet front rest t p q e =
+    let a = front p e in let b = rest q e in side_by_side a b (both a.1 b.1)
+two_step Follow front rest t p q e = follow_step front rest t p q e
+
+-- The parts of progress, of whichever shape it is.
+
+abbrev pub leaf_of : Progress → LeafState
+leaf_of (at_leaf s) = s
+leaf_of (at_one k p) = Counted 0
+leaf_of (at_two t p q) = Counted 0
+
+-- what the node keeps
+abbrev pub kept_in : Progress → Kept
+kept_in (at_leaf s) = none_kept
+kept_in (at_one k p) = k
+kept_in (at_two t p q) = none_kept
+
+-- whose turn it is
+abbrev pub turn_in : Progress → Turn
+turn_in (at_leaf s) = Together
+turn_in (at_one k p) = Together
+turn_in (at_two t p q) = t
+
+-- how far the only or the first of two schedules has come
+abbrev pub first_of : Progress → Progress
+first_of (at_leaf s) = at_leaf s
+first_of (at_one k p) = p
+first_of (at_two t p q) = p
+
+-- how far the second of two schedules has come
+abbrev pub second_of : Progress → Progress
+second_of (at_leaf s) = at_leaf s
+second_of (at_one k p) = p
+second_of (at_two t p q) = q
 
 -- the progress after one more event, and the answer to it
 abbrev pub step_of : Schedule → Progress → Event → Progress × Answer
-step_of (leaf l) s e = (at_leaf (leaf_next l (leaf_of s) e.now), leaf_answers l (leaf_of s) e.now)
-step_of (meet a b) s e = both_steps (step_of a (first_of s) e) (step_of b (second_of s) e)
-step_of (follow a b) s e =
-    if has_crossed s then past_crossing (first_of s) (step_of b (second_of s) e)
-    else at_crossing (step_of a (first_of s) e) (second_of s) (step_of b (second_of s) e)
+step_of (leaf l) p e = (at_leaf (leaf_next l (leaf_of p) e), leaf_answers l (leaf_of p) e)
+step_of (one k a) p e = one_step k (state_of a []) (step_of a) (kept_in p) (first_of p) e
+step_of (two k a b) p e = two_step k (step_of a) (step_of b) (turn_in p) (first_of p) (second_of p) e
+
+-- A step may begin anew, from before the first event, whatever the progress is.
+
+-- the leaf's state that a step is made from
+abbrev pub leaf_from : Bool → Leaf → LeafState → LeafState
+leaf_from fresh l s = if fresh then leaf_state l [] else s
+
+-- what the node keeps where a step is made
+abbrev pub kept_from : Bool → One → Kept → Kept
+kept_from fresh k s = if fresh then first_kept k else s
+
+-- whose turn it is where a step is made
+abbrev pub turn_from : Bool → Two → Turn → Turn
+turn_from fresh k t = if fresh then first_turn k else t
+
+-- the progress that a step is made from
+abbrev pub from : Bool → Schedule → Progress → Progress
+from fresh s p = if fresh then state_of s [] else p

@@ -3,12 +3,12 @@ ghost use Rattle.std.specs.Option.{ForSome};
 ghost use Rattle.sched_time.specs.Capped.{capped};
 ghost use Rattle.sched_plan.specs.Datum.{num};
 ghost use Rattle.sched_plan.specs.Schedule.{leaf_in_range};
-ghost use Rattle.sched_step.specs.Progress.{leaf_view, leaf_fits};
-ghost use Rattle.sched_step.specs.StateOf.{leaf_state};
-ghost use Rattle.sched_step.specs.Step.{leaf_next, leaf_answers, first_kept, next_fixed};
+ghost use Rattle.sched_step.specs.Progress.{leaf_view, leaf_keeps, leaf_began};
+ghost use Rattle.sched_step.specs.StateOf.{leaf_state, event_of};
+ghost use Rattle.sched_step.specs.Step.{leaf_from, leaf_next, leaf_answers, first_planned, next_fixed};
 
 use sched_plan::{Answer, Leaf, Val};
-use sched_time::{Decision, Interval, Millis, Moment, NoMemory};
+use sched_time::{Decision, Interval, Millis, Moment, NoMemory, Tick};
 use std::alloc::Global;
 
 // What is kept of a leaf's events.
@@ -33,6 +33,17 @@ impl LeafState {
         }
     }
 
+    /// Where a step is made that may begin anew.
+    pub(crate) fn from(self, fresh: bool, leaf: Leaf) -> LeafState
+        ensures { result ≡ leaf_from fresh leaf self }
+    {
+        if fresh {
+            LeafState::initial(leaf)
+        } else {
+            self
+        }
+    }
+
     /// The value that shows what is kept.
     pub(crate) fn view(&self, alloc: Global) -> Result<Val, NoMemory>
         ensures { IfOk result (λ v. v ≡ leaf_view self.now) }
@@ -51,25 +62,37 @@ impl LeafState {
         }
     }
 
-    /// Whether the state is of this leaf's kind and keeps no first moment after `now`.
-    pub(crate) fn fits(&self, leaf: Leaf, now: Moment) -> bool
-        ensures { result ≡ leaf_fits leaf self.now now }
+    /// Whether the state is of this leaf's kind.
+    pub(crate) fn is_of(self, leaf: Leaf) -> bool
+        ensures { result ≡ leaf_keeps leaf self }
     {
-        match (leaf, *self) {
+        match (leaf, self) {
             (Leaf::Forever | Leaf::Recurs(_) | Leaf::Spaced(_), LeafState::Counted(_)) => true,
-            (Leaf::Fixed(_), LeafState::Planned(_, None)) => true,
-            (Leaf::Fixed(_), LeafState::Planned(_, Some((first, _)))) => first <= now,
+            (Leaf::Fixed(_), LeafState::Planned(_, _)) => true,
             _ => false,
         }
     }
 
-    /// The state after one more event, at `now`, and what the leaf answers to it.
-    pub(crate) fn step(&self, leaf: Leaf, now: Moment) -> (LeafState, Answer)
-        requires valid { IsTrue (leaf_in_range leaf) }
-        requires fits { IsTrue (leaf_fits leaf self.now now) }
-        ensures { result ≡ (leaf_next leaf self.now now, leaf_answers leaf self.now now) }
+    /// Whether it has no first moment after `now`.
+    pub(crate) fn began_by(self, now: Moment) -> bool
+        ensures { result ≡ leaf_began self now }
     {
-        match *self {
+        match self {
+            LeafState::Planned(_, Some((first, _))) => first <= now,
+            _ => true,
+        }
+    }
+
+    /// The state after one more event, and what the leaf answers to it.
+    pub(crate) fn step(self, leaf: Leaf, tick: &Tick, input: &Val) -> (LeafState, Answer)
+        requires valid { IsTrue (leaf_in_range leaf) }
+        requires keeps { IsTrue (leaf_keeps leaf self) }
+        requires began { IsTrue (leaf_began self tick.now.now) }
+        ensures { result ≡
+            (leaf_next leaf self (event_of tick.entry.now input.now), leaf_answers leaf self (event_of tick.entry.now input.now)) }
+    {
+        let now = tick.now;
+        match self {
             LeafState::Counted(count) => {
                 let decision = match leaf {
                     Leaf::Recurs(most) if most.get() <= count.get() => Decision::Done,
@@ -113,7 +136,7 @@ fn answer(count: Millis, decision: Decision) -> Answer
 fn fixed_next(length: Millis, planned: Option<(Moment, Moment)>, now: Moment) -> (Moment, Moment)
     requires some { 0 < length }
     requires order { ForSome planned (λ p. p.0 ≤ now) }
-    ensures { result ≡ (first_kept planned now, next_fixed length planned now) }
+    ensures { result ≡ (first_planned planned now, next_fixed length planned now) }
 {
     let Some((first, start)) = planned else {
         return (now, now.plus(length));

@@ -10,7 +10,7 @@ invariant_of-self-2 c =
     let e = event_of c.args.tick c.args.input in
     let journal = c.self.inside.journal.items in
     let room = subst (λ (d : Driven). HasRoom d c.args.tick.now) (sym c.self.view_is) c.in_ok-has_room.ensures.ok in
-    driven_on c.self.inside.plan c.self.inside.state c.in_ok-state.state journal c.push_reserved.new.self.items
-    c.self.inside.last e c.in_ok-state.answer c.self.invariant room.0 room.1
+    driven_on c.self.inside.plan c.self.inside.state c.advance.new.self journal c.push_reserved.new.self.items
+    c.self.inside.last e c.in_ok-answer.answer c.self.invariant room.0 room.1
     (c.push_reserved.ensures.items ∙ ap (λ h. h ++ e ∷ []) c.reserve.ensures.items)
-    (c.in_ok-state.ensures.law journal c.self.invariant.state_is) c.in_ok-state.ensures.fits c.in_ok-state.ensures.shape
+    (c.in_ok-answer.ensures.law journal c.self.invariant.state_is) c.in_ok-answer.ensures.fits c.in_ok-answer.ensures.shape

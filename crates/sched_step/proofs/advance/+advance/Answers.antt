@@ -1,0 +1,13 @@
+use Rattle.std.proofs.Common.{◌≤◌, ◌&&◌, arith}
+use Rattle.std.proofs.lemmas.Bool.{and_parts}
+use Rattle.sched_time.specs.declared.numbers.TheConstants.{FAR}
+use Rattle.sched_plan.specs.declared.nodes.Two.TheVariants.{Follow}
+use Rattle.sched_step.specs.Progress.{two_keeps, fits}
+use Rattle.sched_step.proofs.laws.Fits.{fits_later}
+use Rattle.sched_step.proofs.advance.+advance.Goals as goal
+
+pub advance_follow-restart-requires : goal.advance_follow-restart-requires
+advance_follow-restart-requires t c =
+    let in_range : c.args.tick.now.now ≤ FAR = omega arith in
+    let parts = and_parts (two_keeps Follow _ && fits c.args.plans.now.0 _ c.args.tick.now.now) (fits c.args.plans.now.1 _ c.args.tick.now.now) c.requires in
+    fits_later c.args.plans.now.1 _ c.args.tick.now.now FAR parts.1 in_range

@@ -1,0 +1,110 @@
+-- The code by which a proof tells progress apart: each kind has a tag, and its parts stand beside it.
+use Rattle.std.specs.Prelude.{◌≡◌, ℕ, cond, nat_eq, Option, Some, None, refl}
+use Rattle.std.specs.Coded.{Coded}
+use Rattle.sched_step.specs.Progress.{Kept, none_kept, since, Progress, at_leaf, at_one, at_two}
+use Rattle.sched_step.specs.declared.leaves.LeafState.{LeafState}
+use Rattle.sched_step.specs.declared.leaves.LeafState.TheVariants.{Counted, Planned}
+use Rattle.sched_step.specs.declared.turns.Turn.{Turn}
+use Rattle.sched_step.specs.declared.turns.Turn.TheVariants.{Together, Uncrossed, Crossed}
+use base.Stored.{Gv, gnil, gnum, gcons}
+use mathlib.Core.Path.{sym, ◌∙◌, ap}
+
+abbrev number_from : Gv → ℕ
+number_from (gnum n) = n
+number_from _ = 0
+
+abbrev moment_code : Option ℕ → Gv
+moment_code None = gnil
+moment_code (Some m) = gnum m
+
+abbrev moment_from : Gv → Option ℕ
+moment_from (gnum m) = Some m
+moment_from _ = None
+
+abbrev plan_code : Option (ℕ × ℕ) → Gv
+plan_code None = gnil
+plan_code (Some p) = gcons (gnum p.0) (gnum p.1)
+
+abbrev plan_from : Gv → Option (ℕ × ℕ)
+plan_from (gcons a b) = Some (number_from a, number_from b)
+plan_from _ = None
+
+abbrev leaf_code : LeafState → Gv
+leaf_code (Counted n) = gcons (gnum 0) (gcons (gnum n) gnil)
+leaf_code (Planned n p) = gcons (gnum 1) (gcons (gnum n) (plan_code p))
+
+abbrev leaf_at : ℕ → Gv → Gv → LeafState
+leaf_at tag a b = cond (nat_eq tag 0) (Counted (number_from a)) (Planned (number_from a) (plan_from b))
+
+abbrev leaf_from : Gv → LeafState
+leaf_from (gcons (gnum tag) (gcons a b)) = leaf_at tag a b
+leaf_from _ = Counted 0
+
+abbrev kept_code : Kept → Gv
+kept_code none_kept = gcons (gnum 0) gnil
+kept_code (since m) = gcons (gnum 1) (moment_code m)
+
+abbrev kept_at : ℕ → Gv → Kept
+kept_at tag a = cond (nat_eq tag 0) none_kept (since (moment_from a))
+
+abbrev kept_from : Gv → Kept
+kept_from (gcons (gnum tag) a) = kept_at tag a
+kept_from _ = none_kept
+
+abbrev turn_code : Turn → Gv
+turn_code Together = gnum 0
+turn_code Uncrossed = gnum 1
+turn_code Crossed = gnum 2
+
+abbrev turn_at : ℕ → Turn
+turn_at tag = cond (nat_eq tag 0) Together (cond (nat_eq tag 1) Uncrossed Crossed)
+
+abbrev turn_from : Gv → Turn
+turn_from (gnum tag) = turn_at tag
+turn_from _ = Together
+
+-- progress is stored as the tag of its shape, what its node keeps and up to two parts
+abbrev progress_code : Progress → Gv
+progress_code (at_leaf s) = gcons (gnum 0) (gcons (leaf_code s) (gcons gnil gnil))
+progress_code (at_one k p) = gcons (gnum 1) (gcons (kept_code k) (gcons (progress_code p) gnil))
+progress_code (at_two t p q) = gcons (gnum 2) (gcons (turn_code t) (gcons (progress_code p) (progress_code q)))
+
+abbrev shape_at : ℕ → Gv → Progress → Progress → Progress
+shape_at tag k p q =
+    cond (nat_eq tag 0) (at_leaf (leaf_from k)) (cond (nat_eq tag 1) (at_one (kept_from k) p) (at_two (turn_from k) p q))
+
+abbrev progress_from : Gv → Progress
+progress_from (gcons (gnum tag) (gcons k (gcons p q))) = shape_at tag k (progress_from p) (progress_from q)
+progress_from _ = at_leaf (Counted 0)
+
+moment_back : (m : Option ℕ) → moment_from (moment_code m) ≡ m
+moment_back None = refl
+moment_back (Some m) = refl
+
+plan_back : (p : Option (ℕ × ℕ)) → plan_from (plan_code p) ≡ p
+plan_back None = refl
+plan_back (Some p) = refl
+
+leaf_back : (s : LeafState) → leaf_from (leaf_code s) ≡ s
+leaf_back (Counted n) = refl
+leaf_back (Planned n p) = λ i. Planned n (plan_back p i)
+
+pub kept_back : (k : Kept) → kept_from (kept_code k) ≡ k
+kept_back none_kept = refl
+kept_back (since m) = λ i. since (moment_back m i)
+
+turn_back : (t : Turn) → turn_from (turn_code t) ≡ t
+turn_back Together = refl
+turn_back _ = refl
+
+pub progress_back : (p : Progress) → progress_from (progress_code p) ≡ p
+progress_back (at_leaf s) = λ i. at_leaf (leaf_back s i)
+progress_back (at_one k p) = λ i. at_one (kept_back k i) (progress_back p i)
+progress_back (at_two t p q) = λ i. at_two (turn_back t i) (progress_back p i) (progress_back q i)
+
+abbrev pub coded_progress : Coded Progress
+coded_progress =
+    record { code = progress_code; inj = λ x y p. sym (progress_back x) ∙ ap progress_from p ∙ progress_back y }
+
+abbrev pub coded_kept : Coded Kept
+coded_kept = record { code = kept_code; inj = λ x y p. sym (kept_back x) ∙ ap kept_from p ∙ kept_back y }
