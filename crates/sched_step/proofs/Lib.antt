@@ -1,4 +1,5 @@
 pub mod History
 pub mod Prefixes
 pub mod Fixed
+pub mod Moments
 pub mod laws

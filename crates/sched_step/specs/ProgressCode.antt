@@ -1,9 +1,11 @@
 -- The code by which a proof tells progress apart: each kind has a tag, and its parts stand beside it.
-use Rattle.std.specs.Prelude.{◌≡◌, ℕ, cond, nat_eq, Option, Some, None, refl}
-use Rattle.std.specs.Coded.{Coded}
-use Rattle.sched_step.specs.Progress.{Kept, none_kept, since, Progress, at_leaf, at_one, at_two}
+use Rattle.std.specs.Prelude.{◌≡◌, ℕ, Bool, true, false, cond, nat_eq, List, [], ◌∷◌, get_or, Option, Some, None, refl}
+use Rattle.std.specs.Coded.{Coded, coded_list}
+use Rattle.sched_plan.specs.Datum.{Datum}
+use Rattle.sched_plan.specs.DatumCode.{datum_code, datum_from, datum_back}
+use Rattle.sched_step.specs.Progress.{Kept, none_kept, since, round_since, last_at, total, listed, Progress, at_leaf, at_one, at_two, bit}
 use Rattle.sched_step.specs.declared.leaves.LeafState.{LeafState}
-use Rattle.sched_step.specs.declared.leaves.LeafState.TheVariants.{Counted, Planned}
+use Rattle.sched_step.specs.declared.leaves.LeafState.TheVariants.{Counted, Planned, Windows, Product, Scaled, Summands, Started, Blank, Unfolded, Spent}
 use Rattle.sched_step.specs.declared.turns.Turn.{Turn}
 use Rattle.sched_step.specs.declared.turns.Turn.TheVariants.{Together, Uncrossed, Crossed}
 use base.Stored.{Gv, gnil, gnum, gcons}
@@ -29,23 +31,57 @@ abbrev plan_from : Gv → Option (ℕ × ℕ)
 plan_from (gcons a b) = Some (number_from a, number_from b)
 plan_from _ = None
 
-abbrev leaf_code : LeafState → Gv
-leaf_code (Counted n) = gcons (gnum 0) (gcons (gnum n) gnil)
-leaf_code (Planned n p) = gcons (gnum 1) (gcons (gnum n) (plan_code p))
+abbrev values_code : List Datum → Gv
+values_code [] = gnil
+values_code (d ∷ ds) = gcons (datum_code d) (values_code ds)
 
+abbrev values_from : Gv → List Datum
+values_from (gcons a b) = datum_from a ∷ values_from b
+values_from _ = []
+
+-- a tag and two parts
+abbrev row : ℕ → Gv → Gv → Gv
+row tag a b = gcons (gnum tag) (gcons a b)
+
+abbrev leaf_code : LeafState → Gv
+leaf_code (Counted n) = row 0 (gnum n) gnil
+leaf_code (Planned n p) = row 1 (gnum n) (plan_code p)
+leaf_code (Windows n m) = row 2 (gnum n) (moment_code m)
+leaf_code (Product x) = row 3 (gnum x) gnil
+leaf_code (Scaled x) = row 4 (gnum x) gnil
+leaf_code (Summands x y) = row 5 (gnum x) (gnum y)
+leaf_code (Started m) = row 6 gnil (moment_code m)
+leaf_code Blank = row 7 gnil gnil
+leaf_code (Unfolded x) = row 8 (gnum x) gnil
+leaf_code (Spent b) = row 9 (gnum (bit b)) gnil
+
+-- the leaves' states in the order of their tags
 abbrev leaf_at : ℕ → Gv → Gv → LeafState
-leaf_at tag a b = cond (nat_eq tag 0) (Counted (number_from a)) (Planned (number_from a) (plan_from b))
+leaf_at tag a b =
+    let n = number_from a in
+    let states =
+        Counted n ∷ Planned n (plan_from b) ∷ Windows n (moment_from b) ∷ Product n ∷ Scaled n ∷ Summands n (number_from b) ∷
+        Started (moment_from b) ∷ Blank ∷ Unfolded n ∷ Spent (nat_eq n 1) ∷ [] in
+    get_or states tag Blank
 
 abbrev leaf_from : Gv → LeafState
 leaf_from (gcons (gnum tag) (gcons a b)) = leaf_at tag a b
-leaf_from _ = Counted 0
+leaf_from _ = Blank
 
 abbrev kept_code : Kept → Gv
 kept_code none_kept = gcons (gnum 0) gnil
 kept_code (since m) = gcons (gnum 1) (moment_code m)
+kept_code (round_since m) = gcons (gnum 2) (moment_code m)
+kept_code (last_at m) = gcons (gnum 3) (moment_code m)
+kept_code (total n) = gcons (gnum 4) (gnum n)
+kept_code (listed ds) = gcons (gnum 5) (values_code ds)
 
 abbrev kept_at : ℕ → Gv → Kept
-kept_at tag a = cond (nat_eq tag 0) none_kept (since (moment_from a))
+kept_at tag a =
+    let kinds =
+        none_kept ∷ since (moment_from a) ∷ round_since (moment_from a) ∷ last_at (moment_from a) ∷ total (number_from a) ∷
+        listed (values_from a) ∷ [] in
+    get_or kinds tag none_kept
 
 abbrev kept_from : Gv → Kept
 kept_from (gcons (gnum tag) a) = kept_at tag a
@@ -57,7 +93,7 @@ turn_code Uncrossed = gnum 1
 turn_code Crossed = gnum 2
 
 abbrev turn_at : ℕ → Turn
-turn_at tag = cond (nat_eq tag 0) Together (cond (nat_eq tag 1) Uncrossed Crossed)
+turn_at tag = get_or (Together ∷ Uncrossed ∷ Crossed ∷ []) tag Together
 
 abbrev turn_from : Gv → Turn
 turn_from (gnum tag) = turn_at tag
@@ -75,7 +111,7 @@ shape_at tag k p q =
 
 abbrev progress_from : Gv → Progress
 progress_from (gcons (gnum tag) (gcons k (gcons p q))) = shape_at tag k (progress_from p) (progress_from q)
-progress_from _ = at_leaf (Counted 0)
+progress_from _ = at_leaf Blank
 
 moment_back : (m : Option ℕ) → moment_from (moment_code m) ≡ m
 moment_back None = refl
@@ -85,13 +121,24 @@ plan_back : (p : Option (ℕ × ℕ)) → plan_from (plan_code p) ≡ p
 plan_back None = refl
 plan_back (Some p) = refl
 
+values_back : (ds : List Datum) → values_from (values_code ds) ≡ ds
+values_back [] = refl
+values_back (d ∷ ds) = λ i. datum_back d i ∷ values_back ds i
+
 leaf_back : (s : LeafState) → leaf_from (leaf_code s) ≡ s
-leaf_back (Counted n) = refl
 leaf_back (Planned n p) = λ i. Planned n (plan_back p i)
+leaf_back (Windows n m) = λ i. Windows n (moment_back m i)
+leaf_back (Started m) = λ i. Started (moment_back m i)
+leaf_back (Spent true) = refl
+leaf_back (Spent false) = refl
+leaf_back s = refl
 
 pub kept_back : (k : Kept) → kept_from (kept_code k) ≡ k
-kept_back none_kept = refl
 kept_back (since m) = λ i. since (moment_back m i)
+kept_back (round_since m) = λ i. round_since (moment_back m i)
+kept_back (last_at m) = λ i. last_at (moment_back m i)
+kept_back (listed ds) = λ i. listed (values_back ds i)
+kept_back k = refl
 
 turn_back : (t : Turn) → turn_from (turn_code t) ≡ t
 turn_back Together = refl

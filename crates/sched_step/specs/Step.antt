@@ -1,38 +1,74 @@
 -- One step as the code makes it, from the kept progress alone. That it meets the definition over whole histories is
 -- what `step` ensures.
-use Rattle.std.specs.Prelude.{ℕ, ◌+◌, ◌-◌, Bool, false, if◌then◌else◌, nat_lt, nat_le, [], Option, Some, None}
+use Rattle.std.specs.Prelude.{ℕ, ◌+◌, ◌-◌, ◌*◌, ◌/◌, min, max, Bool, true, false, if◌then◌else◌, nat_lt, nat_le, List, [], ◌∷◌, ◌++◌, get_or, Option, Some, None}
 use Rattle.sched_time.specs.Capped.{capped}
 use Rattle.sched_time.specs.declared.starts.Decision.{Decision}
 use Rattle.sched_time.specs.declared.starts.Decision.TheVariants.{Go, Done}
-use Rattle.sched_plan.specs.Datum.{num}
+use Rattle.sched_plan.specs.Datum.{Datum, num, list, items_of}
 use Rattle.sched_plan.specs.Schedule.{Schedule, leaf, one, two}
-use Rattle.sched_plan.specs.Answer.{both, silent, is_done, next_boundary}
+use Rattle.sched_plan.specs.Outputs.{goes_on, number_of, with_input}
+use Rattle.sched_plan.specs.Delays.{added, added_out, jittered}
+use Rattle.sched_plan.specs.Gates.{gated}
+use Rattle.sched_plan.specs.Answer.{both, either, through, giving, silent, first_part, second_part, moved_decision, is_done, next_boundary}
 use Rattle.sched_plan.specs.declared.leaves.Leaf.{Leaf}
-use Rattle.sched_plan.specs.declared.leaves.Leaf.TheVariants.{Forever, Recurs, Spaced, Fixed}
+use Rattle.sched_plan.specs.declared.leaves.Leaf.TheVariants.{Forever, Recurs, Spaced, Fixed, Windowed, Linear, Exponential, ExponentialMilli, Fibonacci, Elapsed, Identity, Unfold, Lone}
+use Rattle.sched_plan.specs.declared.nodes.Fold.{Fold}
+use Rattle.sched_plan.specs.declared.nodes.Fold.TheVariants.{Sum, Count, Max, List as All}
 use Rattle.sched_plan.specs.declared.nodes.One.{One}
-use Rattle.sched_plan.specs.declared.nodes.One.TheVariants.{Within, Nothing}
+use Rattle.sched_plan.specs.declared.nodes.One.TheVariants.{Gate, Gather, Add, Set, Cap, AddOut, Jitter, Within, Renew, RenewIdle, First, Second, Nothing}
 use Rattle.sched_plan.specs.declared.nodes.Two.{Two}
-use Rattle.sched_plan.specs.declared.nodes.Two.TheVariants.{Meet, Follow}
+use Rattle.sched_plan.specs.declared.nodes.Two.TheVariants.{Meet, Join, Follow, Feed}
 use Rattle.sched_plan.specs.declared.history.Event.{Event}
 use Rattle.sched_plan.specs.declared.history.Answer.{Answer}
 use Rattle.sched_step.specs.declared.leaves.LeafState.{LeafState}
-use Rattle.sched_step.specs.declared.leaves.LeafState.TheVariants.{Counted, Planned}
+use Rattle.sched_step.specs.declared.leaves.LeafState.TheVariants.{Counted, Planned, Windows, Product, Scaled, Summands, Started, Blank, Unfolded, Spent}
 use Rattle.sched_step.specs.declared.turns.Turn.{Turn}
 use Rattle.sched_step.specs.declared.turns.Turn.TheVariants.{Together, Uncrossed, Crossed}
-use Rattle.sched_step.specs.Progress.{Kept, none_kept, since, Progress, at_leaf, at_one, at_two}
+use Rattle.sched_step.specs.Progress.{Kept, none_kept, since, round_since, last_at, total, listed, Progress, at_leaf, at_one, at_two}
 use Rattle.sched_step.specs.StateOf.{leaf_state, first_kept, first_turn, state_of}
 
 -- Leaves.
 
--- how many events a leaf has counted
+-- the moment that is kept, else that of this event
+abbrev pub kept_or_now : Option ℕ → ℕ → ℕ
+kept_or_now None now = now
+kept_or_now (Some m) now = m
+
+-- how many events a leaf has counted, if it counts them
 abbrev pub count_of : LeafState → ℕ
 count_of (Counted n) = n
 count_of (Planned n p) = n
+count_of (Windows n m) = n
+count_of s = 0
+
+-- what a leaf puts out at the next event, if it keeps that
+abbrev pub output_next : LeafState → ℕ
+output_next (Product x) = x
+output_next (Scaled x) = x
+output_next (Summands x y) = x
+output_next (Unfolded x) = x
+output_next s = 0
+
+-- and at the one after
+abbrev pub output_after : LeafState → ℕ
+output_after (Summands x y) = y
+output_after s = 0
+
+-- the first moment, if a leaf keeps it
+abbrev pub started_of : LeafState → Option ℕ
+started_of (Windows n m) = m
+started_of (Started m) = m
+started_of s = None
 
 -- the first moment and the start planned last, if the leaf keeps them
 abbrev pub planned_of : LeafState → Option (ℕ × ℕ)
-planned_of (Counted n) = None
 planned_of (Planned n p) = p
+planned_of s = None
+
+-- whether the one event of a lone schedule is past
+abbrev pub is_spent : LeafState → Bool
+is_spent (Spent b) = b
+is_spent s = false
 
 -- the next start of `fixed d`, from the first moment and the start planned last
 abbrev pub next_fixed : ℕ → Option (ℕ × ℕ) → ℕ → ℕ
@@ -52,46 +88,128 @@ leaf_next (Spaced delay) s e = Counted (capped (count_of s + 1))
 leaf_next (Fixed d) s e =
     Planned (capped (count_of s + 1)) (Some (first_planned (planned_of s) e.now, next_fixed d (planned_of s) e.now))
 
+leaf_next (Windowed d) s e = Windows (capped (count_of s + 1)) (Some (kept_or_now (started_of s) e.now))
+leaf_next (Linear delay) s e = Counted (capped (count_of s + 1))
+leaf_next (Exponential base factor) s e = Product (capped (output_next s * factor))
+leaf_next (ExponentialMilli base thousandths) s e = Scaled (capped (output_next s * thousandths / 1000))
+leaf_next (Fibonacci delay) s e = Summands (output_after s) (capped (output_next s + output_after s))
+leaf_next Elapsed s e = Started (Some (kept_or_now (started_of s) e.now))
+leaf_next Identity s e = Blank
+leaf_next (Unfold seed factor more) s e = Unfolded (capped (factor * output_next s + more))
+leaf_next (Lone delay) s e = Spent true
+
+-- the multiple of the delay that `linear` has come to
+abbrev pub next_linear : ℕ → ℕ → ℕ
+next_linear delay count = capped (delay * capped (count + 1))
+
+-- what a leaf puts out at one more event
+abbrev pub leaf_gives : Leaf → LeafState → Event → Datum
+leaf_gives (Linear delay) s e = num (next_linear delay (count_of s))
+leaf_gives (Exponential base factor) s e = num (output_next s)
+leaf_gives (ExponentialMilli base thousandths) s e = num (output_next s)
+leaf_gives (Fibonacci delay) s e = num (output_next s)
+leaf_gives Elapsed s e = num (e.now - kept_or_now (started_of s) e.now)
+leaf_gives Identity s e = e.input
+leaf_gives (Unfold seed factor more) s e = num (output_next s)
+leaf_gives (Lone delay) s e = num (if is_spent s then 0 else delay)
+leaf_gives l s e = num (count_of s)
+
 -- what a leaf decides at one more event
 abbrev pub leaf_decides : Leaf → LeafState → Event → Decision
 leaf_decides Forever s e = Go e.now
 leaf_decides (Recurs count) s e = if nat_lt (count_of s) count then Go e.now else Done
 leaf_decides (Spaced delay) s e = Go (capped (e.now + delay))
 leaf_decides (Fixed d) s e = Go (next_fixed d (planned_of s) e.now)
+leaf_decides (Windowed d) s e = Go (next_boundary d (kept_or_now (started_of s) e.now) e.now)
+leaf_decides (Linear delay) s e = Go (capped (e.now + next_linear delay (count_of s)))
+leaf_decides (Exponential base factor) s e = Go (capped (e.now + output_next s))
+leaf_decides (ExponentialMilli base thousandths) s e = Go (capped (e.now + output_next s))
+leaf_decides (Fibonacci delay) s e = Go (capped (e.now + output_next s))
+leaf_decides Elapsed s e = Go e.now
+leaf_decides Identity s e = Go e.now
+leaf_decides (Unfold seed factor more) s e = Go e.now
+leaf_decides (Lone delay) s e = if is_spent s then Done else Go (capped (e.now + delay))
 
 -- what a leaf answers to one more event
 abbrev pub leaf_answers : Leaf → LeafState → Event → Answer
-leaf_answers l s e = record { output = num (count_of s); decision = leaf_decides l s e }
+leaf_answers l s e = record { output = leaf_gives l s e; decision = leaf_decides l s e }
 
 -- Nodes over one schedule.
 
--- the moment that is kept, else that of this event
-abbrev pub kept_or_now : Option ℕ → ℕ → ℕ
-kept_or_now None now = now
-kept_or_now (Some m) now = m
-
 -- the moment that a node keeps, if it keeps one
 abbrev pub since_of : Kept → Option ℕ
-since_of none_kept = None
 since_of (since m) = m
+since_of (round_since m) = m
+since_of (last_at m) = m
+since_of s = None
+
+-- the number that a fold has come to, if the node keeps one
+abbrev pub total_of : Kept → ℕ
+total_of (total n) = n
+total_of s = 0
+
+-- the outputs so far, if the node keeps them
+abbrev pub listed_of : Kept → List Datum
+listed_of (listed ds) = ds
+listed_of s = []
+
+-- whether so much time has passed since the moment, if there is one
+abbrev pub is_over : ℕ → Option ℕ → ℕ → Bool
+is_over d None now = false
+is_over d (Some m) now = nat_le d (now - m)
 
 -- whether the schedule under the node begins anew at an event at `now`
 abbrev pub begins : One → Kept → ℕ → Bool
-begins (Within d) s now = false
-begins Nothing s now = false
+begins (Renew d) s now = is_over d (since_of s) now
+begins (RenewIdle d) s now = is_over d (since_of s) now
+begins k s now = false
+
+-- what a fold keeps after one more event, to which the schedule under it gave this answer
+abbrev pub fold_next : Fold → Kept → Answer → Kept
+fold_next Sum s a = total (if goes_on a.decision then capped (total_of s + number_of a.output) else total_of s)
+fold_next Count s a = total (if goes_on a.decision then capped (total_of s + 1) else total_of s)
+fold_next Max s a = total (if goes_on a.decision then max (total_of s) (number_of a.output) else total_of s)
+fold_next All s a = listed (if goes_on a.decision then listed_of s ++ a.output ∷ [] else listed_of s)
+
+-- the moment at which the present round began, if this event may begin one
+abbrev pub round_next : Bool → Option ℕ → ℕ → ℕ
+round_next anew m now = if anew then now else kept_or_now m now
 
 -- what the node keeps after one more event, to which the schedule under it gave this answer
 abbrev pub one_next : One → Kept → Event → Answer → Kept
+one_next (Gather fold) s e a = fold_next fold s a
 one_next (Within d) s e a = since (Some (kept_or_now (since_of s) e.now))
-one_next Nothing s e a = none_kept
+one_next (Renew d) s e a = round_since (Some (round_next (is_over d (since_of s) e.now) (since_of s) e.now))
+one_next (RenewIdle d) s e a = last_at (Some e.now)
+one_next k s e a = none_kept
 
 -- the answer, but done where so much time has passed
 abbrev pub ended : Bool → Answer → Answer
 ended over a = if over then record { output = a.output; decision = Done } else a
 
+-- the answer with its delay from `now` on changed
+abbrev pub delayed : (ℕ → ℕ) → ℕ → Answer → Answer
+delayed delay now a = record { output = a.output; decision = moved_decision delay now a.decision }
+
+-- what a fold shows of what it keeps
+abbrev pub fold_shows : Fold → Kept → Datum
+fold_shows All s = list (items_of (listed_of s))
+fold_shows fold s = num (total_of s)
+
 -- what the node answers to one more event, to which the schedule under it gave this answer
 abbrev pub one_answers : One → Kept → Event → Answer → Answer
+one_answers (Gate side want test bound) s e a = gated side want test bound e.input a
+one_answers (Gather fold) s e a = giving (fold_shows fold s) a
+one_answers (Add d) s e a = delayed (added d) e.now a
+one_answers (Set d) s e a = delayed (λ _. d) e.now a
+one_answers (Cap d) s e a = delayed (λ delay. min delay d) e.now a
+one_answers AddOut s e a = delayed (added_out a.output) e.now a
+one_answers (Jitter lane least most) s e a = delayed (jittered least most (get_or e.words lane 0)) e.now a
 one_answers (Within d) s e a = ended (nat_le d (e.now - kept_or_now (since_of s) e.now)) a
+one_answers (Renew d) s e a = a
+one_answers (RenewIdle d) s e a = a
+one_answers First s e a = giving (first_part a.output) a
+one_answers Second s e a = giving (second_part a.output) a
 one_answers Nothing s e a = silent a
 
 -- the node's step over that of the schedule under it, whose progress before the first event is `start`
@@ -125,6 +243,10 @@ follow_step front rest Crossed p q e = past_crossing p (rest q e)
 abbrev pub two_step : Two → (Progress → Event → Progress × Answer) → (Progress → Event → Progress × Answer) → Turn → Progress → Progress → Event → Progress × Answer
 two_step Meet front rest t p q e =
     let a = front p e in let b = rest q e in side_by_side a b (both a.1 b.1)
+two_step Join front rest t p q e =
+    let a = front p e in let b = rest q e in side_by_side a b (either a.1 b.1)
+two_step Feed front rest t p q e =
+    let a = front p e in let b = rest q (with_input a.1.output e) in side_by_side a b (through a.1 b.1)
 two_step Follow front rest t p q e = follow_step front rest t p q e
 
 -- The parts of progress, of whichever shape it is.

@@ -5,6 +5,7 @@ mod advance;
 mod answers;
 mod kept;
 mod leaves;
+mod ratios;
 mod states;
 mod steps;
 #[cfg(test)]

@@ -1,51 +1,99 @@
 -- The step of a node over one schedule: a lemma for each node, and the law that they make together.
-use Rattle.std.proofs.Common.{◌≡◌, ℕ, ◌-◌, List, [], ◌∷◌, ◌++◌, Bool, true, false, if◌then◌else◌, nat_le, IsTrue, Some, refl, sym, ap, ◌∙◌}
-use Rattle.sched_plan.specs.History.{first_moment}
-use Rattle.sched_plan.specs.HistoryLaws.{last_moment-push}
+use Rattle.std.proofs.Common.{◌≡◌, ℕ, ◌+◌, ◌-◌, min, max, List, [], ◌∷◌, ◌++◌, Bool, true, false, cond, if◌then◌else◌, nat_le, get_or, IsTrue, refl, sym, ap, ◌∙◌}
+use Rattle.sched_time.specs.Capped.{capped}
+use Rattle.sched_plan.specs.Datum.{Datum}
+use Rattle.sched_plan.specs.HistoryLaws.{last_moment-push, last_input-push, last_words-push}
+use Rattle.sched_plan.specs.Outputs.{goes_on, outputs, number_of, sum_in, count_in, greatest_in}
+use Rattle.sched_plan.specs.OutputLaws.{outputs-push, earlier_outputs-push, sum_in-push, count_in-push, greatest_in-push}
+use Rattle.sched_plan.specs.Delays.{added, added_out, jittered}
+use Rattle.sched_plan.specs.Gates.{gated}
 use Rattle.sched_plan.specs.Schedule.{one_in_range}
-use Rattle.sched_plan.specs.Answer.{up_to, changed}
+use Rattle.sched_plan.specs.Answer.{up_to, gathered, giving, changed}
+use Rattle.sched_plan.specs.declared.nodes.Fold.{Fold}
+use Rattle.sched_plan.specs.declared.nodes.Fold.TheVariants.{Sum, Count, Max, List as All}
 use Rattle.sched_plan.specs.declared.nodes.One.{One}
-use Rattle.sched_plan.specs.declared.nodes.One.TheVariants.{Within, Nothing}
+use Rattle.sched_plan.specs.declared.nodes.One.TheVariants.{Gate, Gather, Add, Set, Cap, AddOut, Jitter, Within, Renew, RenewIdle, First, Second, Nothing}
 use Rattle.sched_plan.specs.declared.history.Event.{Event}
 use Rattle.sched_plan.specs.declared.history.Answer.{Answer}
-use Rattle.sched_step.specs.Progress.{Kept, since, Progress, at_one}
-use Rattle.sched_step.specs.StateOf.{began_at, kept_of, seen}
-use Rattle.sched_step.specs.Step.{kept_or_now, ended, begins, one_next, one_answers, one_step}
+use Rattle.sched_step.specs.Progress.{Kept, since, round_since, last_at, total, listed, Progress, at_one}
+use Rattle.sched_step.specs.StateOf.{began_at, folded, kept_of, seen}
+use Rattle.sched_step.specs.Step.{kept_or_now, ended, delayed, begins, fold_next, fold_shows, one_next, one_answers, one_step}
+use Rattle.sched_step.proofs.Moments.{began_at-push, first_moment_kept, ended_at-push, last_block_kept, last_run_kept, round_kept}
 
 -- Within: the first moment.
-
-began_at-push : (h : List Event) (e : Event) → Some (kept_or_now (began_at h) e.now) ≡ began_at (h ++ e ∷ [])
-began_at-push [] e = refl
-began_at-push (d ∷ h) e = refl
-
-first_moment-push : (h : List Event) (e : Event) → kept_or_now (began_at h) e.now ≡ first_moment (h ++ e ∷ [])
-first_moment-push [] e = refl
-first_moment-push (d ∷ h) e = refl
 
 within_answers-push : (d : ℕ) (h : List Event) (e : Event) (a : Answer) →
     ended (nat_le d (e.now - kept_or_now (began_at h) e.now)) a ≡ up_to d (h ++ e ∷ []) a
 within_answers-push d h e a =
-    λ i. ended (nat_le d (sym (last_moment-push h e) i - first_moment-push h e i)) a
+    λ i. ended (nat_le d (sym (last_moment-push h e) i - first_moment_kept h e i)) a
+
+-- Gather: a fold over the outputs so far.
+
+module _ (ds : List Datum) (x : Datum) where
+  sum_where : (goes : Bool) → (if goes then capped (sum_in ds + number_of x) else sum_in ds) ≡ sum_in (if goes then ds ++ x ∷ [] else ds)
+  sum_where true = sym (sum_in-push ds x)
+  sum_where false = refl
+
+  count_where : (goes : Bool) → (if goes then capped (count_in ds + 1) else count_in ds) ≡ count_in (if goes then ds ++ x ∷ [] else ds)
+  count_where true = sym (count_in-push ds x)
+  count_where false = refl
+
+  greatest_where : (goes : Bool) →
+      (if goes then max (greatest_in ds) (number_of x) else greatest_in ds) ≡ greatest_in (if goes then ds ++ x ∷ [] else ds)
+  greatest_where true = sym (greatest_in-push ds x)
+  greatest_where false = refl
+
+-- the fold takes the output of a step at which the schedule goes on
+fold_next-push : (fold : Fold) (ds : List Datum) (a : Answer) →
+    fold_next fold (folded fold ds) a ≡ folded fold (if goes_on a.decision then ds ++ a.output ∷ [] else ds)
+fold_next-push Sum ds a = ap total (sum_where ds a.output (goes_on a.decision))
+fold_next-push Count ds a = ap total (count_where ds a.output (goes_on a.decision))
+fold_next-push Max ds a = ap total (greatest_where ds a.output (goes_on a.decision))
+fold_next-push All ds a = refl
+
+fold_shows-folded : (fold : Fold) (ds : List Datum) → fold_shows fold (folded fold ds) ≡ gathered fold ds
+fold_shows-folded Sum ds = refl
+fold_shows-folded Count ds = refl
+fold_shows-folded Max ds = refl
+fold_shows-folded All ds = refl
 
 -- All nodes over one schedule.
 
 -- the schedule under the node has been given this event too, or this event alone where it begins anew
 pub seen-push : (k : One) (f : List Event → Answer) (h : List Event) (e : Event) → IsTrue (one_in_range k) →
     seen k (h ++ e ∷ []) ≡ (if begins k (kept_of k f h) e.now then [] else seen k h) ++ e ∷ []
-seen-push Nothing f h e valid = refl
+seen-push (Renew d) f h e valid = last_block_kept d h e
+seen-push (RenewIdle d) f h e valid = last_run_kept d h e
 seen-push k f h e valid = refl
 
 -- what the node keeps grows with the history
 pub kept_of-push : (k : One) (f : List Event → Answer) (h : List Event) (e : Event) → IsTrue (one_in_range k) →
     one_next k (kept_of k f h) e (f (seen k (h ++ e ∷ []))) ≡ kept_of k f (h ++ e ∷ [])
+kept_of-push (Gather fold) f h e valid =
+    fold_next-push fold (outputs f h) (f (h ++ e ∷ [])) ∙ ap (folded fold) (sym (outputs-push f h e))
 kept_of-push (Within d) f h e valid = ap since (began_at-push h e)
-kept_of-push Nothing f h e valid = refl
+kept_of-push (Renew d) f h e valid = ap round_since (round_kept d h e)
+kept_of-push (RenewIdle d) f h e valid = ap last_at (ended_at-push h e)
+kept_of-push k f h e valid = refl
 
 -- the node answers by the definition
 pub changed-push : (k : One) (f : List Event → Answer) (h : List Event) (e : Event) → IsTrue (one_in_range k) →
     one_answers k (kept_of k f h) e (f (seen k (h ++ e ∷ []))) ≡ changed k f (h ++ e ∷ [])
+changed-push (Gate side want test bound) f h e valid =
+    ap (λ input. gated side want test bound input (f (h ++ e ∷ []))) (sym (last_input-push h e))
+changed-push (Gather fold) f h e valid =
+    ap (λ output. giving output (f (h ++ e ∷ [])))
+    (fold_shows-folded fold (outputs f h) ∙ ap (gathered fold) (sym (earlier_outputs-push f h e)))
+changed-push (Add d) f h e valid = ap (λ now. delayed (added d) now (f (h ++ e ∷ []))) (sym (last_moment-push h e))
+changed-push (Set d) f h e valid = ap (λ now. delayed (λ _. d) now (f (h ++ e ∷ []))) (sym (last_moment-push h e))
+changed-push (Cap d) f h e valid =
+    ap (λ now. delayed (λ delay. min delay d) now (f (h ++ e ∷ []))) (sym (last_moment-push h e))
+changed-push AddOut f h e valid =
+    let a : Answer = f (h ++ e ∷ []) in ap (λ now. delayed (added_out a.output) now a) (sym (last_moment-push h e))
+changed-push (Jitter lane least most) f h e valid =
+    λ i. delayed (jittered least most (get_or (sym (last_words-push h e) i) lane 0)) (sym (last_moment-push h e) i) (f (h ++ e ∷ []))
 changed-push (Within d) f h e valid = within_answers-push d h e (f (h ++ e ∷ []))
-changed-push Nothing f h e valid = refl
+changed-push k f h e valid = refl
 
 module _
     (state : List Event → Progress) (f : List Event → Answer) (step : Progress → Event → Progress × Answer)

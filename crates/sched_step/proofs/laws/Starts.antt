@@ -1,18 +1,23 @@
 -- No step starts before its event, from whatever progress it is made.
-use Rattle.std.proofs.Common.{ℕ, ◌+◌, ◌≤◌, if◌then◌else◌, Option, Some, None, nat_lt, nat_le, ◌-◌, le_refl, arith, []}
+use Rattle.std.proofs.Common.{◌≡◌, ℕ, ◌+◌, ◌≤◌, Bool, true, false, cond, if◌then◌else◌, Option, Some, None, nat_lt, nat_le, ◌-◌, le_refl, min, get_or, arith, List, []}
 use Rattle.std.proofs.lemmas.Bool.{cond_both}
 use Rattle.sched_time.specs.Capped.{capped}
 use Rattle.sched_time.specs.declared.numbers.TheConstants.{FAR}
 use Rattle.sched_time.specs.declared.starts.Decision.{Decision}
 use Rattle.sched_time.specs.declared.starts.Decision.TheVariants.{Go, Done}
 use Rattle.sched_plan.specs.Schedule.{Schedule, leaf, one, two}
-use Rattle.sched_plan.specs.Answer.{is_done, later, next_boundary}
+use Rattle.sched_plan.specs.Datum.{Datum}
+use Rattle.sched_plan.specs.Outputs.{with_input}
+use Rattle.sched_plan.specs.Gates.{passes, tested, is_wanted}
+use Rattle.sched_plan.specs.Delays.{added, added_out, jittered}
+use Rattle.sched_plan.specs.DelayLaws.{moved-later}
+use Rattle.sched_plan.specs.Answer.{is_done, later, earlier, moved_decision, next_boundary}
 use Rattle.sched_plan.specs.declared.leaves.Leaf.{Leaf}
-use Rattle.sched_plan.specs.declared.leaves.Leaf.TheVariants.{Forever, Recurs, Spaced, Fixed}
+use Rattle.sched_plan.specs.declared.leaves.Leaf.TheVariants.{Forever, Recurs, Spaced, Fixed, Windowed, Linear, Exponential, ExponentialMilli, Fibonacci, Elapsed, Identity, Unfold, Lone}
 use Rattle.sched_plan.specs.declared.nodes.One.{One}
-use Rattle.sched_plan.specs.declared.nodes.One.TheVariants.{Within, Nothing}
+use Rattle.sched_plan.specs.declared.nodes.One.TheVariants.{Gate, Gather, Add, Set, Cap, AddOut, Jitter, Within, Renew, RenewIdle, First, Second, Nothing}
 use Rattle.sched_plan.specs.declared.nodes.Two.{Two}
-use Rattle.sched_plan.specs.declared.nodes.Two.TheVariants.{Meet, Follow}
+use Rattle.sched_plan.specs.declared.nodes.Two.TheVariants.{Meet, Join, Follow, Feed}
 use Rattle.sched_plan.specs.declared.history.Event.{Event}
 use Rattle.sched_plan.specs.declared.history.Answer.{Answer}
 use Rattle.sched_step.specs.declared.leaves.LeafState.{LeafState}
@@ -21,7 +26,7 @@ use Rattle.sched_step.specs.declared.turns.Turn.TheVariants.{Together, Uncrossed
 use Rattle.sched_step.specs.Progress.{Kept, Progress, at_two}
 use Rattle.sched_step.specs.Starts.{StartsBy}
 use Rattle.sched_step.specs.StateOf.{state_of}
-use Rattle.sched_step.specs.Step.{count_of, planned_of, next_fixed, leaf_decides, leaf_of, kept_or_now, since_of, begins, one_answers, past_crossing, at_crossing, follow_step, two_step, kept_in, turn_in, first_of, second_of, step_of}
+use Rattle.sched_step.specs.Step.{count_of, planned_of, is_spent, next_fixed, leaf_decides, leaf_of, kept_or_now, since_of, begins, one_answers, past_crossing, at_crossing, follow_step, two_step, kept_in, turn_in, first_of, second_of, step_of}
 
 next_fixed_starts : (d : ℕ) (planned : Option (ℕ × ℕ)) (now : ℕ) → now ≤ FAR → now ≤ next_fixed d planned now
 next_fixed_starts d None now far = omega arith
@@ -35,15 +40,39 @@ leaf_starts (Recurs count) s e far =
     cond_both (nat_lt (count_of s) count) (Go e.now) Done (StartsBy e.now) (λ below. le_refl e.now) (λ above. tt)
 leaf_starts (Spaced delay) s e far = omega arith
 leaf_starts (Fixed d) s e far = next_fixed_starts d (planned_of s) e.now far
+leaf_starts (Windowed d) s e far = omega arith
+leaf_starts (Linear delay) s e far = omega arith
+leaf_starts (Exponential base factor) s e far = omega arith
+leaf_starts (ExponentialMilli base thousandths) s e far = omega arith
+leaf_starts (Fibonacci delay) s e far = omega arith
+leaf_starts Elapsed s e far = le_refl e.now
+leaf_starts Identity s e far = le_refl e.now
+leaf_starts (Unfold seed factor more) s e far = le_refl e.now
+leaf_starts (Lone delay) s e far =
+    cond_both (is_spent s) Done (Go (capped (e.now + delay))) (StartsBy e.now) (λ spent. tt) (λ first. omega arith)
 
 -- Nodes over one schedule.
+
+-- a changed delay goes on from the event
+moved_starts : (delay : ℕ → ℕ) (now : ℕ) (d : Decision) → now ≤ FAR → StartsBy now (moved_decision delay now d)
+moved_starts delay now (Go start) far = moved-later delay now start far
+moved_starts delay now Done far = tt
 
 one_starts : (k : One) (s : Kept) (e : Event) (a : Answer) → e.now ≤ FAR → StartsBy e.now a.decision →
     StartsBy e.now (one_answers k s e a).decision
 one_starts (Within d) s e a far starts =
     cond_both (nat_le d (e.now - kept_or_now (since_of s) e.now)) (record { output = a.output; decision = Done }) a
     (λ (b : Answer). StartsBy e.now b.decision) (λ over. tt) (λ goes_on. starts)
-one_starts Nothing s e a far starts = starts
+one_starts (Gate side want test bound) s e a far starts =
+    cond_both (is_wanted want (passes test bound (tested side e.input a))) a (record { output = a.output; decision = Done })
+    (λ (b : Answer). StartsBy e.now b.decision) (λ passes. starts) (λ fails. tt)
+one_starts (Add d) s e a far starts = moved_starts (added d) e.now a.decision far
+one_starts (Set d) s e a far starts = moved_starts (λ _. d) e.now a.decision far
+one_starts (Cap d) s e a far starts = moved_starts (λ delay. min delay d) e.now a.decision far
+one_starts AddOut s e a far starts = moved_starts (added_out a.output) e.now a.decision far
+one_starts (Jitter lane least most) s e a far starts =
+    moved_starts (jittered least most (get_or e.words lane 0)) e.now a.decision far
+one_starts k s e a far starts = starts
 
 -- Nodes over two schedules.
 
@@ -52,23 +81,30 @@ later_starts now (Go s) (Go t) first second = omega arith
 later_starts now (Go s) Done first second = tt
 later_starts now Done b first second = tt
 
+earlier_starts : (now : ℕ) (a b : Decision) → StartsBy now a → StartsBy now b → StartsBy now (earlier a b)
+earlier_starts now (Go s) (Go t) first second = omega arith
+earlier_starts now (Go s) Done first second = first
+earlier_starts now Done b first second = second
+
 module _
     (front rest : Progress → Event → Progress × Answer) (e : Event)
     (front_starts : (p : Progress) → StartsBy e.now (front p e).1.decision)
-    (rest_starts : (p : Progress) → StartsBy e.now (rest p e).1.decision) where
+    (rest_starts : (p : Progress) (input : Datum) → StartsBy e.now (rest p (with_input input e)).1.decision) where
   at_crossing_starts : (p q : Progress) → StartsBy e.now (at_crossing (front p e) q (rest q e)).1.decision
   at_crossing_starts p q =
       cond_both (is_done (front p e).1.decision) (past_crossing (front p e).0 (rest q e))
       (at_two Uncrossed (front p e).0 q, (front p e).1) (λ (r : Progress × Answer). StartsBy e.now r.1.decision)
-      (λ done. rest_starts q) (λ goes_on. front_starts p)
+      (λ done. rest_starts q e.input) (λ goes_on. front_starts p)
 
   follow_starts : (t : Turn) (p q : Progress) → StartsBy e.now (follow_step front rest t p q e).1.decision
   follow_starts Together p q = at_crossing_starts p q
   follow_starts Uncrossed p q = at_crossing_starts p q
-  follow_starts Crossed p q = rest_starts q
+  follow_starts Crossed p q = rest_starts q e.input
 
   two_starts : (k : Two) (t : Turn) (p q : Progress) → StartsBy e.now (two_step k front rest t p q e).1.decision
-  two_starts Meet t p q = later_starts e.now _ _ (front_starts p) (rest_starts q)
+  two_starts Meet t p q = later_starts e.now _ _ (front_starts p) (rest_starts q e.input)
+  two_starts Join t p q = earlier_starts e.now _ _ (front_starts p) (rest_starts q e.input)
+  two_starts Feed t p q = later_starts e.now _ _ (front_starts p) (rest_starts q (front p e).1.output)
   two_starts Follow t p q = follow_starts t p q
 
 pub starts_law : (s : Schedule) (p : Progress) (e : Event) → e.now ≤ FAR → StartsBy e.now (step_of s p e).1.decision
@@ -77,5 +113,5 @@ starts_law (one k a) p e far =
     let from : Progress = if begins k (kept_in p) e.now then state_of a [] else first_of p in
     one_starts k (kept_in p) e (step_of a from e).1 far (starts_law a from e far)
 starts_law (two k a b) p e far =
-    two_starts (step_of a) (step_of b) e (λ q. starts_law a q e far) (λ q. starts_law b q e far)
+    two_starts (step_of a) (step_of b) e (λ q. starts_law a q e far) (λ q input. starts_law b q (with_input input e) far)
     k (turn_in p) (first_of p) (second_of p)

@@ -1,11 +1,13 @@
 -- The step of a node over two schedules: a lemma for each node, and the law that they make together.
 use Rattle.std.proofs.Common.{◌≡◌, List, [], ◌∷◌, ◌++◌, Bool, true, false, cond, Option, Some, None, refl, sym, ap, ◌∙◌}
-use Rattle.sched_plan.specs.Answer.{both, combined, follow_answer, crossing, is_done}
+use Rattle.sched_plan.specs.Outputs.{with_input, fed}
+use Rattle.sched_plan.specs.OutputLaws.{fed-push}
+use Rattle.sched_plan.specs.Answer.{both, either, through, combined, follow_answer, crossing, is_done}
 use Rattle.sched_plan.specs.declared.nodes.Two.{Two}
-use Rattle.sched_plan.specs.declared.nodes.Two.TheVariants.{Meet, Follow}
+use Rattle.sched_plan.specs.declared.nodes.Two.TheVariants.{Meet, Join, Follow, Feed}
 use Rattle.sched_plan.specs.declared.history.Event.{Event}
 use Rattle.sched_plan.specs.declared.history.Answer.{Answer}
-use Rattle.sched_step.specs.declared.turns.Turn.TheVariants.{Uncrossed}
+use Rattle.sched_step.specs.declared.turns.Turn.TheVariants.{Together, Uncrossed}
 use Rattle.sched_step.specs.Progress.{Progress, at_two}
 use Rattle.sched_step.specs.StateOf.{turn_at, up_to_crossing, from_crossing, turn_of, first_seen, second_seen}
 use Rattle.sched_step.specs.Step.{side_by_side, past_crossing, at_crossing, follow_step, two_step}
@@ -43,12 +45,25 @@ module _
       ∙ ap (λ d. past_crossing (front p) (rest d, g d)) (sym (from_end_of-push p h e (crossing-short f h p is)))
       ∙ ap (λ c. followed c (h ++ e ∷ [])) (sym (crossing-kept f h p e is))
 
+  -- Feed: the second schedule is given the first one's output.
+
+  feed_law : (h : List Event) (e : Event) →
+      two_step Feed front_step rest_step Together (front h) (rest (fed f h)) e ≡
+      (at_two Together (front (h ++ e ∷ [])) (rest (fed f (h ++ e ∷ []))), through (f (h ++ e ∷ [])) (g (fed f (h ++ e ∷ []))))
+  feed_law h e =
+      let a : Progress × Answer = (front (h ++ e ∷ []), f (h ++ e ∷ [])) in
+      ap (λ (r : Progress × Answer). side_by_side r (rest_step (rest (fed f h)) (with_input r.1.output e))
+      (through r.1 (rest_step (rest (fed f h)) (with_input r.1.output e)).1)) (front_law h e)
+      ∙ ap (λ (r : Progress × Answer). side_by_side a r (through a.1 r.1)) (rest_law (fed f h) (with_input a.1.output e))
+      ∙ ap (λ d. side_by_side a (rest d, g d) (through a.1 (g d))) (sym (fed-push f h e))
+
   -- All nodes over two schedules.
 
   pub two_law : (k : Two) (h : List Event) (e : Event) →
-      two_step k front_step rest_step (turn_of k f h) (front (first_seen k f h)) (rest (second_seen k f h)) e ≡ (
-        at_two (turn_of k f (h ++ e ∷ [])) (front (first_seen k f (h ++ e ∷ []))) (rest (second_seen k f (h ++ e ∷ []))),
-        combined k f g (h ++ e ∷ []),
-      )
+      two_step k front_step rest_step (turn_of k f h) (front (first_seen k f h)) (rest (second_seen k f h)) e ≡
+      (at_two (turn_of k f (h ++ e ∷ [])) (front (first_seen k f (h ++ e ∷ []))) (rest (second_seen k f (h ++ e ∷ []))),
+      combined k f g (h ++ e ∷ []))
   two_law Meet h e = λ i. side_by_side (front_law h e i) (rest_law h e i) (both (front_law h e i).1 (rest_law h e i).1)
+  two_law Join h e = λ i. side_by_side (front_law h e i) (rest_law h e i) (either (front_law h e i).1 (rest_law h e i).1)
+  two_law Feed h e = feed_law h e
   two_law Follow h e = follow_law h e (crossing f h) refl
