@@ -96,6 +96,13 @@ impl Val {
         &self.shape
     }
 
+    /// What the value is made of, in the value's place.
+    pub fn into_shape(self) -> ValShape
+        ensures { datum_of result ≡ self }
+    {
+        self.shape
+    }
+
     /// An equal value. Refused only for want of memory.
     #[cycle(copy)]
     pub fn copy(&self, alloc: Global) -> Result<Val, NoMemory>

@@ -201,7 +201,7 @@ impl LeafState {
                 let Leaf::Unfold { factor, more, .. } = leaf else {
                     unreachable!()
                 };
-                let state = LeafState::Unfolded(output.times(factor.get()).plus(more));
+                let state = LeafState::Unfolded(factor.times(output.get()).plus(more));
                 Ok((state, at_once(output, now)))
             }
             LeafState::Spent(spent) => {

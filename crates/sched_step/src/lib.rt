@@ -6,6 +6,7 @@ mod answers;
 mod kept;
 mod leaves;
 mod ratios;
+mod shifts;
 mod states;
 mod steps;
 #[cfg(test)]
