@@ -3,7 +3,7 @@ use Rattle.std.specs.Prelude.{ℕ, ◌+◌, ◌-◌, ◌%◌, min, max, Bool, tr
 use Rattle.sched_time.specs.Capped.{capped}
 use Rattle.sched_time.specs.declared.starts.Decision.{Decision}
 use Rattle.sched_time.specs.declared.starts.Decision.TheVariants.{Go, Done}
-use Rattle.sched_plan.specs.Datum.{Datum, unit, num, pair, list}
+use Rattle.sched_plan.specs.Datum.{Datum, unit, num, pair, first_part, second_part}
 use Rattle.sched_plan.specs.Schedule.{Schedule, leaf, one, two}
 use Rattle.sched_plan.specs.History.{first_moment, last_moment, last_input, last_words, repeats, prefixes}
 use Rattle.sched_plan.specs.Sequences.{linear_at, exponential_at, milli_at, fibonacci_at, unfold_at}
@@ -146,19 +146,6 @@ gathered All ds = list_of ds
 -- an answer with this output in place of its own
 abbrev pub giving : Datum → Answer → Answer
 giving output a = record { output = output; decision = a.decision }
-
--- the parts of a pair, or nothing
-abbrev pub first_part : Datum → Datum
-first_part unit = unit
-first_part (num n) = unit
-first_part (pair a b) = a
-first_part (list items) = unit
-
-abbrev pub second_part : Datum → Datum
-second_part unit = unit
-second_part (num n) = unit
-second_part (pair a b) = b
-second_part (list items) = unit
 
 -- the decision alone
 abbrev pub silent : Answer → Answer

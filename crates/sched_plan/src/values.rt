@@ -1,6 +1,6 @@
 ghost use Rattle.std.specs.Prelude.{◌≡◌, ◌≤◌, ◌↔◌, ◌++◌, IsTrue, IsSome, IfSome, IfOk, OnOk, string_bytes};
 ghost use Rattle.sched_time.specs.declared.numbers.TheConstants.{FAR};
-ghost use Rattle.sched_plan.specs.Datum.{unit, num, pair, list, items_of};
+ghost use Rattle.sched_plan.specs.Datum.{unit, num, pair, list, items_of, as_number, first_part, second_part};
 ghost use Rattle.sched_plan.specs.DatumText.{text_of, items_text};
 
 use sched_time::{Millis, NoMemory};
@@ -96,11 +96,34 @@ impl Val {
         &self.shape
     }
 
-    /// What the value is made of, in the value's place.
-    pub fn into_shape(self) -> ValShape
-        ensures { datum_of result ≡ self }
+    /// The number, or `None` where the value is no number.
+    pub fn as_num(&self) -> Option<Millis>
+        ensures { result ≡ as_number self.now }
     {
-        self.shape
+        match &self.shape {
+            ValShape::Num(number) => Some(*number),
+            _ => None,
+        }
+    }
+
+    /// The first part of a pair; nothing where the value is no pair.
+    pub fn into_first(self) -> Val
+        ensures { result ≡ first_part self }
+    {
+        match self.shape {
+            ValShape::Pair(both) => Box::into_inner(both).0,
+            _ => Val::unit(),
+        }
+    }
+
+    /// The second part of a pair; nothing where the value is no pair.
+    pub fn into_second(self) -> Val
+        ensures { result ≡ second_part self }
+    {
+        match self.shape {
+            ValShape::Pair(both) => Box::into_inner(both).1,
+            _ => Val::unit(),
+        }
     }
 
     /// An equal value. Refused only for want of memory.
@@ -324,6 +347,28 @@ mod tests {
                 "value {i}"
             );
         }
+        Ok(())
+    }
+
+    #[test]
+    fn parts_of_a_pair(rt: HostRuntime) -> Result<(), Fail> {
+        let alloc = rt.alloc();
+        let pair = || Val::pair(alloc, number(&rt, 3), Val::list(Vec::new(alloc)));
+        assert!(rt; pair()?.into_first().same(&number(&rt, 3)));
+        assert!(rt; pair()?.into_second().same(&Val::list(Vec::new(alloc))));
+        assert_text(&rt, alloc, number(&rt, 3).into_first(), "()")?;
+        assert_text(&rt, alloc, nested(&rt, alloc)?.into_second(), "()")?;
+        Ok(())
+    }
+
+    #[test]
+    fn numbers_alone_are_numbers(rt: HostRuntime) -> Result<(), Fail> {
+        let alloc = rt.alloc();
+        assert_eq!(rt; number(&rt, 7).as_num().map(Millis::get), Some(7));
+        assert!(rt; Val::unit().as_num().is_none());
+        let pair = Val::pair(alloc, number(&rt, 1), number(&rt, 2))?;
+        assert!(rt; pair.as_num().is_none());
+        assert!(rt; nested(&rt, alloc)?.as_num().is_none());
         Ok(())
     }
 
