@@ -4,12 +4,12 @@ use Rattle.std.specs.Prelude.{ℕ, ◌+◌, ◌-◌, ◌*◌, ◌/◌, min, max,
 use Rattle.sched_time.specs.Capped.{capped}
 use Rattle.sched_time.specs.declared.starts.Decision.{Decision}
 use Rattle.sched_time.specs.declared.starts.Decision.TheVariants.{Go, Done}
-use Rattle.sched_plan.specs.Datum.{Datum, num, list, items_of}
+use Rattle.sched_plan.specs.Datum.{Datum, num, list, items_of, first_part, second_part}
 use Rattle.sched_plan.specs.Schedule.{Schedule, leaf, one, two}
 use Rattle.sched_plan.specs.Outputs.{goes_on, number_of, with_input}
 use Rattle.sched_plan.specs.Delays.{added, added_out, jittered}
 use Rattle.sched_plan.specs.Gates.{gated}
-use Rattle.sched_plan.specs.Answer.{both, either, through, giving, silent, first_part, second_part, moved_decision, is_done, next_boundary}
+use Rattle.sched_plan.specs.Answer.{both, either, through, giving, silent, moved_decision, is_done, next_boundary}
 use Rattle.sched_plan.specs.declared.leaves.Leaf.{Leaf}
 use Rattle.sched_plan.specs.declared.leaves.Leaf.TheVariants.{Forever, Recurs, Spaced, Fixed, Windowed, Linear, Exponential, ExponentialMilli, Fibonacci, Elapsed, Identity, Unfold, Lone}
 use Rattle.sched_plan.specs.declared.nodes.Fold.{Fold}

@@ -1,10 +1,10 @@
-ghost use Rattle.std.specs.Prelude.{◌≡◌, ◌+◌, min, IfOk};
-ghost use Rattle.sched_time.specs.Capped.{capped};
-ghost use Rattle.sched_plan.specs.Answer.{both, either, through, giving, silent, first_part, second_part, later, earlier};
+ghost use Rattle.std.specs.Prelude.{◌≡◌, IfOk};
+ghost use Rattle.sched_plan.specs.Datum.{first_part, second_part};
+ghost use Rattle.sched_plan.specs.Answer.{both, either, giving, silent, later, earlier};
 ghost use Rattle.sched_plan.specs.Gates.{compares, passes, gated};
 ghost use Rattle.sched_step.specs.Step.{ended};
 
-use sched_plan::{Answer, Side, Test, Val, ValShape};
+use sched_plan::{Answer, Side, Test, Val};
 use sched_time::{Decision, Millis, NoMemory};
 use std::alloc::Global;
 
@@ -39,9 +39,9 @@ pub(crate) fn gate(
 fn passes_test(test: Test, bound: Millis, value: &Val) -> bool
     ensures { result ≡ passes test bound value.now }
 {
-    match value.shape() {
-        ValShape::Num(number) => compare(test, bound, *number),
-        _ => false,
+    match value.as_num() {
+        Some(number) => compare(test, bound, number),
+        None => false,
     }
 }
 
@@ -78,13 +78,7 @@ pub(crate) fn first_alone(answer: Answer) -> Answer
     ensures { result ≡ giving (first_part answer.output) answer }
 {
     let Answer { output, decision } = answer;
-    let output = match output.into_shape() {
-        ValShape::Pair(both) => {
-            let (first, _) = Box::into_inner(both);
-            first
-        }
-        _ => Val::unit(),
-    };
+    let output = output.into_first();
     Answer { output, decision }
 }
 
@@ -93,13 +87,7 @@ pub(crate) fn second_alone(answer: Answer) -> Answer
     ensures { result ≡ giving (second_part answer.output) answer }
 {
     let Answer { output, decision } = answer;
-    let output = match output.into_shape() {
-        ValShape::Pair(both) => {
-            let (_, second) = Box::into_inner(both);
-            second
-        }
-        _ => Val::unit(),
-    };
+    let output = output.into_second();
     Answer { output, decision }
 }
 

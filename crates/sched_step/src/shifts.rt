@@ -5,7 +5,7 @@ ghost use Rattle.sched_step.specs.Starts.{StartsBy};
 ghost use Rattle.sched_step.specs.Step.{delayed, shift};
 
 use crate::ratios::part_of;
-use sched_plan::{Answer, One, Val, ValShape};
+use sched_plan::{Answer, One, Val};
 use sched_time::{Decision, Interval, Millis, Tick};
 
 /// The answer of a node that changes delays: the start is moved by what the node makes of the delay until then.
@@ -29,7 +29,7 @@ pub(crate) fn shifted(node: One, tick: &Tick, answer: Answer) -> Answer
 // What the node makes of a delay.
 fn changed_delay(node: One, output: &Val, tick: &Tick, delay: Millis) -> Millis
     requires { IsTrue (one_in_range node) }
-    ensures { result ≡ shift node output.now tick.now.words delay }
+    ensures { result ≡ shift node output.now tick.entry.now.words delay }
 {
     match node {
         One::Add(more) => delay.plus(more),
@@ -41,9 +41,9 @@ fn changed_delay(node: One, output: &Val, tick: &Tick, delay: Millis) -> Millis
                 delay
             }
         }
-        One::AddOut => match output.shape() {
-            ValShape::Num(more) => delay.plus(*more),
-            _ => delay,
+        One::AddOut => match output.as_num() {
+            Some(more) => delay.plus(more),
+            None => delay,
         },
         One::Jitter { lane, least, most } => jitter(least, most, tick.words[lane], delay),
         _ => delay,
