@@ -2,4 +2,5 @@ pub mod History
 pub mod Prefixes
 pub mod Fixed
 pub mod Moments
+pub mod KeepsList
 pub mod laws

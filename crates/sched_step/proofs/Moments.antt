@@ -1,5 +1,5 @@
 -- The first and the last moment of a history that grows by one event.
-use Rattle.std.proofs.Common.{◌≡◌, ℕ, ◌-◌, List, [], ◌∷◌, ◌++◌, Bool, true, false, cond, if◌then◌else◌, ltb, leb, not, Option, Some, None, refl, sym, ap, ◌∙◌, inl, inr, lt-ltb, le-ltb, le-leb}
+use Rattle.std.proofs.Common.{◌≡◌, ℕ, ◌-◌, List, [], ◌∷◌, ◌++◌, Bool, true, false, cond, if◌then◌else◌, ltb, leb, not, Some, refl, sym, ap, ◌∙◌, inl, inr, lt-ltb, le-ltb, le-leb}
 use Rattle.std.proofs.lemmas.Bool.{cases_lt, lt-leb}
 use Rattle.sched_plan.specs.History.{first_moment, last_moment}
 use Rattle.sched_plan.specs.HistoryLaws.{last_moment-push}
@@ -27,9 +27,9 @@ ended_at-push (d ∷ h) e = ap Some (sym (last_moment-push (d ∷ h) e))
 
 within_or_over : (d x : ℕ) → ltb x d ≡ not (leb d x)
 within_or_over d x = elim (cases_lt x d) [
-    | inl within ↦ lt-ltb x d within ∙ sym (ap not (lt-leb d x within))
-    | inr over ↦ le-ltb x d over ∙ sym (ap not (le-leb d x over))
-  ]
+  | inl within ↦ lt-ltb x d within ∙ sym (ap not (lt-leb d x within))
+  | inr over ↦ le-ltb x d over ∙ sym (ap not (le-leb d x over))
+]
 
 either_way : (b : Bool) (g : List Event) → cond b g g ≡ g
 either_way true g = refl

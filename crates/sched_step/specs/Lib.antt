@@ -2,6 +2,7 @@ pub mod Progress
 pub mod ProgressCode
 pub mod ProgressSize
 pub mod Phases
+pub mod Listed
 pub mod Kept
 pub mod Tree
 pub mod TreeFalls

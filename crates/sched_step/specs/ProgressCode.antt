@@ -1,6 +1,6 @@
 -- The code by which a proof tells progress apart: each kind has a tag, and its parts stand beside it.
-use Rattle.std.specs.Prelude.{◌≡◌, ℕ, Bool, true, false, cond, nat_eq, List, [], ◌∷◌, get_or, Option, Some, None, refl}
-use Rattle.std.specs.Coded.{Coded, coded_list}
+use Rattle.std.specs.Prelude.{◌≡◌, ℕ, true, false, cond, nat_eq, List, [], ◌∷◌, get_or, Option, Some, None, refl}
+use Rattle.std.specs.Coded.{Coded}
 use Rattle.sched_plan.specs.Datum.{Datum}
 use Rattle.sched_plan.specs.DatumCode.{datum_code, datum_from, datum_back}
 use Rattle.sched_step.specs.Progress.{Kept, none_kept, since, round_since, last_at, total, listed, Progress, at_leaf, at_one, at_two, bit}
@@ -60,8 +60,8 @@ abbrev leaf_at : ℕ → Gv → Gv → LeafState
 leaf_at tag a b =
     let n = number_from a in
     let states =
-        Counted n ∷ Planned n (plan_from b) ∷ Windows n (moment_from b) ∷ Product n ∷ Scaled n ∷ Summands n (number_from b) ∷
-        Started (moment_from b) ∷ Blank ∷ Unfolded n ∷ Spent (nat_eq n 1) ∷ [] in
+    Counted n ∷ Planned n (plan_from b) ∷ Windows n (moment_from b) ∷ Product n ∷ Scaled n ∷ Summands n (number_from b) ∷
+    Started (moment_from b) ∷ Blank ∷ Unfolded n ∷ Spent (nat_eq n 1) ∷ [] in
     get_or states tag Blank
 
 abbrev leaf_from : Gv → LeafState
@@ -79,8 +79,8 @@ kept_code (listed ds) = gcons (gnum 5) (values_code ds)
 abbrev kept_at : ℕ → Gv → Kept
 kept_at tag a =
     let kinds =
-        none_kept ∷ since (moment_from a) ∷ round_since (moment_from a) ∷ last_at (moment_from a) ∷ total (number_from a) ∷
-        listed (values_from a) ∷ [] in
+    none_kept ∷ since (moment_from a) ∷ round_since (moment_from a) ∷ last_at (moment_from a) ∷ total (number_from a) ∷
+    listed (values_from a) ∷ [] in
     get_or kinds tag none_kept
 
 abbrev kept_from : Gv → Kept

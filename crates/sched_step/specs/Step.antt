@@ -87,7 +87,6 @@ leaf_next (Recurs count) s e = Counted (capped (count_of s + 1))
 leaf_next (Spaced delay) s e = Counted (capped (count_of s + 1))
 leaf_next (Fixed d) s e =
     Planned (capped (count_of s + 1)) (Some (first_planned (planned_of s) e.now, next_fixed d (planned_of s) e.now))
-
 leaf_next (Windowed d) s e = Windows (capped (count_of s + 1)) (Some (kept_or_now (started_of s) e.now))
 leaf_next (Linear delay) s e = Counted (capped (count_of s + 1))
 leaf_next (Exponential base factor) s e = Product (capped (output_next s * factor))
@@ -191,15 +190,6 @@ ended over a = if over then record { output = a.output; decision = Done } else a
 abbrev pub delayed : (ℕ → ℕ) → ℕ → Answer → Answer
 delayed delay now a = record { output = a.output; decision = moved_decision delay now a.decision }
 
--- what a node that changes delays makes of one, where the schedule under it has this output
-abbrev pub shift : One → Datum → List ℕ → ℕ → ℕ
-shift (Add d) output words delay = added d delay
-shift (Set d) output words delay = d
-shift (Cap d) output words delay = min delay d
-shift AddOut output words delay = added_out output delay
-shift (Jitter lane least most) output words delay = jittered least most (get_or words lane 0) delay
-shift k output words delay = delay
-
 -- what a fold shows of what it keeps
 abbrev pub fold_shows : Fold → Kept → Datum
 fold_shows All s = list (items_of (listed_of s))
@@ -209,11 +199,11 @@ fold_shows fold s = num (total_of s)
 abbrev pub one_answers : One → Kept → Event → Answer → Answer
 one_answers (Gate side want test bound) s e a = gated side want test bound e.input a
 one_answers (Gather fold) s e a = giving (fold_shows fold s) a
-one_answers (Add d) s e a = delayed (shift (Add d) a.output e.words) e.now a
-one_answers (Set d) s e a = delayed (shift (Set d) a.output e.words) e.now a
-one_answers (Cap d) s e a = delayed (shift (Cap d) a.output e.words) e.now a
-one_answers AddOut s e a = delayed (shift AddOut a.output e.words) e.now a
-one_answers (Jitter lane least most) s e a = delayed (shift (Jitter lane least most) a.output e.words) e.now a
+one_answers (Add d) s e a = delayed (added d) e.now a
+one_answers (Set d) s e a = delayed (λ _. d) e.now a
+one_answers (Cap d) s e a = delayed (λ delay. min delay d) e.now a
+one_answers AddOut s e a = delayed (added_out a.output) e.now a
+one_answers (Jitter lane least most) s e a = delayed (jittered least most (get_or e.words lane 0)) e.now a
 one_answers (Within d) s e a = ended (nat_le d (e.now - kept_or_now (since_of s) e.now)) a
 one_answers (Renew d) s e a = a
 one_answers (RenewIdle d) s e a = a

@@ -1,10 +1,13 @@
 ghost use Rattle.std.specs.Prelude.{◌≡◌, IfOk, IsTrue};
+ghost use Rattle.sched_plan.specs.Schedule.{one_in_range};
 ghost use Rattle.sched_step.specs.Progress.{one_view, one_keeps, one_began};
 ghost use Rattle.sched_step.specs.StateOf.{event_of, first_kept};
 ghost use Rattle.sched_step.specs.Step.{begins, kept_from, one_next, one_answers};
 
-use crate::answers::{ended_where, without_output};
-use sched_plan::{Answer, One, Val};
+use crate::changes::changed;
+use crate::lists::Listed;
+use crate::marks::Mark;
+use sched_plan::{Answer, Fold, One, Val};
 use sched_time::{Millis, Moment, NoMemory, Tick};
 use std::alloc::Global;
 use std::marker::Model;
@@ -12,37 +15,15 @@ use std::marker::Model;
 /// What a node over one plan keeps beside the plan's state: what it is, and what the step under way makes of it.
 #[derive(Drop)]
 pub(crate) struct Kept {
-    present: Mark,
-    next: Mark,
+    shape: KeptShape,
 }
 
-#[derive(Clone, Copy, Debug, PartialEq, Eq)]
-enum Mark {
-    /// Nothing.
-    Bare,
-    /// A moment, once there was one.
-    Since(Option<Moment>),
-}
-
-impl Mark {
-    ghost use Rattle.sched_step.specs.Kept.{kept_mark};
-
-    // Before the first event.
-    fn initial(node: One) -> Mark
-        ensures { kept_mark result ≡ first_kept node }
-    {
-        match node {
-            One::Within(_) => Mark::Since(None),
-            One::Nothing => Mark::Bare,
-        }
-    }
-
-    // Where a step is made that may begin anew.
-    fn from(self, fresh: bool, node: One) -> Mark
-        ensures { kept_mark result ≡ kept_from fresh node (kept_mark self) }
-    {
-        if fresh { Mark::initial(node) } else { self }
-    }
+#[derive(Drop)]
+pub(crate) enum KeptShape {
+    /// A mark of a few words.
+    Marked { present: Mark, next: Mark },
+    /// The outputs so far.
+    Listed(Listed),
 }
 
 impl Model for Kept {
@@ -52,31 +33,36 @@ impl Model for Kept {
 
     ghost coded = { coded_kept_phases };
 
-    ghost use Rattle.sched_step.specs.Kept.{kept_mark};
+    ghost use Rattle.sched_step.specs.Kept.{kept_phases};
 
-    ghost view = { λ k. record { present = kept_mark k.present; next = kept_mark k.next } };
+    ghost view = { λ k. kept_phases k.shape };
 }
 
 impl Kept {
-    ghost use Rattle.sched_step.specs.Kept.{kept_mark};
-
-    /// Before the first event.
-    pub(crate) fn initial(node: One) -> Kept
+    /// Before the first event. It takes no memory.
+    pub(crate) fn initial(alloc: Global, node: One) -> Kept
         ensures { result.present ≡ first_kept node }
     {
-        let present = Mark::initial(node);
-        let next = present;
-        Kept { present, next }
+        let shape = match Mark::initial(node) {
+            Some(present) => {
+                let next = present;
+                KeptShape::Marked { present, next }
+            }
+            None => KeptShape::Listed(Listed::new(alloc)),
+        };
+        Kept { shape }
     }
 
     /// The value that shows what is kept, beside that of the plan under the node.
     pub(crate) fn view(&self, alloc: Global, plan: Val) -> Result<Val, NoMemory>
         ensures { IfOk result (λ v. v ≡ one_view self.now.present plan) }
     {
-        match self.present {
-            Mark::Bare => Ok(plan),
-            Mark::Since(None) => Val::pair(alloc, Val::unit(), plan),
-            Mark::Since(Some(moment)) => Val::pair(alloc, Val::from(Millis::from(moment)), plan),
+        match &self.shape {
+            KeptShape::Listed(outputs) => {
+                let shown = outputs.view(alloc)?;
+                Val::pair(alloc, shown, plan)
+            }
+            KeptShape::Marked { present, .. } => present.view(alloc, plan),
         }
     }
 
@@ -84,10 +70,12 @@ impl Kept {
     pub(crate) fn is_of(&self, node: One) -> bool
         ensures { result ≡ one_keeps node self.now.present }
     {
-        match (node, self.present) {
-            (One::Within(_), Mark::Since(_)) => true,
-            (One::Nothing, Mark::Bare) => true,
-            _ => false,
+        match &self.shape {
+            KeptShape::Listed(_) => match node {
+                One::Gather(Fold::List) => true,
+                _ => false,
+            },
+            KeptShape::Marked { present, .. } => present.is_of(node),
         }
     }
 
@@ -95,75 +83,83 @@ impl Kept {
     pub(crate) fn began_by(&self, now: Moment) -> bool
         ensures { result ≡ one_began self.now.present now }
     {
-        match self.present {
-            Mark::Since(Some(moment)) => moment <= now,
-            _ => true,
+        match &self.shape {
+            KeptShape::Listed(_) => true,
+            KeptShape::Marked { present, .. } => present.began_by(now),
         }
     }
 
     /// An equal one. Refused only for want of memory.
-    pub(crate) fn copy(&self) -> Result<Kept, NoMemory>
+    pub(crate) fn copy(&self, alloc: Global) -> Result<Kept, NoMemory>
         ensures { IfOk result (λ kept. kept.present ≡ self.now.present) }
     {
-        let present = self.present;
-        let next = present;
-        Ok(Kept { present, next })
+        let shape = match &self.shape {
+            KeptShape::Listed(outputs) => KeptShape::Listed(outputs.copy(alloc)?),
+            KeptShape::Marked { present, .. } => KeptShape::Marked {
+                present: *present,
+                next: *present,
+            },
+        };
+        Ok(Kept { shape })
     }
 
     /// The step under way makes it what it was before the first event.
     pub(crate) fn restart(&mut self, node: One)
+        requires { IsTrue (one_keeps node self.old.present) }
         ensures present { self.new.present ≡ self.old.present }
         ensures next { self.new.next ≡ first_kept node }
     {
-        self.next = Mark::initial(node);
+        match &mut self.shape {
+            KeptShape::Listed(outputs) => outputs.restart(),
+            KeptShape::Marked { present, next } => *next = present.from(true, node),
+        }
     }
 
-    /// The step under way is taken.
+    /// The step under way is taken. It takes no memory.
     pub(crate) fn commit(&mut self)
         ensures { self.new.present ≡ self.old.next }
     {
-        self.present = self.next;
+        match &mut self.shape {
+            KeptShape::Listed(outputs) => outputs.commit(),
+            KeptShape::Marked { present, next } => *present = *next,
+        }
     }
 
     /// Whether the plan under the node begins anew at an event at `now`.
     pub(crate) fn begins(&self, node: One, now: Moment) -> bool
+        requires { IsTrue (one_keeps node self.now.present) }
         ensures { result ≡ begins node self.now.present now }
     {
-        match node {
-            One::Within(_) | One::Nothing => false,
+        match &self.shape {
+            KeptShape::Listed(_) => false,
+            KeptShape::Marked { present, .. } => present.begins(node, now),
         }
     }
 
     /// Notes what the step under way makes of it, and gives the node's answer from that of the plan under it.
     pub(crate) fn step(
         &mut self,
+        alloc: Global,
         node: &One,
         fresh: bool,
         tick: &Tick,
         input: &Val,
         answer: Answer,
     ) -> Result<Answer, NoMemory>
+        requires valid { IsTrue (one_in_range node.now) }
         requires keeps { IsTrue (one_keeps node.now self.old.present) }
-        requires began { IsTrue (one_began self.old.present tick.now.now) }
         ensures present { self.new.present ≡ self.old.present }
         ensures next { IfOk result (λ _. self.new.next ≡
             one_next node.now (kept_from fresh node.now self.old.present) (event_of tick.entry.now input.now) answer) }
         ensures answer { IfOk result (λ given. given ≡
             one_answers node.now (kept_from fresh node.now self.old.present) (event_of tick.entry.now input.now) answer) }
     {
-        let from = self.present.from(fresh, *node);
-        match *node {
-            One::Within(length) => {
-                let Mark::Since(since) = from else {
-                    unreachable!()
-                };
-                let first = since.unwrap_or(tick.now);
-                self.next = Mark::Since(Some(first));
-                Ok(ended_where(length <= tick.now.since(first), answer))
-            }
-            One::Nothing => {
-                self.next = Mark::Bare;
-                Ok(without_output(answer))
+        match &mut self.shape {
+            KeptShape::Listed(outputs) => outputs.step(alloc, fresh, answer),
+            KeptShape::Marked { present, next } => {
+                let from = present.from(fresh, *node);
+                *next = from.next(node, tick, input, &answer);
+                Ok(changed(node, &from, tick, input, answer))
             }
         }
     }

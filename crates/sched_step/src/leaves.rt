@@ -1,20 +1,16 @@
-ghost use Rattle.std.specs.Prelude.{◌≡◌, ◌+◌, ◌*◌, ◌/◌, ◌<◌, ◌≤◌, [], IfOk, IsTrue};
-ghost use Rattle.std.specs.Option.{ForSome};
+ghost use Rattle.std.specs.Prelude.{◌≡◌, ◌+◌, ◌*◌, ◌/◌, ◌<◌, ◌≤◌, [], if◌then◌else◌, nat_lt, IfOk, IsTrue};
 ghost use Rattle.sched_time.specs.Capped.{capped};
-ghost use Rattle.sched_time.specs.declared.numbers.TheConstants.{FAR};
-ghost use Rattle.sched_time.specs.declared.starts.Decision.TheVariants.{Go};
+ghost use Rattle.sched_time.specs.declared.starts.Decision.{Decision};
 ghost use Rattle.sched_plan.specs.Datum.{num};
 ghost use Rattle.sched_plan.specs.Schedule.{leaf_in_range};
-ghost use Rattle.sched_plan.specs.declared.history.Event.{Event};
-ghost use Rattle.sched_step.specs.declared.leaves.LeafState.TheVariants.{Counted};
-ghost use Rattle.sched_plan.specs.Answer.{next_boundary};
-ghost use Rattle.sched_step.specs.Progress.{leaf_view, moment_view, planned_view, leaf_keeps, leaf_began};
+ghost use Rattle.sched_step.specs.Progress.{leaf_view, leaf_keeps, leaf_began};
 ghost use Rattle.sched_step.specs.StateOf.{leaf_state, event_of};
-ghost use Rattle.sched_step.specs.Step.{leaf_from, leaf_next, leaf_answers, kept_or_now, first_planned, next_fixed};
+ghost use Rattle.sched_step.specs.Step.{count_of, output_next, output_after, started_of, planned_of, is_spent, leaf_from, leaf_next, leaf_answers, first_planned, next_fixed};
 
-use crate::ratios::part_of;
+use crate::changes::at_most_far;
+use crate::times::{go_after, go_at, next_boundary, time_between, view_moment};
 use sched_plan::{Answer, Leaf, Val};
-use sched_time::{Decision, Interval, Millis, Moment, NoMemory, Tick};
+use sched_time::{Decision, Millis, Moment, NoMemory, Tick};
 use std::alloc::Global;
 
 // What is kept of a leaf's events.
@@ -26,17 +22,17 @@ pub(crate) enum LeafState {
     Planned(Millis, Option<(Moment, Moment)>),
     /// How many there were and, once there was one, the first moment.
     Windows(Millis, Option<Moment>),
-    /// What an exponential schedule puts out at the next event.
+    /// The product that the next one puts out.
     Product(Millis),
-    /// What an exponential schedule in thousandths puts out at the next event.
+    /// The scaled number that the next one puts out.
     Scaled(Millis),
-    /// What a Fibonacci schedule puts out at the next event and at the one after.
+    /// The numbers that the next two put out.
     Summands(Millis, Millis),
     /// The first moment, once there was one.
     Started(Option<Moment>),
     /// Nothing.
     Blank,
-    /// What an unfolding puts out at the next event.
+    /// The number that the next one puts out.
     Unfolded(Millis),
     /// Whether there was one.
     Spent(bool),
@@ -54,9 +50,9 @@ impl LeafState {
             }
             Leaf::Fixed(_) => LeafState::Planned(none, None),
             Leaf::Windowed(_) => LeafState::Windows(none, None),
-            Leaf::Exponential { base, .. } => LeafState::Product(base),
+            Leaf::Exponential { base, .. } => LeafState::Product(base.times(1)),
             Leaf::ExponentialMilli { base, .. } => LeafState::Scaled(base),
-            Leaf::Fibonacci(delay) => LeafState::Summands(delay, delay),
+            Leaf::Fibonacci(delay) => LeafState::Summands(delay.times(1), delay.times(1)),
             Leaf::Elapsed => LeafState::Started(None),
             Leaf::Identity => LeafState::Blank,
             Leaf::Unfold { seed, .. } => LeafState::Unfolded(seed),
@@ -75,7 +71,7 @@ impl LeafState {
         }
     }
 
-    /// The value that shows what is kept. Refused only for want of memory.
+    /// The value that shows what is kept.
     pub(crate) fn view(&self, alloc: Global) -> Result<Val, NoMemory>
         ensures { IfOk result (λ v. v ≡ leaf_view self.now) }
     {
@@ -84,18 +80,24 @@ impl LeafState {
             | LeafState::Product(number)
             | LeafState::Scaled(number)
             | LeafState::Unfolded(number) => Ok(Val::from(number)),
-            LeafState::Planned(count, planned) => {
-                Val::pair(alloc, Val::from(count), planned_value(alloc, planned)?)
+            LeafState::Planned(count, None) => Val::pair(alloc, Val::from(count), Val::unit()),
+            LeafState::Planned(count, Some((first, start))) => {
+                let planned = Val::pair(
+                    alloc,
+                    Val::from(Millis::from(first)),
+                    Val::from(Millis::from(start)),
+                )?;
+                Val::pair(alloc, Val::from(count), planned)
             }
             LeafState::Windows(count, first) => {
-                Val::pair(alloc, Val::from(count), moment_value(first))
+                Val::pair(alloc, Val::from(count), view_moment(first))
             }
-            LeafState::Summands(next, after) => {
-                Val::pair(alloc, Val::from(next), Val::from(after))
+            LeafState::Summands(one, other) => {
+                Val::pair(alloc, Val::from(one), Val::from(other))
             }
-            LeafState::Started(first) => Ok(moment_value(first)),
+            LeafState::Started(first) => Ok(view_moment(first)),
             LeafState::Blank => Ok(Val::unit()),
-            LeafState::Spent(spent) => Ok(Val::from(Millis::from(if spent { 1 } else { 0 }))),
+            LeafState::Spent(spent) => Ok(Val::from(Millis::from(u32::from(spent)))),
         }
     }
 
@@ -133,112 +135,155 @@ impl LeafState {
         }
     }
 
-    /// The state after one more event, and what the leaf answers to it. Refused only for want of memory for the output.
+    /// Notes in `next` the state after one more event, and gives what the leaf answers to it. It takes memory for the
+    /// output alone.
     pub(crate) fn step(
         self,
         alloc: Global,
-        leaf: Leaf,
+        leaf: &Leaf,
+        next: &mut LeafState,
         tick: &Tick,
         input: &Val,
-    ) -> Result<(LeafState, Answer), NoMemory>
-        requires valid { IsTrue (leaf_in_range leaf) }
-        requires keeps { IsTrue (leaf_keeps leaf self) }
-        requires began { IsTrue (leaf_began self tick.now.now) }
-        ensures { IfOk result (λ r. r ≡
-            (leaf_next leaf self (event_of tick.entry.now input.now), leaf_answers leaf self (event_of tick.entry.now input.now))) }
+    ) -> Result<Answer, NoMemory>
+        requires { IsTrue (leaf_in_range leaf.now) }
+        ensures next { IfOk result (λ _. next.new ≡ leaf_next leaf.now self (event_of tick.entry.now input.now)) }
+        ensures answer { IfOk result
+            (λ answer. answer ≡ leaf_answers leaf.now self (event_of tick.entry.now input.now)) }
     {
         let now = tick.now;
-        match self {
-            LeafState::Counted(count) => Ok((
-                LeafState::Counted(one_more(count)),
-                counted_answer(leaf, count, now),
-            )),
-            LeafState::Planned(count, planned) => {
-                let Leaf::Fixed(length) = leaf else {
-                    unreachable!()
-                };
-                let (first, start) = fixed_next(length, planned, now);
-                let state = LeafState::Planned(one_more(count), Some((first, start)));
-                Ok((state, answer(count, Decision::Go(Interval::after(start)))))
+        match *leaf {
+            Leaf::Forever => {
+                *next = LeafState::Counted(one_more(self.count()));
+                Ok(giving(self.count(), go_at(now)))
             }
-            LeafState::Windows(count, first) => {
-                let Leaf::Windowed(length) = leaf else {
-                    unreachable!()
-                };
-                let first = first.unwrap_or(now);
-                let start = boundary_after(length, first, now);
-                let state = LeafState::Windows(one_more(count), Some(first));
-                Ok((state, answer(count, Decision::Go(Interval::after(start)))))
+            Leaf::Recurs(most) => {
+                *next = LeafState::Counted(one_more(self.count()));
+                Ok(giving(self.count(), go_below(self.count(), most, now)))
             }
-            LeafState::Product(output) => {
-                let Leaf::Exponential { factor, .. } = leaf else {
-                    unreachable!()
-                };
-                let state = LeafState::Product(output.times(factor));
-                Ok((state, waiting(output, now)))
+            Leaf::Spaced(delay) => {
+                *next = LeafState::Counted(one_more(self.count()));
+                Ok(giving(self.count(), go_after(now, delay)))
             }
-            LeafState::Scaled(output) => {
-                let Leaf::ExponentialMilli { thousandths, .. } = leaf else {
-                    unreachable!()
-                };
-                let state = LeafState::Scaled(part_of(output, thousandths, 1000));
-                Ok((state, waiting(output, now)))
+            Leaf::Fixed(length) => {
+                let start = next_fixed(length, self.planned(), now);
+                let first = first_planned(self.planned(), now);
+                *next = LeafState::Planned(one_more(self.count()), Some((first, start)));
+                Ok(giving(self.count(), go_at(start)))
             }
-            LeafState::Summands(output, after) => {
-                let state = LeafState::Summands(after, output.plus(after));
-                Ok((state, waiting(output, now)))
+            Leaf::Windowed(length) => {
+                let first = self.started().unwrap_or(now);
+                *next = LeafState::Windows(one_more(self.count()), Some(first));
+                Ok(giving(self.count(), go_at(next_boundary(length, first, now))))
             }
-            LeafState::Started(first) => {
-                let first = first.unwrap_or(now);
-                Ok((LeafState::Started(Some(first)), at_once(now.since(first), now)))
+            Leaf::Linear(delay) => {
+                let count = one_more(self.count());
+                *next = LeafState::Counted(count);
+                let delay = delay.times(count.get());
+                Ok(giving(delay, go_after(now, delay)))
             }
-            LeafState::Blank => {
-                let output = input.copy(alloc)?;
-                let decision = Decision::Go(Interval::after(now));
-                Ok((LeafState::Blank, Answer { output, decision }))
+            Leaf::Exponential { factor, .. } => {
+                let delay = self.output();
+                *next = LeafState::Product(delay.times(factor));
+                Ok(giving(delay, go_after(now, delay)))
             }
-            LeafState::Unfolded(output) => {
-                let Leaf::Unfold { factor, more, .. } = leaf else {
-                    unreachable!()
-                };
-                let state = LeafState::Unfolded(factor.times(output.get()).plus(more));
-                Ok((state, at_once(output, now)))
+            Leaf::ExponentialMilli { thousandths, .. } => {
+                let delay = self.output();
+                *next = LeafState::Scaled(scaled(delay, thousandths));
+                Ok(giving(delay, go_after(now, delay)))
             }
-            LeafState::Spent(spent) => {
-                let Leaf::Lone(delay) = leaf else {
-                    unreachable!()
-                };
-                let answer = if spent {
-                    answer(Millis::from(0), Decision::Done)
-                } else {
-                    waiting(delay, now)
-                };
-                Ok((LeafState::Spent(true), answer))
+            Leaf::Fibonacci(_) => {
+                let delay = self.output();
+                let after = self.output_after();
+                *next = LeafState::Summands(after, delay.plus(after));
+                Ok(giving(delay, go_after(now, delay)))
+            }
+            Leaf::Elapsed => {
+                let first = self.started().unwrap_or(now);
+                *next = LeafState::Started(Some(first));
+                Ok(giving(time_between(first, now), go_at(now)))
+            }
+            Leaf::Identity => {
+                *next = LeafState::Blank;
+                Ok(Answer {
+                    output: input.copy(alloc)?,
+                    decision: go_at(now),
+                })
+            }
+            Leaf::Unfold { factor, more, .. } => {
+                let number = self.output();
+                *next = LeafState::Unfolded(factor.times(number.get()).plus(more));
+                Ok(giving(number, go_at(now)))
+            }
+            Leaf::Lone(delay) => {
+                *next = LeafState::Spent(true);
+                Ok(lone(self.is_spent(), delay, now))
             }
         }
     }
-}
 
-// What a leaf answers that keeps the count of its events alone.
-fn counted_answer(leaf: Leaf, count: Millis, now: Moment) -> Answer
-    requires { IsTrue (leaf_keeps leaf (Counted count)) }
-    ensures { (e : Event) → e.now ≡ now → result ≡ leaf_answers leaf (Counted count) e }
-{
-    match leaf {
-        Leaf::Forever => at_once(count, now),
-        Leaf::Recurs(most) => {
-            if count.get() < most.get() {
-                at_once(count, now)
-            } else {
-                answer(count, Decision::Done)
-            }
+    // How many events it counted, or 0.
+    fn count(self) -> Millis
+        ensures { result ≡ count_of self }
+    {
+        match self {
+            LeafState::Counted(count)
+            | LeafState::Planned(count, _)
+            | LeafState::Windows(count, _) => count,
+            _ => Millis::from(0),
         }
-        Leaf::Spaced(delay) => {
-            let decision = Decision::Go(Interval::after(now.plus(delay)));
-            answer(count, decision)
+    }
+
+    // What the next event puts out, or 0.
+    fn output(self) -> Millis
+        ensures { result ≡ output_next self }
+    {
+        match self {
+            LeafState::Product(number)
+            | LeafState::Scaled(number)
+            | LeafState::Summands(number, _)
+            | LeafState::Unfolded(number) => number,
+            _ => Millis::from(0),
         }
-        Leaf::Linear(delay) => waiting(delay.times(one_more(count).get()), now),
-        _ => unreachable!(),
+    }
+
+    // What the event after that puts out, or 0.
+    fn output_after(self) -> Millis
+        ensures { result ≡ output_after self }
+    {
+        match self {
+            LeafState::Summands(_, number) => number,
+            _ => Millis::from(0),
+        }
+    }
+
+    // The first moment, if there was one.
+    fn started(self) -> Option<Moment>
+        ensures { result ≡ started_of self }
+    {
+        match self {
+            LeafState::Windows(_, first) | LeafState::Started(first) => first,
+            _ => None,
+        }
+    }
+
+    // The first moment and the start planned last, if there was one.
+    fn planned(self) -> Option<(Moment, Moment)>
+        ensures { result ≡ planned_of self }
+    {
+        match self {
+            LeafState::Planned(_, planned) => planned,
+            _ => None,
+        }
+    }
+
+    // Whether the one event is past.
+    fn is_spent(self) -> bool
+        ensures { result ≡ is_spent self }
+    {
+        match self {
+            LeafState::Spent(spent) => spent,
+            _ => false,
+        }
     }
 }
 
@@ -249,73 +294,70 @@ fn one_more(count: Millis) -> Millis
     count.plus(Millis::from(1))
 }
 
-// This number as output.
-fn answer(output: Millis, decision: Decision) -> Answer
-    ensures { result ≡ record { output = num output; decision = decision } }
+// An answer with a number.
+fn giving(number: Millis, decision: Decision) -> Answer
+    ensures { result ≡ record { output = num number; decision = decision } }
 {
     Answer {
-        output: Val::from(output),
+        output: Val::from(number),
         decision,
     }
 }
 
-// Goes on at once, with this number as output.
-fn at_once(output: Millis, now: Moment) -> Answer
-    ensures { result ≡ record { output = num output; decision = Go now } }
+// Going on at once while there were fewer events.
+fn go_below(count: Millis, most: Millis, now: Moment) -> Decision
+    ensures { result ≡ (if nat_lt count most then Decision.Go now else Decision.Done) }
 {
-    answer(output, Decision::Go(Interval::after(now)))
-}
-
-// Goes on after this delay, which is its output.
-fn waiting(delay: Millis, now: Moment) -> Answer
-    ensures { result ≡ record { output = num delay; decision = Go (capped (now + delay)) } }
-{
-    answer(delay, Decision::Go(Interval::after(now.plus(delay))))
-}
-
-// A moment as a value; nothing where there is none.
-pub(crate) fn moment_value(moment: Option<Moment>) -> Val
-    ensures { result ≡ moment_view moment }
-{
-    match moment {
-        Some(moment) => Val::from(Millis::from(moment)),
-        None => Val::unit(),
+    if count.get() < most.get() {
+        go_at(now)
+    } else {
+        Decision::Done
     }
 }
 
-// The first moment and the start planned last as a value; nothing where there are none. Refused only for want of memory.
-fn planned_value(alloc: Global, planned: Option<(Moment, Moment)>) -> Result<Val, NoMemory>
-    ensures { IfOk result (λ v. v ≡ planned_view planned) }
-{
-    match planned {
-        Some((first, start)) => Val::pair(alloc, moment_value(Some(first)), moment_value(Some(start))),
-        None => Ok(Val::unit()),
-    }
-}
-
-// The first boundary after `now` of the intervals of this length, the first of which begins at `first`.
-fn boundary_after(length: Millis, first: Moment, now: Moment) -> Moment
-    requires some { 0 < length }
-    requires order { first ≤ now }
-    ensures { result ≡ next_boundary length first now }
-{
-    let past = now.since(first).get() % length.get();
-    let rest = Millis::new(length.get() - past).unwrap();
-    now.plus(rest)
-}
-
-// The first moment and the next start of intervals of `length`, from the first moment and the start planned last: a
-// schedule that is behind goes on at once, else at the next boundary.
-fn fixed_next(length: Millis, planned: Option<(Moment, Moment)>, now: Moment) -> (Moment, Moment)
-    requires some { 0 < length }
-    requires order { ForSome planned (λ p. p.0 ≤ now) }
-    ensures { result ≡ (first_planned planned now, next_fixed length planned now) }
+// The next start of intervals of `length`, from the first moment and the start planned last: a schedule that is behind
+// goes on at once, else at the next boundary.
+fn next_fixed(length: Millis, planned: Option<(Moment, Moment)>, now: Moment) -> Moment
+    requires { 0 < length }
+    ensures { result ≡ next_fixed length planned now }
 {
     let Some((first, start)) = planned else {
-        return (now, now.plus(length));
+        return now.plus(length);
     };
     if start.plus(length).get() < now.get() {
-        return (first, now);
+        return now;
     }
-    (first, boundary_after(length, first, now))
+    next_boundary(length, first, now)
+}
+
+// The first moment: the one that is kept, else that of this event.
+fn first_planned(planned: Option<(Moment, Moment)>, now: Moment) -> Moment
+    ensures { result ≡ first_planned planned now }
+{
+    match planned {
+        Some((first, _)) => first,
+        None => now,
+    }
+}
+
+// The number in thousandths, rounded down.
+fn scaled(number: Millis, thousandths: u64) -> Millis
+    requires { thousandths ≤ 1000000 }
+    ensures { result ≡ capped (number * thousandths / 1000) }
+{
+    at_most_far(u128::from(number.get()) * u128::from(thousandths) / 1000)
+}
+
+// What is answered to a first event, and to a later one.
+fn lone(spent: bool, delay: Millis, now: Moment) -> Answer
+    ensures { result ≡ record {
+      output = num (if spent then 0 else delay);
+      decision = (if spent then Decision.Done else Decision.Go (capped (now + delay)));
+    } }
+{
+    if spent {
+        giving(Millis::from(0), Decision::Done)
+    } else {
+        giving(delay, go_after(now, delay))
+    }
 }

@@ -3,14 +3,16 @@
 
 mod advance;
 mod answers;
+mod changes;
 mod kept;
 mod leaves;
-mod ratios;
-mod shifts;
+mod lists;
+mod marks;
 mod states;
 mod steps;
 #[cfg(test)]
 mod tests;
+mod times;
 mod trees;
 mod turns;
 

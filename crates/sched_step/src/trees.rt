@@ -67,7 +67,7 @@ impl Tree {
             }
             PlanShape::One(node, plan) => {
                 let tree = Tree::initial(alloc, plan)?;
-                TreeShape::One(Kept::initial(*node), Box::new(alloc, tree)?)
+                TreeShape::One(Kept::initial(alloc, *node), Box::new(alloc, tree)?)
             }
             PlanShape::Two(node, plans) => {
                 let first = Tree::initial(alloc, &plans.0)?;
@@ -92,7 +92,7 @@ impl Tree {
             },
             TreeShape::One(kept, tree) => {
                 let tree = tree.copy(alloc)?;
-                TreeShape::One(kept.copy()?, Box::new(alloc, tree)?)
+                TreeShape::One(kept.copy(alloc)?, Box::new(alloc, tree)?)
             }
             TreeShape::Two(turns, sides) => {
                 let first = sides.0.copy(alloc)?;

@@ -41,7 +41,7 @@ impl Turn {
         ensures { result ≡ first_turn node }
     {
         match node {
-            Two::Meet => Turn::Together,
+            Two::Meet | Two::Join | Two::Feed => Turn::Together,
             Two::Follow => Turn::Uncrossed,
         }
     }
@@ -70,7 +70,7 @@ impl Turn {
         ensures { result ≡ two_keeps node self }
     {
         match (node, self) {
-            (Two::Meet, Turn::Together) => true,
+            (Two::Meet | Two::Join | Two::Feed, Turn::Together) => true,
             (Two::Follow, Turn::Uncrossed | Turn::Crossed) => true,
             _ => false,
         }

@@ -1,20 +1,19 @@
 -- Before the first event, and a step that begins anew from there.
-use Rattle.std.proofs.Common.{◌≡◌, ℕ, List, [], Bool, true, false, ◌||◌, cond, if◌then◌else◌, IsTrue, refl, sym, ap, ◌∙◌}
+use Rattle.std.proofs.Common.{◌≡◌, List, [], Bool, true, false, ◌||◌, if◌then◌else◌, refl, ap, ◌∙◌}
 use Rattle.sched_plan.specs.Schedule.{Schedule, leaf, one, two}
-use Rattle.sched_plan.specs.Answer.{answer, both}
+use Rattle.sched_plan.specs.Answer.{answer}
 use Rattle.sched_plan.specs.declared.leaves.Leaf.{Leaf}
-use Rattle.sched_plan.specs.declared.leaves.Leaf.TheVariants.{Forever}
 use Rattle.sched_plan.specs.declared.nodes.One.{One}
 use Rattle.sched_plan.specs.declared.nodes.One.TheVariants.{Nothing}
 use Rattle.sched_plan.specs.declared.nodes.Two.{Two}
-use Rattle.sched_plan.specs.declared.nodes.Two.TheVariants.{Meet, Follow}
+use Rattle.sched_plan.specs.declared.nodes.Two.TheVariants.{Meet}
 use Rattle.sched_plan.specs.declared.history.Event.{Event}
 use Rattle.sched_plan.specs.declared.history.Answer.{Answer}
 use Rattle.sched_step.specs.declared.leaves.LeafState.{LeafState}
 use Rattle.sched_step.specs.declared.turns.Turn.{Turn}
 use Rattle.sched_step.specs.Progress.{Kept, Progress, at_leaf, at_one, at_two}
 use Rattle.sched_step.specs.StateOf.{kept_of, seen, turn_of, first_seen, second_seen, first_kept, first_turn, state_of}
-use Rattle.sched_step.specs.Step.{leaf_next, leaf_answers, begins, one_next, one_answers, one_step, side_by_side, two_step, leaf_from, kept_from, turn_from, from, step_of}
+use Rattle.sched_step.specs.Step.{leaf_next, leaf_answers, begins, one_next, one_answers, two_step, leaf_from, kept_from, turn_from, from, step_of}
 
 seen-nil : (k : One) → seen k [] ≡ []
 seen-nil Nothing = refl

@@ -1,17 +1,17 @@
 -- Progress that fits goes on fitting.
-use Rattle.std.proofs.Common.{◌≡◌, ℕ, ◌≤◌, Bool, true, false, cond, ◌&&◌, if◌then◌else◌, nat_le, IsTrue, Option, Some, None, List, [], refl, sym, ap, subst, arith, le-leb}
+use Rattle.std.proofs.Common.{ℕ, ◌≤◌, Bool, true, false, ◌&&◌, if◌then◌else◌, IsTrue, Option, Some, None, [], refl, sym, subst, arith, le-leb}
 use Rattle.std.proofs.lemmas.Bool.{and_parts, and_from, cond_both, false≢true}
 use Rattle.std.proofs.lemmas.Bool.Decides.{nat_tests}
 use Rattle.sched_plan.specs.Schedule.{Schedule, leaf, one, two}
 use Rattle.sched_plan.specs.Datum.{Datum}
 use Rattle.sched_plan.specs.Outputs.{with_input}
-use Rattle.sched_plan.specs.Answer.{answer, is_done}
+use Rattle.sched_plan.specs.Answer.{is_done}
 use Rattle.sched_plan.specs.declared.leaves.Leaf.{Leaf}
 use Rattle.sched_plan.specs.declared.leaves.Leaf.TheVariants.{Forever, Fixed, Windowed, Elapsed}
 use Rattle.sched_plan.specs.declared.nodes.Fold.{Fold}
-use Rattle.sched_plan.specs.declared.nodes.Fold.TheVariants.{Sum, List as All}
+use Rattle.sched_plan.specs.declared.nodes.Fold.TheVariants.{Sum}
 use Rattle.sched_plan.specs.declared.nodes.One.{One}
-use Rattle.sched_plan.specs.declared.nodes.One.TheVariants.{Gather, Within, Renew, RenewIdle, Nothing}
+use Rattle.sched_plan.specs.declared.nodes.One.TheVariants.{Gather, Within, Renew, RenewIdle}
 use Rattle.sched_plan.specs.declared.nodes.Two.{Two}
 use Rattle.sched_plan.specs.declared.nodes.Two.TheVariants.{Meet, Join, Follow, Feed}
 use Rattle.sched_plan.specs.declared.history.Event.{Event}
@@ -22,7 +22,7 @@ use Rattle.sched_step.specs.declared.turns.Turn.{Turn}
 use Rattle.sched_step.specs.declared.turns.Turn.TheVariants.{Together, Uncrossed, Crossed}
 use Rattle.sched_step.specs.Progress.{Kept, since, round_since, last_at, Progress, at_leaf, at_one, at_two, is_past, leaf_keeps, leaf_began, one_keeps, one_began, two_keeps, fits}
 use Rattle.sched_step.specs.StateOf.{leaf_state, first_kept, first_turn, state_of}
-use Rattle.sched_step.specs.Step.{leaf_next, begins, is_over, fold_next, round_next, one_next, at_crossing, past_crossing, follow_step, two_step, kept_or_now, since_of, step_of}
+use Rattle.sched_step.specs.Step.{leaf_next, begins, is_over, fold_next, round_next, one_next, at_crossing, past_crossing, two_step, kept_or_now, step_of}
 use Rattle.sched_step.proofs.laws.First.{first_one, first_two}
 
 -- Before the first event it fits at every moment.

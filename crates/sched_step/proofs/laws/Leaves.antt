@@ -1,5 +1,5 @@
 -- The step of a leaf.
-use Rattle.std.proofs.Common.{◌≡◌, ℕ, ◌+◌, ◌-◌, ◌*◌, ◌/◌, List, [], ◌∷◌, ◌++◌, length, Bool, true, false, cond, if◌then◌else◌, ltb, eqb, IsTrue, refl, sym, ap, ◌∙◌, arith, leb-true, lt-ltb}
+use Rattle.std.proofs.Common.{◌≡◌, ℕ, ◌+◌, ◌-◌, ◌*◌, List, [], ◌∷◌, ◌++◌, length, true, false, if◌then◌else◌, ltb, eqb, IsTrue, refl, sym, ap, ◌∙◌, arith, leb-true, lt-ltb}
 use Rattle.std.proofs.lemmas.Bool.{ne_eqb}
 use Rattle.std.proofs.lemmas.List.{length_push}
 use Rattle.sched_time.specs.Capped.{capped}
@@ -47,7 +47,7 @@ lone-push [] e first later = refl
 lone-push (c ∷ h) e first later =
     let some : ltb 0 (length (c ∷ h)) ≡ true = lt-ltb 0 (length (c ∷ h)) (omega arith) in
     let more : eqb (length (c ∷ h ++ e ∷ [])) 1 ≡ false =
-            ne_eqb (length (c ∷ h ++ e ∷ [])) 1 (λ is. absurd (omega (arith, is, length_push h e))) in
+    ne_eqb (length (c ∷ h ++ e ∷ [])) 1 (λ is. absurd (omega (arith, is, length_push h e))) in
     ap (λ b. if b then later else first) some ∙ sym (ap (λ b. if b then first else later) more)
 
 -- the leaf's state grows with the history

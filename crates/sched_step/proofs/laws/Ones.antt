@@ -1,5 +1,5 @@
 -- The step of a node over one schedule: a lemma for each node, and the law that they make together.
-use Rattle.std.proofs.Common.{◌≡◌, ℕ, ◌+◌, ◌-◌, min, max, List, [], ◌∷◌, ◌++◌, Bool, true, false, cond, if◌then◌else◌, nat_le, get_or, IsTrue, refl, sym, ap, ◌∙◌}
+use Rattle.std.proofs.Common.{◌≡◌, ℕ, ◌+◌, ◌-◌, min, max, List, [], ◌∷◌, ◌++◌, Bool, true, false, if◌then◌else◌, nat_le, get_or, IsTrue, refl, sym, ap, ◌∙◌}
 use Rattle.sched_time.specs.Capped.{capped}
 use Rattle.sched_plan.specs.Datum.{Datum}
 use Rattle.sched_plan.specs.HistoryLaws.{last_moment-push, last_input-push, last_words-push}
@@ -12,10 +12,10 @@ use Rattle.sched_plan.specs.Answer.{up_to, gathered, giving, changed}
 use Rattle.sched_plan.specs.declared.nodes.Fold.{Fold}
 use Rattle.sched_plan.specs.declared.nodes.Fold.TheVariants.{Sum, Count, Max, List as All}
 use Rattle.sched_plan.specs.declared.nodes.One.{One}
-use Rattle.sched_plan.specs.declared.nodes.One.TheVariants.{Gate, Gather, Add, Set, Cap, AddOut, Jitter, Within, Renew, RenewIdle, First, Second, Nothing}
+use Rattle.sched_plan.specs.declared.nodes.One.TheVariants.{Gate, Gather, Add, Set, Cap, AddOut, Jitter, Within, Renew, RenewIdle}
 use Rattle.sched_plan.specs.declared.history.Event.{Event}
 use Rattle.sched_plan.specs.declared.history.Answer.{Answer}
-use Rattle.sched_step.specs.Progress.{Kept, since, round_since, last_at, total, listed, Progress, at_one}
+use Rattle.sched_step.specs.Progress.{Kept, since, round_since, last_at, total, Progress, at_one}
 use Rattle.sched_step.specs.StateOf.{began_at, folded, kept_of, seen}
 use Rattle.sched_step.specs.Step.{kept_or_now, ended, delayed, begins, fold_next, fold_shows, one_next, one_answers, one_step}
 use Rattle.sched_step.proofs.Moments.{began_at-push, first_moment_kept, ended_at-push, last_block_kept, last_run_kept, round_kept}

@@ -60,9 +60,10 @@ module _
   -- All nodes over two schedules.
 
   pub two_law : (k : Two) (h : List Event) (e : Event) →
-      two_step k front_step rest_step (turn_of k f h) (front (first_seen k f h)) (rest (second_seen k f h)) e ≡
-      (at_two (turn_of k f (h ++ e ∷ [])) (front (first_seen k f (h ++ e ∷ []))) (rest (second_seen k f (h ++ e ∷ []))),
-      combined k f g (h ++ e ∷ []))
+      two_step k front_step rest_step (turn_of k f h) (front (first_seen k f h)) (rest (second_seen k f h)) e ≡ (
+        at_two (turn_of k f (h ++ e ∷ [])) (front (first_seen k f (h ++ e ∷ []))) (rest (second_seen k f (h ++ e ∷ []))),
+        combined k f g (h ++ e ∷ []),
+      )
   two_law Meet h e = λ i. side_by_side (front_law h e i) (rest_law h e i) (both (front_law h e i).1 (rest_law h e i).1)
   two_law Join h e = λ i. side_by_side (front_law h e i) (rest_law h e i) (either (front_law h e i).1 (rest_law h e i).1)
   two_law Feed h e = feed_law h e

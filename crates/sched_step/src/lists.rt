@@ -1,0 +1,141 @@
+ghost use Rattle.std.specs.Prelude.{◌≡◌, ◌<◌, ◌≤◌, [], ◌∷◌, ◌++◌, if◌then◌else◌, IfOk, IfSome, vec_len, vec_capacity};
+ghost use Rattle.sched_plan.specs.Datum.{list, items_of};
+ghost use Rattle.sched_plan.specs.Answer.{giving};
+ghost use Rattle.sched_plan.specs.Outputs.{goes_on};
+ghost use Rattle.sched_step.specs.Listed.{items_next};
+
+use sched_plan::{Answer, Val};
+use sched_time::{Decision, NoMemory};
+use std::alloc::Global;
+use std::marker::Model;
+
+/// The outputs that a node keeps: what they are, and what the step under way makes of them. They are never copied but
+/// for an output that shows them.
+#[derive(Drop)]
+pub(crate) struct Listed {
+    items: Vec<Val>,
+    /// The step under way begins from none.
+    anew: bool,
+    /// What the step under way adds; there is room for it.
+    more: Option<Val>,
+}
+
+impl Model for Listed {
+    ghost use Rattle.std.specs.Prelude.{◌<◌, IfSome, vec_len, vec_capacity};
+    ghost use Rattle.sched_step.specs.Listed.{ListPhases, coded_list_phases, items_next};
+
+    ghost Value = { ListPhases };
+
+    ghost coded = { coded_list_phases };
+
+    ghost view = { λ l. record { present = l.items.items; next = items_next l.anew l.items.items l.more } };
+
+    ghost invariant = { λ l. IfSome l.more (λ _. vec_len l.items < vec_capacity l.items) };
+}
+
+impl Listed {
+    /// No outputs. It takes no memory.
+    pub(crate) fn new(alloc: Global) -> Listed
+        ensures { result.present ≡ [] }
+    {
+        Listed {
+            items: Vec::new(alloc),
+            anew: false,
+            more: None,
+        }
+    }
+
+    /// The same outputs. Refused only for want of memory.
+    pub(crate) fn copy(&self, alloc: Global) -> Result<Listed, NoMemory>
+        ensures { IfOk result (λ listed. listed.present ≡ self.now.present) }
+    {
+        Ok(Listed {
+            items: copy_all(alloc, &self.items)?,
+            anew: false,
+            more: None,
+        })
+    }
+
+    /// The outputs as a value. Refused only for want of memory.
+    pub(crate) fn view(&self, alloc: Global) -> Result<Val, NoMemory>
+        ensures { IfOk result (λ v. v ≡ list (items_of self.now.present)) }
+    {
+        Ok(Val::list(copy_all(alloc, &self.items)?))
+    }
+
+    /// The step under way makes them none.
+    pub(crate) fn restart(&mut self)
+        ensures present { self.new.present ≡ self.old.present }
+        ensures next { self.new.next ≡ [] }
+    {
+        self.anew = true;
+        self.more = None;
+    }
+
+    /// The step under way is taken. It takes no memory.
+    pub(crate) fn commit(&mut self)
+        ensures { self.new.present ≡ self.old.next }
+    {
+        if self.anew {
+            self.items.clear();
+            self.anew = false;
+        }
+        if let Some(item) = self.more.take() {
+            self.items.push_reserved(item);
+        }
+    }
+
+    /// Notes the output of an answer that goes on, and gives the answer with the outputs so far in the place of its own.
+    /// A fresh step begins from none.
+    pub(crate) fn step(
+        &mut self,
+        alloc: Global,
+        fresh: bool,
+        answer: Answer,
+    ) -> Result<Answer, NoMemory>
+        ensures present { self.new.present ≡ self.old.present }
+        ensures next { let before = (if fresh then [] else self.old.present) in IfOk result (λ _. self.new.next ≡
+            (if goes_on answer.decision then before ++ answer.output ∷ [] else before)) }
+        ensures answer { let before = (if fresh then [] else self.old.present) in
+            IfOk result (λ given. given ≡ giving (list (items_of before)) answer) }
+    {
+        let shown = if fresh {
+            Vec::new(alloc)
+        } else {
+            copy_all(alloc, &self.items)?
+        };
+        let Answer { output, decision } = answer;
+        let more = match decision {
+            Decision::Go(_) => Some(output),
+            Decision::Done => None,
+        };
+        self.note(fresh, more)?;
+        Ok(Answer {
+            output: Val::list(shown),
+            decision,
+        })
+    }
+
+    // The step under way begins from none where it is anew, and adds this output.
+    fn note(&mut self, anew: bool, more: Option<Val>) -> Result<(), NoMemory>
+        ensures present { self.new.present ≡ self.old.present }
+        ensures next { IfOk result (λ _. self.new.next ≡ items_next anew self.old.present more) }
+    {
+        self.more = None;
+        self.items.reserve(1)?;
+        self.anew = anew;
+        self.more = more;
+        Ok(())
+    }
+}
+
+// Equal values in the same order.
+fn copy_all(alloc: Global, items: &Vec<Val>) -> Result<Vec<Val>, NoMemory>
+    ensures { IfOk result (λ copies. copies.items ≡ items.now.items) }
+{
+    let mut copies = Vec::with_capacity(alloc, items.len())?;
+    for item in items {
+        copies.push(item.copy(alloc)?)?;
+    }
+    Ok(copies)
+}
