@@ -122,7 +122,9 @@ impl Listed {
         ensures next { IfOk result (λ _. self.new.next ≡ items_next anew self.old.present more) }
     {
         self.more = None;
-        self.items.reserve(1)?;
+        if more.is_some() {
+            self.items.reserve(1)?;
+        }
         self.anew = anew;
         self.more = more;
         Ok(())

@@ -1,6 +1,6 @@
-use super::{State, initial};
-use sched_plan::{Answer, Plan, Val};
-use sched_time::{Moment, NoMemory, Tick};
+use super::{State, initial, step};
+use sched_plan::{Answer, Fold, Plan, PlanFault, Val};
+use sched_time::{FAR, Moment, NoMemory, Tick};
 use std::alloc::Global;
 use std::process::Abort;
 
@@ -14,68 +14,46 @@ mod rounds;
 // The random word in the middle of its range.
 const MIDDLE: u32 = 2147483648;
 
-fn moment(rt: &impl Abort, at: u64) -> Moment {
-    Moment::new(at).expect(rt, "the moment is in range")
-}
+// What an event at this moment gives: its output, its start if the plan goes on, and the view of the state after it.
+type Wanted<'a> = (u64, &'a str, Option<u64>, &'a str);
 
-fn number(rt: &impl Abort, number: u64) -> Val {
-    Val::num(number).expect(rt, "the number is in range")
-}
-
-// A tick with the same word in all lanes.
-fn tick_at(rt: &impl Abort, at: u64, word: u32) -> Tick {
+fn tick_at(rt: &impl Abort, at: u64) -> Tick {
     Tick {
-        now: moment(rt, at),
-        words: [word; 4],
+        now: Moment::new(at).expect(rt, "the moment is in range"),
+        words: [2147483648; 4],
     }
 }
 
-fn assert_answer(
+// One more event, for a state that fits the plan there.
+fn advanced(
     rt: &impl Abort,
     alloc: Global,
+    plan: &Plan,
+    state: &mut State,
     at: u64,
-    answer: &Answer,
-    output: &str,
-    start: Option<u64>,
-) -> Result<(), NoMemory> {
-    let text = answer.output.text(alloc)?;
-    assert_eq!(rt; text.as_str(), output, "the output at {at}");
-    assert_eq!(rt;
-        answer.decision.start().map(Moment::get),
-        start,
-        "the start at {at}"
-    );
-    Ok(())
+) -> Result<Answer, NoMemory> {
+    let tick = tick_at(rt, at);
+    assert!(rt; state.fits(plan, tick.now), "the state fits at {at}");
+    state.advance(alloc, plan, &tick, &Val::unit())
 }
 
-// The state after events at these moments, with this word and input, from which each answer was as wanted: its output,
-// and its start if it went on.
-fn assert_steps(
+// The same beside the old state.
+fn stepped(
     rt: &impl Abort,
     alloc: Global,
     plan: &Plan,
-    word: u32,
-    input: &Val,
-    want: &[(u64, &str, Option<u64>)],
-) -> Result<State, NoMemory> {
-    let mut state = initial(alloc, plan)?;
-    for (at, output, start) in want {
-        let tick = tick_at(rt, *at, word);
-        assert!(rt; state.fits(plan, tick.now), "the state fits at {at}");
-        let answer = state.advance(alloc, plan, &tick, input)?;
-        assert_answer(rt, alloc, *at, &answer, *output, *start)?;
-    }
-    Ok(state)
+    state: &State,
+    at: u64,
+) -> Result<(State, Answer), NoMemory> {
+    let tick = tick_at(rt, at);
+    assert!(rt; state.fits(plan, tick.now), "the state fits at {at}");
+    step(alloc, plan, state, &tick, &Val::unit())
 }
 
-// The same with the word in the middle of its range and the input 0.
-fn assert_answers(
-    rt: &impl Abort,
-    alloc: Global,
-    plan: &Plan,
-    want: &[(u64, &str, Option<u64>)],
-) -> Result<State, NoMemory> {
-    assert_steps(rt, alloc, plan, MIDDLE, &number(rt, 0), want)
+fn renewed(rt: &impl Abort, plan: &Plan, state: &mut State) {
+    let far = Moment::new(FAR).expect(rt, "the moment is in range");
+    assert!(rt; state.fits(plan, far), "the state fits at the end");
+    state.renew(plan);
 }
 
 fn assert_view(rt: &impl Abort, alloc: Global, state: &State, want: &str) -> Result<(), NoMemory> {
@@ -84,8 +62,121 @@ fn assert_view(rt: &impl Abort, alloc: Global, state: &State, want: &str) -> Res
     Ok(())
 }
 
-// The state fits the plan from this moment on, and not before.
-fn assert_fits_from(rt: &impl Abort, state: &State, plan: &Plan, at: u64) {
-    assert!(rt; state.fits(plan, moment(rt, at)), "the state fits at {at}");
-    assert!(rt; !state.fits(plan, moment(rt, at.saturating_sub(1))), "the state fits before {at}");
+fn assert_answer(
+    rt: &impl Abort,
+    alloc: Global,
+    answer: &Answer,
+    output: &str,
+    start: Option<u64>,
+) -> Result<(), NoMemory> {
+    let text = answer.output.text(alloc)?;
+    assert_eq!(rt; text.as_str(), output);
+    assert_eq!(rt; answer.decision.start().map(Moment::get), start);
+    Ok(())
+}
+
+// Events at these moments are answered as wanted. A refused step leaves the state as it was, and the same event is then
+// taken; the renewed state is the initial one.
+fn assert_course(
+    rt: &impl Abort,
+    alloc: Global,
+    plan: &Plan,
+    first: &str,
+    want: &[Wanted<'_>],
+) -> Result<(), NoMemory> {
+    let mut state = initial(alloc, plan)?;
+    let mut before = first;
+    for (at, output, start, view) in want {
+        assert_view(rt, alloc, &state, before)?;
+        let answer = match advanced(rt, alloc, plan, &mut state, *at) {
+            Ok(answer) => answer,
+            Err(NoMemory) => {
+                assert_view(rt, alloc, &state, before)?;
+                advanced(rt, alloc, plan, &mut state, *at)?
+            }
+        };
+        assert_answer(rt, alloc, &answer, *output, *start)?;
+        before = *view;
+    }
+    assert_view(rt, alloc, &state, before)?;
+    renewed(rt, plan, &mut state);
+    assert_view(rt, alloc, &state, first)
+}
+
+// Two recurrences, then (one more, then every 50 milliseconds) beside every 20, for 200.
+fn crossings(alloc: Global) -> Result<Plan, PlanFault> {
+    let inner = Plan::follow(alloc, Plan::recurs(1)?, Plan::spaced(50)?)?;
+    let side = Plan::within(alloc, 200, Plan::spaced(20)?)?;
+    let both = Plan::meet(alloc, inner, side)?;
+    Plan::follow(alloc, Plan::recurs(2)?, both)
+}
+
+#[test]
+fn crossings_move_only_their_side(rt: HostRuntime) -> Result<(), Fail> {
+    let alloc = rt.alloc();
+    let plan = crossings(alloc)?;
+    let first = "(0, (0, ((0, (0, 0)), ((), 0))))";
+    let want = [
+        (0, "0", Some(0), "(0, (1, ((0, (0, 0)), ((), 0))))"),
+        (5, "1", Some(5), "(0, (2, ((0, (0, 0)), ((), 0))))"),
+        (9, "(0, 0)", Some(29), "(1, (3, ((0, (1, 0)), (9, 1))))"),
+        (29, "(0, 1)", Some(79), "(1, (3, ((1, (2, 1)), (9, 2))))"),
+        (79, "(1, 2)", Some(129), "(1, (3, ((1, (2, 2)), (9, 3))))"),
+        (209, "(2, 3)", None, "(1, (3, ((1, (2, 3)), (9, 4))))"),
+    ];
+    assert_course(&rt, alloc, &plan, first, &want)?;
+    Ok(())
+}
+
+// The outputs of (one event, then the time since it) so far, from the first event on of rounds of 100 milliseconds.
+fn rounds(alloc: Global) -> Result<Plan, PlanFault> {
+    let turns = Plan::follow(alloc, Plan::recurs(1)?, Plan::elapsed()?)?;
+    let listed = Plan::gather(alloc, Fold::List, turns)?;
+    Plan::renew(alloc, 100, listed)
+}
+
+#[test]
+fn round_begins_with_an_empty_list(rt: HostRuntime) -> Result<(), Fail> {
+    let alloc = rt.alloc();
+    let plan = rounds(alloc)?;
+    let first = "((), ([], (0, (0, ()))))";
+    let want = [
+        (7, "[]", Some(7), "(7, ([0], (0, (1, ()))))"),
+        (20, "[0]", Some(20), "(7, ([0, 0], (1, (2, 20))))"),
+        (106, "[0, 0]", Some(106), "(7, ([0, 0, 86], (1, (2, 20))))"),
+        (107, "[]", Some(107), "(107, ([0], (0, (1, ()))))"),
+        (110, "[0]", Some(110), "(107, ([0, 0], (1, (2, 110))))"),
+    ];
+    assert_course(&rt, alloc, &plan, first, &want)?;
+    Ok(())
+}
+
+#[test]
+fn kept_last_moment_is_not_after_the_next(rt: HostRuntime) -> Result<(), Fail> {
+    let alloc = rt.alloc();
+    let plan = Plan::renew_idle(alloc, 100, Plan::recurs(2)?)?;
+    let mut state = initial(alloc, &plan)?;
+    for at in [0, 99] {
+        advanced(&rt, alloc, &plan, &mut state, at)?;
+    }
+    assert_view(&rt, alloc, &state, "(99, 2)")?;
+    assert!(rt; state.fits(&plan, tick_at(&rt, 99).now));
+    assert!(rt; !state.fits(&plan, tick_at(&rt, 98).now));
+    assert!(rt; !state.fits(&Plan::forever()?, tick_at(&rt, 99).now));
+    Ok(())
+}
+
+#[test]
+fn step_leaves_the_old_state_to_its_owner(rt: HostRuntime) -> Result<(), Fail> {
+    let alloc = rt.alloc();
+    let plan = rounds(alloc)?;
+    let mut old = initial(alloc, &plan)?;
+    advanced(&rt, alloc, &plan, &mut old, 7)?;
+    for _ in 0..2 {
+        let (next, answer) = stepped(&rt, alloc, &plan, &old, 20)?;
+        assert_answer(&rt, alloc, &answer, "[0]", Some(20))?;
+        assert_view(&rt, alloc, &next, "(7, ([0, 0], (1, (2, 20))))")?;
+        assert_view(&rt, alloc, &old, "(7, ([0], (0, (1, ()))))")?;
+    }
+    Ok(())
 }
