@@ -3,16 +3,7 @@ use sched_plan::{Answer, Fold, Plan, PlanFault, Val};
 use sched_time::{FAR, Moment, NoMemory, Tick};
 use std::alloc::Global;
 use std::process::Abort;
-
-mod delays;
-mod leaves;
-mod nested;
-mod outputs;
-mod pairs;
-mod rounds;
-
-// The random word in the middle of its range.
-const MIDDLE: u32 = 2147483648;
+use std::test::Fail;
 
 // What an event at this moment gives: its output, its start if the plan goes on, and the view of the state after it.
 type Wanted<'a> = (u64, &'a str, Option<u64>, &'a str);
