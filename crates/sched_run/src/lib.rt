@@ -5,6 +5,9 @@
 //! is polled by hand with `poll_at`, or is a future by `Timed`.
 #![tactic(auto)]
 
+#[cfg(test)]
+mod tests;
+
 pub use sched_effect::{Code, Coded, Effect, Fallback, Ran, Scripted};
 pub use sched_repeat::{Repeat, RepeatEnding};
 pub use sched_retry::{Ending, Retry};

@@ -1,4 +1,3 @@
-use Rattle.std.proofs.Common.{rules}
 use Rattle.sched_wheel.proofs.Polls.{left_then, each_then}
 use Rattle.sched_wheel.proofs.loops.drive.Goals as goal
 

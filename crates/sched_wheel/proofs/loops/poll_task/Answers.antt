@@ -1,9 +1,7 @@
-use Rattle.std.proofs.Common.{rules, ◌≡◌, slice_index_or, refl, subst, sym, ap}
-use Rattle.rand_core.specs.Stream.{Stream}
+use Rattle.std.proofs.Common.{rules, ◌≡◌, slice_index_or, subst, ap}
 use Rattle.sched_time.specs.declared.numbers.Tick.{Tick}
 use Rattle.sched_task.specs.Polls.{is_ready}
-use Rattle.sched_task.specs.Words.{next_four}
-use Rattle.sched_wheel.specs.Polled.{IsGiven, IsOpen, IsPoll}
+use Rattle.sched_wheel.specs.Polled.{IsGiven, IsOpen}
 use Rattle.sched_wheel.proofs.Polls.{each_poll_at}
 use Rattle.sched_wheel.proofs.loops.poll_task.Goals as goal
 

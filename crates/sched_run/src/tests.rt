@@ -1,0 +1,104 @@
+ghost use Rattle.std.specs.Prelude.{◌≡◌, [], IfOk, IfSome};
+ghost use Rattle.sched_ticket.specs.Held.{IsOf};
+
+use super::*;
+use futures::executor::block_on;
+use futures::task::Poll;
+use futures::test::MockTask;
+use sched_driver::Driver;
+use sched_plan::{Plan, PlanFault, Val};
+use sched_ticket::{Budget, Pass};
+use sched_time::{Millis, Moment, NoMemory, Tick};
+use std::alloc::{AllocGlobal, Global};
+use std::process::Abort;
+use std::random::RandomSource;
+use std::sync::Wait;
+
+mod calls;
+mod endings;
+mod guide;
+mod repeats;
+mod retries;
+mod retries_or;
+mod steps;
+
+fn moment(rt: &impl Abort, at: u64) -> Moment {
+    Moment::new(at).expect(rt, "the moment is in range")
+}
+
+fn millis(rt: &impl Abort, number: u64) -> Millis {
+    Millis::new(number).expect(rt, "the number is in range")
+}
+
+fn won(rt: &impl Abort, code: u64) -> Ran {
+    Ran::Won(millis(rt, code))
+}
+
+fn lost(rt: &impl Abort, code: u64) -> Ran {
+    Ran::Lost(millis(rt, code))
+}
+
+// An effect with these outcomes.
+fn scripted(rt: &impl Abort, alloc: Global, script: &[Ran]) -> Scripted
+    ensures { result.runs ≡ [] }
+{
+    let script = script.to_vec(alloc).expect(rt, "there is memory");
+    Scripted::new(script).expect(rt, "the script has an outcome")
+}
+
+// A driver of the plan before its first event.
+fn driver(rt: &impl Abort, alloc: Global, plan: Result<Plan, PlanFault>) -> Driver
+    ensures { result.journal ≡ [] }
+{
+    let plan = plan.expect(rt, "the plan is built");
+    Driver::new(alloc, plan).expect(rt, "there is memory")
+}
+
+// A budget of so many tickets, and its first pass.
+fn budget(rt: &impl Abort, alloc: Global, limit: u64) -> (Budget, Pass)
+    ensures of { IsOf result.0 result.1 }
+    ensures fresh { result.1.has.tickets ≡ [] }
+{
+    Budget::new(alloc, limit).expect(rt, "the limit is in range")
+}
+
+// Polls the task by hand at this moment, and tells whether it is over.
+fn poll<R, T: Task>(rt: &R, task: &mut T, at: u64) -> bool
+where
+    R: RandomSource + AllocGlobal + Abort,
+{
+    let tick = Tick {
+        now: moment(rt, at),
+        words: [2147483648; 4],
+    };
+    let alloc = rt.alloc();
+    let mock = MockTask::new(rt).expect(rt, "there is memory");
+    match mock.enter(|cx| task.poll_at(alloc, &tick, cx)) {
+        Poll::Ready(()) => true,
+        Poll::Pending => false,
+    }
+}
+
+// The task, over, by a future with a virtual clock from 0.
+fn finish<R, T: Task>(rt: &R, task: T) -> T
+where
+    R: Wait + RandomSource + AllocGlobal + Abort,
+{
+    let clock = VirtualClock::at(moment(rt, 0));
+    let timed = Timed::new(rt.alloc(), task, clock, MidWords);
+    block_on(rt, timed).expect(rt, "there is memory")
+}
+
+fn assert_moments(rt: &impl Abort, begun: &[Moment], want: &[u64]) {
+    assert_eq!(rt; begun.len(), want.len());
+    for (begin, at) in begun.iter().zip(want) {
+        assert_eq!(rt; begin.get(), *at);
+    }
+}
+
+// The number that a value is.
+fn number_of(rt: &impl Abort, alloc: Global, value: Option<&Val>, want: &str) {
+    let value = value.expect(rt, "there is a value");
+    let text = value.text(alloc).expect(rt, "there is memory");
+    assert_eq!(rt; text.as_str(), want);
+}
