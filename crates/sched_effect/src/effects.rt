@@ -11,6 +11,7 @@ use sched_time::NoMemory;
 /// Work that can be run again and again, one run after another. It keeps the list of its finished runs.
 pub trait Effect: Drop {
     type Item: Coded + Drop;
+
     type Fault: Coded + Drop;
 
     // The finished runs, oldest first.

@@ -63,6 +63,7 @@ impl Scripted {
 
 impl Effect for Scripted {
     type Item = Code;
+
     type Fault = Code;
 
     ghost finished = { λ s. s.runs };

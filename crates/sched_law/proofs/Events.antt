@@ -29,8 +29,8 @@ passing test e (d ∷ h) before =
     let first : test (e ∷ []) ≡ true = before 1 (omega arith) (omega arith) in
     let rest = passing (λ p. test (e ∷ p)) d h (λ n some small. before (suc n) (omega arith) (omega arith)) in
     let split : count_by test (prefixes (e ∷ d ∷ h)) ≡ bit (test (e ∷ [])) + count_by (λ p. test (e ∷ p)) (prefixes (d ∷ h)) =
-        sum_by-cons (λ p. bit (test p)) (e ∷ []) (map (λ p. e ∷ p) (prefixes (d ∷ h)))
-        ∙ ap (λ n. bit (test (e ∷ [])) + n) (sum_by-map (λ p. bit (test p)) (λ p. e ∷ p) (prefixes (d ∷ h))) in
+    sum_by-cons (λ p. bit (test p)) (e ∷ []) (map (λ p. e ∷ p) (prefixes (d ∷ h)))
+    ∙ ap (λ n. bit (test (e ∷ [])) + n) (sum_by-map (λ p. bit (test p)) (λ p. e ∷ p) (prefixes (d ∷ h))) in
     rw (split, first) (omega (arith, rest))
 
 not_not : (b : Bool) → not (not b) ≡ b

@@ -73,16 +73,19 @@ whole kind v law unended = elim law.fed [ inl e ↦ e | inr lacks ↦ (let bad =
 
 idle_length : (v : Past) → is_under_way v ≡ false → (length v.begun ≡ length v.runs) ⊎ HasOneMore v → length v.begun ≡ length v.runs
 idle_length v idle counted = elim counted [
-    inl even ↦ even
-    | inr more ↦ (let one = more.one_more in absurd (omega (arith, ltb-false (length v.runs) (length v.begun) idle))) ]
+  | inl even ↦ even
+  | inr more ↦ (let one = more.one_more in absurd (omega (arith, ltb-false (length v.runs) (length v.begun) idle)))
+]
 
 begun_length : (v : Past) (t : Tick) → (length v.begun ≡ length v.runs) ⊎ HasOneMore v →
     length (begun_by v t) ≡ length v.runs + 1
 begun_length v t counted =
     by_test (is_under_way v)
-        (λ under. rw under (elim counted [
-            inl even ↦ absurd (omega (arith, ltb-true (length v.runs) (length v.begun) under)) | inr more ↦ more.one_more ]))
-        (λ idle. rw idle (omega (arith, length_push v.begun t.now, idle_length v idle counted)))
+    (λ under. rw under (elim counted [
+      | inl even ↦ absurd (omega (arith, ltb-true (length v.runs) (length v.begun) under))
+      | inr more ↦ more.one_more
+    ]))
+    (λ idle. rw idle (omega (arith, length_push v.begun t.now, idle_length v idle counted)))
 
 even_length : (kind : Kind) (v : Past) → list_all (calls kind) v.runs ≡ true →
     inputs v.driver.journal ≡ called_inputs kind v.runs → length v.driver.journal ≡ length v.runs
@@ -102,24 +105,25 @@ due_start : (v : Past) (t : Tick) → CanRun v t → v.denied ≡ false → is_s
     IsSomeAnd (start_of (decision_on v.driver.plan v.driver.journal)) (λ start. start ≤ t.now)
 due_start v t can undenied unspent idle some =
     let planned : waits_for v ≡ start_of (decision_on v.driver.plan v.driver.journal) =
-        waits_start v can.unended undenied idle ∙ next_start_some v.driver some in
+    waits_start v can.unended undenied idle ∙ next_start_some v.driver some in
     some_and (start_of (decision_on v.driver.plan v.driver.journal)) (λ start. start ≤ t.now)
-        (start_some (decision_on v.driver.plan v.driver.journal) (sym (is_spent_some v.driver some) ∙ unspent))
-        (subst (λ (o : Option ℕ). IfSome o (λ start. start ≤ t.now)) planned can.due)
+    (start_some (decision_on v.driver.plan v.driver.journal) (sym (is_spent_some v.driver some) ∙ unspent))
+    (subst (λ (o : Option ℕ). IfSome o (λ start. start ≤ t.now)) planned can.due)
 
 waits_idle : (kind : Kind) (v : Past) (t : Tick) → Law kind v → CanRun v t → v.denied ≡ false → is_spent v.driver ≡ false →
     length v.driver.journal ≡ length v.runs → is_under_way v ≡ false → Waits v.driver (v.begun ++ t.now ∷ [])
 waits_idle kind v t law can undenied unspent even idle n some small =
     elim (cases_lt n (length v.begun)) [
-        inl before ↦ (let old = law.waited n some before in
-            (old.0, some_le _ _ _ (sym (get_or_append_left v.begun (t.now ∷ []) 0 n before)) old.1))
-        | inr past ↦ (
-            let same : length v.begun ≡ length v.runs = idle_length v idle law.counted in
-            let here : n ≡ length v.begun = omega (arith, length_push v.begun t.now) in
-            let all : take n v.driver.journal ≡ v.driver.journal = take_all n v.driver.journal (omega arith) in
-            let last : get_or (v.begun ++ t.now ∷ []) n 0 ≡ t.now =
-                ap (λ k. get_or (v.begun ++ t.now ∷ []) k 0) here ∙ get_or-append_seam v.begun t.now [] 0 in
-            (omega arith, rw (all, last) (due_start v t can undenied unspent idle (omega arith)))) ]
+      | inl before ↦ (let old = law.waited n some before in
+          (old.0, some_le _ _ _ (sym (get_or_append_left v.begun (t.now ∷ []) 0 n before)) old.1))
+      | inr past ↦ (
+          let same : length v.begun ≡ length v.runs = idle_length v idle law.counted in
+          let here : n ≡ length v.begun = omega (arith, length_push v.begun t.now) in
+          let all : take n v.driver.journal ≡ v.driver.journal = take_all n v.driver.journal (omega arith) in
+          let last : get_or (v.begun ++ t.now ∷ []) n 0 ≡ t.now =
+          ap (λ k. get_or (v.begun ++ t.now ∷ []) k 0) here ∙ get_or-append_seam v.begun t.now [] 0 in
+          (omega arith, rw (all, last) (due_start v t can undenied unspent idle (omega arith))))
+    ]
 
 ready : (kind : Kind) (v : Past) (t : Tick) → Law kind v → CanRun v t → Ready kind v t
 ready kind v t law can =
@@ -209,10 +213,11 @@ goes_on-push d e unspent before n some small =
     let short : n ≤ length d.journal = omega (arith, length_push d.journal e) in
     let same : take n (d.journal ++ e ∷ []) ≡ take n d.journal = take-append-le n d.journal (e ∷ []) short in
     rw same (elim (cases_lt n (length d.journal)) [
-        inl earlier ↦ before n some earlier
-        | inr last ↦ (
-            let all : take n d.journal ≡ d.journal = take_all n d.journal last in
-            rw all (sym (is_spent_some d (omega arith)) ∙ unspent)) ])
+      | inl earlier ↦ before n some earlier
+      | inr last ↦ (
+          let all : take n d.journal ≡ d.journal = take_all n d.journal last in
+          rw all (sym (is_spent_some d (omega arith)) ∙ unspent))
+    ])
 
 -- what was waited for stays so
 waits-push : (d : Driven) (e : Event) (begun : List ℕ) → length begun ≡ length d.journal + 1 →
@@ -244,7 +249,11 @@ stepped_law kind v t r over denied granted law steps unfinal refused ended count
       waited = waits-push v.driver e (begun_by v t) size now.waits;
       counted = inl (now.begun ∙ sym (length_push v.runs r));
       denied = λ yes. (let both = refused yes in record {
-        drawn = both.0; unspent = both.1; last = last; stepped = omega (arith, length_push v.driver.journal e) });
+        drawn = both.0;
+        unspent = both.1;
+        last = last;
+        stepped = omega (arith, length_push v.driver.journal e);
+      });
       spent = λ _. last;
       ended = ended;
       granted = λ drawn. count drawn ∙ sym (recurrences-push v.driver e);
@@ -264,8 +273,9 @@ asked_law kind v over law can unfinal ended = record {
   went_on = law.went_on;
   waited = law.waited;
   counted = elim law.counted [
-      inl even ↦ inl even
-      | inr more ↦ absurd (let unstopped = more.unstopped in let stopped = can.stopped in cc) ];
+    | inl even ↦ inl even
+    | inr more ↦ absurd (let unstopped = more.unstopped in let stopped = can.stopped in cc)
+  ];
   denied = λ yes. same_denied kind v over (law.denied yes);
   spent = law.spent;
   ended = ended;
@@ -281,8 +291,9 @@ refused_law kind v over law unended unfinal left ended = record {
   went_on = law.went_on;
   waited = law.waited;
   counted = elim law.counted [
-      inl even ↦ inl even
-      | inr more ↦ inr record { one_more = more.one_more; left = left; unstopped = more.unstopped } ];
+    | inl even ↦ inl even
+    | inr more ↦ inr record { one_more = more.one_more; left = left; unstopped = more.unstopped }
+  ];
   denied = λ yes. same_denied kind v over (law.denied yes);
   spent = law.spent;
   ended = ended;
@@ -296,14 +307,14 @@ stop_unfinal kind how unfinal = by_test (falls_back kind) (λ yes. rw yes refl) 
 stop_ended : (kind : Kind) (v : Past) (how : How) → Ended kind v (Some how) → Ended kind v (stop kind how)
 stop_ended kind v how ended =
     by_test (falls_back kind)
-        (λ falls. rw falls (λ isnt. absurd (let bad = falls in cc)))
-        (λ isnt. rw isnt ended)
+    (λ falls. rw falls (λ isnt. absurd (let bad = falls in cc)))
+    (λ isnt. rw isnt ended)
 
 stopped_ended : (kind : Kind) (v : Past) → is_stopped v ≡ true → Ended kind (record v { over = Some (stopped_by v) }) (Some (stopped_by v))
 stopped_ended kind v stopped =
     by_test v.denied
-        (λ denied. rw denied refl)
-        (λ undenied. rw undenied (or_true v.denied (is_spent v.driver) stopped undenied, refl))
+    (λ denied. rw denied refl)
+    (λ undenied. rw undenied (or_true v.denied (is_spent v.driver) stopped undenied, refl))
 
 stopped_unfinal : (kind : Kind) (v : Past) → is_final kind (Some (stopped_by v)) ≡ false
 stopped_unfinal kind v = by_test v.denied (λ denied. rw denied refl) (λ undenied. rw undenied refl)
@@ -319,10 +330,10 @@ pub law_after : (kind : Kind) (v : Past) (t : Tick) (h : Happened) → Law kind 
 law_after kind v t stays law may = law
 law_after kind v t cannot_begin law may =
     refused_law kind v (Some (Broken NoMemory)) law may.0.unended refl refl
-        (λ _. may.0.unstopped, λ stopped. refl)
+    (λ _. may.0.unstopped, λ stopped. refl)
 law_after kind v t runs_on law may =
     under_way_law kind v t v.over law may (not_final kind v may.unended) (ap may_leave_a_run may.unended)
-        (rw may.unended (λ _. may.unstopped))
+    (rw may.unended (λ _. may.unstopped))
 law_after kind v t starves law may =
     under_way_law kind v t (Some (Broken NoMemory)) law may refl refl (λ _. may.unstopped, λ stopped. refl)
 law_after kind v t (ends r) law may = finished_law kind v t r law may.0 may.1
@@ -330,30 +341,30 @@ law_after kind v t (breaks r fault) law may = broken_law kind v t r fault law ma
 law_after kind v t (exhausts r) law may =
     let undenied = (ready kind v t law may.0.can).undenied in
     stepped_law kind v t r (stop kind ScheduleDone) v.denied v.granted law may.0
-        (stop_unfinal kind ScheduleDone refl)
-        (λ denied. absurd (cc))
-        (stop_ended kind (record (stepped v t r) { over = stop kind ScheduleDone }) ScheduleDone (may.1, undenied))
-        (λ drawn. rw may.1 (omega (arith, law.granted drawn)))
+    (stop_unfinal kind ScheduleDone refl)
+    (λ denied. absurd (cc))
+    (stop_ended kind (record (stepped v t r) { over = stop kind ScheduleDone }) ScheduleDone (may.1, undenied))
+    (λ drawn. rw may.1 (omega (arith, law.granted drawn)))
 law_after kind v t (overdraws r) law may =
     let undenied = (ready kind v t law may.0.can).undenied in
     stepped_law kind v t r (stop kind BudgetRefused) true v.granted law may.0
-        (stop_unfinal kind BudgetRefused refl)
-        (λ _. (may.2, may.1))
-        (stop_ended kind (record (stepped v t r) { over = stop kind BudgetRefused; denied = true }) BudgetRefused refl)
-        (λ drawn. rw may.1 (let before = rw undenied at (law.granted drawn) in omega (arith, before)))
+    (stop_unfinal kind BudgetRefused refl)
+    (λ _. (may.2, may.1))
+    (stop_ended kind (record (stepped v t r) { over = stop kind BudgetRefused; denied = true }) BudgetRefused refl)
+    (λ drawn. rw may.1 (let before = rw undenied at (law.granted drawn) in omega (arith, before)))
 law_after kind v t (recurs r) law may =
     let now = ready kind v t law may.0.can in
     let undenied = now.undenied in
     let unended = may.0.can.unended in
     stepped_law kind v t r v.over v.denied (if draws kind then v.granted + 1 else v.granted) law may.0
-        (not_final kind v unended)
-        (λ denied. absurd (cc))
-        (rw unended (λ _. rw (undenied, may.1) refl))
-        (recurs_count kind v (is_spent (driven_after v.driver (step_event t r))) undenied may.1 law.granted)
+    (not_final kind v unended)
+    (λ denied. absurd (cc))
+    (rw unended (λ _. rw (undenied, may.1) refl))
+    (recurs_count kind v (is_spent (driven_after v.driver (step_event t r))) undenied may.1 law.granted)
 law_after kind v t asks law may = law
 law_after kind v t asks_in_vain law may =
     asked_law kind v (Some (Broken NoMemory)) law may refl
-        ((λ isnt. absurd (let falls = may.has_fallback in cc)), λ stopped. refl)
+    ((λ isnt. absurd (let falls = may.has_fallback in cc)), λ stopped. refl)
 law_after kind v t falls law may =
     asked_law kind v (Some (stopped_by v)) law may (stopped_unfinal kind v) (stopped_ended kind v may.stopped)
 
@@ -361,8 +372,9 @@ law_after kind v t falls law may =
 pub law_cancelled : (kind : Kind) (v : Past) → Law kind v → Law kind (cancelled v)
 law_cancelled kind v law =
     elim v.over as (λ over. v.over ≡ over → Law kind (record v { over = if is_some over then over else Some Cancelled })) [
-        None ↦ λ unended. refused_law kind v (Some Cancelled) law unended refl refl (λ isnt. rw unended at law.ended isnt)
-        | Some how ↦ λ ended. subst (λ (over : Option How). Law kind (record v { over = over })) ended law ] refl
+      | None ↦ λ unended. refused_law kind v (Some Cancelled) law unended refl refl (λ isnt. rw unended at law.ended isnt)
+      | Some how ↦ λ ended. subst (λ (over : Option How). Law kind (record v { over = over })) ended law
+    ] refl
 
 -- a task that has done nothing keeps it
 pub law_of_nothing : (kind : Kind) (plan : Schedule) → Law kind (nothing_yet plan)

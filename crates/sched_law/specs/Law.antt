@@ -69,10 +69,10 @@ pub record Law (kind : Kind) (v : Past) : Type 0 where
   pub fed : (inputs v.driver.journal ≡ called_inputs kind v.runs) ⊎ LacksLast kind v
   -- the schedule goes on at each event but the last
   pub went_on : (n : ℕ) → 0 < n → n < length v.driver.journal →
-    is_done (decision_on v.driver.plan (take n v.driver.journal)) ≡ false
+      is_done (decision_on v.driver.plan (take n v.driver.journal)) ≡ false
   -- each run after the first was begun at or after the start that the schedule planned at the event before
   pub waited : (n : ℕ) → 0 < n → n < length v.begun → (n ≤ length v.driver.journal)
-    × IsSomeAnd (start_of (decision_on v.driver.plan (take n v.driver.journal))) (λ start. start ≤ slice_index v.begun n)
+      × IsSomeAnd (start_of (decision_on v.driver.plan (take n v.driver.journal))) (λ start. start ≤ slice_index v.begun n)
   -- as many runs were begun as have finished, or one more; no run begins once the task is stopped
   pub counted : (length v.begun ≡ length v.runs) ⊎ HasOneMore v
   pub denied : v.denied ≡ true → IsDenied kind v

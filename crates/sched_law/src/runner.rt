@@ -142,7 +142,8 @@ impl<X: Effect> Runner<X> {
         code: Millis,
     ) -> Result<Option<Moment>, RunFault>
         ensures stepped { IfOk result (λ _. self.new ≡ record self.old {
-            driver = after self.old.driver (event_of tick.entry.now (num code)) }) }
+          driver = after self.old.driver (event_of tick.entry.now (num code));
+        }) }
         ensures room { IfOk result (λ _. HasRoom self.old.driver tick.entry.now.now) }
         ensures spent { IfOk result (λ start. is_none start ≡ is_spent self.new.driver) }
         ensures refused { IfErr result (λ fault. Refuses self.old.driver tick.entry.now.now fault) }

@@ -6,7 +6,7 @@ use Rattle.sched_plan.specs.Schedule.{leaf, one, two}
 use Rattle.sched_plan.specs.declared.leaves.Leaf.TheVariants.{Forever, Recurs, Spaced, Linear, Exponential, Identity, Lone}
 use Rattle.sched_plan.specs.declared.nodes.Side.TheVariants.{Input, Output}
 use Rattle.sched_plan.specs.declared.nodes.Test.TheVariants.{Below, AtLeast, Equal}
-use Rattle.sched_plan.specs.declared.nodes.Fold.TheVariants.{Sum, Count, Max, List as All}
+use Rattle.sched_plan.specs.declared.nodes.Fold.TheVariants.{Sum, Count, Max, List as Listing}
 use Rattle.sched_plan.specs.declared.nodes.One.TheVariants.{Gate, Gather, Add, Set, Cap, AddOut, Jitter, Within, Renew, RenewIdle, First, Second}
 use Rattle.sched_plan.specs.declared.nodes.Two.TheVariants.{Meet, Join, Follow, Feed}
 use Rattle.sched_plan.proofs.Worked.{answers, answers_on, gives, with_inputs, with_words}
@@ -52,7 +52,7 @@ gate_of_inputs : answers_on (one (Gate Input true AtLeast 5) (leaf Forever)) (wi
     gives (num 0) (Go 0) ∷ gives (num 1) Done ∷ gives (num 2) Done ∷ gives (num 3) (Go 0) ∷ []
 gate_of_inputs = refl
 
-gather_list : answers (one (Gather All) (leaf (Recurs 2))) (0 ∷ 0 ∷ 0 ∷ []) ≡
+gather_list : answers (one (Gather Listing) (leaf (Recurs 2))) (0 ∷ 0 ∷ 0 ∷ []) ≡
     gives (numbers []) (Go 0) ∷ gives (numbers (0 ∷ [])) (Go 0) ∷ gives (numbers (0 ∷ 1 ∷ [])) Done ∷ []
 gather_list = refl
 
@@ -69,11 +69,11 @@ gather_max : answers (one (Gather Max) (leaf (Recurs 3))) (0 ∷ 0 ∷ 0 ∷ 0 �
 gather_max = refl
 
 -- what a gate lets not through is not gathered
-gather_past_a_gate : answers_on (one (Gather All) (one (Gate Input true Below 5) (leaf Identity))) (with_inputs (num 1 ∷ num 7 ∷ num 2 ∷ num 3 ∷ [])) ≡
+gather_past_a_gate : answers_on (one (Gather Listing) (one (Gate Input true Below 5) (leaf Identity))) (with_inputs (num 1 ∷ num 7 ∷ num 2 ∷ num 3 ∷ [])) ≡
     gives (numbers []) (Go 0) ∷ gives (numbers (1 ∷ [])) Done ∷ gives (numbers (1 ∷ [])) (Go 0) ∷ gives (numbers (1 ∷ 2 ∷ [])) (Go 0) ∷ []
 gather_past_a_gate = refl
 
-gather_of_gather : answers (one (Gather All) (one (Gather All) (leaf (Recurs 2)))) (0 ∷ 0 ∷ 0 ∷ []) ≡
+gather_of_gather : answers (one (Gather Listing) (one (Gather Listing) (leaf (Recurs 2)))) (0 ∷ 0 ∷ 0 ∷ []) ≡
     gives (list (items_of [])) (Go 0) ∷ gives (list (items_of (numbers [] ∷ []))) (Go 0) ∷
     gives (list (items_of (numbers [] ∷ numbers (0 ∷ []) ∷ []))) Done ∷ []
 gather_of_gather = refl
@@ -159,7 +159,7 @@ rounds_gathered : answers (one (Gather Count) (one (Renew 100) (two Follow (leaf
     gives (num 0) (Go 0) ∷ gives (num 1) (Go 20) ∷ gives (num 2) Done ∷ gives (num 2) (Go 100) ∷ []
 rounds_gathered = refl
 
-feed_of_pairs : answers (two Feed (two Meet (leaf Forever) (leaf (Spaced 10))) (one (Gather All) (one First (leaf Identity)))) (0 ∷ 10 ∷ 20 ∷ []) ≡
+feed_of_pairs : answers (two Feed (two Meet (leaf Forever) (leaf (Spaced 10))) (one (Gather Listing) (one First (leaf Identity)))) (0 ∷ 10 ∷ 20 ∷ []) ≡
     gives (numbers []) (Go 10) ∷ gives (numbers (0 ∷ [])) (Go 20) ∷ gives (numbers (0 ∷ 1 ∷ [])) (Go 30) ∷ []
 feed_of_pairs = refl
 

@@ -14,7 +14,7 @@ use Rattle.sched_plan.specs.Gates.{gated}
 use Rattle.sched_plan.specs.declared.leaves.Leaf.{Leaf}
 use Rattle.sched_plan.specs.declared.leaves.Leaf.TheVariants.{Forever, Recurs, Spaced, Fixed, Windowed, Linear, Exponential, ExponentialMilli, Fibonacci, Elapsed, Identity, Unfold, Lone}
 use Rattle.sched_plan.specs.declared.nodes.Fold.{Fold}
-use Rattle.sched_plan.specs.declared.nodes.Fold.TheVariants.{Sum, Count, Max, List as All}
+use Rattle.sched_plan.specs.declared.nodes.Fold.TheVariants.{Sum, Count, Max, List as Listing}
 use Rattle.sched_plan.specs.declared.nodes.One.{One}
 use Rattle.sched_plan.specs.declared.nodes.One.TheVariants.{Gate, Gather, Add, Set, Cap, AddOut, Jitter, Within, Renew, RenewIdle, First, Second, Nothing}
 use Rattle.sched_plan.specs.declared.nodes.Two.{Two}
@@ -141,7 +141,7 @@ abbrev pub gathered : Fold → List Datum → Datum
 gathered Sum ds = sum_of ds
 gathered Count ds = count_of ds
 gathered Max ds = greatest_of ds
-gathered All ds = list_of ds
+gathered Listing ds = list_of ds
 
 -- an answer with this output in place of its own
 abbrev pub giving : Datum → Answer → Answer

@@ -9,7 +9,7 @@ use Rattle.sched_plan.specs.declared.nodes.Side.TheVariants.{Input, Output}
 use Rattle.sched_plan.specs.declared.nodes.Test.{Test}
 use Rattle.sched_plan.specs.declared.nodes.Test.TheVariants.{Below, AtLeast, Equal}
 use Rattle.sched_plan.specs.declared.nodes.Fold.{Fold}
-use Rattle.sched_plan.specs.declared.nodes.Fold.TheVariants.{Sum, Count, Max, List as All}
+use Rattle.sched_plan.specs.declared.nodes.Fold.TheVariants.{Sum, Count, Max, List as Listing}
 use Rattle.sched_plan.specs.declared.nodes.One.{One}
 use Rattle.sched_plan.specs.declared.nodes.One.TheVariants.{Gate, Gather, Add, Set, Cap, AddOut, Jitter, Within, Renew, RenewIdle, First, Second, Nothing}
 use Rattle.sched_plan.specs.declared.nodes.Two.{Two}
@@ -70,10 +70,10 @@ abbrev fold_code : Fold → ℕ
 fold_code Sum = 0
 fold_code Count = 1
 fold_code Max = 2
-fold_code All = 3
+fold_code Listing = 3
 
 abbrev fold_at : ℕ → Fold
-fold_at tag = get_or (Sum ∷ Count ∷ Max ∷ All ∷ []) tag Sum
+fold_at tag = get_or (Sum ∷ Count ∷ Max ∷ Listing ∷ []) tag Sum
 
 abbrev one_code : One → Gv
 one_code (Gate side want test bound) = tagged 0 (side_code side) (truth_code want) (test_code test) bound

@@ -104,13 +104,13 @@ module _ (r : Runs) (over : Option How) (untaken : Bool) (t : Tick) (now : Ready
   pends s left =
       let was = settled runs_on now.can in
       let same : next v t runs_on ≡ repeating s over untaken =
-          (λ i. record { past = past_of (sym left i) over false 0; untaken = (none ∙ sym unended_untaken) i }) in
+      (λ i. record { past = past_of (sym left i) over false 0; untaken = (none ∙ sym unended_untaken) i }) in
       subst (λ (u : Repeating). Settled v t false u) same (subst (λ ready. Settled v t ready (next v t runs_on)) none was)
 
   pub cannot_start : (s : Runs) → (is_running r ≡ false) × (s ≡ r) → Settled v t true (repeating s (Some (Broken NoMemory)) true)
   cannot_start s left =
       subst (λ (s : Runs). Settled v t true (repeating s (Some (Broken NoMemory)) true)) (sym left.1)
-          (settled cannot_begin (now.can, left.0))
+      (settled cannot_begin (now.can, left.0))
 
   pub is_starved : (s : Runs) → s ≡ with_run r t → Settled v t true (repeating s (Some (Broken NoMemory)) true)
   is_starved s left =
@@ -119,7 +119,7 @@ module _ (r : Runs) (over : Option How) (untaken : Bool) (t : Tick) (now : Ready
   pub fails : (s : Runs) (code : ℕ) → s ≡ with_finished r t (Lost code) → Settled v t true (repeating s (Some Failed) true)
   fails s code left =
       subst (λ (s : Runs). Settled v t true (repeating s (Some Failed) true)) (sym left)
-          (settled (ends (Lost code)) (now.can, refl))
+      (settled (ends (Lost code)) (now.can, refl))
 
   -- After a success: r1 are the runs as its poll left them, s those after the step.
   module _ (r1 s : Runs) (code item : ℕ) (same : code ≡ item) (left : r1 ≡ with_finished r t (Won item)) where
@@ -136,23 +136,27 @@ module _ (r : Runs) (over : Option How) (untaken : Bool) (t : Tick) (now : Ready
         Settled v t true (repeating s (Some (Broken fault)) true)
     breaks_by fault refused kept =
         subst (λ (s : Runs). Settled v t true (repeating s (Some (Broken fault)) true)) (sym (kept ∙ left))
-            (settled (breaks (Won item) fault) (now.can, refl, subst (λ (r1 : Runs). Refuses r1.driver t.now fault) left refused))
+        (settled (breaks (Won item) fault) (now.can, refl, subst (λ (r1 : Runs). Refuses r1.driver t.now fault) left refused))
 
     pub is_done : s ≡ with_step r1 code → HasRoom r1.driver t.now → is_spent s.driver ≡ true →
         Settled v t true (repeating s (Some ScheduleDone) true)
     is_done step had spent =
         subst (λ (s : Runs). Settled v t true (repeating s (Some ScheduleDone) true)) (sym (stepped step))
-            (settled (exhausts (Won item)) (record { can = now.can; called = refl; room = room had },
-                subst (λ (s : Runs). is_spent s.driver ≡ true) (stepped step) spent))
+        (settled (exhausts (Won item)) (
+          record { can = now.can; called = refl; room = room had },
+          subst (λ (s : Runs). is_spent s.driver ≡ true) (stepped step) spent,
+        ))
 
     pub goes_on : s ≡ with_step r1 code → HasRoom r1.driver t.now → is_spent s.driver ≡ false →
         Settled v t false (repeating s over untaken)
     goes_on step had unspent =
         let h = recurs (Won item) in
-        let was = settled h (record { can = now.can; called = refl; room = room had },
-            subst (λ (s : Runs). is_spent s.driver ≡ false) (stepped step) unspent) in
+        let was = settled h (
+          record { can = now.can; called = refl; room = room had },
+          subst (λ (s : Runs). is_spent s.driver ≡ false) (stepped step) unspent,
+        ) in
         let same : next v t h ≡ repeating s over untaken =
-            (λ i. record { past = past_of (sym (stepped step) i) over false 0; untaken = (none ∙ sym unended_untaken) i }) in
+        (λ i. record { past = past_of (sym (stepped step) i) over false 0; untaken = (none ∙ sym unended_untaken) i }) in
         subst (λ (u : Repeating). Settled v t false u) same (subst (λ ready. Settled v t ready (next v t h)) none was)
 
 -- a poll of the value that a contract sees

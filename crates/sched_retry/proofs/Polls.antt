@@ -45,13 +45,15 @@ drew_tickets p q k drew = rw (drew.gained, drew.asks.same) (omega arith)
 
 refused_tickets : (p q : Held) → DrewNone p.has q.has → length q.has.tickets ≡ length p.has.tickets
 refused_tickets p q none = elim none [
-    inl before ↦ ap (λ v. length v.tickets) before.1
-    | inr now ↦ rw (now.gained, now.asks.same) refl ]
+  | inl before ↦ ap (λ v. length v.tickets) before.1
+  | inr now ↦ rw (now.gained, now.asks.same) refl
+]
 
 refused_refusals : (p q : Held) → DrewNone p.has q.has → 0 < length q.has.refusals
 refused_refusals p q none = elim none [
-    inl before ↦ rw before.1 before.0
-    | inr now ↦ rw now.gained (omega arith) ]
+  | inl before ↦ rw before.1 before.0
+  | inr now ↦ rw now.gained (omega arith)
+]
 
 granted_after : (kind : Kind) (v : Retrying) (t : Tick) (h : Happened) (q : Held) → draws kind ≡ true →
     v.past.granted ≡ length v.pass.has.tickets → Draws h v.pass q →
@@ -195,8 +197,12 @@ module _ (kind : Kind) (r : Runs) (over : Option How) (denied : Bool) (p : Held)
       let none : is_some over ≡ false = ap is_some now.can.unended in
       let was = settled runs_on p now.can refl now.law.of refl in
       let same : next kind v t runs_on p ≡ retrying s over denied p b untaken =
-          (λ i. record { past = past_of (sym left i) over denied (length p.has.tickets); pass = p; budget = b;
-            untaken = (none ∙ sym unended_untaken) i }) in
+      (λ i. record {
+        past = past_of (sym left i) over denied (length p.has.tickets);
+        pass = p;
+        budget = b;
+        untaken = (none ∙ sym unended_untaken) i;
+      }) in
       subst (λ (u : Retrying). Settled kind v t false u) same (subst (λ ready. Settled kind v t ready (next kind v t runs_on p)) none was)
 
   pub cannot_start : (s : Runs) → (is_running r ≡ false) × (s ≡ r) →
@@ -250,27 +256,31 @@ module _ (kind : Kind) (r : Runs) (over : Option How) (denied : Bool) (p : Held)
   lost_on (Breaks fault) code s q called came of =
       let was = settled (breaks (Lost code) fault) q (now.can, called, came.0) came.2 of refl in
       subst (λ (u : Retrying). Settled kind v t true u)
-          (λ i. record { past = past_of (sym came.1 i) (Some (Broken fault)) denied (sym (same_tickets p q came.2) i); pass = q; budget = b; untaken = true })
-          was
+      (λ i. record { past = past_of (sym came.1 i) (Some (Broken fault)) denied (sym (same_tickets p q came.2) i); pass = q; budget = b; untaken = true })
+      was
   lost_on Exhausts code s q called came of =
       let was = settled (exhausts (Lost code)) q (record { can = now.can; called = called; room = came.0.0 }, came.0.2) came.1 of refl in
       subst (λ (u : Retrying). Settled kind v t (is_some (stop kind ScheduleDone)) u)
-          (λ i. record { past = past_of (sym came.0.1 i) (stop kind ScheduleDone) denied (sym (same_tickets p q came.1) i); pass = q; budget = b; untaken = is_some (stop kind ScheduleDone) })
-          was
+      (λ i. record { past = past_of (sym came.0.1 i) (stop kind ScheduleDone) denied (sym (same_tickets p q came.1) i); pass = q; budget = b; untaken = is_some (stop kind ScheduleDone) })
+      was
   lost_on Overdraws code s q called came of =
       let was = settled (overdraws (Lost code)) q (record { can = now.can; called = called; room = came.0.0 }, came.0.2, now.drawn) came.1 of refl in
       subst (λ (u : Retrying). Settled kind v t (is_some (stop kind BudgetRefused)) u)
-          (λ i. record { past = past_of (sym came.0.1 i) (stop kind BudgetRefused) true (sym (refused_tickets p q came.1) i); pass = q; budget = b; untaken = is_some (stop kind BudgetRefused) })
-          was
+      (λ i. record { past = past_of (sym came.0.1 i) (stop kind BudgetRefused) true (sym (refused_tickets p q came.1) i); pass = q; budget = b; untaken = is_some (stop kind BudgetRefused) })
+      was
   lost_on Recurs code s q called came of =
       let none : is_some over ≡ false = ap is_some now.can.unended in
       let h = recurs (Lost code) in
       let was = settled h q (record { can = now.can; called = called; room = came.0.0 }, came.0.2) came.1 of refl in
       let granted : (if draws kind then length p.has.tickets + 1 else length p.has.tickets) ≡ length q.has.tickets =
-          rw now.drawn (sym (drew_tickets p q came.1.0 came.1.1)) in
+      rw now.drawn (sym (drew_tickets p q came.1.0 came.1.1)) in
       let same : next kind v t h q ≡ retrying s over denied q b untaken =
-          (λ i. record { past = past_of (sym came.0.1 i) over denied (granted i); pass = q; budget = b;
-            untaken = (none ∙ sym unended_untaken) i }) in
+      (λ i. record {
+        past = past_of (sym came.0.1 i) over denied (granted i);
+        pass = q;
+        budget = b;
+        untaken = (none ∙ sym unended_untaken) i;
+      }) in
       subst (λ (u : Retrying). Settled kind v t false u) same (subst (λ ready. Settled kind v t ready (next kind v t h q)) none was)
 
   -- a failure, with the runs as its poll left them

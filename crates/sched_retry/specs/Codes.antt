@@ -40,7 +40,7 @@ abbrev pub coded_view : Coded View
 coded_view =
     code_by (Terms × (List ℕ × (List Refusal × (Mark × (ℕ × (ℕ × (ℕ × (ℕ × (ℕ × ℕ)))))))))
     (coded× coded_terms (coded× (coded_list coded_ℕ) (coded× (coded_list coded_refusal) (coded× coded_mark
-        (coded× coded_ℕ (coded× coded_ℕ (coded× coded_ℕ (coded× coded_ℕ (coded× coded_ℕ coded_ℕ)))))))))
+    (coded× coded_ℕ (coded× coded_ℕ (coded× coded_ℕ (coded× coded_ℕ (coded× coded_ℕ coded_ℕ)))))))))
     (λ v. (v.terms, (v.tickets, (v.refusals, (v.mark, (v.floor, (v.weight, (v.splits, (v.refused_splits, (v.readings, v.raised_to))))))))))
     (λ p. record {
       terms = p.0;

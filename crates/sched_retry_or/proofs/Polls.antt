@@ -121,8 +121,8 @@ spent_some s (e ∷ h) spent = refl
 pub stopped_output : (v : Past) → Law retry_or v → is_stopped v ≡ true → is_some (last_output v.driver) ≡ true
 stopped_output v law stopped =
     by_test v.denied
-        (λ denied. given_some v.driver.plan v.driver.journal (law.denied denied).stepped)
-        (λ undenied. spent_some v.driver.plan v.driver.journal (or_true v.denied (is_spent v.driver) stopped undenied))
+    (λ denied. given_some v.driver.plan v.driver.journal (law.denied denied).stepped)
+    (λ undenied. spent_some v.driver.plan v.driver.journal (or_true v.denied (is_spent v.driver) stopped undenied))
 
 pub stopped_kept : {F : Type 0} (code : F → ℕ) (v : Past) (kept : Option F) (f : F) → KeepsFault code v kept → kept ≡ Some f →
     (is_stopped v ≡ true) × (last_of v.runs ≡ Some (Lost (code f)))
@@ -221,7 +221,7 @@ module _ {I F : Type 0} (item_code : I → ℕ) (fault_code : F → ℕ) (v : Re
   answers run None same left how is = absurd left
   answers run (Some output) same left how is =
       subst (λ (h : How). SettledOr (falling v asked answered) t true (falling (ended_with h) asked' answered')) (sym is)
-          (answers_at run output (sym same) left)
+      (answers_at run output (sym same) left)
 
   -- and what it gave is its answer
   pub answer_fits : (run : Result I F) (o : Option Datum) →

@@ -4,7 +4,7 @@ use Rattle.sched_plan.specs.Datum.{Datum, unit, num, pair, list, items_of}
 use Rattle.sched_plan.specs.Schedule.{Schedule, leaf, one, two}
 use Rattle.sched_plan.specs.declared.leaves.Leaf.{Leaf}
 use Rattle.sched_plan.specs.declared.leaves.Leaf.TheVariants.{Forever, Recurs, Spaced, Fixed, Windowed, Linear, Exponential, ExponentialMilli, Fibonacci, Elapsed, Identity, Unfold, Lone}
-use Rattle.sched_plan.specs.declared.nodes.Fold.TheVariants.{Sum, Count, Max, List as All}
+use Rattle.sched_plan.specs.declared.nodes.Fold.TheVariants.{Sum, Count, Max, List as Listing}
 use Rattle.sched_plan.specs.declared.nodes.One.{One}
 use Rattle.sched_plan.specs.declared.nodes.One.TheVariants.{Gate, Gather, Add, Set, Cap, AddOut, Jitter, Within, Renew, RenewIdle, First, Second, Nothing}
 use Rattle.sched_plan.specs.declared.nodes.Two.{Two}
@@ -121,7 +121,7 @@ one_keeps (Gate side want test bound) none_kept = true
 one_keeps (Gather Sum) (total n) = true
 one_keeps (Gather Count) (total n) = true
 one_keeps (Gather Max) (total n) = true
-one_keeps (Gather All) (listed ds) = true
+one_keeps (Gather Listing) (listed ds) = true
 one_keeps (Add delay) none_kept = true
 one_keeps (Set delay) none_kept = true
 one_keeps (Cap delay) none_kept = true

@@ -12,7 +12,7 @@ use Rattle.sched_plan.specs.Answer.{answer, leaf_answer, crossing, from_end_of, 
 use Rattle.sched_plan.specs.declared.leaves.Leaf.{Leaf}
 use Rattle.sched_plan.specs.declared.leaves.Leaf.TheVariants.{Forever, Recurs, Spaced, Fixed, Windowed, Linear, Exponential, ExponentialMilli, Fibonacci, Elapsed, Identity, Unfold, Lone}
 use Rattle.sched_plan.specs.declared.nodes.Fold.{Fold}
-use Rattle.sched_plan.specs.declared.nodes.Fold.TheVariants.{Sum, Count, Max, List as All}
+use Rattle.sched_plan.specs.declared.nodes.Fold.TheVariants.{Sum, Count, Max, List as Listing}
 use Rattle.sched_plan.specs.declared.nodes.One.{One}
 use Rattle.sched_plan.specs.declared.nodes.One.TheVariants.{Gather, Within, Renew, RenewIdle}
 use Rattle.sched_plan.specs.declared.nodes.Two.{Two}
@@ -61,7 +61,7 @@ abbrev pub folded : Fold → List Datum → Kept
 folded Sum ds = total (sum_in ds)
 folded Count ds = total (count_in ds)
 folded Max ds = total (greatest_in ds)
-folded All ds = listed ds
+folded Listing ds = listed ds
 
 -- what a node over one schedule keeps, where the schedule has these answers
 abbrev pub kept_of : One → (List Event → Answer) → List Event → Kept

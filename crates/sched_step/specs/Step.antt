@@ -13,7 +13,7 @@ use Rattle.sched_plan.specs.Answer.{both, either, through, giving, silent, moved
 use Rattle.sched_plan.specs.declared.leaves.Leaf.{Leaf}
 use Rattle.sched_plan.specs.declared.leaves.Leaf.TheVariants.{Forever, Recurs, Spaced, Fixed, Windowed, Linear, Exponential, ExponentialMilli, Fibonacci, Elapsed, Identity, Unfold, Lone}
 use Rattle.sched_plan.specs.declared.nodes.Fold.{Fold}
-use Rattle.sched_plan.specs.declared.nodes.Fold.TheVariants.{Sum, Count, Max, List as All}
+use Rattle.sched_plan.specs.declared.nodes.Fold.TheVariants.{Sum, Count, Max, List as Listing}
 use Rattle.sched_plan.specs.declared.nodes.One.{One}
 use Rattle.sched_plan.specs.declared.nodes.One.TheVariants.{Gate, Gather, Add, Set, Cap, AddOut, Jitter, Within, Renew, RenewIdle, First, Second, Nothing}
 use Rattle.sched_plan.specs.declared.nodes.Two.{Two}
@@ -168,7 +168,7 @@ abbrev pub fold_next : Fold → Kept → Answer → Kept
 fold_next Sum s a = total (if goes_on a.decision then capped (total_of s + number_of a.output) else total_of s)
 fold_next Count s a = total (if goes_on a.decision then capped (total_of s + 1) else total_of s)
 fold_next Max s a = total (if goes_on a.decision then max (total_of s) (number_of a.output) else total_of s)
-fold_next All s a = listed (if goes_on a.decision then listed_of s ++ a.output ∷ [] else listed_of s)
+fold_next Listing s a = listed (if goes_on a.decision then listed_of s ++ a.output ∷ [] else listed_of s)
 
 -- the moment at which the present round began, if this event may begin one
 abbrev pub round_next : Bool → Option ℕ → ℕ → ℕ
@@ -192,7 +192,7 @@ delayed delay now a = record { output = a.output; decision = moved_decision dela
 
 -- what a fold shows of what it keeps
 abbrev pub fold_shows : Fold → Kept → Datum
-fold_shows All s = list (items_of (listed_of s))
+fold_shows Listing s = list (items_of (listed_of s))
 fold_shows fold s = num (total_of s)
 
 -- what the node answers to one more event, to which the schedule under it gave this answer

@@ -10,7 +10,7 @@ use Rattle.sched_plan.specs.Gates.{gated}
 use Rattle.sched_plan.specs.Schedule.{one_in_range}
 use Rattle.sched_plan.specs.Answer.{up_to, gathered, giving, changed}
 use Rattle.sched_plan.specs.declared.nodes.Fold.{Fold}
-use Rattle.sched_plan.specs.declared.nodes.Fold.TheVariants.{Sum, Count, Max, List as All}
+use Rattle.sched_plan.specs.declared.nodes.Fold.TheVariants.{Sum, Count, Max, List as Listing}
 use Rattle.sched_plan.specs.declared.nodes.One.{One}
 use Rattle.sched_plan.specs.declared.nodes.One.TheVariants.{Gate, Gather, Add, Set, Cap, AddOut, Jitter, Within, Renew, RenewIdle}
 use Rattle.sched_plan.specs.declared.history.Event.{Event}
@@ -49,13 +49,13 @@ fold_next-push : (fold : Fold) (ds : List Datum) (a : Answer) →
 fold_next-push Sum ds a = ap total (sum_where ds a.output (goes_on a.decision))
 fold_next-push Count ds a = ap total (count_where ds a.output (goes_on a.decision))
 fold_next-push Max ds a = ap total (greatest_where ds a.output (goes_on a.decision))
-fold_next-push All ds a = refl
+fold_next-push Listing ds a = refl
 
 fold_shows-folded : (fold : Fold) (ds : List Datum) → fold_shows fold (folded fold ds) ≡ gathered fold ds
 fold_shows-folded Sum ds = refl
 fold_shows-folded Count ds = refl
 fold_shows-folded Max ds = refl
-fold_shows-folded All ds = refl
+fold_shows-folded Listing ds = refl
 
 -- All nodes over one schedule.
 

@@ -8,4 +8,4 @@ use Rattle.sched_retry.proofs.retry.Retry.granted.Goals as goal
 pub returns-clause-events : goal.returns-clause-events
 returns-clause-events g c =
     rw c.count.ensures (subst (λ (v : Retrying). length c.self.inside.pass.has.tickets + bit (is_stop v.past.over) ≡ length v.past.driver.journal)
-        c.self.view_is (events_law _ c.self.invariant.0.law))
+    c.self.view_is (events_law _ c.self.invariant.0.law))
