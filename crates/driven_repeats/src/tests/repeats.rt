@@ -1,4 +1,6 @@
 use super::*;
+use rand_core::SeedableRng;
+use rand_xoshiro::Xoshiro128PlusPlus;
 
 // Three polls and two waits.
 #[test]
@@ -100,4 +102,24 @@ fn a_run_that_never_ends_spends_all_turns(rt: HostRuntime) {
     assert_eq!(rt; tasks[0].effect().runs().len(), 0);
     assert_eq!(rt; tasks[0].begun().len(), 1);
     assert_eq!(rt; tasks[0].driver().journal().len(), 0);
+}
+
+// The words are the first ones that the authors' C program gives for the seed 1, 2, 3, 4: lane 0 has 641 in the first poll
+// and 836907274 in the second, which pick 800 and 877 thousandths of the delay.
+#[test]
+fn a_jittered_repeat_waits_as_its_words_say(rt: HostRuntime) -> Result<(), Fail> {
+    let alloc = rt.alloc();
+    let jittered = Plan::jitter(alloc, 0, 800, 1200, Plan::spaced(1000)?)?;
+    let plan = Plan::meet(alloc, Plan::recurs(2)?, jittered);
+    let mut tasks = [repeat(&rt, alloc, driver(&rt, alloc, plan))];
+    let mut clock = VirtualClock::at(moment(&rt, 0));
+    let seed = [1, 0, 0, 0, 2, 0, 0, 0, 3, 0, 0, 0, 4, 0, 0, 0];
+    let mut rng = Xoshiro128PlusPlus::from_seed(seed);
+    assert_eq!(rt;
+        WheelLoop::run(&rt, &mut tasks, &mut clock, &mut rng, 100),
+        Ok(5)
+    );
+    assert_eq!(rt; tasks[0].over(), Some(How::ScheduleDone));
+    assert_journal(&rt, &tasks[0], &[0, 800, 1677]);
+    Ok(())
 }
