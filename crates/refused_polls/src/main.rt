@@ -48,9 +48,7 @@ fn poll_each(rt: &HostRuntime, cx: &mut Context<'_>) -> Option<()> {
 // A retry of five failures and a success.
 fn poll_retry(rt: &HostRuntime, cx: &mut Context<'_>) -> Option<()> {
     let alloc = rt.alloc();
-    let lost = Ran::Lost(Millis::from(7));
-    let won = Ran::Won(Millis::from(1));
-    let effect = scripted(alloc, &[lost, lost, lost, lost, lost, won])?;
+    let effect = scripted(alloc, &[lost(), lost(), lost(), lost(), lost(), won()])?;
     let driver = spaced(alloc, 9)?;
     let (budget, pass) = Budget::new(alloc, 9).ok()?;
     let mut retry = Retry::new(alloc, effect, driver, pass, &budget);
@@ -71,7 +69,7 @@ fn poll_retry(rt: &HostRuntime, cx: &mut Context<'_>) -> Option<()> {
 // A retry that fails until its schedule is done, and then asks its fallback.
 fn poll_retry_or(rt: &HostRuntime, cx: &mut Context<'_>) -> Option<()> {
     let alloc = rt.alloc();
-    let effect = scripted(alloc, &[Ran::Lost(Millis::from(7))])?;
+    let effect = scripted(alloc, &[lost()])?;
     let driver = spaced(alloc, 4)?;
     let (budget, pass) = Budget::new(alloc, 9).ok()?;
     let spare = Spare::new(alloc);
@@ -93,7 +91,7 @@ fn poll_retry_or(rt: &HostRuntime, cx: &mut Context<'_>) -> Option<()> {
 // A repeat that succeeds until its schedule is done.
 fn poll_repeat(rt: &HostRuntime, cx: &mut Context<'_>) -> Option<()> {
     let alloc = rt.alloc();
-    let effect = scripted(alloc, &[Ran::Won(Millis::from(1))])?;
+    let effect = scripted(alloc, &[won()])?;
     let mut repeat = Repeat::new(alloc, effect, spaced(alloc, 5)?);
     for turn in 0..8 {
         let ready = poll(alloc, &mut repeat, turn, cx)?;
@@ -107,6 +105,14 @@ fn poll_repeat(rt: &HostRuntime, cx: &mut Context<'_>) -> Option<()> {
         )?;
     }
     Some(())
+}
+
+fn lost() -> Ran {
+    Ran::Lost(Millis::from(7))
+}
+
+fn won() -> Ran {
+    Ran::Won(Millis::from(1))
 }
 
 // An effect with these outcomes.
