@@ -1,7 +1,7 @@
 #!/usr/bin/env bash
 # How long a step of a schedule takes, and how long 4,096 printed lines, beside the same schedules written by hand in Rust
 # on the same machine. Started by hand at the top of the repository: bench/steps.sh. It needs rt, rustc and a machine with
-# nothing else to do.
+# nothing else to do. Where valgrind is there it also counts the instructions of a step, which other work does not change.
 set -euo pipefail
 cd "$(dirname "$0")/.."
 source bench/least.sh
@@ -20,6 +20,16 @@ per_step() {
     per_unit "$((many - few))" "$(least "$program" "$plan" "$few")" "$(least "$program" "$plan" "$many")"
 }
 
+# instructions of a whole run
+instructions() {
+    valgrind --tool=callgrind --callgrind-out-file=/dev/null "$@" 2>&1 > /dev/null | awk '/Collected/ { print $NF }'
+}
+
+# instructions that one step takes; the lengths are whole rounds of sixteen events
+per_step_counted() {
+    echo "$((($(instructions "$1" "$2" 960) - $(instructions "$1" "$2" 160)) / 800))"
+}
+
 # what zsched prints of the plan, and what the program by hand does
 prints() { "$work/zsched" plan --steps 4096 < "$work/$1.json"; }
 prints_by_hand() { "$work/plain" print "$1" 4096; }
@@ -32,6 +42,9 @@ for row in "pair 100000 5000000" "fixed 100000 10000000" "tree 1000 50000" "cros
     plain=$(per_step "$work/plain" "$plan" "$few" "$many")
     awk -v p="$plan" -v s="$step" -v b="$plain" \
         'BEGIN { printf "%s: a step %s ns, by hand %s ns, ratio %.2f\n", p, s, b, s / b }'
+    if command -v valgrind > /dev/null; then
+        echo "$plan: instructions of a step $(per_step_counted "$work/steps" "$plan"), by hand $(per_step_counted "$work/plain" "$plan")"
+    fi
 done
 
 echo '{"meet":[{"recurs":4611686018427387903},{"spaced":1}]}' > "$work/pair.json"
