@@ -95,7 +95,7 @@ breaks_for_good() {
 }
 
 # Each growth of a program that polls tasks. Polls are refused one in as many different ways as there are growths of
-# the lists and outputs in them.
+# the lists and outputs in them. One that is refused after the last line, where the queue ends, changes nothing.
 refuses_polls() {
   local program=$top/crates/refused_polls/out/refused_polls
   local growth=0 status
@@ -108,6 +108,8 @@ refuses_polls() {
     [ -s "$work/refused" ] || break
     if grep -m 1 'Broken(NoMemory)' "$work/out" >>"$work/shown"; then
       [ "$status" = 0 ] && breaks_for_good || wrong "$growth" "$status" refused_polls
+    elif [ "$status" = 0 ]; then
+      cmp -s "$work/out" "$work/out.whole" || wrong "$growth" "$status" refused_polls
     else
       [ "$status" = 5 ] && is_front || wrong "$growth" "$status" refused_polls
     fi
