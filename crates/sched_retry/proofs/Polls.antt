@@ -1,19 +1,17 @@
 -- A poll of a retry keeps its law, whatever happens in it.
-use Rattle.std.proofs.Common.{◌≡◌, ℕ, ◌+◌, ◌<◌, ◌≤◌, ◌⊎◌, inl, inr, Bool, true, false, if◌then◌else◌, List, [], ◌∷◌, ◌++◌, length, Option, Some, None, is_some, IfSome, IsSomeAnd, refl, sym, ap, ◌∙◌, subst, arith}
+use Rattle.std.proofs.Common.{◌≡◌, ℕ, ◌+◌, ◌<◌, ◌≤◌, inl, inr, Bool, true, false, if◌then◌else◌, length, Option, Some, None, is_some, IfSome, IsSomeAnd, refl, sym, ap, ◌∙◌, subst, arith}
 use Rattle.sched_time.specs.declared.numbers.Tick.{Tick}
 use Rattle.sched_effect.specs.declared.ran.Ran.{Ran}
-use Rattle.sched_effect.specs.declared.ran.Ran.TheVariants.{Won, Lost}
+use Rattle.sched_effect.specs.declared.ran.Ran.TheVariants.{Lost}
 use Rattle.sched_task.specs.declared.endings.How.{How}
 use Rattle.sched_task.specs.declared.endings.How.TheVariants.{ScheduleDone, BudgetRefused, Broken}
-use Rattle.sched_task.specs.declared.endings.RunFault.{RunFault}
 use Rattle.sched_task.specs.declared.endings.RunFault.TheVariants.{NoMemory}
 use Rattle.sched_ticket.specs.Held.{Name, Held, IsOf}
 use Rattle.sched_ticket.specs.Calls.{Drew, DrewNone}
-use Rattle.sched_law.specs.Kind.{Kind, retry, draws, falls_back, calls, final}
+use Rattle.sched_law.specs.Kind.{Kind, retry, draws, calls, final}
 use Rattle.sched_law.specs.Lists.{last_of}
-use Rattle.sched_law.specs.Past.{Past, is_stopped, is_under_way, waits_for}
+use Rattle.sched_law.specs.Past.{is_stopped, waits_for}
 use Rattle.sched_law.specs.Poll.{Happened, stays, cannot_begin, runs_on, starves, ends, breaks, exhausts, overdraws, recurs, asks, asks_in_vain, falls, stop, after, CanRun, May}
-use Rattle.sched_law.specs.Law.{Law}
 use Rattle.sched_law.specs.Runner.{Runs, past_of, is_running, with_run, with_finished}
 use Rattle.sched_law.proofs.Lists.{by_test}
 use Rattle.sched_law.proofs.Fields.{last_finished}

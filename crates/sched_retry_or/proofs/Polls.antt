@@ -1,18 +1,17 @@
 -- A poll of a retry with a fallback keeps its law, whatever happens in it.
-use Rattle.std.proofs.Common.{◌≡◌, ℕ, ◌<◌, ◌≤◌, inl, inr, Bool, true, false, ◌||◌, if◌then◌else◌, List, [], ◌∷◌, length, Option, Some, None, option_map, is_some, IsSome, IfSome, IsSomeAnd, Result, Ok, Err, refl, sym, ap, ◌∙◌, subst, arith}
-use Rattle.futures.specs.declared.task.Poll.{Poll}
+use Rattle.std.proofs.Common.{◌≡◌, ℕ, ◌<◌, ◌≤◌, Bool, true, false, ◌||◌, List, [], ◌∷◌, length, Option, Some, None, option_map, is_some, IfSome, IsSomeAnd, Result, Ok, refl, sym, ap, ◌∙◌, subst, arith}
 use Rattle.futures.specs.declared.task.Poll.TheVariants as poll
 use Rattle.sched_time.specs.declared.numbers.Tick.{Tick}
 use Rattle.sched_time.specs.declared.faults.NoMemory.{NoMemory}
 use Rattle.sched_plan.specs.Datum.{Datum}
 use Rattle.sched_plan.specs.Schedule.{Schedule}
 use Rattle.sched_plan.specs.declared.history.Event.{Event}
-use Rattle.sched_driver.specs.Driven.{Driven, last_answer, last_output}
+use Rattle.sched_driver.specs.Driven.{last_answer, last_output}
 use Rattle.sched_effect.specs.Runs.{ran_by, Falls}
 use Rattle.sched_effect.specs.declared.ran.Ran.{Ran}
 use Rattle.sched_effect.specs.declared.ran.Ran.TheVariants.{Lost}
 use Rattle.sched_task.specs.declared.endings.How.{How}
-use Rattle.sched_task.specs.declared.endings.How.TheVariants.{ScheduleDone, BudgetRefused, Broken}
+use Rattle.sched_task.specs.declared.endings.How.TheVariants.{Broken}
 use Rattle.sched_task.specs.declared.endings.RunFault.TheVariants as fault
 use Rattle.sched_ticket.specs.Held.{Name, Held}
 use Rattle.sched_law.specs.Kind.{retry_or}
@@ -23,8 +22,8 @@ use Rattle.sched_law.specs.Law.{Law, is_stop}
 use Rattle.sched_law.specs.Runner.{Runs, past_of, with_run}
 use Rattle.sched_law.proofs.Lists.{by_test}
 use Rattle.sched_law.proofs.Law.{or_false, or_true, law_after}
-use Rattle.sched_retry.specs.Retrying.{Retrying, retrying, RetryLaw, RetryPoll}
-use Rattle.sched_retry.proofs.Polls.{Settled, Ready, asks_fallback, settles, rests_over, rests_waiting, untaken_false}
+use Rattle.sched_retry.specs.Retrying.{Retrying, retrying, RetryLaw}
+use Rattle.sched_retry.proofs.Polls.{Settled, Ready, asks_fallback, rests_over, rests_waiting, untaken_false}
 use Rattle.sched_retry_or.specs.Falling.{Falling, FallingLaw, FallingPoll, Asks, IsAsked, HasFallen, KeepsFault}
 
 -- the retry with its fallback

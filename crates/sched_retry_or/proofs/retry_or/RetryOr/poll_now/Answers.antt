@@ -1,19 +1,16 @@
-use Rattle.std.proofs.Common.{◌≡◌, Bool, true, false, length, IfSome, IsSomeAnd, Some, None, is_some, Result, sym, ap, ◌∙◌, refl, subst}
+use Rattle.std.proofs.Common.{◌≡◌, true, length, is_some, Result, ap, refl, subst}
 use Rattle.futures.specs.declared.task.Poll.TheVariants as poll
-use Rattle.sched_driver.specs.Driven.{last_output}
-use Rattle.sched_effect.specs.Runs.{ran_by, Falls}
+use Rattle.sched_effect.specs.Runs.{ran_by}
 use Rattle.sched_effect.specs.declared.ran.Ran.TheVariants.{Won, Lost}
 use Rattle.sched_task.specs.declared.endings.How.TheVariants.{Won as HowWon, Broken}
 use Rattle.sched_task.specs.declared.endings.RunFault.TheVariants.{NoMemory}
 use Rattle.sched_law.specs.Kind.{retry_or}
 use Rattle.sched_law.specs.Law.{is_stop}
 use Rattle.sched_law.specs.Runner.{past_of, with_finished}
-use Rattle.sched_law.proofs.Fields.{none_of, if_none, last_finished}
-use Rattle.sched_retry.specs.Retrying.{retrying}
+use Rattle.sched_law.proofs.Fields.{if_none, last_finished}
 use Rattle.sched_retry.specs.AfterLoss.{with_step}
 use Rattle.sched_retry.specs.declared.losses.Then.TheVariants.{Breaks, Exhausts, Overdraws, Recurs}
 use Rattle.sched_retry.proofs.Polls.{last_stepped, unended_untaken, pends, cannot_start, is_starved, wins, loses}
-use Rattle.sched_retry_or.specs.Falling.{Falling, FallingLaw}
 use Rattle.sched_retry_or.proofs.Polls.{polled_as, ready_or, unkept_of, runs_settled, stops_as, keeps_none, keeps_over, unstopped_same, stepped_unstopped, stepped_stopped}
 use Rattle.sched_retry_or.proofs.retry_or.RetryOr.poll_now.Goals as goal
 
