@@ -5,14 +5,16 @@
 
 ghost use Rattle.std.specs.Prelude.{◌≡◌, [], IfSome, is_some};
 
+mod shown;
 mod spare;
 
 use futures::task::{Context, Doorbell, Poll, Queue};
 use sched_driver::Driver;
 use sched_plan::Plan;
-use sched_run::{Effect, How, Ran, Repeat, Retry, RetryOr, Scripted, Task};
+use sched_run::{How, Ran, Repeat, Retry, RetryOr, Scripted, Task};
 use sched_ticket::Budget;
 use sched_time::{Millis, Moment, Tick};
+use shown::Shown;
 use spare::Spare;
 use std::alloc::Global;
 use std::process::ExitCode;
@@ -45,6 +47,21 @@ fn poll_each(rt: &HostRuntime, cx: &mut Context<'_>) -> Option<()> {
     poll_repeat(rt, cx)
 }
 
+// Polls the task eight times, and prints what it shows after each poll.
+fn poll_all<T: Task + Shown>(
+    rt: &HostRuntime,
+    name: &str,
+    task: &mut T,
+    cx: &mut Context<'_>,
+) -> Option<()> {
+    for turn in 0..8 {
+        let ready = poll(rt.alloc(), task, turn, cx)?;
+        show_driver(rt, name, turn, task.driver(), task.granted())?;
+        show_runs(rt, task.begun(), task.runs(), ready, task.over())?;
+    }
+    Some(())
+}
+
 // A retry of five failures and a success.
 fn poll_retry(rt: &HostRuntime, cx: &mut Context<'_>) -> Option<()> {
     let alloc = rt.alloc();
@@ -52,18 +69,7 @@ fn poll_retry(rt: &HostRuntime, cx: &mut Context<'_>) -> Option<()> {
     let driver = spaced(alloc, 9)?;
     let (budget, pass) = Budget::new(alloc, 9).ok()?;
     let mut retry = Retry::new(alloc, effect, driver, pass, &budget);
-    for turn in 0..8 {
-        let ready = poll(alloc, &mut retry, turn, cx)?;
-        show_driver(rt, "retry", turn, retry.driver(), retry.granted())?;
-        show_runs(
-            rt,
-            retry.begun(),
-            retry.effect().runs(),
-            ready,
-            retry.over(),
-        )?;
-    }
-    Some(())
+    poll_all(rt, "retry", &mut retry, cx)
 }
 
 // A retry that fails until its schedule is done, and then asks its fallback.
@@ -74,18 +80,7 @@ fn poll_retry_or(rt: &HostRuntime, cx: &mut Context<'_>) -> Option<()> {
     let (budget, pass) = Budget::new(alloc, 9).ok()?;
     let spare = Spare::new(alloc);
     let mut retry = RetryOr::new(alloc, effect, driver, pass, &budget, spare);
-    for turn in 0..8 {
-        let ready = poll(alloc, &mut retry, turn, cx)?;
-        show_driver(rt, "retry_or", turn, retry.driver(), retry.granted())?;
-        show_runs(
-            rt,
-            retry.begun(),
-            retry.effect().runs(),
-            ready,
-            retry.over(),
-        )?;
-    }
-    Some(())
+    poll_all(rt, "retry_or", &mut retry, cx)
 }
 
 // A repeat that succeeds until its schedule is done.
@@ -93,18 +88,7 @@ fn poll_repeat(rt: &HostRuntime, cx: &mut Context<'_>) -> Option<()> {
     let alloc = rt.alloc();
     let effect = scripted(alloc, &[won()])?;
     let mut repeat = Repeat::new(alloc, effect, spaced(alloc, 5)?);
-    for turn in 0..8 {
-        let ready = poll(alloc, &mut repeat, turn, cx)?;
-        show_driver(rt, "repeat", turn, repeat.driver(), 0)?;
-        show_runs(
-            rt,
-            repeat.begun(),
-            repeat.effect().runs(),
-            ready,
-            repeat.over(),
-        )?;
-    }
-    Some(())
+    poll_all(rt, "repeat", &mut repeat, cx)
 }
 
 fn lost() -> Ran {
