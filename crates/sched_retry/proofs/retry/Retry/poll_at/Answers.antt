@@ -1,4 +1,4 @@
-use Rattle.std.proofs.Common.{true, false, is_some, sym, ap, ◌∙◌, subst}
+use Rattle.std.proofs.Common.{is_some, sym, ap, ◌∙◌, subst}
 use Rattle.sched_law.specs.Kind.{retry}
 use Rattle.sched_law.proofs.Fields.{none_of}
 use Rattle.sched_retry.specs.Retrying.{Retrying, RetryLaw}

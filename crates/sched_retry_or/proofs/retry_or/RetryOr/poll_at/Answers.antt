@@ -1,4 +1,4 @@
-use Rattle.std.proofs.Common.{true, false, length, IsSomeAnd, is_some, Result, sym, ap, ◌∙◌, refl, subst}
+use Rattle.std.proofs.Common.{length, IsSomeAnd, is_some, Result, sym, ap, ◌∙◌, refl, subst}
 use Rattle.futures.specs.declared.task.Poll.TheVariants as poll
 use Rattle.sched_driver.specs.Driven.{last_output}
 use Rattle.sched_effect.specs.Runs.{Falls}

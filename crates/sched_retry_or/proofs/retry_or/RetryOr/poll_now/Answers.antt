@@ -1,5 +1,4 @@
 use Rattle.std.proofs.Common.{◌≡◌, true, length, is_some, Result, ap, refl, subst}
-use Rattle.futures.specs.declared.task.Poll.TheVariants as poll
 use Rattle.sched_effect.specs.Runs.{ran_by}
 use Rattle.sched_effect.specs.declared.ran.Ran.TheVariants.{Won, Lost}
 use Rattle.sched_task.specs.declared.endings.How.TheVariants.{Won as HowWon, Broken}
