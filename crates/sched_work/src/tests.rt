@@ -1,0 +1,1 @@
+//! One worker with the jobs of its share.
