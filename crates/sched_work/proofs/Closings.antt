@@ -1,7 +1,10 @@
 -- Seats of active jobs: polls leave their numbers, and closing leaves the jobs that were not seen over.
-use Rattle.std.proofs.Common.{◌≡◌, ℕ, zero, suc, ◌+◌, ◌<◌, Bool, true, false, List, [], ◌∷◌, ◌++◌, length, take, drop, Option, is_some, if◌then◌else◌, refl, sym, ap, ◌∙◌, subst, arith, append_assoc, append-nil, length-append, take-append-drop}
+use Rattle.std.proofs.Common.{◌≡◌, ℕ, zero, suc, ◌+◌, ◌<◌, Bool, true, false, List, [], ◌∷◌, ◌++◌, length, take, drop, Option, is_some, if◌then◌else◌, refl, sym, ap, ◌∙◌, subst, arith, append_assoc, append-nil, length-append, take-append-drop, drop_of_length-le, length-take, min}
 use Rattle.std.specs.Prelude.{All, Any, remove, slice_index_or}
+use Rattle.std.proofs.Math.Seq.{take-append_seam}
 use Rattle.std.proofs.lemmas.List.{take_more}
+use mathlib.Core.Logic.{dite}
+use native.Mathlib.Decide.{dec_le}
 use Rattle.std.proofs.lemmas.List.Elements.{All-head, All-tail}
 use Rattle.sched_time.specs.declared.numbers.Tick.{Tick}
 use Rattle.sched_task.specs.declared.endings.How.{How}
@@ -24,18 +27,18 @@ module _ (ended : Noted → Option How) (waits_for : Noted → Option ℕ) (give
   each_number (seat ∷ seats) (out ∷ outs) p =
       rw (polls_number seat out p.0.0 p.0.1, each_number seats outs p.1) refl
 
-pub numbers-append : (seats : List Noted) (seat : Noted) → numbers (seats ++ seat ∷ []) ≡ numbers seats ++ seat.number ∷ []
+numbers-append : (seats : List Noted) (seat : Noted) → numbers (seats ++ seat ∷ []) ≡ numbers seats ++ seat.number ∷ []
 numbers-append [] seat = refl
 numbers-append (s ∷ seats) seat = ap (λ ns. s.number ∷ ns) (numbers-append seats seat)
 
 -- one more seat, of the next job
-pub numbers_more : (seats : List Noted) (seat : Noted) (active : List ℕ) (i : ℕ) → numbers seats ≡ take i active → i < length active →
-    seat.number ≡ slice_index_or active i seat.number → numbers (seats ++ seat ∷ []) ≡ take (i + 1) active
-numbers_more seats seat active i same inside next =
+pub numbers_more : (seats : List Noted) (seat : Noted) (active : List ℕ) (i d : ℕ) → numbers seats ≡ take i active → i < length active →
+    seat.number ≡ slice_index_or active i d → numbers (seats ++ seat ∷ []) ≡ take (i + 1) active
+numbers_more seats seat active i d same inside next =
     numbers-append seats seat ∙ ap (λ ns. ns ++ seat.number ∷ []) same ∙ ap (λ n. take i active ++ n ∷ []) next
-    ∙ sym (take_more active i seat.number inside)
+    ∙ sym (take_more active i d inside)
 
-pub length-numbers : (seats : List Noted) → length (numbers seats) ≡ length seats
+length-numbers : (seats : List Noted) → length (numbers seats) ≡ length seats
 length-numbers [] = refl
 length-numbers (s ∷ seats) = ap suc (length-numbers seats)
 
@@ -45,7 +48,7 @@ open-append (s ∷ seats) seat =
     ap (λ ns. open_number s ++ ns) (open-append seats seat) ∙ sym (append_assoc (open_number s) (open_numbers seats) (open_number seat))
 
 -- where all are over none is open
-pub none_open : (seats : List Noted) → All (λ s. is_some s.over ≡ true) seats → open_numbers seats ≡ []
+none_open : (seats : List Noted) → All (λ s. is_some s.over ≡ true) seats → open_numbers seats ≡ []
 none_open [] all = refl
 none_open (s ∷ seats) all =
     rw (All-head (λ (s : Noted). is_some s.over ≡ true) s seats all, none_open seats (All-tail (λ (s : Noted). is_some s.over ≡ true) s seats all)) refl
@@ -57,7 +60,7 @@ open_at (first ∷ seats) (suc k) s inside at over =
     omega (arith, length-append (open_number first) (open_numbers seats), open_at seats k s (omega arith) at over)
 
 -- where one is not over one is open
-pub some_open : (seats : List Noted) → Any (λ s. is_some s.over ≡ false) seats → 0 < length (open_numbers seats)
+some_open : (seats : List Noted) → Any (λ s. is_some s.over ≡ false) seats → 0 < length (open_numbers seats)
 some_open seats any = open_at seats any.0 any.1 any.2 any.3 any.4
 
 -- The active jobs are those of the seats and then others. Once the seats' jobs that are over are closed, the wanted
@@ -98,11 +101,11 @@ module _ (seats rest : List Noted) (seat : Noted) (active wanted : List ℕ) (po
     length-numbers rest,
   )
 
-  pub closing_over : is_some seat.over ≡ true → IsClosing rest (remove active (length rest)) wanted
-  closing_over over = record {
+  pub closing_over : (n : ℕ) → n ≡ length rest → is_some seat.over ≡ true → IsClosing rest (remove active n) wanted
+  closing_over n here over = record {
     others = was.others;
     active_are =
-        ap (λ n. remove active n) (sym (length-numbers rest)) ∙ ap (λ l. remove l (length (numbers rest))) active_are
+        ap (λ k. remove active k) (here ∙ sym (length-numbers rest)) ∙ ap (λ l. remove l (length (numbers rest))) active_are
         ∙ remove_here (numbers rest) was.others seat.number;
     wanted_are = wanted_are ∙ ap (λ (b : Bool). open_numbers rest ++ ((if b then [] else seat.number ∷ []) ++ was.others)) over;
   }
@@ -113,3 +116,50 @@ module _ (seats rest : List Noted) (seat : Noted) (active wanted : List ℕ) (po
     active_are = active_are;
     wanted_are = wanted_are ∙ ap (λ (b : Bool). open_numbers rest ++ ((if b then [] else seat.number ∷ []) ++ was.others)) over;
   }
+
+-- a list written over the front of another of its length
+written : {X : Type 0} (n : ℕ) (xs ys : List X) → length xs ≡ n → take n (xs ++ drop (length xs) ys) ≡ xs
+written n xs ys long = ap (λ k. take k (xs ++ drop (length xs) ys)) (sym long) ∙ take-append_seam xs (drop (length xs) ys)
+
+drop_up_to : (l : List ℕ) (hold n : ℕ) → n ≡ min (length l) hold → drop n l ≡ drop hold l
+drop_up_to l hold n least = dite (dec_le (length l) hold)
+    (λ all. drop_of_length-le l (omega arith) ∙ sym (drop_of_length-le l all))
+    (λ some. ap (λ k. drop k l) (omega arith))
+
+-- so many seats of the first active jobs, after their polls
+pub record Drove (seats outs : List Noted) (active : List ℕ) (n hold : ℕ) : Type 0 where
+  pub same : seats ≡ outs
+  pub numbers_are : numbers seats ≡ take n active
+  pub least : n ≡ min (length active) hold
+
+pub drove : (made tasks outs : List Noted) (active : List ℕ) (first n hold : ℕ) → numbers made ≡ take first active → tasks ≡ made →
+    numbers tasks ≡ numbers outs → n ≡ length made → first ≡ min (length active) hold →
+    Drove (take n (outs ++ drop (length outs) made)) outs active n hold
+drove made tasks outs active first n hold are same kept long least =
+    let out_numbers : numbers outs ≡ take first active = sym kept ∙ ap numbers same ∙ are in
+    let n_is : n ≡ first = omega (arith, long, length-numbers made, ap length are, length-take first active, least) in
+    let outs_long : length outs ≡ n = omega (arith, n_is, length-numbers outs, ap length out_numbers, length-take first active, least) in
+    let seats_are = written n outs made outs_long in
+    record {
+      same = seats_are;
+      numbers_are = ap numbers seats_are ∙ out_numbers ∙ ap (λ k. take k active) (sym n_is);
+      least = n_is ∙ least;
+    }
+
+-- where all are over, the first jobs are closed
+pub all_closed : (left active : List ℕ) (seats outs : List Noted) (n hold : ℕ) → left ≡ open_numbers seats ++ drop n active →
+    Drove seats outs active n hold → All (λ s. is_some s.over ≡ true) outs → left ≡ drop hold active
+all_closed left active seats outs n hold left_are d all =
+    left_are ∙ ap (λ s. open_numbers s ++ drop n active) d.same ∙ ap (λ ns. ns ++ drop n active) (none_open outs all)
+    ∙ drop_up_to active hold n d.least
+
+-- where one is not over, a job is left
+pub some_left : (left active : List ℕ) (seats outs : List Noted) (n hold : ℕ) → left ≡ open_numbers seats ++ drop n active →
+    Drove seats outs active n hold → Any (λ s. is_some s.over ≡ false) outs → 0 < length left
+some_left left active seats outs n hold left_are d any = omega (
+  arith,
+  ap length left_are,
+  length-append (open_numbers seats) (drop n active),
+  ap (λ s. length (open_numbers s)) d.same,
+  some_open outs any,
+)

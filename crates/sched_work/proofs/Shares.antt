@@ -2,7 +2,7 @@
 use Rattle.std.proofs.Common.{◌≡◌, ℕ, zero, suc, ◌+◌, ◌<◌, ◌≤◌, ◌⊎◌, Bool, true, false, List, [], ◌∷◌, ◌++◌, length, take, drop, Option, Some, None, is_some, if◌then◌else◌, refl, sym, ap, ◌∙◌, subst, arith, append_assoc, length-append, take-append-drop, ⊎_elim}
 use Rattle.std.specs.Option.{ForSome}
 use Rattle.sched_ticket.specs.Lists.{total}
-use Rattle.sched_ticket.specs.Held.{Name, Held}
+use Rattle.sched_ticket.specs.Held.{Name, Held, IsOf}
 use Rattle.sched_ticket.specs.Calls.{Drew, DrewNone}
 use Rattle.sched_ticket.specs.declared.view.View.{View}
 use Rattle.sched_ticket.proofs.Sums.{total-append}
@@ -150,3 +150,8 @@ pub have_places : (claims : Option Name) (s : Portion) (places : ℕ) → IsShar
     ForSome claims (λ claims. claims.terms.limit ≤ places) → s.pass.has.terms.limit ≤ places
 have_places None s places of below = absurd of
 have_places (Some claims) s places of below = omega (arith, below claims refl, ap (λ k. k.limit) of.1)
+
+-- what a share is of is seen by its pass
+pub of_same : (claims : Option Name) (s t : Portion) → t.pass ≡ s.pass → IsShareOf claims s → IsShareOf claims t
+of_same None s t pass of = of
+of_same (Some claims) s t pass of = subst (λ p. IsOf claims p) (sym pass) of

@@ -136,7 +136,6 @@ where
 }
 
 // A seat for each of these jobs, in order.
-#[tactic(auto, using(crate::proofs::Closings::numbers_more))]
 fn take_seats<'b, T: Task, R: Wait, Q: Gate>(
     rt: &'b R,
     alloc: Global,
@@ -156,7 +155,7 @@ fn take_seats<'b, T: Task, R: Wait, Q: Gate>(
 
 // Closes the jobs of those seats that saw theirs over: the seats of the share's first active jobs.
 fn close_over<T: Task, R: Wait, Q: Gate>(share: &mut Share, mut seats: Vec<Seat<'_, T, R, Q>>)
-    requires { numbers seats.entry.items ≡ take (vec_len seats.entry) share.old.active }
+    requires { numbers seats.items ≡ take (vec_len seats) share.old.active }
     ensures active { share.new.active ≡ open_numbers seats.entry.items ++ drop (vec_len seats.entry) share.old.active }
     ensures pass { share.new.pass ≡ share.old.pass }
 {
