@@ -1,5 +1,5 @@
 use Rattle.std.proofs.Common.{refl, ◌∙◌}
-use Rattle.sched_work.proofs.Shares.{went_nowhere, went_then, went_on_by, to_do_as_before, went_none, to_do_of_none, refused}
+use Rattle.sched_work.proofs.Shares.{went_nowhere, went_then, went_on_by, to_do_as_before}
 use Rattle.sched_work.proofs.works.claim_some.Goals as goal
 
 pub loop-share-init : goal.loop-share-init

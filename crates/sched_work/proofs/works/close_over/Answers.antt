@@ -1,5 +1,5 @@
 use Rattle.std.proofs.Common.{◌≡◌, ◌∙◌, rules, true, false, length, is_some, arith}
-use Rattle.sched_work.proofs.Closings.{IsClosing, closing_inside, closing_over, closing_open}
+use Rattle.sched_work.proofs.Closings.{closing_inside, closing_over, closing_open}
 use Rattle.sched_work.proofs.works.close_over.Goals as goal
 
 pub close-requires : goal.close-requires
