@@ -1,5 +1,5 @@
 //! Working through a share.
-ghost use Rattle.std.specs.Prelude.{◌≡◌, ℕ, ◌<◌, ◌≤◌, ◌++◌, [], true, false, length, vec_len, drop, take, All, IfOk, IfErr, OnOk, OnErr};
+ghost use Rattle.std.specs.Prelude.{◌≡◌, ℕ, ◌<◌, ◌≤◌, ◌++◌, [], max, true, false, length, vec_len, drop, take, All, IfOk, IfErr, OnOk, OnErr};
 ghost use Rattle.std.specs.Option.{ForSome};
 ghost use Rattle.sched_claim.specs.Portion.{IsShareOf};
 ghost use Rattle.sched_work.specs.Working.{WentOn, numbers, open_numbers, still_to_do};
@@ -62,6 +62,7 @@ where
     ensures turns { result.turns ≤ turns }
     ensures all_over { result.finish ≡ Finish.AllOver → (share.new.active ≡ []) × (0 < length share.new.pass.has.refusals) }
     ensures spent { result.finish ≡ Finish.TurnsSpent → (result.turns ≡ turns) × (0 < length share.new.active) }
+    ensures held { length share.new.active ≤ max (length share.old.active) station.old.hold }
     ensures hold { station.new.hold ≡ station.old.hold }
 {
     let mut used = 0;
@@ -94,6 +95,7 @@ fn claim_some<J: Claimed>(claims: &J, share: &mut Share, hold: usize) -> bool
     requires hold { 0 < hold }
     ensures of { IsShareOf (J.claims claims.now) share.new }
     ensures went_on { WentOn share.old share.new }
+    ensures held { length share.new.active ≤ max (length share.old.active) hold }
     ensures to_do { still_to_do share.new ≡ still_to_do share.old }
     ensures some { result ≡ true → 0 < length share.new.active }
     ensures none { result ≡ false → (share.new.active ≡ []) × (0 < length share.new.pass.has.refusals) }
@@ -122,6 +124,7 @@ where
     ensures pass { share.new.pass ≡ share.old.pass }
     ensures went_on { WentOn share.old share.new }
     ensures turns { IfOk result (λ used. used ≤ turns) }
+    ensures fewer { length share.new.active ≤ length share.old.active }
     ensures over { OnOk result (share.new.active ≡ drop station.old.hold share.old.active) }
     ensures spent { IfErr result (λ stop. stop ≡ LoopStop.TurnsSpent → 0 < length share.new.active) }
     ensures hold { station.new.hold ≡ station.old.hold }
