@@ -39,8 +39,8 @@ pub enum Finish {
 /// Works through a share: claims jobs, drives them until all are over, and claims again, until no job is left.
 ///
 /// It begins with the jobs that the share keeps, and drives at most as many at a time as the station holds. It takes at
-/// most `turns` turns: a turn is one poll of a job that was not seen over, or of one that the gate holds up, or one wait
-/// for the least moment that a job waits for. A job is locked for each poll of it, not between polls.
+/// most `turns` turns: a turn is one poll of a job, one look at a gate that is not ready for it, or one wait for the least
+/// moment that a job waits for. A job is locked for each poll of it, not between polls.
 ///
 /// Where it stops before all is over, the share keeps the jobs that it claimed and has not seen over, and a further call
 /// goes on with them.
