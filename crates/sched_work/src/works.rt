@@ -1,5 +1,5 @@
 //! Working through a share.
-ghost use Rattle.std.specs.Prelude.{◌≡◌, ℕ, ◌<◌, ◌≤◌, ◌++◌, [], max, true, false, length, vec_len, drop, take, All, IfOk, IfErr, OnOk, OnErr};
+ghost use Rattle.std.specs.Prelude.{◌≡◌, ◌<◌, ◌≤◌, ◌++◌, [], max, true, false, length, vec_len, drop, take, All, IfOk, IfErr, OnOk};
 ghost use Rattle.std.specs.Option.{ForSome};
 ghost use Rattle.sched_claim.specs.Portion.{IsShareOf};
 ghost use Rattle.sched_work.specs.Working.{WentOn, numbers, open_numbers, still_to_do};
