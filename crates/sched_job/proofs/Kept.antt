@@ -64,7 +64,7 @@ pub waits_unended : (v : Past) → IfSome (waits_for v) (λ _. (v.over ≡ None)
 waits_unended v = by_test (is_some v.over || (is_under_way v || v.denied)) (λ yes. rw yes tt)
     (λ no. rw no (planned v.driver.plan v.driver.journal _ (λ some. (none_of v.over (or_false (is_some v.over) _ no).0, some))))
 
-denied_by : (v : Past) (over : Option How) → Ended retry v over → v.denied ≡ is_refused over
+pub denied_by : (v : Past) (over : Option How) → Ended retry v over → v.denied ≡ is_refused over
 denied_by v None ended = (or_false v.denied (is_spent v.driver) (ended refl)).0
 denied_by v (Some Won) ended = (or_false v.denied (is_spent v.driver) ended.1).0
 denied_by v (Some ScheduleDone) ended = ended.1

@@ -48,12 +48,13 @@ impl<X: Effect> Model for JobEnd<X> {
 
 impl<X: Effect> JobEnd<X> {
     // The end of a retry, and its pass.
-    pub(crate) fn of_retry(retry: Retry<'_, X>) -> (JobEnd<X>, Pass)
-        requires untaken { retry.untaken ≡ is_some retry.past.over }
-        ensures end { result.0 ≡ retry.entry.past }
-        ensures pass { result.1 ≡ retry.entry.pass }
+    pub(crate) fn of_retry(task: Retry<'_, X>) -> (JobEnd<X>, Pass)
+        requires untaken { task.untaken ≡ is_some task.past.over }
+        ensures end { result.0 ≡ task.entry.past }
+        ensures pass { result.1 ≡ task.entry.pass }
         ensures granted { result.0.granted ≡ length result.1.has.tickets }
         ensures refused { IsRefusedBy result.1 result.0 }
+        ensures law { Law retry result.0 }
     {
         let Whole {
             effect,
@@ -62,7 +63,7 @@ impl<X: Effect> JobEnd<X> {
             over,
             ending,
             pass,
-        } = retry.into_whole();
+        } = task.into_whole();
         let granted = pass.count();
         let end = JobEnd {
             effect,

@@ -1,7 +1,9 @@
 //! Jobs: retries whose budget is named by their type.
 ghost use Rattle.std.specs.Prelude.{◌≡◌, length, is_some};
 ghost use Rattle.sched_ticket.specs.Held.{IsOf};
+ghost use Rattle.sched_law.specs.Kind.{retry};
 ghost use Rattle.sched_law.specs.Past.{waits_for};
+ghost use Rattle.sched_law.specs.Law.{Law};
 ghost use Rattle.sched_job.specs.Jobs.{IsSeen};
 ghost use Rattle.sched_job.specs.Ends.{IsRefusedBy};
 
@@ -72,6 +74,7 @@ impl<'a, X: Effect, N: Naming> Job<'a, X, N> {
         ensures of { IsOf N.budget result.1 }
         ensures granted { result.0.granted ≡ length result.1.has.tickets }
         ensures refused { IsRefusedBy result.1 result.0 }
+        ensures law { Law retry result.0 }
     {
         let Job { retry, name: _ } = self;
         JobEnd::of_retry(retry)
