@@ -8,6 +8,7 @@ mod boards;
 mod ends;
 mod faults;
 pub mod laws;
+mod works;
 
 pub use boards::{Board, MAX_JOBS, MAX_WORKERS};
 pub use ends::PoolEnd;
