@@ -1,5 +1,5 @@
 //! Jobs: each a plan with a script of runs.
-ghost use Rattle.std.specs.Prelude.{◌≡◌, IfOk, IfErr, OnOk, IsTrue, Some, None};
+ghost use Rattle.std.specs.Prelude.{◌≡◌, ◌<◌, ◌≤◌, length, vec_len, IfOk, IfErr, OnOk, IsTrue, Some, None};
 ghost use Rattle.serde_json.specs.View.{view, items_view};
 ghost use Rattle.sched_json.specs.Reading.{Reads};
 ghost use Rattle.sched_json.specs.declared.faults.ReadFault.TheVariants.{NotAPlan};
@@ -31,6 +31,7 @@ pub struct JobRead {
 }
 
 impl Model for JobRead {
+    ghost use Rattle.std.specs.Prelude.{◌<◌, vec_len};
     ghost use Rattle.std.specs.Coded.{codes};
     ghost use Rattle.sched_plan.specs.ScheduleCode.{coded_schedule};
     ghost use Rattle.sched_jobs.specs.Job.{Job};
@@ -40,6 +41,8 @@ impl Model for JobRead {
     ghost coded = { Prim.hlevel (codes, coded_schedule) };
 
     ghost view = { λ job. record { plan = job.plan; script = job.script.items } };
+
+    ghost invariant = { λ job. 0 < vec_len job.script };
 }
 
 impl JobRead {
@@ -50,9 +53,10 @@ impl JobRead {
         &self.plan
     }
 
-    /// How its runs go.
+    /// How its runs go. There is one at least.
     pub fn script(&self) -> &[Ran]
-        ensures { result.now ≡ self.now.script }
+        ensures script { result.now ≡ self.now.script }
+        ensures some { 0 < length self.now.script }
     {
         &self.script
     }
@@ -65,7 +69,8 @@ impl JobRead {
 /// `OutOfRange`. Of each job its members are looked at first, then the number of its runs, then its runs from left to
 /// right, and last its plan. Memory is asked for only once the number of a job's runs is right.
 pub fn read_jobs(alloc: Global, value: &Value) -> Result<Vec<JobRead>, ReadFault>
-    ensures { Lists result (reading_of_jobs (view value.now)) }
+    ensures jobs { Lists result (reading_of_jobs (view value.now)) }
+    ensures few { IfOk result (λ jobs. vec_len jobs ≤ 4096) }
 {
     match value {
         Value::Array(items) => read_all(alloc, items),
@@ -76,7 +81,8 @@ pub fn read_jobs(alloc: Global, value: &Value) -> Result<Vec<JobRead>, ReadFault
 // The jobs of an array, where their number is in range.
 #[tactic(auto, using(crate::proofs::Steps::count_of_values))]
 fn read_all(alloc: Global, items: &[Value]) -> Result<Vec<JobRead>, ReadFault>
-    ensures { Lists result (jobs_in (items_view items.now)) }
+    ensures jobs { Lists result (jobs_in (items_view items.now)) }
+    ensures few { IfOk result (λ jobs. vec_len jobs ≤ 4096) }
 {
     if items.len() > MOST_JOBS {
         return Err(OUT_OF_RANGE);
@@ -86,7 +92,8 @@ fn read_all(alloc: Global, items: &[Value]) -> Result<Vec<JobRead>, ReadFault>
 
 // The jobs in order.
 fn read_each(alloc: Global, items: &[Value]) -> Result<Vec<JobRead>, ReadFault>
-    ensures { Lists result (each job_in (items_view items.now)) }
+    ensures jobs { Lists result (each job_in (items_view items.now)) }
+    ensures len { IfOk result (λ jobs. vec_len jobs ≡ length items.now) }
 {
     let mut jobs = Vec::new(alloc);
     for item in items {
@@ -113,6 +120,7 @@ fn read_job(alloc: Global, value: &Value) -> Result<JobRead, ReadFault>
 
 // The runs of a job, and then its plan.
 fn read_parts(alloc: Global, plan: &Value, runs: &[Value]) -> Result<JobRead, ReadFault>
+    requires some { 0 < length runs.now }
     ensures { Reads result (asking (job_of (view plan.now) (items_view runs.now))) }
 {
     let script = read_runs(alloc, runs)?;

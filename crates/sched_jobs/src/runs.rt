@@ -1,5 +1,5 @@
 //! The runs of a job.
-ghost use Rattle.std.specs.Prelude.{◌≡◌};
+ghost use Rattle.std.specs.Prelude.{◌≡◌, length, vec_len, IfOk};
 ghost use Rattle.serde_json.specs.View.{view, items_view};
 ghost use Rattle.sched_json.specs.Reading.{Reads};
 ghost use Rattle.sched_jobs.specs.Each.{each, Lists, asking};
@@ -17,7 +17,8 @@ pub const MOST_RUNS: usize = 64;
 
 /// The runs of a script, in order.
 pub(crate) fn read_runs(alloc: Global, items: &[Value]) -> Result<Vec<Ran>, ReadFault>
-    ensures { Lists result (asking (each run_in (items_view items.now))) }
+    ensures runs { Lists result (asking (each run_in (items_view items.now))) }
+    ensures len { IfOk result (λ runs. vec_len runs ≡ length items.now) }
 {
     let mut runs = Vec::new(alloc);
     for item in items {
