@@ -4,7 +4,9 @@
 mod endings;
 mod losses;
 mod retry;
+mod whole;
 
 pub use endings::Ending;
 pub use losses::{Then, after_loss};
 pub use retry::Retry;
+pub use whole::Whole;

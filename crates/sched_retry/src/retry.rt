@@ -11,6 +11,7 @@ ghost use Rattle.sched_retry.specs.Ending.{EndingFits};
 
 use crate::endings::Ending;
 use crate::losses::{Then, after_loss};
+use crate::whole::Whole;
 use futures::task::{Context, Poll};
 use sched_driver::Driver;
 use sched_effect::{Coded, Effect};
@@ -238,6 +239,36 @@ impl<'a, X: Effect> Retry<'a, X> {
         } = self;
         let (effect, driver, _) = runner.into_parts();
         (effect, driver, pass)
+    }
+
+    /// All that it had: its parts with its beginnings, how it ended, and its ending where that was not taken.
+    pub fn into_whole(self) -> Whole<X>
+        ensures runs { X.finished result.effect ≡ self.entry.past.runs }
+        ensures driver { result.driver ≡ self.entry.past.driver }
+        ensures begun { result.begun.items ≡ self.entry.past.begun }
+        ensures over { result.over ≡ self.entry.past.over }
+        ensures untaken { is_some result.ending ≡ self.entry.untaken }
+        ensures fits { IfSome result.ending (EndingFits X.Item.coded X.Fault.coded self.entry.past.over self.entry.past.runs) }
+        ensures pass { result.pass ≡ self.entry.pass }
+        ensures law { RetryLaw retry self.entry }
+    {
+        let Retry {
+            runner,
+            over,
+            denied: _,
+            ending,
+            pass,
+            budget: _,
+        } = self;
+        let (effect, driver, begun) = runner.into_parts();
+        Whole {
+            effect,
+            driver,
+            begun,
+            over,
+            ending,
+            pass,
+        }
     }
 }
 

@@ -1,0 +1,11 @@
+//! Retries that stand under locks: a job says by its type which budget its tickets are of, shows what it has done, and
+//! leaves an end that keeps its law.
+#![tactic(auto)]
+
+mod ends;
+mod jobs;
+mod sights;
+
+pub use ends::JobEnd;
+pub use jobs::Job;
+pub use sights::Seen;

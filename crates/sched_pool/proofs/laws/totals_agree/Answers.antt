@@ -1,0 +1,5 @@
+use Rattle.sched_pool.proofs.Sums.{agrees}
+use Rattle.sched_pool.proofs.laws.totals_agree.Goals as goal
+
+pub returns : goal.returns
+returns c = agrees

@@ -1,0 +1,25 @@
+//! A retry, taken apart.
+
+use crate::endings::Ending;
+use sched_driver::Driver;
+use sched_effect::Effect;
+use sched_task::How;
+use sched_ticket::Pass;
+use sched_time::Moment;
+
+/// All that a retry had.
+#[derive(Drop)]
+pub struct Whole<X: Effect> {
+    /// The effect, with its finished runs.
+    pub effect: X,
+    /// The driver, with the journal of the failures.
+    pub driver: Driver,
+    /// The moments at which runs were begun.
+    pub begun: Vec<Moment>,
+    /// How it ended, or `None` where it was not over.
+    pub over: Option<How>,
+    /// The ending, where it was over and the ending was not taken.
+    pub ending: Option<Ending<X::Item, X::Fault>>,
+    /// The pass, with the tickets that it was granted.
+    pub pass: Pass,
+}

@@ -1,0 +1,16 @@
+use Rattle.std.proofs.Common.{refl, ◌∙◌}
+use Rattle.sched_work.proofs.Shares.{went_nowhere, went_then, went_on_by, to_do_as_before, went_none, to_do_of_none, refused}
+use Rattle.sched_work.proofs.works.claim_some.Goals as goal
+
+pub loop-share-init : goal.loop-share-init
+loop-share-init g c = record { of = c.requires.of; went_on = went_nowhere _; to_do = refl }
+
+pub loop-share-preserved : goal.loop-share-preserved
+loop-share-preserved g c =
+    let claimed = c.in-Some.ensures in
+    let before = c.loop-share.invariant in
+    record {
+      of = claimed.of;
+      went_on = went_then _ _ _ before.went_on (went_on_by _ _ _ claimed.some claimed.tickets.0);
+      to_do = to_do_as_before _ _ _ claimed.some claimed.tickets.0 claimed.tickets.1 ∙ before.to_do;
+    }

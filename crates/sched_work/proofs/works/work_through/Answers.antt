@@ -1,0 +1,27 @@
+use Rattle.std.proofs.Common.{refl, ◌∙◌, arith}
+use Rattle.sched_work.proofs.Shares.{went_nowhere, went_then, of_same}
+use Rattle.sched_work.proofs.works.work_through.Goals as goal
+
+pub loop-station-init : goal.loop-station-init
+loop-station-init g c = record { of = c.requires.of; went_on = went_nowhere _; turns = omega arith; hold = refl }
+
+pub loop-station-preserved : goal.loop-station-preserved
+loop-station-preserved g c =
+    let before = c.loop-station.invariant in
+    record {
+      of = of_same _ _ _ c.work_some.ensures.pass c.claim_some.ensures.of;
+      went_on = went_then _ _ _ before.went_on (went_then _ _ _ c.claim_some.ensures.went_on c.work_some.ensures.went_on);
+      turns = omega (arith, before.turns, c.in-Ok.ensures.turns);
+      hold = c.work_some.ensures.hold ∙ before.hold;
+    }
+
+pub returns-in-Err-TurnsSpent-clause-went_on : goal.returns-in-Err-TurnsSpent-clause-went_on
+returns-in-Err-TurnsSpent-clause-went_on g c =
+    went_then _ _ _ c.loop-station.invariant.went_on (went_then _ _ _ c.claim_some.ensures.went_on c.work_some.ensures.went_on)
+
+pub returns-in-Err-NoMemory-clause-went_on : goal.returns-in-Err-NoMemory-clause-went_on
+returns-in-Err-NoMemory-clause-went_on g c =
+    went_then _ _ _ c.loop-station.invariant.went_on (went_then _ _ _ c.claim_some.ensures.went_on c.work_some.ensures.went_on)
+
+pub returns-clause-went_on : goal.returns-clause-went_on
+returns-clause-went_on g c = went_then _ _ _ c.loop-station.invariant.went_on c.claim_some.ensures.went_on

@@ -1,0 +1,15 @@
+use Rattle.std.proofs.Common.{◌≡◌, ◌≤◌}
+use Rattle.sched_claim.specs.Portion.{IsShareOf}
+use Rattle.sched_work.specs.Working.{WentOn, still_to_do}
+use Rattle.sched_work.proofs.works.work_through.Given as goal
+
+abbrev pub invariant-loop-station : goal.invariant-loop-station
+invariant-loop-station g l = record {
+  of : IsShareOf (g.J.Claimed.claims l.claims) l.share;
+  went_on : WentOn l.fn.share l.share;
+  turns : l.used ≤ l.turns;
+  hold : l.station.hold ≡ l.fn.station.hold;
+}
+
+abbrev pub decreases-loop-station : goal.decreases-loop-station
+decreases-loop-station g l = still_to_do l.share
