@@ -1,6 +1,7 @@
 #!/usr/bin/env bash
-# How long a step of a schedule takes, beside the same schedules written by hand in Rust on the same machine.
-# Started by hand at the top of the repository: bench/steps.sh. It needs rt, rustc and a machine with nothing else to do.
+# How long a step of a schedule takes, and how long 4,096 printed lines, beside the same schedules written by hand in Rust
+# on the same machine. Started by hand at the top of the repository: bench/steps.sh. It needs rt, rustc and a machine with
+# nothing else to do. Where valgrind is there it also counts the instructions of a step, which other work does not change.
 set -euo pipefail
 cd "$(dirname "$0")/.."
 source bench/least.sh
@@ -9,6 +10,8 @@ work=$(mktemp -d)
 trap 'rm -rf "$work"' EXIT
 (cd crates/bench_steps && rt run) >&2
 cp crates/bench_steps/out/bench_steps "$work/steps"
+bin/zsched plan --steps 0 <<< '"forever"'
+cp crates/zsched/out/zsched "$work/zsched"
 rustc -O -C target-cpu=x86-64 -o "$work/plain" bench/plain_steps.rs
 
 # nanoseconds that one step takes
@@ -17,11 +20,42 @@ per_step() {
     per_unit "$((many - few))" "$(least "$program" "$plan" "$few")" "$(least "$program" "$plan" "$many")"
 }
 
+# instructions of a whole run
+instructions() {
+    valgrind --tool=callgrind --callgrind-out-file=/dev/null "$@" 2>&1 > /dev/null | awk '/Collected/ { print $NF }'
+}
+
+# instructions that one step takes; the lengths are whole rounds of sixteen events
+per_step_counted() {
+    echo "$((($(instructions "$1" "$2" 960) - $(instructions "$1" "$2" 160)) / 800))"
+}
+
+# what zsched prints of the plan, and what the program by hand does
+prints() { "$work/zsched" plan --steps 4096 < "$work/$1.json"; }
+prints_by_hand() { "$work/plain" print "$1" 4096; }
+
 machine
-for row in "pair 100000 5000000" "fixed 100000 10000000" "tree 1000 50000"; do
+for row in "pair 100000 5000000" "fixed 100000 10000000" "tree 1000 50000" "crossed 100000 10000000" \
+    "exponential 100000 10000000" "retry 100000 3000000" "rounds 10000 1000000"; do
     read -r plan few many <<< "$row"
     step=$(per_step "$work/steps" "$plan" "$few" "$many")
     plain=$(per_step "$work/plain" "$plan" "$few" "$many")
     awk -v p="$plan" -v s="$step" -v b="$plain" \
         'BEGIN { printf "%s: a step %s ns, by hand %s ns, ratio %.2f\n", p, s, b, s / b }'
+    if command -v valgrind > /dev/null; then
+        echo "$plan: instructions of a step $(per_step_counted "$work/steps" "$plan"), by hand $(per_step_counted "$work/plain" "$plan")"
+    fi
+done
+
+echo '{"meet":[{"recurs":4611686018427387903},{"spaced":1}]}' > "$work/pair.json"
+tree='{"spaced":1}'
+for _ in 1 2 3 4 5 6 7; do tree="{\"meet\":[$tree,$tree]}"; done
+echo "$tree" > "$work/tree.json"
+for plan in pair tree; do
+    prints "$plan" > "$work/lines"
+    prints_by_hand "$plan" | cmp - "$work/lines"
+    lines=$(least prints "$plan")
+    plain=$(least prints_by_hand "$plan")
+    awk -v p="$plan" -v s="$lines" -v b="$plain" \
+        'BEGIN { printf "%s: 4,096 lines in %.2f ms, by hand in %.2f ms, ratio %.2f\n", p, s / 1e6, b / 1e6, s / b }'
 done

@@ -78,6 +78,11 @@ refuses 0 "$(cat "$top/plans/three-times.json")" plan
 cmp "$work/out.whole" "$top/crates/zsched/stdout" || failed=1
 refuses 0 '{"follow":[{"recurs":2},{"fixed":50}]}' plan --steps 5
 refuses 0 '{"gather":["list",{"renew":[100,{"follow":[{"recurs":1},{"spaced":60}]}]}]}' plan --steps 5
+refuses 0 '{"gather":["list",{"gather":["list",{"recurs":3}]}]}' plan
+refuses 0 '{"renew":[50,{"follow":[{"recurs":1},{"lone":30}]}]}' plan --took 25 --steps 5
+refuses 0 '{"renew_idle":[100,{"exponential":[30,2]}]}' plan --steps 5
+refuses 0 '{"feed":[{"join":[{"recurs":1},{"spaced":10}]},{"first":"identity"}]}' plan --steps 4
+refuses 0 '{"add_out":{"cap":[15,{"jitter":[0,500,1500,{"linear":10}]}]}}' plan --steps 4
 refuses 0 '{"nothing":{"join":[{"feed":["identity",{"fibonacci":3}]},{"within":[9,"elapsed"]}]}}' plan --steps 4
 refuses 3 '{"meet":[{"fixed":0},"forever"]}' plan
 refuses 3 '{"meet":[' plan

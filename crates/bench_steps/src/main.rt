@@ -1,10 +1,11 @@
-//! Steps a schedule in place: `bench_steps [PLAN] [EVENTS]`, where PLAN is `pair`, `fixed` or `tree`; of `pair` and 1,000
-//! events where nothing is said. It prints where the run ended and no time; a script measures it from outside.
+//! Steps a schedule in place: `bench_steps [PLAN] [EVENTS]`, where PLAN is `pair`, `fixed`, `tree`, `crossed`,
+//! `exponential`, `retry` or `rounds`; of `pair` and 1,000 events where nothing is said. It prints where the run ended and
+//! no time; a script measures it from outside.
 #![tactic(auto)]
 
 ghost use Rattle.std.specs.Prelude.{ℕ, ◌≤◌, IfOk};
 
-use sched_plan::{Plan, PlanFault, Val};
+use sched_plan::{Fold, Plan, PlanFault, Val};
 use sched_step::initial;
 use sched_time::{FAR, Moment, NoMemory, Tick};
 use std::alloc::Global;
@@ -30,21 +31,56 @@ fn main(rt: HostRuntime) -> io::Result<()> {
     }
 }
 
-/// The plan of this name: two leaves, one leaf, or else a full tree of 128 leaves.
+/// The plan of this name; where there is none, a full tree of 128 leaves.
 fn plan_named(alloc: Global, name: &str) -> Result<Plan, PlanFault> {
     match name {
         "pair" => Plan::meet(alloc, Plan::recurs(FAR)?, Plan::spaced(1)?),
         "fixed" => Plan::fixed(3),
-        _ => tree(alloc, 7),
+        "crossed" => crossed(alloc),
+        "exponential" => Plan::exponential(1, 1),
+        "retry" => retry(alloc),
+        "rounds" => rounds(alloc),
+        _ => tree(alloc, 7, true),
     }
 }
 
-/// A full tree of meets, with a leaf at each end.
-fn tree(alloc: Global, depth: u32) -> Result<Plan, PlanFault> {
+/// A plan of 127 nodes that is done at its first event, and then a single leaf.
+fn crossed(alloc: Global) -> Result<Plan, PlanFault> {
+    Plan::follow(alloc, tree(alloc, 6, false)?, Plan::spaced(1)?)
+}
+
+/// Eight nodes: an exponential back-off, each wait a little longer, capped and jittered, within a time and so many times,
+/// with the waits as output.
+fn retry(alloc: Global) -> Result<Plan, PlanFault> {
+    let waits = Plan::add(alloc, 5, Plan::exponential(100, 2)?)?;
+    let waits = Plan::jitter(alloc, 0, 800, 1200, Plan::cap(alloc, 1000, waits)?)?;
+    let waits = Plan::within(alloc, FAR, waits)?;
+    Plan::second(alloc, Plan::meet(alloc, Plan::recurs(FAR)?, waits)?)
+}
+
+/// Rounds of sixteen events, each with the list of the outputs so far.
+fn rounds(alloc: Global) -> Result<Plan, PlanFault> {
+    Plan::renew(
+        alloc,
+        16,
+        Plan::gather(alloc, Fold::List, Plan::spaced(1)?)?,
+    )
+}
+
+/// A full tree of meets; the leaf at each end goes on a millisecond later each time, or is done at once.
+fn tree(alloc: Global, depth: u32, goes_on: bool) -> Result<Plan, PlanFault> {
     if depth == 0 {
-        return Plan::spaced(1);
+        return if goes_on {
+            Plan::spaced(1)
+        } else {
+            Plan::recurs(0)
+        };
     }
-    Plan::meet(alloc, tree(alloc, depth - 1)?, tree(alloc, depth - 1)?)
+    Plan::meet(
+        alloc,
+        tree(alloc, depth - 1, goes_on)?,
+        tree(alloc, depth - 1, goes_on)?,
+    )
 }
 
 /// Steps the plan so many times, each time at the start planned before. It answers the start planned last.

@@ -1,3 +1,4 @@
+pub mod sends
 pub mod Worked
 pub mod WorkedLeaves
 pub mod WorkedNodes

@@ -4,3 +4,4 @@ pub mod Fixed
 pub mod Moments
 pub mod KeepsList
 pub mod laws
+pub mod sends

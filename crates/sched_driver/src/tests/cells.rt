@@ -1,6 +1,8 @@
 use super::*;
 use crate::DriverCell;
+use std::sync::Wait;
 use std::test::Fail;
+use std::thread;
 
 #[test]
 fn two_cells_by_turns_keep_apart(rt: HostRuntime) -> Result<(), Fail> {
@@ -25,4 +27,34 @@ fn two_cells_by_turns_keep_apart(rt: HostRuntime) -> Result<(), Fail> {
 fn assert_is(rt: &impl Abort, driver: &Driver, plan: &Plan, moments: &[u64]) {
     assert!(rt; driver.plan().same(plan));
     assert_moments(rt, driver.journal(), moments);
+}
+
+// Makes 100 events at 5, and tells whether all were taken.
+fn hundred(rt: &(impl Abort + Wait), alloc: Global, cell: &DriverCell) -> bool {
+    let mut taken = true;
+    for _ in 0..100 {
+        taken &= next(rt, alloc, &mut cell.enter(rt), 5).is_ok();
+    }
+    taken
+}
+
+#[test]
+fn two_threads_share_a_cell(rt: HostRuntime) -> Result<(), Fail> {
+    let alloc = rt.alloc();
+    let cell = DriverCell::new(Driver::new(alloc, Plan::forever()?)?);
+    let both = thread::join(
+        &rt,
+        || hundred(&rt, alloc, &cell),
+        || hundred(&rt, alloc, &cell),
+    );
+    assert_eq!(rt; both, (true, true));
+    let driver = cell.into_driver();
+    let all = Shown {
+        moments: &[5; 200],
+        last: "199",
+        next_start: Some(5),
+        view: "200",
+    };
+    assert_shows(&rt, alloc, &driver, &all)?;
+    Ok(())
 }

@@ -1,0 +1,4 @@
+pub mod Rows
+pub mod Values
+pub mod Plans
+pub mod Events

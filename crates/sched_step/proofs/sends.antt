@@ -1,0 +1,3 @@
+pub mod Kept
+pub mod Trees
+pub mod States

@@ -1,0 +1,95 @@
+#!/usr/bin/env bash
+# Compares every printed plan in README.md and docs/ with what the program prints. A `sh` block with a line
+# `bin/zsched WORDS < plans/NAME.json` is followed by a `text` block, its whole output; a `json` block before it, under
+# the same heading, is the file's text. It fails where one of them differs, and where no document prints a plan.
+set -euo pipefail
+top=$(cd "$(dirname "${BASH_SOURCE[0]}")/.." && pwd)
+work=$(mktemp -d)
+trap 'rm -rf "$work"' EXIT
+failed=0
+printed=0
+touch "$work/used"
+
+fails() {
+  echo "tests/documents.sh: $*" >&2
+  failed=1
+}
+
+# same_as WANTED WHAT: whether the block is the file WANTED
+same_as() {
+  if ! diff "$work/block" "$1" >"$work/diff" 2>&1; then
+    fails "$document: $2 differs: $(head -c 300 "$work/diff")"
+  fi
+}
+
+# takes_command LINE: notes a line that runs zsched on a plan, without the remark after it, and compares the json block
+takes_command() {
+  local line=${1%%#*}
+  case $line in
+    bin/zsched\ *\<*plans/*.json*) ;;
+    *) return 0 ;;
+  esac
+  [ -z "$command" ] || fails "$document: no text follows $command"
+  command=${line%"${line##*[! ]}"}
+  plan=${line##*<}
+  plan=${plan// /}
+  echo "$plan" >>"$work/used"
+  if [ -s "$work/json" ]; then
+    cp "$work/json" "$work/block"
+    same_as "$top/$plan" "the text of $plan"
+  fi
+}
+
+# compares what the command prints with the block
+compares_output() {
+  local words=${command#bin/zsched }
+  read -r -a words <<<"${words%%<*}"
+  if ! "$top/bin/zsched" "${words[@]}" <"$top/$plan" >"$work/out"; then
+    fails "$document: $command: it ends with a fault"
+  fi
+  same_as "$work/out" "what $command prints"
+  printed=$((printed + 1))
+  command=
+}
+
+# reads a document line by line; `kind` is the kind of the block that a line is in
+reads_document() {
+  local kind='' line
+  document=$1
+  command=
+  plan=
+  : >"$work/json"
+  while IFS= read -r line || [ -n "$line" ]; do
+    case $kind:$line in
+      :'```'*)
+        kind=${line#'```'}
+        kind=${kind:-plain}
+        : >"$work/block"
+        ;;
+      :'#'*) : >"$work/json" ;;
+      :*) ;;
+      json:'```') cp "$work/block" "$work/json"; kind= ;;
+      text:'```') [ -z "$command" ] || compares_output; kind= ;;
+      *:'```') kind= ;;
+      sh:*) takes_command "$line" ;;
+      *) printf '%s\n' "$line" >>"$work/block" ;;
+    esac
+  done <"$top/$document"
+  [ -z "$command" ] || fails "$document: no text follows $command"
+}
+
+"$top/bin/zsched" plan --steps 0 <<<'"forever"'
+
+for document in README.md $(cd "$top" && ls docs/*.md); do
+  reads_document "$document"
+done
+
+for plan in $(cd "$top" && ls plans/*.json); do
+  grep -qxF "$plan" "$work/used" || fails "no document prints $plan"
+done
+
+if [ "$failed" = 0 ]; then
+  echo "tests/documents.sh: the documents print $printed plans as the program does"
+else
+  exit 1
+fi
