@@ -2,10 +2,11 @@
 use Rattle.std.specs.Prelude.{◌≡◌, ℕ, ◌≤◌, true, List, [], ◌∷◌, All}
 use Rattle.sched_effect.specs.Played.{Follows}
 use Rattle.sched_ticket.specs.Lists.{total}
+use Rattle.sched_ticket.specs.Held.{Name, Held}
 use Rattle.sched_law.specs.Kind.{retry}
 use Rattle.sched_law.specs.Past.{Past}
 use Rattle.sched_law.specs.Law.{Law}
-use Rattle.sched_pool.specs.Ends.{has_refused}
+use Rattle.sched_pool.specs.Ends.{has_refused, IsEnd}
 use Rattle.sched_jobs.specs.Job.{Job}
 
 -- a job ended so: with its plan, and its finished runs are its script's in order, the last one repeated
@@ -30,3 +31,7 @@ pub record AreRun (jobs : List Job) (limit : ℕ) (ends : List Past) (granted : 
   -- they don't pass the limit, and are the limit where a job ended as refused by the budget
   pub within : granted ≤ limit
   pub full : has_refused ends ≡ true → granted ≡ limit
+
+-- the ends of so many jobs on this budget, whose pass had no tickets before
+abbrev pub IsNewEnd : Name → ℕ → List Past → Held → ℕ → Type 0
+IsNewEnd budget jobs ends pass granted = (before : Held) × (before.has.tickets ≡ []) × IsEnd budget jobs before ends pass granted

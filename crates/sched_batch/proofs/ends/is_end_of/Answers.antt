@@ -9,5 +9,5 @@ returns-then-same c h = record {
   plan = ap (λ (d : Driven). d.plan) (sym c.driver.ensures) ∙ sym c.plan-2.ensures ∙ sym (c.same.ensures.0 c.if-same.true) ∙ c.plan.ensures;
   runs =
       subst (λ (runs : List Ran). Follows c.args.job.now.script runs) c.effect.ensures
-      (subst (λ (s : List Ran). Follows s c.effect.result.now.runs) ? c.script-then-same.ensures.followed);
+      (subst (λ (s : List Ran). Follows s c.effect.result.now.runs) (sym c.script-then-same.ensures.script ∙ sym (c.same_runs.ensures h) ∙ c.script.ensures.script) c.script-then-same.ensures.followed);
 }
