@@ -5,4 +5,4 @@ mod batches;
 mod ends;
 mod retries;
 
-pub use batches::{Batch, BatchFault};
+pub use batches::{Batch, BatchFault, run_batch};

@@ -3,3 +3,4 @@ pub mod Printed
 pub mod PrintSteps
 pub mod Written
 pub mod PoolLines
+pub mod PoolFaults

@@ -43,6 +43,13 @@ ReadsJobs bytes (Err WriteFailed) = ⊥
 ReadsJobs bytes (Err Unfinished) = ⊥
 ReadsJobs bytes (Err Mixed) = ⊥
 
+-- jobs that were read are not run for this reason
+abbrev pub IsRunFault : PrintFault → Type 0
+IsRunFault NoMemory = Unit {0}
+IsRunFault NotStarted = Unit {0}
+IsRunFault Mixed = Unit {0}
+IsRunFault _ = ⊥
+
 -- it won, or ended with the failure at which its schedule was done or the budget refused it
 abbrev pub is_answered : Option How → Bool
 is_answered (Some Won) = true

@@ -17,6 +17,7 @@ pub use faults::{PrintFault, WordsFault};
 pub use options::{
     Asked, MOST_STEPS, MOST_TICKETS, MOST_TURNS, MOST_WORKERS, PlanOptions, PoolOptions,
 };
+pub use pools::print_pool;
 pub use printing::print_plan;
 pub use streams::{Sink, Source};
 pub use whole::LONGEST_INPUT;
