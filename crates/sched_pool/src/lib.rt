@@ -8,8 +8,10 @@ mod boards;
 mod ends;
 mod faults;
 pub mod laws;
+mod runs;
 mod works;
 
 pub use boards::{Board, MAX_JOBS, MAX_WORKERS};
 pub use ends::PoolEnd;
 pub use faults::{AddFault, AddRefused, ShareFault};
+pub use runs::PoolStop;
