@@ -6,8 +6,7 @@ ghost use Rattle.std.specs.Process.{exit_status};
 ghost use Rattle.sched_cli.specs.Status.{print_status};
 
 use sched_cli::{
-    Asked, Counted, PlanOptions, PoolOptions, PrintFault, WordsFault, print_plan, print_pool,
-    read_words,
+    Asked, Counted, PlanOptions, PrintFault, WordsFault, print_plan, print_pool, read_words,
 };
 use std::process::ExitCode;
 use std::{env, io};
@@ -15,7 +14,12 @@ use std::{env, io};
 fn main(rt: HostRuntime) -> ExitCode {
     match asked(&rt) {
         Ok(Asked::Plan(options)) => ended(&rt, plan(&rt, &options)),
-        Ok(Asked::Pool(options)) => ended(&rt, pool(&rt, &options)),
+        Ok(Asked::Pool(options)) => {
+            let mut reader = Counted::new(rt.stdin());
+            let mut writer = Counted::new(rt.stdout());
+            let printed = print_pool(&rt, rt.alloc(), &mut reader, &mut writer, &options);
+            ended(&rt, printed)
+        }
         Err(WordsFault::Help(text)) => match print!(rt; "{text}") {
             Ok(()) => ExitCode::SUCCESS,
             Err(_) => ended(&rt, Err(PrintFault::WriteFailed)),
@@ -56,13 +60,6 @@ fn plan(rt: &HostRuntime, options: &PlanOptions) -> Result<(), PrintFault> {
     let mut reader = Counted::new(rt.stdin());
     let mut writer = Counted::new(rt.stdout());
     print_plan(rt.alloc(), &mut reader, &mut writer, options)
-}
-
-// Runs the jobs on standard input, and prints how each ended.
-fn pool(rt: &HostRuntime, options: &PoolOptions) -> Result<(), PrintFault> {
-    let mut reader = Counted::new(rt.stdin());
-    let mut writer = Counted::new(rt.stdout());
-    print_pool(rt, rt.alloc(), &mut reader, &mut writer, options)
 }
 
 // The status of what was printed, with its line on standard error where it stopped at a fault.
