@@ -52,7 +52,7 @@ helps plan --help
 wants 2 '' 'zsched: bad command line\n'
 wants 2 '' 'zsched: bad command line\n' plan --steps 4097
 wants 2 '' 'zsched: bad command line\n' plan --none
-wants 2 '' 'zsched: bad command line\n' pool
+wants 2 '' 'zsched: bad command line\n' pool --workers 17
 wants 2 '' 'zsched: bad command line\n' plan --from $'\xff'
 { printf '"forever"'; head -c 1048568 /dev/zero | tr '\0' ' '; } >"$work/in"
 wants 3 '' 'zsched: input too long\n' plan
@@ -81,6 +81,41 @@ wide='"forever"'
 for _ in $(seq 8); do wide="{\"meet\":[$wide,$wide]}"; done
 printf '%s' "$wide" >"$work/in"
 wants 3 '' 'zsched: too many nodes\n' plan
+
+job='{"plan":{"recurs":3},"runs":[{"lost":7}]}'
+done='schedule done, failure 7, granted 3'
+for workers in 1 2 16; do
+  input "[$job,$job,$job,$job]"
+  wants 0 "job 0: $done\njob 1: $done\njob 2: $done\njob 3: $done\ngranted 12 of 100\n" '' pool --workers $workers
+  refused='budget refused, failure 7, granted 0'
+  wants 0 "job 0: $refused\njob 1: $refused\njob 2: $refused\njob 3: $refused\ngranted 0 of 0\n" '' pool --workers $workers --budget 0
+  "$top/bin/zsched" pool --workers $workers --budget 5 <"$work/in" >"$work/out" 2>"$work/err" &&
+    grep -q 'budget refused' "$work/out" && [ "$(tail -n 1 "$work/out")" = 'granted 5 of 5' ] && [ ! -s "$work/err" ] &&
+    [ "$(sed -n 's/^job.*granted //p' "$work/out" | paste -sd+ | bc)" = 5 ] ||
+    { echo "tests/program.sh: a budget of 5 with $workers workers: $(cat "$work/out" "$work/err")" >&2; failed=1; }
+done
+input '[]'
+wants 0 'granted 0 of 100\n' '' pool
+input '[{"plan":{"recurs":5},"runs":[{"lost":7},{"lost":7},{"won":1}]}]'
+wants 0 'job 0: won 1, granted 2\ngranted 2 of 100\n' '' pool
+wants 6 'job 0: not over, granted 0\ngranted 0 of 100\n' 'zsched: not finished\n' pool --turns 0
+input '[{"plan":{"recurs":1},"runs":[{"lost":7},{"lost":8}]}]'
+wants 0 'job 0: schedule done, failure 8, granted 1\ngranted 1 of 100\n' '' pool
+input '[{"plan":{"recurs":5},"runs":[{"lost":7},{"lost":8}]}]'
+wants 0 'job 0: budget refused, failure 8, granted 1\ngranted 1 of 1\n' '' pool --budget 1
+input '[{"plan":"forever","runs":[{"lost":7}]}]'
+wants 0 'job 0: budget refused, failure 7, granted 10000\ngranted 10000 of 10000\n' '' pool --budget 10000
+wants 6 'job 0: broken, journal full, granted 65536\ngranted 65536 of 100000\n' 'zsched: not finished\n' pool --budget 100000
+input '['
+wants 3 '' 'zsched: not JSON\n' pool
+input '{}'
+wants 3 '' 'zsched: not a plan\n' pool
+input '[{"plan":7,"runs":[]}]'
+wants 3 '' 'zsched: number out of range\n' pool
+printf '[{"plan":%s,"runs":[{"won":1}]}]' "$deep" >"$work/in"
+wants 3 '' 'zsched: too deep\n' pool
+printf '[{"plan":%s,"runs":[{"won":1}]}]' "$wide" >"$work/in"
+wants 3 '' 'zsched: too many nodes\n' pool
 
 # Standard input that is a folder can't be read, but a bad command line is refused before anything is.
 rm "$work/in"

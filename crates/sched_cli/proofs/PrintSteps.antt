@@ -51,7 +51,7 @@ all_steps s o n now d pending old new printed last =
     subst (λ k. WritesAllBut old new (lines_text s (run s o k)) pending) last printed.wrote
 
 -- where writing stops in a front of the text, it stops in the text
-front_of_text : (old new : Option (List ℕ)) (front text : List ℕ) (fault : PrintFault) → IsFront front text →
+pub front_of_text : (old new : Option (List ℕ)) (front text : List ℕ) (fault : PrintFault) → IsFront front text →
     WritesText old new front (Err fault) → WritesText old new text (Err fault)
 front_of_text old new front text WriteFailed is wrote = (wrote.0, IsFront-trans wrote.0 front text wrote.1 is, wrote.2)
 front_of_text old new front text NoMemory is wrote = (wrote.0, IsFront-trans wrote.0 front text wrote.1 is, wrote.2)

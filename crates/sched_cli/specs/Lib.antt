@@ -5,3 +5,4 @@ pub mod Status
 pub mod Whole
 pub mod PlanText
 pub mod Printing
+pub mod PoolPrinting

@@ -4,6 +4,7 @@
 mod counts;
 mod faults;
 mod options;
+mod pools;
 mod printing;
 mod streams;
 #[cfg(test)]
@@ -13,7 +14,10 @@ mod words;
 
 pub use counts::Counted;
 pub use faults::{PrintFault, WordsFault};
-pub use options::{Asked, MOST_STEPS, PlanOptions};
+pub use options::{
+    Asked, MOST_STEPS, MOST_TICKETS, MOST_TURNS, MOST_WORKERS, PlanOptions, PoolOptions,
+};
+pub use pools::print_pool;
 pub use printing::print_plan;
 pub use streams::{Sink, Source};
 pub use whole::LONGEST_INPUT;

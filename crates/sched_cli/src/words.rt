@@ -1,8 +1,10 @@
 ghost use Rattle.std.specs.Prelude.{IfOk, IfSome};
-ghost use Rattle.sched_cli.specs.Options.{AreInRange, IsAskedInRange};
+ghost use Rattle.sched_cli.specs.Options.{AreInRange, PoolIsInRange, IsAskedInRange};
 
 use crate::faults::WordsFault;
-use crate::options::{Asked, MOST_STEPS, PlanOptions};
+use crate::options::{
+    Asked, MOST_STEPS, MOST_TICKETS, MOST_TURNS, MOST_WORKERS, PlanOptions, PoolOptions,
+};
 use clap::error::ErrorKind;
 use clap::{Arg, ArgMatches, Command, Error, value_parser};
 use sched_time::{FAR, Millis, Moment};
@@ -27,7 +29,8 @@ fn zsched_command<'a>(alloc: Global) -> Result<Command<'a>, AllocError> {
     Command::new(alloc, "zsched")
         .about("Runs recurrence schedules on a virtual clock")
         .subcommand_required(true)
-        .subcommand(plan_command(alloc)?)
+        .subcommand(plan_command(alloc)?)?
+        .subcommand(pool_command(alloc)?)
 }
 
 fn plan_command<'a>(alloc: Global) -> Result<Command<'a>, AllocError> {
@@ -55,6 +58,23 @@ fn plan_command<'a>(alloc: Global) -> Result<Command<'a>, AllocError> {
         .arg(word)
 }
 
+fn pool_command<'a>(alloc: Global) -> Result<Command<'a>, AllocError> {
+    let workers = number_option(alloc, "workers", "N", "1")
+        .value_parser(value_parser!(u64).range(1..=MOST_WORKERS as i64))
+        .help("How many workers run the jobs, from 1 to 16");
+    let budget = number_option(alloc, "budget", "N", "100")
+        .value_parser(value_parser!(u64).range(0..=MOST_TICKETS as i64))
+        .help("How many retries all jobs may have together, from 0 to 4294967296");
+    let turns = number_option(alloc, "turns", "N", "1000000")
+        .value_parser(value_parser!(u64).range(0..=MOST_TURNS as i64))
+        .help("How many turns each worker takes at most, from 0 to 4294967296");
+    Command::new(alloc, "pool")
+        .about("Reads jobs as JSON from standard input, runs them and prints how each ended")
+        .arg(workers)?
+        .arg(budget)?
+        .arg(turns)
+}
+
 // An option `--NAME VALUE` with its default.
 fn number_option<'a>(alloc: Global, name: &'a str, value: &'a str, default: &'a str) -> Arg<'a> {
     Arg::new(alloc, name)
@@ -73,10 +93,10 @@ fn asked(matches: &ArgMatches<'_>) -> Option<Asked>
     ensures { IfSome result IsAskedInRange }
 {
     let (name, options) = matches.subcommand()?;
-    if name == "plan" {
-        Some(Asked::Plan(plan_options(options)?))
-    } else {
-        None
+    match name {
+        "plan" => Some(Asked::Plan(plan_options(options)?)),
+        "pool" => Some(Asked::Pool(pool_options(options)?)),
+        _ => None,
     }
 }
 
@@ -97,6 +117,22 @@ fn plan_options(options: &ArgMatches<'_>) -> Option<PlanOptions>
         took,
         input,
         word,
+    })
+}
+
+fn pool_options(options: &ArgMatches<'_>) -> Option<PoolOptions>
+    ensures { IfSome result PoolIsInRange }
+{
+    let workers = options.get_one::<u64>("workers")?;
+    let budget = options.get_one::<u64>("budget")?;
+    let turns = options.get_one::<u64>("turns")?;
+    if workers < 1 || workers > MOST_WORKERS || budget > MOST_TICKETS || turns > MOST_TURNS {
+        return None;
+    }
+    Some(PoolOptions {
+        workers,
+        budget,
+        turns,
     })
 }
 

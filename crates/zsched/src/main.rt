@@ -5,13 +5,21 @@ ghost use Rattle.std.specs.Prelude.{◌≡◌, MatchResult};
 ghost use Rattle.std.specs.Process.{exit_status};
 ghost use Rattle.sched_cli.specs.Status.{print_status};
 
-use sched_cli::{Asked, Counted, PlanOptions, PrintFault, WordsFault, print_plan, read_words};
+use sched_cli::{
+    Asked, Counted, PlanOptions, PrintFault, WordsFault, print_plan, print_pool, read_words,
+};
 use std::process::ExitCode;
 use std::{env, io};
 
 fn main(rt: HostRuntime) -> ExitCode {
     match asked(&rt) {
         Ok(Asked::Plan(options)) => ended(&rt, plan(&rt, &options)),
+        Ok(Asked::Pool(options)) => {
+            let mut reader = Counted::new(rt.stdin());
+            let mut writer = Counted::new(rt.stdout());
+            let printed = print_pool(&rt, rt.alloc(), &mut reader, &mut writer, &options);
+            ended(&rt, printed)
+        }
         Err(WordsFault::Help(text)) => match print!(rt; "{text}") {
             Ok(()) => ExitCode::SUCCESS,
             Err(_) => ended(&rt, Err(PrintFault::WriteFailed)),

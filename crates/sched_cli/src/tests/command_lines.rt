@@ -1,4 +1,4 @@
-use crate::{Asked, PlanOptions, WordsFault, read_words};
+use crate::{Asked, PlanOptions, PoolOptions, WordsFault, read_words};
 use std::alloc::Global;
 use std::test::Fail;
 
@@ -14,8 +14,25 @@ fn numbers(options: &PlanOptions) -> (u64, u64, u64, u64, u32) {
 }
 
 fn plan_of(alloc: Global, words: &[&str]) -> Result<(u64, u64, u64, u64, u32), WordsFault> {
-    let Asked::Plan(options) = read_words(alloc, words)?;
-    Ok(numbers(&options))
+    match read_words(alloc, words)? {
+        Asked::Plan(options) => Ok(numbers(&options)),
+        Asked::Pool(_) => Err(WordsFault::Bad),
+    }
+}
+
+// The options of a pool in the order workers, budget, turns.
+fn pool_of(alloc: Global, words: &[&str]) -> Result<(u64, u64, u64), WordsFault> {
+    match read_words(alloc, words)? {
+        Asked::Pool(options) => {
+            let PoolOptions {
+                workers,
+                budget,
+                turns,
+            } = options;
+            Ok((workers, budget, turns))
+        }
+        Asked::Plan(_) => Err(WordsFault::Bad),
+    }
 }
 
 fn help_of(alloc: Global, words: &[&str]) -> Result<String, WordsFault> {
@@ -77,12 +94,76 @@ fn the_ends_of_each_range_are_read(rt: HostRuntime) -> Result<(), Fail> {
 }
 
 #[test]
+fn a_pool_s_options_have_defaults(rt: HostRuntime) -> Result<(), Fail> {
+    let plain = pool_of(rt.alloc(), &["zsched", "pool"])?;
+    assert_eq!(rt; plain, (1, 100, 1000000));
+    let two = pool_of(rt.alloc(), &["zsched", "pool", "--workers", "2"])?;
+    assert_eq!(rt; two, (2, 100, 1000000));
+    Ok(())
+}
+
+#[test]
+fn each_option_of_a_pool_has_its_own_value(rt: HostRuntime) -> Result<(), Fail> {
+    let words = [
+        "zsched",
+        "pool",
+        "--turns",
+        "3",
+        "--budget=2",
+        "--workers",
+        "1",
+    ];
+    assert_eq!(rt; pool_of(rt.alloc(), &words)?, (1, 2, 3));
+    Ok(())
+}
+
+#[test]
+fn the_ends_of_a_pool_s_ranges_are_read(rt: HostRuntime) -> Result<(), Fail> {
+    let far = "4294967296";
+    let most = [
+        "zsched",
+        "pool",
+        "--workers",
+        "16",
+        "--budget",
+        far,
+        "--turns",
+        far,
+    ];
+    assert_eq!(rt; pool_of(rt.alloc(), &most)?, (16, 4294967296, 4294967296));
+    let least = ["zsched", "pool", "--budget", "0", "--turns", "0"];
+    assert_eq!(rt; pool_of(rt.alloc(), &least)?, (1, 0, 0));
+    Ok(())
+}
+
+#[test]
+fn a_pool_with_a_bad_option_is_a_bad_command_line(rt: HostRuntime) {
+    let past = "4294967297";
+    let table: [&[&str]; 8] = [
+        &["zsched", "plan", "--workers", "1"],
+        &["zsched", "pool", "--steps", "1"],
+        &["zsched", "pool", "--workers", "0"],
+        &["zsched", "pool", "--workers", "17"],
+        &["zsched", "pool", "--budget", past],
+        &["zsched", "pool", "--turns", past],
+        &["zsched", "pool", "--turns", "-1"],
+        &["zsched", "pool", "--turns"],
+    ];
+    for (row, words) in table.iter().enumerate() {
+        let answer = read_words(rt.alloc(), words);
+        assert!(rt;
+            matches!(answer, Err(WordsFault::Bad)),
+            "row {row}: {answer:?}"
+        );
+    }
+}
+
+#[test]
 fn what_is_no_task_is_a_bad_command_line(rt: HostRuntime) {
     let past_far = "4611686018427387904";
-    let table: [&[&str]; 20] = [
+    let table: [&[&str]; 19] = [
         &[],
         &["zsched"],
-        &["zsched", "pool"],
         &["zsched", "plan", "pool"],
         &["zsched", "plan", "--none"],
         &["zsched", "--steps", "1"],
@@ -113,7 +194,9 @@ fn what_is_no_task_is_a_bad_command_line(rt: HostRuntime) {
 #[test]
 fn help_names_the_subcommand_and_each_option(rt: HostRuntime) -> Result<(), Fail> {
     let text = help_of(rt.alloc(), &["zsched", "--help"])?;
-    assert!(rt; text.as_str().contains("plan"), "{text}");
+    for name in ["plan", "pool"] {
+        assert!(rt; text.as_str().contains(name), "{name} in {text}");
+    }
     let text = help_of(rt.alloc(), &["zsched", "plan", "--help"])?;
     for option in [
         "--steps",
@@ -124,6 +207,10 @@ fn help_names_the_subcommand_and_each_option(rt: HostRuntime) -> Result<(), Fail
         "2147483648",
         "[default: 10]",
     ] {
+        assert!(rt; text.as_str().contains(option), "{option} in {text}");
+    }
+    let text = help_of(rt.alloc(), &["zsched", "pool", "--help"])?;
+    for option in ["--workers", "--budget", "--turns", "[default: 1000000]"] {
         assert!(rt; text.as_str().contains(option), "{option} in {text}");
     }
     Ok(())
