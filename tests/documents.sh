@@ -1,7 +1,8 @@
 #!/usr/bin/env bash
-# Compares every printed plan in README.md and docs/ with what the program prints. A `sh` block with a line
-# `bin/zsched WORDS < plans/NAME.json` is followed by a `text` block, its whole output; a `json` block before it, under
-# the same heading, is the file's text. It fails where one of them differs, and where no document prints a plan.
+# Compares every printed plan and pool of jobs in README.md and docs/ with what the program prints. A `sh` block with a
+# line `bin/zsched WORDS < plans/NAME.json`, or `< jobs/NAME.json`, is followed by a `text` block, its whole output; a
+# `json` block before it, under the same heading, is the file's text. It fails where one of them differs, and where no
+# document prints a plan or a pool of these folders.
 set -euo pipefail
 top=$(cd "$(dirname "${BASH_SOURCE[0]}")/.." && pwd)
 work=$(mktemp -d)
@@ -22,21 +23,21 @@ same_as() {
   fi
 }
 
-# takes_command LINE: notes a line that runs zsched on a plan, without the remark after it, and compares the json block
+# takes_command LINE: notes a line that runs zsched on a file, without the remark after it, and compares the json block
 takes_command() {
   local line=${1%%#*}
   case $line in
-    bin/zsched\ *\<*plans/*.json*) ;;
+    bin/zsched\ *\<*plans/*.json* | bin/zsched\ *\<*jobs/*.json*) ;;
     *) return 0 ;;
   esac
   [ -z "$command" ] || fails "$document: no text follows $command"
   command=${line%"${line##*[! ]}"}
-  plan=${line##*<}
-  plan=${plan// /}
-  echo "$plan" >>"$work/used"
+  input=${line##*<}
+  input=${input// /}
+  echo "$input" >>"$work/used"
   if [ -s "$work/json" ]; then
     cp "$work/json" "$work/block"
-    same_as "$top/$plan" "the text of $plan"
+    same_as "$top/$input" "the text of $input"
   fi
 }
 
@@ -44,7 +45,7 @@ takes_command() {
 compares_output() {
   local words=${command#bin/zsched }
   read -r -a words <<<"${words%%<*}"
-  if ! "$top/bin/zsched" "${words[@]}" <"$top/$plan" >"$work/out"; then
+  if ! "$top/bin/zsched" "${words[@]}" <"$top/$input" >"$work/out"; then
     fails "$document: $command: it ends with a fault"
   fi
   same_as "$work/out" "what $command prints"
@@ -57,7 +58,7 @@ reads_document() {
   local kind='' line
   document=$1
   command=
-  plan=
+  input=
   : >"$work/json"
   while IFS= read -r line || [ -n "$line" ]; do
     case $kind:$line in
@@ -84,12 +85,12 @@ for document in README.md $(cd "$top" && ls docs/*.md); do
   reads_document "$document"
 done
 
-for plan in $(cd "$top" && ls plans/*.json); do
-  grep -qxF "$plan" "$work/used" || fails "no document prints $plan"
+for input in $(cd "$top" && ls plans/*.json jobs/*.json); do
+  grep -qxF "$input" "$work/used" || fails "no document prints $input"
 done
 
 if [ "$failed" = 0 ]; then
-  echo "tests/documents.sh: the documents print $printed plans as the program does"
+  echo "tests/documents.sh: the documents print $printed plans and pools of jobs as the program does"
 else
   exit 1
 fi

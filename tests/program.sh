@@ -31,9 +31,37 @@ helps() {
   fi
 }
 
+# wants_shared JOBS TICKETS WORD..: zsched runs the pool of such jobs in $work/in, each lost until its schedule is done
+# after three tickets or the budget gives none, and they have all the tickets of the budget between them
+wants_shared() {
+  local jobs=$1 tickets=$2 got=0
+  shift 2
+  "$top/bin/zsched" "$@" <"$work/in" >"$work/out" 2>"$work/err" || got=$?
+  if [ "$got" != 0 ] || [ -s "$work/err" ] || ! awk -v jobs="$jobs" -v tickets="$tickets" '
+    NR > jobs { total = total $0; next }
+    { job = "job " (NR - 1) ": "; granted += $NF }
+    $0 == job "schedule done, failure 7, granted 3" { next }
+    $0 !~ "^" job "budget refused, failure 7, granted [0-2]$" { wrong = 1 }
+    END { exit wrong || NR != jobs + 1 || granted != tickets || total != "granted " tickets " of " tickets }
+  ' "$work/out"; then
+    echo "tests/program.sh: zsched $*: status $got; output $(head -c 200 "$work/out"); errors $(head -c 200 "$work/err")" >&2
+    failed=1
+  fi
+}
+
 input() { printf '%b' "$1" >"$work/in"; }
 
+# repeated COUNT TEXT: the text so many times, parted by commas
+repeated() {
+  local comma=
+  for _ in $(seq "$1"); do
+    printf '%s%s' "$comma" "$2"
+    comma=,
+  done
+}
+
 "$top/bin/zsched" plan --steps 0 <<<'"forever"'
+lost='{"plan":{"recurs":3},"runs":[{"lost":7}]}'
 
 cp "$top/plans/three-times.json" "$work/in"
 wants 0 '0: (0, 0) next 100\n100: (1, 1) next 200\n200: (2, 2) next 300\n300: (3, 3) done\n' '' plan
@@ -49,10 +77,15 @@ wants 0 '5: 0 next 5\n' '' plan --steps 1 --from 5 --input 8
 wants 0 '5: 0 done\n' '' plan --from 5 --input 9
 helps --help
 helps plan --help
+helps pool --help
 wants 2 '' 'zsched: bad command line\n'
 wants 2 '' 'zsched: bad command line\n' plan --steps 4097
 wants 2 '' 'zsched: bad command line\n' plan --none
+wants 2 '' 'zsched: bad command line\n' pool --workers 0
 wants 2 '' 'zsched: bad command line\n' pool --workers 17
+wants 2 '' 'zsched: bad command line\n' pool --budget 4294967297
+wants 2 '' 'zsched: bad command line\n' pool --turns 4294967297
+wants 2 '' 'zsched: bad command line\n' pool --steps 1
 wants 2 '' 'zsched: bad command line\n' plan --from $'\xff'
 { printf '"forever"'; head -c 1048568 /dev/zero | tr '\0' ' '; } >"$work/in"
 wants 3 '' 'zsched: input too long\n' plan
@@ -82,20 +115,8 @@ for _ in $(seq 8); do wide="{\"meet\":[$wide,$wide]}"; done
 printf '%s' "$wide" >"$work/in"
 wants 3 '' 'zsched: too many nodes\n' plan
 
-job='{"plan":{"recurs":3},"runs":[{"lost":7}]}'
-done='schedule done, failure 7, granted 3'
-for workers in 1 2 16; do
-  input "[$job,$job,$job,$job]"
-  wants 0 "job 0: $done\njob 1: $done\njob 2: $done\njob 3: $done\ngranted 12 of 100\n" '' pool --workers $workers
-  refused='budget refused, failure 7, granted 0'
-  wants 0 "job 0: $refused\njob 1: $refused\njob 2: $refused\njob 3: $refused\ngranted 0 of 0\n" '' pool --workers $workers --budget 0
-  "$top/bin/zsched" pool --workers $workers --budget 5 <"$work/in" >"$work/out" 2>"$work/err" &&
-    grep -q 'budget refused' "$work/out" && [ "$(tail -n 1 "$work/out")" = 'granted 5 of 5' ] && [ ! -s "$work/err" ] &&
-    [ "$(sed -n 's/^job.*granted //p' "$work/out" | paste -sd+ | bc)" = 5 ] ||
-    { echo "tests/program.sh: a budget of 5 with $workers workers: $(cat "$work/out" "$work/err")" >&2; failed=1; }
-done
-input '[]'
-wants 0 'granted 0 of 100\n' '' pool
+cp "$top/jobs/three-calls.json" "$work/in"
+wants 0 'job 0: won 1, granted 2\njob 1: schedule done, failure 8, granted 1\njob 2: won 200, granted 0\ngranted 3 of 100\n' '' pool --workers 2
 input '[{"plan":{"recurs":5},"runs":[{"lost":7},{"lost":7},{"won":1}]}]'
 wants 0 'job 0: won 1, granted 2\ngranted 2 of 100\n' '' pool
 wants 6 'job 0: not over, granted 0\ngranted 0 of 100\n' 'zsched: not finished\n' pool --turns 0
@@ -106,30 +127,97 @@ wants 0 'job 0: budget refused, failure 8, granted 1\ngranted 1 of 1\n' '' pool 
 input '[{"plan":"forever","runs":[{"lost":7}]}]'
 wants 0 'job 0: budget refused, failure 7, granted 10000\ngranted 10000 of 10000\n' '' pool --budget 10000
 wants 6 'job 0: broken, journal full, granted 65536\ngranted 65536 of 100000\n' 'zsched: not finished\n' pool --budget 100000
+input '[{"runs":[{"lost":9}],"plan":{"within":[100,{"spaced":60}]}}]'
+wants 0 'job 0: schedule done, failure 9, granted 2\ngranted 2 of 4294967296\n' '' pool --budget 4294967296 --turns 4294967296
+
+four="[$(repeated 4 "$lost")]"
+all_done=
+all_refused=
+not_over=
+for number in 0 1 2 3; do
+  all_done+="job $number: schedule done, failure 7, granted 3\n"
+  all_refused+="job $number: budget refused, failure 7, granted 0\n"
+  not_over+="job $number: not over, granted 0\n"
+done
+for workers in 1 2 16; do
+  input "$four"
+  wants 0 "${all_done}granted 12 of 100\n" '' pool --workers $workers
+  wants 0 "${all_refused}granted 0 of 0\n" '' pool --workers $workers --budget 0
+  wants_shared 4 5 pool --workers $workers --budget 5
+  wants 6 "${not_over}granted 0 of 100\n" 'zsched: not finished\n' pool --workers $workers --turns 0
+  input '[]'
+  wants 0 'granted 0 of 100\n' '' pool --workers $workers
+  wants 0 'granted 0 of 0\n' '' pool --workers $workers --budget 0 --turns 0
+done
+# Which jobs get the tickets is open, how many are granted is not.
+input "$four"
+for _ in $(seq 200); do
+  wants_shared 4 5 pool --workers 16 --budget 5
+done
+input "[$(repeated 4096 "$lost")]"
+for budget in 0 5 10000; do
+  wants_shared 4096 $budget pool --workers 16 --budget $budget
+done
+
+# Of a bad text the first fault is told: the array, the number of jobs, and of each job in turn its members, the number
+# of its runs, each run, and its plan.
+past_far=4611686018427387904
+too_deep="{\"plan\":$deep,\"runs\":[{\"won\":1}]}"
 input '['
 wants 3 '' 'zsched: not JSON\n' pool
 input '{}'
 wants 3 '' 'zsched: not a plan\n' pool
+input "[$(repeated 4097 7)]"
+wants 3 '' 'zsched: number out of range\n' pool
+input "[$(repeated 4096 7)]"
+wants 3 '' 'zsched: not a plan\n' pool
+input '[{"plan":7,"runs":[],"more":1}]'
+wants 3 '' 'zsched: not a plan\n' pool
+input '[{"runs":[]}]'
+wants 3 '' 'zsched: not a plan\n' pool
 input '[{"plan":7,"runs":[]}]'
 wants 3 '' 'zsched: number out of range\n' pool
-printf '[{"plan":%s,"runs":[{"won":1}]}]' "$deep" >"$work/in"
+input "[{\"plan\":7,\"runs\":[$(repeated 65 7)]}]"
+wants 3 '' 'zsched: number out of range\n' pool
+input "[{\"plan\":\"forever\",\"runs\":[$(repeated 63 '{"lost":7}'),{\"won\":$((past_far - 1))}]}]"
+wants 0 "job 0: won $((past_far - 1)), granted 63\ngranted 63 of 100\n" '' pool
+input "[{\"plan\":{\"fixed\":0},\"runs\":[{\"won\":1},{\"none\":$past_far}]}]"
+wants 3 '' 'zsched: not a plan\n' pool
+input "[{\"plan\":7,\"runs\":[{\"won\":$past_far},7]}]"
+wants 3 '' 'zsched: number out of range\n' pool
+input '[{"plan":7,"runs":[{"won":1}]}]'
+wants 3 '' 'zsched: not a plan\n' pool
+input '[{"plan":{"fixed":0},"runs":[{"won":1}]}]'
+wants 3 '' 'zsched: number out of range\n' pool
+input "[$lost,$too_deep,7]"
 wants 3 '' 'zsched: too deep\n' pool
-printf '[{"plan":%s,"runs":[{"won":1}]}]' "$wide" >"$work/in"
+input "[$lost,7,$too_deep]"
+wants 3 '' 'zsched: not a plan\n' pool
+input "[{\"plan\":$wide,\"runs\":[{\"won\":1}]}]"
 wants 3 '' 'zsched: too many nodes\n' pool
+{ printf '[]'; head -c 1048574 /dev/zero | tr '\0' ' '; } >"$work/in"
+wants 0 'granted 0 of 100\n' '' pool
+printf ' ' >>"$work/in"
+wants 3 '' 'zsched: input too long\n' pool
 
 # Standard input that is a folder can't be read, but a bad command line is refused before anything is.
 rm "$work/in"
 mkdir "$work/in"
 wants 4 '' 'zsched: read failed\n' plan
+wants 4 '' 'zsched: read failed\n' pool
 wants 2 '' 'zsched: bad command line\n' plan --none
+wants 2 '' 'zsched: bad command line\n' pool --workers 17
 rmdir "$work/in"
 
 # A full device can't be written.
-got=0
-"$top/bin/zsched" plan <<<'"forever"' >/dev/full 2>"$work/err" || got=$?
 printf 'zsched: write failed\n' >"$work/err.want"
-[ "$got" = 4 ] && cmp -s "$work/err" "$work/err.want" ||
-  { echo "tests/program.sh: a write that fails: status $got" >&2; failed=1; }
+for word in plan pool; do
+  got=0
+  case $word in plan) input '"forever"' ;; pool) input '[]' ;; esac
+  "$top/bin/zsched" $word <"$work/in" >/dev/full 2>"$work/err" || got=$?
+  [ "$got" = 4 ] && cmp -s "$work/err" "$work/err.want" ||
+    { echo "tests/program.sh: zsched $word: a write that fails: status $got" >&2; failed=1; }
+done
 
 if [ "$failed" = 0 ]; then
   echo "tests/program.sh: every run of the program is as wanted"

@@ -1,5 +1,6 @@
 // Loaded before the C library, it refuses one growth that the program asks for: the one whose number stands in
-// REFUSE_AT. It then writes one byte to descriptor 9. What the C library asks for itself is not counted.
+// REFUSE_AT. It then writes one byte to descriptor 9. What the C library asks for itself is not counted. At each start of
+// a thread it writes to descriptor 8 how many growths the program has asked for so far.
 //
 // It declares what it uses of the C library itself, since the kit has a compiler and no headers.
 
@@ -27,6 +28,7 @@ size_t malloc_usable_size(void *block);
 char *getenv(const char *name);
 long atol(const char *text);
 long write(int descriptor, const void *bytes, size_t count);
+int dprintf(int descriptor, const char *form, ...);
 
 static address program_start, program_end;
 static long asked, refuse_at = -1;
@@ -50,7 +52,7 @@ static int is_refused(void *from) {
         dl_iterate_phdr(first_object, 0);
     }
     if ((address)from < program_start || (address)from >= program_end) return 0;
-    if (++asked != refuse_at) return 0;
+    if (__atomic_add_fetch(&asked, 1, __ATOMIC_SEQ_CST) != refuse_at) return 0;
     write(9, "x", 1);
     return 1;
 }
@@ -67,4 +69,11 @@ void *realloc(void *block, size_t size) {
     // A block that has the room already does not grow.
     if (block && malloc_usable_size(block) >= size) return real(block, size);
     return is_refused(__builtin_return_address(0)) ? 0 : real(block, size);
+}
+
+int pthread_create(void *thread, const void *how, void *(*entry)(void *), void *data) {
+    static int (*real)(void *, const void *, void *(*)(void *), void *);
+    if (!real) real = (int (*)(void *, const void *, void *(*)(void *), void *))dlsym(NEXT, "pthread_create");
+    dprintf(8, "%ld\n", __atomic_load_n(&asked, __ATOMIC_SEQ_CST));
+    return real(thread, how, entry, data);
 }

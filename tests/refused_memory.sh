@@ -2,7 +2,8 @@
 # Refuses each growth of the built programs in turn, upwards until a run meets no refusal. Where one is refused zsched
 # has to end for want of memory, with a front of its output written; no other answer may change. A budget that was
 # refused, and a driver whose step was, have to be as before, and the same call has to succeed when it is made again. A
-# task whose poll was refused one has to be broken for good, with its driver as before.
+# task whose poll was refused one has to be broken for good, with its driver as before. A pool of jobs may also answer
+# that a worker was not started, or have one job that is broken.
 set -euo pipefail
 top=$(cd "$(dirname "${BASH_SOURCE[0]}")/.." && pwd)
 work=$(mktemp -d)
@@ -17,10 +18,13 @@ compiler=("$toolchain/clang" "-fuse-ld=$toolchain/ld.lld")
 [ -x "$toolchain/clang" ] || compiler=(cc)
 "${compiler[@]}" -O1 -shared -fPIC -nostdlib -o "$work/refuse.so" "$top/tests/refuse.c"
 printf 'zsched: no memory\n' >"$work/no_memory"
+printf 'zsched: worker not started\n' >"$work/not_started"
+printf 'zsched: not finished\n' >"$work/not_finished"
 
-# with_refused GROWTH PROGRAM WORD..: a run in which this growth is refused; $work/refused is empty where none was
+# with_refused GROWTH PROGRAM WORD..: a run in which this growth is refused; $work/refused is empty where none was, and
+# $work/starts has a line for each thread that was started, with the number of growths before it
 with_refused() {
-  LD_PRELOAD="$work/refuse.so" REFUSE_AT=$1 "${@:2}" >"$work/out" 2>"$work/err" 9>"$work/refused"
+  LD_PRELOAD="$work/refuse.so" REFUSE_AT=$1 "${@:2}" >"$work/out" 2>"$work/err" 8>"$work/starts" 9>"$work/refused"
 }
 
 # is_front: what the run wrote is a front of the whole output
@@ -49,6 +53,55 @@ refuses() {
   [ "$growth" -gt 1 ] && [ "$status" = "$wanted" ] && cmp -s "$work/out" "$work/out.whole" &&
     cmp -s "$work/err" "$work/err.whole" || wrong none "$status" "zsched $*"
   echo "tests/refused_memory.sh: zsched $*: $((growth - 1)) growths refused in turn"
+}
+
+# breaks_one: one job is broken by want of memory, all others end as they do without a refusal, and the total is the sum
+# of the lines
+breaks_one() {
+  awk '
+    NR == FNR { whole[FNR] = $0; granted[FNR] = $NF; lines = FNR; next }
+    FNR == lines { total = $0; next }
+    { sum += $NF }
+    $0 ~ "^job " (FNR - 1) ": broken, no memory, granted [0-9]+$" && $NF <= granted[FNR] { broken++; next }
+    $0 != whole[FNR] { wrong = 1 }
+    END { exit wrong || broken != 1 || FNR != lines || total != "granted " (sum + 0) " of 100" }
+  ' "$work/out.whole" "$work/out"
+}
+
+# refuses_pool WORKERS INPUT: each growth of a pool whose jobs are all over with a budget of 100. A refusal to start a
+# thread has to be met at the last growth before it; which one that is is known of one worker only. One that is refused
+# after the last poll of a worker, where its queue ends, changes nothing.
+refuses_pool() {
+  local workers=$1 input=$2 growth=0 no_memory=0 not_started=0 broken=0 same=0 status started
+  local run=("$top/crates/zsched/out/zsched" pool --workers "$workers")
+  printf '%s' "$input" >"$work/in"
+  with_refused 0 "${run[@]}" <"$work/in" || wrong none $? "zsched pool --workers $workers"
+  cp "$work/out" "$work/out.whole"
+  started=$(cat "$work/starts")
+  [ "$(wc -l <"$work/starts")" = "$workers" ] || wrong none "threads $started" "zsched pool --workers $workers"
+  while :; do
+    growth=$((growth + 1))
+    status=0
+    with_refused "$growth" "${run[@]}" <"$work/in" || status=$?
+    [ -s "$work/refused" ] || break
+    if [ "$status" = 5 ] && cmp -s "$work/err" "$work/no_memory" && is_front; then
+      no_memory=$((no_memory + 1))
+    elif [ "$status" = 7 ] && cmp -s "$work/err" "$work/not_started" && [ ! -s "$work/out" ] &&
+      { [ "$workers" != 1 ] || [ "$growth" = "$started" ]; }; then
+      not_started=$((not_started + 1))
+    elif [ "$status" = 6 ] && cmp -s "$work/err" "$work/not_finished" && breaks_one; then
+      broken=$((broken + 1))
+    elif [ "$status" = 0 ] && [ ! -s "$work/err" ] && cmp -s "$work/out" "$work/out.whole"; then
+      same=$((same + 1))
+    else
+      wrong "$growth" "$status" "zsched pool --workers $workers"
+    fi
+  done
+  [ "$status" = 0 ] && [ ! -s "$work/err" ] && cmp -s "$work/out" "$work/out.whole" && [ "$no_memory" -gt 0 ] &&
+    [ "$not_started" -gt 0 ] && [ "$broken" -gt 0 ] && [ "$same" -le "$workers" ] ||
+    wrong none "$status" "zsched pool --workers $workers"
+  echo "tests/refused_memory.sh: zsched pool --workers $workers: $((growth - 1)) growths refused in turn:" \
+    "no memory $no_memory, not started $not_started, a broken job $broken, no change $same"
 }
 
 # Each growth of a program that makes a refused call again: where one was refused, the line with the fault is the line
@@ -133,6 +186,15 @@ refuses 3 '{"meet":[{"fixed":0},"forever"]}' plan
 refuses 3 '{"meet":[' plan
 refuses 2 '' plan --steps 4097
 refuses 0 '' plan --help
+refuses 3 '[{"plan":{"recurs":3},"runs":[{"lost":7},{"won":-1}]}]' pool
+refuses 3 '[{"plan":"forever","runs":[]}]' pool
+refuses 2 '' pool --workers 17
+job='{"plan":{"recurs":3},"runs":[{"lost":7}]}'
+for workers in 1 2; do
+  refuses_pool $workers "[$job,$job,$job,$job]"
+  refuses_pool $workers "$(cat "$top/jobs/three-calls.json")"
+  refuses_pool $workers '[{"plan":{"gather":["list",{"recurs":3}]},"runs":[{"lost":7}]},{"plan":"forever","runs":[{"won":1}]}]'
+done
 refuses_calls
 refuses_polls
 exit "$failed"
