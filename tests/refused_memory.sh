@@ -12,8 +12,8 @@ failed=0
 rt=$(command -v rt || echo /opt/rattle/bin/rt)
 toolchain=$(dirname "$("$rt" doc)")/toolchain/bin
 "$top/bin/zsched" plan --steps 0 <"$top/plans/three-times.json"
-(cd "$top/crates/refused_growths" && "$rt" run >&2)
-(cd "$top/crates/refused_polls" && "$rt" run >&2)
+"$top/bin/build" refused_growths
+"$top/bin/build" refused_polls
 compiler=("$toolchain/clang" "-fuse-ld=$toolchain/ld.lld")
 [ -x "$toolchain/clang" ] || compiler=(cc)
 "${compiler[@]}" -O1 -shared -fPIC -nostdlib -o "$work/refuse.so" "$top/tests/refuse.c"
