@@ -183,6 +183,8 @@ input "[{\"plan\":\"forever\",\"runs\":[$(repeated 63 '{"lost":7}'),{\"won\":$((
 wants 0 "job 0: won $((past_far - 1)), granted 63\ngranted 63 of 100\n" '' pool
 input "[{\"plan\":{\"fixed\":0},\"runs\":[{\"won\":1},{\"none\":$past_far}]}]"
 wants 3 '' 'zsched: not a plan\n' pool
+input '[{"plan":{"fixed":0},"runs":[{"lost":1,"won":1}]}]'
+wants 3 '' 'zsched: not a plan\n' pool
 input "[{\"plan\":7,\"runs\":[{\"won\":$past_far},7]}]"
 wants 3 '' 'zsched: number out of range\n' pool
 input '[{"plan":7,"runs":[{"won":1}]}]'

@@ -68,9 +68,9 @@ breaks_one() {
   ' "$work/out.whole" "$work/out"
 }
 
-# refuses_pool WORKERS INPUT: each growth of a pool whose jobs are all over with a budget of 100. A refusal to start a
-# thread has to be met at the last growth before it; which one that is is known of one worker only. One that is refused
-# after the last poll of a worker, where its queue ends, changes nothing.
+# refuses_pool WORKERS INPUT: each growth of a pool whose jobs are all over with a budget of 100. With one worker a thread
+# is not started only where the last growth before its start is refused, and one growth, where the worker's queue ends
+# after its last poll, changes nothing; with more it varies which growth is which.
 refuses_pool() {
   local workers=$1 input=$2 growth=0 no_memory=0 not_started=0 broken=0 same=0 status started
   local run=("$top/crates/zsched/out/zsched" pool --workers "$workers")
@@ -98,7 +98,7 @@ refuses_pool() {
     fi
   done
   [ "$status" = 0 ] && [ ! -s "$work/err" ] && cmp -s "$work/out" "$work/out.whole" && [ "$no_memory" -gt 0 ] &&
-    [ "$not_started" -gt 0 ] && [ "$broken" -gt 0 ] && [ "$same" -le "$workers" ] ||
+    [ "$not_started" -gt 0 ] && [ "$broken" -gt 0 ] && { [ "$workers" != 1 ] || [ "$same" -le 1 ]; } ||
     wrong none "$status" "zsched pool --workers $workers"
   echo "tests/refused_memory.sh: zsched pool --workers $workers: $((growth - 1)) growths refused in turn:" \
     "no memory $no_memory, not started $not_started, a broken job $broken, no change $same"
