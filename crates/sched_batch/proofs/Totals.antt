@@ -1,11 +1,11 @@
 -- What the close of a budget says of the jobs that drew on it.
-use Rattle.std.proofs.Common.{◌≡◌, ℕ, ◌+◌, ◌≤◌, true, false, List, [], length, subst, sym, ap, ◌∙◌, refl, arith}
+use Rattle.std.proofs.Common.{◌≡◌, ℕ, false, List, length, ap, ◌∙◌, arith}
 use Rattle.sched_ticket.specs.View.{terms}
 use Rattle.sched_ticket.specs.Held.{Name, Held}
 use Rattle.sched_ticket.specs.Calls.{IsWhole}
 use Rattle.sched_ticket.specs.declared.view.Terms.{Terms}
 use Rattle.sched_law.specs.Past.{Past}
-use Rattle.sched_pool.specs.Ends.{IsEnd, TotalsAgree, Agrees}
+use Rattle.sched_pool.specs.Ends.{TotalsAgree}
 use Rattle.sched_jobs.specs.Job.{Job}
 use Rattle.sched_batch.specs.Batch.{AreEndsOf, AreRun, IsNewEnd}
 

@@ -1,6 +1,5 @@
 -- What a printing of a pool answers follows from what its steps answer.
-use Rattle.std.proofs.Common.{◌≡◌, ℕ, List, Vec, Option, Result, Ok, Err, inl, inr}
-use Rattle.std.specs.declared.alloc.Global.{Global}
+use Rattle.std.proofs.Common.{ℕ, List, Option, Result, Ok, Err, inl, inr}
 use Rattle.std.proofs.KnownBytes.{Keeps-refl}
 use Rattle.sched_law.specs.Past.{Past}
 use Rattle.sched_jobs.specs.Job.{Job}

@@ -1,5 +1,5 @@
 -- What one event does to what is true while a plan's lines are written.
-use Rattle.std.proofs.Common.{◌≡◌, ℕ, ◌+◌, ◌≤◌, List, [], ◌∷◌, ◌++◌, length, Option, Some, None, Err, sym, ◌∙◌, ap, subst, append_assoc, arith, length-append}
+use Rattle.std.proofs.Common.{◌≡◌, ℕ, ◌+◌, ◌≤◌, List, [], ◌∷◌, ◌++◌, length, Option, Some, None, Err, sym, ◌∙◌, ap, subst, arith, length-append}
 use Rattle.sched_time.specs.Capped.{capped}
 use Rattle.sched_time.specs.Decision.{start_of}
 use Rattle.sched_time.specs.declared.numbers.TheConstants.{FAR}

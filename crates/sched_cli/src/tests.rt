@@ -4,6 +4,7 @@ mod fakes;
 mod fault_lines;
 mod printed_nodes;
 mod printed_plans;
+mod printed_pools;
 mod printings;
 mod texts;
 mod whole_streams;

@@ -1,4 +1,4 @@
-use Rattle.std.proofs.Common.{◌≡◌, List, subst, sym, ap, ◌∙◌}
+use Rattle.std.proofs.Common.{List, subst, sym, ap, ◌∙◌}
 use Rattle.sched_effect.specs.Played.{Follows}
 use Rattle.sched_effect.specs.declared.ran.Ran.{Ran}
 use Rattle.sched_driver.specs.Driven.{Driven}

@@ -1,11 +1,10 @@
-use Rattle.std.proofs.Common.{◌≡◌, ◌∷◌, ◌+◌, ◌++◌, ap, sym, subst, drop, ◌∙◌, string_bytes, arith}
+use Rattle.std.proofs.Common.{◌≡◌, ◌∷◌, ◌+◌, ◌++◌, ap, sym, drop, ◌∙◌, string_bytes, arith}
 use Rattle.std.proofs.lemmas.List.{drop_more, drop_all}
 use Rattle.std.proofs.lemmas.Result.{err_from_is_err_and}
 use Rattle.sched_law.specs.Past.{Past}
 use Rattle.sched_report.specs.PoolText.{line_text, job_text}
-use Rattle.sched_cli.specs.Whole.{WritesAllBut}
 use Rattle.sched_cli.proofs.Written.{closes}
-use Rattle.sched_cli.proofs.PoolLines.{pool_stopped, pool_goes_on, pool_stopped_in_line, pool_ends, pool_begins}
+use Rattle.sched_cli.proofs.PoolLines.{pool_stopped, pool_goes_on, pool_stopped_in_line, pool_ends}
 use Rattle.sched_cli.proofs.pools.write_ends.Goals as goal
 
 pub returns-in_err-push_line-clause-text : goal.returns-in_err-push_line-clause-text
