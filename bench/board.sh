@@ -14,8 +14,8 @@ bin/zsched plan --steps 0 <<< '"forever"'
 cp crates/zsched/out/zsched "$work/zsched"
 
 machine
-few=100
-many=1100
+few=10
+many=210
 alone=
 for workers in 1 2 "$(nproc)"; do
     poll=$(per_unit $((64 * (many - few))) "$(least "$work/board" "$workers" "$few")" "$(least "$work/board" "$workers" "$many")")

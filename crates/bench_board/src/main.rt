@@ -58,11 +58,13 @@ impl Effect for Toil {
 
 // Some 20 microseconds of work.
 fn compute() -> u32 {
-    let mut sum: u32 = 1;
-    for step in 0..10000 {
-        sum = sum.wrapping_mul(1664525).wrapping_add(step);
+    let mut word: u32 = 1;
+    for _ in 0..10000 {
+        word ^= word << 13;
+        word ^= word >> 17;
+        word ^= word << 5;
     }
-    sum
+    word
 }
 
 fn main(rt: HostRuntime) -> io::Result<()> {
@@ -134,7 +136,7 @@ fn stations(alloc: Global, workers: usize) -> Option<Vec<Station<VirtualClock, M
     let mut stations = Vec::new(alloc);
     for _ in 0..workers {
         let clock = VirtualClock::at(Moment::new(0)?);
-        stations.push(Station::new(clock, MidWords, 64)?).ok()?;
+        stations.push(Station::new(clock, MidWords, 2)?).ok()?;
     }
     Some(stations)
 }
