@@ -1,7 +1,8 @@
 #!/usr/bin/env bash
 # Refuses each growth of the built programs in turn, upwards until a run meets no refusal. Where one is refused zsched
 # has to end for want of memory, with a front of its output written; no other answer may change. A budget that was
-# refused, and a driver whose step was, have to be as before, and the same call has to succeed when it is made again.
+# refused, and a driver whose step was, have to be as before, and the same call has to succeed when it is made again. A
+# task whose poll was refused one has to be broken for good, with its driver as before.
 set -euo pipefail
 top=$(cd "$(dirname "${BASH_SOURCE[0]}")/.." && pwd)
 work=$(mktemp -d)
@@ -11,6 +12,7 @@ rt=$(command -v rt || echo /opt/rattle/bin/rt)
 toolchain=$(dirname "$("$rt" doc)")/toolchain/bin
 "$top/bin/zsched" plan --steps 0 <"$top/plans/three-times.json"
 (cd "$top/crates/refused_growths" && "$rt" run >&2)
+(cd "$top/crates/refused_polls" && "$rt" run >&2)
 compiler=("$toolchain/clang" "-fuse-ld=$toolchain/ld.lld")
 [ -x "$toolchain/clang" ] || compiler=(cc)
 "${compiler[@]}" -O1 -shared -fPIC -nostdlib -o "$work/refuse.so" "$top/tests/refuse.c"
@@ -50,7 +52,7 @@ refuses() {
 }
 
 # Each growth of a program that makes a refused call again: where one was refused, the line with the fault is the line
-# before, and all others are as they are without a refusal. Each of the seven calls is refused at least once.
+# before, and all others are as they are without a refusal. Each of the 24 calls is refused at least once.
 refuses_calls() {
   local program=$top/crates/refused_growths/out/refused_growths
   local growth=0 status
@@ -69,9 +71,52 @@ refuses_calls() {
       [ "$status" = 5 ] && is_front || wrong "$growth" "$status" refused_growths
     fi
   done
-  [ "$status" = 0 ] && cmp -s "$work/out" "$work/out.whole" && [ "$(sort -u "$work/shown" | wc -l)" = 7 ] ||
+  [ "$status" = 0 ] && cmp -s "$work/out" "$work/out.whole" && [ "$(sort -u "$work/shown" | wc -l)" = 24 ] ||
     wrong none "$status" refused_growths
   echo "tests/refused_memory.sh: refused_growths: $(wc -l <"$work/shown") of $((growth - 1)) growths refused in a call"
+}
+
+# breaks_for_good: one task is broken by want of memory at one poll. It is ready from then on and shows no change, and its
+# driver and its tickets are as they were before that poll; all other lines are as they are without a refusal.
+breaks_for_good() {
+  awk -F'; ' '
+    NR == FNR { whole[FNR] = $0; lines = FNR; next }
+    $1 != task { task = $1; driver = "0 events, last None, next None, 0 granted" }
+    /Broken\(NoMemory\)/ {
+      if (broken && (broken != task || runs != $4) || $3 != driver || $5 !~ /^ready true, /) wrong = 1
+      broken = task
+      runs = $4
+      next
+    }
+    { driver = $3 }
+    task == broken || $0 != whole[FNR] { wrong = 1 }
+    END { exit wrong || !broken || FNR != lines }
+  ' "$work/out.whole" "$work/out"
+}
+
+# Each growth of a program that polls tasks. Polls are refused one in as many different ways as there are growths of
+# the lists and outputs in them. One that is refused after the last line, where the queue ends, changes nothing.
+refuses_polls() {
+  local program=$top/crates/refused_polls/out/refused_polls
+  local growth=0 status
+  cp "$top/crates/refused_polls/stdout" "$work/out.whole"
+  : >"$work/shown"
+  while :; do
+    growth=$((growth + 1))
+    status=0
+    with_refused "$growth" "$program" || status=$?
+    [ -s "$work/refused" ] || break
+    if grep -m 1 'Broken(NoMemory)' "$work/out" >>"$work/shown"; then
+      [ "$status" = 0 ] && breaks_for_good || wrong "$growth" "$status" refused_polls
+    elif [ "$status" = 0 ]; then
+      cmp -s "$work/out" "$work/out.whole" || wrong "$growth" "$status" refused_polls
+    else
+      [ "$status" = 5 ] && is_front || wrong "$growth" "$status" refused_polls
+    fi
+  done
+  [ "$status" = 0 ] && cmp -s "$work/out" "$work/out.whole" && [ "$(sort -u "$work/shown" | wc -l)" = 29 ] ||
+    wrong none "$status" refused_polls
+  echo "tests/refused_memory.sh: refused_polls: $(wc -l <"$work/shown") of $((growth - 1)) growths refused in a poll"
 }
 
 refuses 0 "$(cat "$top/plans/three-times.json")" plan
@@ -89,4 +134,5 @@ refuses 3 '{"meet":[' plan
 refuses 2 '' plan --steps 4097
 refuses 0 '' plan --help
 refuses_calls
+refuses_polls
 exit "$failed"

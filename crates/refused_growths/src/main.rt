@@ -7,13 +7,14 @@
 ghost use Rattle.std.specs.Prelude.{◌≡◌, ◌+◌, length, IfSome, IfNone};
 
 use sched_driver::{DriveFault, Driver};
-use sched_plan::{Plan, Val};
+use sched_plan::{Fold, Plan, PlanFault, Val};
 use sched_ticket::Budget;
 use sched_time::{Moment, Tick};
+use std::alloc::Global;
 use std::process::ExitCode;
 
 fn main(rt: HostRuntime) -> ExitCode {
-    match make_budget(&rt).and_then(|()| step_driver(&rt)) {
+    match make_budget(&rt).and_then(|()| step_drivers(&rt)) {
         Some(()) => ExitCode::SUCCESS,
         None => ExitCode::from(5),
     }
@@ -34,16 +35,39 @@ fn make_budget(rt: &HostRuntime) -> Option<()> {
     println!(rt; "ticket {ticket:?} of a budget that closed at {count}").ok()
 }
 
-// Steps a driver of four recurrences, 100 ms apart, until it is done, and once more.
-fn step_driver(rt: &HostRuntime) -> Option<()> {
+// Steps a driver of each plan.
+fn step_drivers(rt: &HostRuntime) -> Option<()> {
     let alloc = rt.alloc();
-    let recurs = Plan::recurs(4).ok()?;
-    let spaced = Plan::spaced(100).ok()?;
-    let plan = Plan::meet(alloc, recurs, spaced).ok()?;
-    let mut driver = Driver::new(alloc, plan).ok()?;
+    step_driver(rt, spaced(alloc).ok()?, 6)?;
+    step_driver(rt, crossed(alloc).ok()?, 7)?;
+    step_driver(rt, gathered(alloc).ok()?, 10)
+}
+
+// Four recurrences, 100 ms apart.
+fn spaced(alloc: Global) -> Result<Plan, PlanFault> {
+    Plan::meet(alloc, Plan::recurs(4)?, Plan::spaced(100)?)
+}
+
+// One recurrence, then one and two more beside a delay: at its second event the outer sequence crosses over, and at its
+// third the inner one. Each output is a pair.
+fn crossed(alloc: Global) -> Result<Plan, PlanFault> {
+    let inner = Plan::follow(alloc, Plan::recurs(1)?, Plan::recurs(2)?)?;
+    let later = Plan::meet(alloc, inner, Plan::spaced(100)?)?;
+    let first = Plan::meet(alloc, Plan::recurs(1)?, Plan::identity()?)?;
+    Plan::follow(alloc, first, later)
+}
+
+// The list of the outputs so far.
+fn gathered(alloc: Global) -> Result<Plan, PlanFault> {
+    Plan::gather(alloc, Fold::List, Plan::recurs(8)?)
+}
+
+// Steps a driver of the plan so many times, 100 ms apart.
+fn step_driver(rt: &HostRuntime, plan: Plan, events: u64) -> Option<()> {
+    let mut driver = Driver::new(rt.alloc(), plan).ok()?;
     show(rt, &driver)?;
-    for at in [0, 100, 200, 300, 400, 500] {
-        let now = Moment::new(at)?;
+    for event in 0..events {
+        let now = Moment::new(event.saturating_mul(100))?;
         if let Some(fault) = refusal(rt, &mut driver, now) {
             print!(rt; "{fault:?}: ").ok()?;
             show(rt, &driver)?;

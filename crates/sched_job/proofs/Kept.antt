@@ -1,16 +1,16 @@
 -- A job keeps its ending through polls and cancels, and what it shows is so.
-use Rattle.std.proofs.Common.{◌≡◌, ℕ, ◌<◌, ◌||◌, Bool, true, false, if◌then◌else◌, List, [], ◌∷◌, length, Option, Some, None, is_some, IfSome, refl, sym, ap, ◌∙◌, arith}
+use Rattle.std.proofs.Common.{◌≡◌, ◌<◌, ◌||◌, Bool, true, List, [], ◌∷◌, length, Option, Some, None, is_some, IfSome, refl, sym, ap, ◌∙◌, arith}
 use Rattle.sched_time.specs.declared.numbers.Tick.{Tick}
 use Rattle.sched_plan.specs.Schedule.{Schedule}
 use Rattle.sched_plan.specs.declared.history.Event.{Event}
-use Rattle.sched_driver.specs.Driven.{Driven, next_start_of}
+use Rattle.sched_driver.specs.Driven.{next_start_of}
 use Rattle.sched_task.specs.declared.endings.How.{How}
 use Rattle.sched_task.specs.declared.endings.How.TheVariants.{Won, ScheduleDone, BudgetRefused, Failed, Cancelled, Broken}
 use Rattle.sched_ticket.specs.Held.{Name}
 use Rattle.sched_law.specs.Kind.{Kind, retry}
-use Rattle.sched_law.specs.Past.{Past, is_spent, is_under_way, is_stopped, waits_for}
-use Rattle.sched_law.specs.Poll.{Happened, stays, cannot_begin, runs_on, starves, ends, breaks, exhausts, overdraws, recurs, asks, asks_in_vain, falls, May, after, OnePoll}
-use Rattle.sched_law.specs.Law.{Law, Ended}
+use Rattle.sched_law.specs.Past.{Past, is_spent, is_under_way, waits_for}
+use Rattle.sched_law.specs.Poll.{Happened, stays, cannot_begin, runs_on, starves, ends, breaks, exhausts, overdraws, recurs, asks, asks_in_vain, falls, May, after}
+use Rattle.sched_law.specs.Law.{Ended}
 use Rattle.sched_law.proofs.Law.{or_false}
 use Rattle.sched_law.proofs.Lists.{by_test}
 use Rattle.sched_law.proofs.Fields.{none_of}

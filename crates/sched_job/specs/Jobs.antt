@@ -1,5 +1,5 @@
 -- What is true of a job whenever its lock is free, and of what it shows.
-use Rattle.std.specs.Prelude.{◌≡◌, ℕ, ◌+◌, ◌<◌, None, is_some, IfSome}
+use Rattle.std.specs.Prelude.{◌≡◌, ◌+◌, ◌<◌, None, is_some, IfSome}
 use Rattle.sched_ticket.specs.Held.{Name}
 use Rattle.sched_law.specs.Past.{bit}
 use Rattle.sched_law.specs.Law.{is_stop}

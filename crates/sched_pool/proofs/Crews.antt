@@ -1,5 +1,5 @@
 -- The shares that a board makes are its own.
-use Rattle.std.proofs.Common.{◌≡◌, ℕ, List, Option, length, sym, ap, subst}
+use Rattle.std.proofs.Common.{ℕ, List, Option, sym, ap, subst}
 use Rattle.std.specs.Prelude.{All, slice_index_or}
 use Rattle.sched_ticket.specs.Held.{Name}
 use Rattle.sched_claim.specs.Portion.{Portion, IsShareOf}

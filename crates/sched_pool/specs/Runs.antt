@@ -1,5 +1,5 @@
 -- A run of a board on threads, and when each of its refusals comes.
-use Rattle.std.specs.Prelude.{◌≡◌, ℕ, Bool, true, false, List, Option, Some, None, is_some, IsSome}
+use Rattle.std.specs.Prelude.{◌≡◌, ℕ, Bool, false, List, None, is_some, IsSome}
 use Rattle.std.specs.List.{list_all}
 use Rattle.sched_ticket.specs.Held.{Name, Held}
 use Rattle.sched_law.specs.Past.{Past}

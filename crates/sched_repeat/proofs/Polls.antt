@@ -1,12 +1,10 @@
 -- A poll of a repeat keeps its law, whatever happens in it.
-use Rattle.std.proofs.Common.{◌≡◌, ℕ, ◌<◌, ◌≤◌, inl, inr, Bool, true, false, not, if◌then◌else◌, List, [], ◌∷◌, ◌++◌, Option, Some, None, is_some, IfSome, IsSomeAnd, refl, sym, ap, ◌∙◌, subst}
-use Rattle.std.specs.Option.{is_none}
+use Rattle.std.proofs.Common.{◌≡◌, ℕ, ◌<◌, ◌≤◌, inl, inr, Bool, true, false, Option, Some, None, is_some, IfSome, IsSomeAnd, refl, sym, ap, ◌∙◌, subst}
 use Rattle.sched_time.specs.declared.numbers.Tick.{Tick}
 use Rattle.sched_plan.specs.Datum.{num}
 use Rattle.sched_step.specs.StateOf.{event_of}
 use Rattle.sched_driver.specs.Driven.{after as driven_after}
 use Rattle.sched_driver.specs.Driver.{HasRoom}
-use Rattle.sched_effect.specs.declared.ran.Ran.{Ran}
 use Rattle.sched_effect.specs.declared.ran.Ran.TheVariants.{Won, Lost}
 use Rattle.sched_task.specs.declared.endings.How.{How}
 use Rattle.sched_task.specs.declared.endings.How.TheVariants.{ScheduleDone, Failed, Broken}
@@ -18,7 +16,6 @@ use Rattle.sched_law.specs.Poll.{Happened, stays, cannot_begin, runs_on, starves
 use Rattle.sched_law.specs.Runner.{Runs, past_of, is_running, with_run, with_finished}
 use Rattle.sched_law.proofs.Lists.{by_test}
 use Rattle.sched_law.proofs.Law.{law_after}
-use Rattle.sched_law.proofs.Fields.{none_of}
 use Rattle.sched_repeat.specs.Repeating.{Repeating, RepeatLaw, RepeatPoll}
 
 -- a repeat after a poll: it keeps its law, and the poll was one
@@ -71,19 +68,14 @@ pub record Ready (r : Runs) (over : Option How) (untaken : Bool) (t : Tick) : Ty
 unstopped : (v : Repeating) → RepeatLaw v → v.past.over ≡ None → is_stopped v.past ≡ false
 unstopped v law unended = rw unended at law.law.ended refl
 
+-- one that waits for no later moment can poll a run
+pub can_run : (v : Repeating) (t : Tick) → RepeatLaw v → v.past.over ≡ None → IfSome (waits_for v.past) (λ m. m ≤ t.now) → CanRun v.past t
+can_run v t law unended due = record { unended = unended; unstopped = unstopped v law unended; due = due }
+
 pub ready : (r : Runs) (over : Option How) (untaken : Bool) (t : Tick) (v : Repeating) →
-    repeating r over untaken ≡ v → RepeatLaw (repeating r over untaken) → is_some over ≡ false →
-    IfSome (waits_for v.past) (λ m. m ≤ t.now) → Ready r over untaken t
-ready r over untaken t v seen law unended due =
-    let none : over ≡ None = none_of over unended in
-    record {
-      law = law;
-      can = record {
-        unended = none;
-        unstopped = unstopped (repeating r over untaken) law none;
-        due = subst (λ (v : Repeating). IfSome (waits_for v.past) (λ m. m ≤ t.now)) (sym seen) due;
-      };
-    }
+    repeating r over untaken ≡ v → RepeatLaw (repeating r over untaken) → CanRun v.past t → Ready r over untaken t
+ready r over untaken t v seen law can =
+    record { law = law; can = subst (λ (v : Repeating). CanRun v.past t) (sym seen) can }
 
 -- The polls that poll a run, by what comes of it: s are the runs after it.
 module _ (r : Runs) (over : Option How) (untaken : Bool) (t : Tick) (now : Ready r over untaken t) where

@@ -3,6 +3,7 @@ ghost use Rattle.std.specs.Prelude.{◌≡◌, ◌<◌, ◌≤◌, false, [], is
 ghost use Rattle.futures.specs.Task.{Keeps};
 ghost use Rattle.sched_task.specs.Polls.{is_ready};
 ghost use Rattle.sched_law.specs.Past.{nothing_yet, waits_for};
+ghost use Rattle.sched_law.specs.Poll.{CanRun};
 ghost use Rattle.sched_repeat.specs.Repeating.{RepeatLaw, RepeatPoll, gives_up};
 ghost use Rattle.sched_repeat.specs.Ending.{RepeatFits};
 
@@ -71,6 +72,16 @@ impl<X: Effect> Repeat<X> {
         if self.rests(tick.now) {
             return Poll::Pending;
         }
+        self.poll_now(alloc, tick, cx)
+    }
+
+    // The same where it is not over and waits for no later moment.
+    fn poll_now(&mut self, alloc: Global, tick: &Tick, cx: &mut Context<'_>) -> Poll<()>
+        requires { CanRun self.old.past tick.now }
+        ensures poll { RepeatPoll self.old tick.entry.now (is_ready result) self.new }
+        ensures answers { is_ready result ≡ is_some self.new.past.over }
+        ensures kept { Keeps cx.old cx.new }
+    {
         match self.runner.poll_run(tick, cx) {
             Polled::Pending => Poll::Pending,
             Polled::CannotBegin => {

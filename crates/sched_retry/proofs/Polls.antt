@@ -1,22 +1,20 @@
 -- A poll of a retry keeps its law, whatever happens in it.
-use Rattle.std.proofs.Common.{◌≡◌, ℕ, ◌+◌, ◌<◌, ◌≤◌, ◌⊎◌, inl, inr, Bool, true, false, if◌then◌else◌, List, [], ◌∷◌, ◌++◌, length, Option, Some, None, is_some, IfSome, IsSomeAnd, refl, sym, ap, ◌∙◌, subst, arith}
+use Rattle.std.proofs.Common.{◌≡◌, ℕ, ◌+◌, ◌<◌, ◌≤◌, inl, inr, Bool, true, false, if◌then◌else◌, length, Option, Some, None, is_some, IfSome, IsSomeAnd, refl, sym, ap, ◌∙◌, subst, arith}
 use Rattle.sched_time.specs.declared.numbers.Tick.{Tick}
 use Rattle.sched_effect.specs.declared.ran.Ran.{Ran}
-use Rattle.sched_effect.specs.declared.ran.Ran.TheVariants.{Won, Lost}
+use Rattle.sched_effect.specs.declared.ran.Ran.TheVariants.{Lost}
 use Rattle.sched_task.specs.declared.endings.How.{How}
 use Rattle.sched_task.specs.declared.endings.How.TheVariants.{ScheduleDone, BudgetRefused, Broken}
-use Rattle.sched_task.specs.declared.endings.RunFault.{RunFault}
 use Rattle.sched_task.specs.declared.endings.RunFault.TheVariants.{NoMemory}
 use Rattle.sched_ticket.specs.Held.{Name, Held, IsOf}
 use Rattle.sched_ticket.specs.Calls.{Drew, DrewNone}
-use Rattle.sched_law.specs.Kind.{Kind, retry, draws, falls_back, calls, final}
+use Rattle.sched_law.specs.Kind.{Kind, retry, draws, calls, final}
 use Rattle.sched_law.specs.Lists.{last_of}
-use Rattle.sched_law.specs.Past.{Past, is_stopped, is_under_way, waits_for}
+use Rattle.sched_law.specs.Past.{is_stopped, waits_for}
 use Rattle.sched_law.specs.Poll.{Happened, stays, cannot_begin, runs_on, starves, ends, breaks, exhausts, overdraws, recurs, asks, asks_in_vain, falls, stop, after, CanRun, May}
-use Rattle.sched_law.specs.Law.{Law}
 use Rattle.sched_law.specs.Runner.{Runs, past_of, is_running, with_run, with_finished}
 use Rattle.sched_law.proofs.Lists.{by_test}
-use Rattle.sched_law.proofs.Fields.{none_of, last_finished}
+use Rattle.sched_law.proofs.Fields.{last_finished}
 use Rattle.sched_law.proofs.Law.{law_after}
 use Rattle.sched_retry.specs.Retrying.{Retrying, retrying, RetryLaw, Draws, RetryPoll}
 use Rattle.sched_retry.specs.AfterLoss.{AfterLoss, with_step}
@@ -163,20 +161,16 @@ pub record Ready (kind : Kind) (r : Runs) (over : Option How) (denied : Bool) (p
 unstopped : (v : Retrying) → RetryLaw retry v → v.past.over ≡ None → is_stopped v.past ≡ false
 unstopped v law unended = rw unended at law.law.ended refl
 
+-- one that waits for no later moment can poll a run
+pub can_run : (v : Retrying) (t : Tick) → RetryLaw retry v → v.past.over ≡ None → IfSome (waits_for v.past) (λ m. m ≤ t.now) →
+    CanRun v.past t
+can_run v t law unended due = record { unended = unended; unstopped = unstopped v law unended; due = due }
+
 pub ready_retry : (r : Runs) (over : Option How) (denied : Bool) (p : Held) (b : Name) (untaken : Bool) (t : Tick) (v : Retrying) →
-    retrying r over denied p b untaken ≡ v → RetryLaw retry (retrying r over denied p b untaken) → is_some over ≡ false →
-    IfSome (waits_for v.past) (λ m. m ≤ t.now) → Ready retry r over denied p b untaken t
-ready_retry r over denied p b untaken t v seen law unended due =
-    let none : over ≡ None = none_of over unended in
-    record {
-      drawn = refl;
-      law = law;
-      can = record {
-        unended = none;
-        unstopped = unstopped (retrying r over denied p b untaken) law none;
-        due = subst (λ (v : Retrying). IfSome (waits_for v.past) (λ m. m ≤ t.now)) (sym seen) due;
-      };
-    }
+    retrying r over denied p b untaken ≡ v → RetryLaw retry (retrying r over denied p b untaken) → CanRun v.past t →
+    Ready retry r over denied p b untaken t
+ready_retry r over denied p b untaken t v seen law can =
+    record { drawn = refl; law = law; can = subst (λ (v : Retrying). CanRun v.past t) (sym seen) can }
 
 -- The polls that poll a run, by what comes of it: s, q are the runs and the pass after it.
 module _ (kind : Kind) (r : Runs) (over : Option How) (denied : Bool) (p : Held) (b : Name) (untaken : Bool)

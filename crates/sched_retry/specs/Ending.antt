@@ -1,5 +1,5 @@
 -- What a task hands out once it is over.
-use Rattle.std.specs.Prelude.{◌≡◌, ℕ, List, Option, Some, None}
+use Rattle.std.specs.Prelude.{◌≡◌, ℕ, List, Option, Some}
 use Rattle.sched_effect.specs.declared.ran.Ran.{Ran}
 use Rattle.sched_effect.specs.declared.ran.Ran.TheVariants as ran
 use Rattle.sched_task.specs.declared.endings.How.{How}

@@ -1,8 +1,7 @@
 -- What contracts see of a retry, what is true of it between any two polls, and one poll of it.
-use Rattle.std.specs.Prelude.{◌≡◌, ℕ, ◌+◌, ◌<◌, Bool, true, false, if◌then◌else◌, length, Option, Some, None, is_some, IsTrue, refl}
-use Rattle.std.specs.Coded.{Coded, code_by, coded×, coded_bool, coded_option}
+use Rattle.std.specs.Prelude.{◌≡◌, ℕ, ◌<◌, Bool, true, if◌then◌else◌, length, Option, is_some, refl}
+use Rattle.std.specs.Coded.{Coded, code_by, coded×, coded_bool}
 use Rattle.sched_time.specs.declared.numbers.Tick.{Tick}
-use Rattle.sched_plan.specs.Schedule.{Schedule}
 use Rattle.sched_task.specs.declared.endings.How.{How}
 use Rattle.sched_ticket.specs.Held.{Name, Held, IsOf}
 use Rattle.sched_ticket.specs.Calls.{Drew, DrewNone}

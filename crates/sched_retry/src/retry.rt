@@ -5,6 +5,7 @@ ghost use Rattle.sched_task.specs.Polls.{is_ready};
 ghost use Rattle.sched_ticket.specs.Held.{IsOf};
 ghost use Rattle.sched_law.specs.Kind.{retry};
 ghost use Rattle.sched_law.specs.Past.{nothing_yet, waits_for, bit};
+ghost use Rattle.sched_law.specs.Poll.{CanRun};
 ghost use Rattle.sched_retry.specs.Retrying.{RetryLaw, RetryPoll, gives_up};
 ghost use Rattle.sched_law.specs.Law.{is_stop};
 ghost use Rattle.sched_retry.specs.Ending.{EndingFits};
@@ -94,6 +95,16 @@ impl<'a, X: Effect> Retry<'a, X> {
         if self.rests(tick.now) {
             return Poll::Pending;
         }
+        self.poll_now(alloc, tick, cx)
+    }
+
+    // The same where it is not over and waits for no later moment.
+    fn poll_now(&mut self, alloc: Global, tick: &Tick, cx: &mut Context<'_>) -> Poll<()>
+        requires { CanRun self.old.past tick.now }
+        ensures poll { RetryPoll retry self.old tick.entry.now (is_ready result) self.new }
+        ensures answers { is_ready result ≡ is_some self.new.past.over }
+        ensures kept { Keeps cx.old cx.new }
+    {
         match self.runner.poll_run(tick, cx) {
             Polled::Pending => Poll::Pending,
             Polled::CannotBegin => {
@@ -113,14 +124,9 @@ impl<'a, X: Effect> Retry<'a, X> {
             }
             Polled::Finished(Err(fault)) => {
                 let code = fault.code();
-                match after_loss(
-                    alloc,
-                    &mut self.runner,
-                    &mut self.pass,
-                    self.budget,
-                    tick,
-                    code,
-                ) {
+                let runner = &mut self.runner;
+                let pass = &mut self.pass;
+                match after_loss(alloc, runner, pass, self.budget, tick, code) {
                     Then::Recurs => Poll::Pending,
                     Then::Breaks(cause) => {
                         self.over = Some(How::Broken(cause));

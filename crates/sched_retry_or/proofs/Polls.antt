@@ -1,31 +1,28 @@
 -- A poll of a retry with a fallback keeps its law, whatever happens in it.
-use Rattle.std.proofs.Common.{◌≡◌, ℕ, ◌<◌, ◌≤◌, inl, inr, Bool, true, false, ◌||◌, if◌then◌else◌, List, [], ◌∷◌, length, Option, Some, None, option_map, is_some, IsSome, IfSome, IsSomeAnd, Result, Ok, Err, refl, sym, ap, ◌∙◌, subst, arith}
-use Rattle.futures.specs.declared.task.Poll.{Poll}
+use Rattle.std.proofs.Common.{◌≡◌, ℕ, ◌<◌, ◌≤◌, Bool, true, false, ◌||◌, List, [], ◌∷◌, length, Option, Some, None, option_map, is_some, IfSome, IsSomeAnd, Result, Ok, refl, sym, ap, ◌∙◌, subst, arith}
 use Rattle.futures.specs.declared.task.Poll.TheVariants as poll
 use Rattle.sched_time.specs.declared.numbers.Tick.{Tick}
-use Rattle.sched_time.specs.declared.faults.NoMemory.{NoMemory}
 use Rattle.sched_plan.specs.Datum.{Datum}
 use Rattle.sched_plan.specs.Schedule.{Schedule}
 use Rattle.sched_plan.specs.declared.history.Event.{Event}
-use Rattle.sched_driver.specs.Driven.{Driven, last_answer, last_output}
+use Rattle.sched_driver.specs.Driven.{last_answer, last_output}
 use Rattle.sched_effect.specs.Runs.{ran_by, Falls}
 use Rattle.sched_effect.specs.declared.ran.Ran.{Ran}
 use Rattle.sched_effect.specs.declared.ran.Ran.TheVariants.{Lost}
 use Rattle.sched_task.specs.declared.endings.How.{How}
-use Rattle.sched_task.specs.declared.endings.How.TheVariants.{ScheduleDone, BudgetRefused, Broken}
+use Rattle.sched_task.specs.declared.endings.How.TheVariants.{Broken}
 use Rattle.sched_task.specs.declared.endings.RunFault.TheVariants as fault
 use Rattle.sched_ticket.specs.Held.{Name, Held}
 use Rattle.sched_law.specs.Kind.{retry_or}
 use Rattle.sched_law.specs.Lists.{last_of}
 use Rattle.sched_law.specs.Past.{Past, was_done, is_spent, is_stopped, waits_for}
-use Rattle.sched_law.specs.Poll.{Happened, stays, cannot_begin, runs_on, starves, ends, breaks, exhausts, overdraws, recurs, asks, asks_in_vain, falls, stopped_by, CanAsk}
+use Rattle.sched_law.specs.Poll.{Happened, stays, cannot_begin, runs_on, starves, ends, breaks, exhausts, overdraws, recurs, asks, asks_in_vain, falls, stopped_by, CanAsk, CanRun}
 use Rattle.sched_law.specs.Law.{Law, is_stop}
 use Rattle.sched_law.specs.Runner.{Runs, past_of, with_run}
 use Rattle.sched_law.proofs.Lists.{by_test}
 use Rattle.sched_law.proofs.Law.{or_false, or_true, law_after}
-use Rattle.sched_law.proofs.Fields.{none_of}
-use Rattle.sched_retry.specs.Retrying.{Retrying, retrying, RetryLaw, RetryPoll}
-use Rattle.sched_retry.proofs.Polls.{Settled, Ready, asks_fallback, settles, rests_over, rests_waiting, untaken_false}
+use Rattle.sched_retry.specs.Retrying.{Retrying, retrying, RetryLaw}
+use Rattle.sched_retry.proofs.Polls.{Settled, Ready, asks_fallback, rests_over, rests_waiting, untaken_false}
 use Rattle.sched_retry_or.specs.Falling.{Falling, FallingLaw, FallingPoll, Asks, IsAsked, HasFallen, KeepsFault}
 
 -- the retry with its fallback
@@ -85,28 +82,33 @@ falling_waiting v t law unended waits =
     let was = rests_waiting retry_or v.retrying t law.law unended waits in
     record { poll = was.poll; fallback = unasked v.retrying.past was.poll.poll.happened v v was.run refl refl }
 
-unstopped_of : {F : Type 0} (code : F → ℕ) (v : Past) (kept : Option F) → KeepsFault code v kept → is_some kept ≡ false → v.over ≡ None →
+unstopped_of : {F : Type 0} (code : F → ℕ) (v : Past) (kept : Option F) → KeepsFault code v kept → kept ≡ None → v.over ≡ None →
     is_stopped v ≡ false
-unstopped_of code v None keeps none unended = keeps unended
-unstopped_of code v (Some f) keeps none unended = absurd (cc)
+unstopped_of code v kept keeps none unended = subst (λ (k : Option _). KeepsFault code v k) none keeps unended
 
-pub ready_or : {F : Type 0} (code : F → ℕ) (kept : Option F) (r : Runs) (over : Option How) (denied : Bool) (p : Held) (b : Name)
+-- one that keeps no fault and waits for no later moment can poll a run
+pub can_run : {F : Type 0} (code : F → ℕ) (kept : Option F) (v w : Past) (t : Tick) → v ≡ w → KeepsFault code v kept → kept ≡ None →
+    v.over ≡ None → IfSome (waits_for w) (λ m. m ≤ t.now) → CanRun w t
+can_run code kept v w t seen keeps unkept unended due =
+    subst (λ (w : Past). CanRun w t) seen (record {
+      unended = unended;
+      unstopped = unstopped_of code v kept keeps unkept unended;
+      due = subst (λ (w : Past). IfSome (waits_for w) (λ m. m ≤ t.now)) (sym seen) due;
+    })
+
+-- what can poll a run keeps no fault
+pub unkept_of : {F : Type 0} (code : F → ℕ) (v : Past) (kept : Option F) → KeepsFault code v kept → is_stopped v ≡ false →
+    is_some kept ≡ false
+unkept_of code v None keeps unstopped = refl
+unkept_of code v (Some f) keeps unstopped = let stopped = keeps.0 in absurd (cc)
+
+pub ready_or : (r : Runs) (over : Option How) (denied : Bool) (p : Held) (b : Name)
     (untaken : Bool) (t : Tick) (asked : Option (ℕ × Datum)) (answered : Option Ran) (v : Falling) →
     falling (retrying r over denied p b untaken) asked answered ≡ v →
-    RetryLaw retry_or (retrying r over denied p b untaken) →
-    KeepsFault code (past_of r over denied (length p.has.tickets)) kept → is_some kept ≡ false → is_some over ≡ false →
-    IfSome (waits_for v.retrying.past) (λ m. m ≤ t.now) → Ready retry_or r over denied p b untaken t
-ready_or code kept r over denied p b untaken t asked answered v seen law keeps unkept unended due =
-    let none : over ≡ None = none_of over unended in
-    record {
-      drawn = refl;
-      law = law;
-      can = record {
-        unended = none;
-        unstopped = unstopped_of code (past_of r over denied (length p.has.tickets)) kept keeps unkept none;
-        due = subst (λ (v : Falling). IfSome (waits_for v.retrying.past) (λ m. m ≤ t.now)) (sym seen) due;
-      };
-    }
+    RetryLaw retry_or (retrying r over denied p b untaken) → CanRun v.retrying.past t →
+    Ready retry_or r over denied p b untaken t
+ready_or r over denied p b untaken t asked answered v seen law can =
+    record { drawn = refl; law = law; can = subst (λ (v : Falling). CanRun v.retrying.past t) (sym seen) can }
 
 -- a schedule that has stepped has given an output
 given_some : (s : Schedule) (h : List Event) → 0 < length h → is_some (option_map (λ a. a.output) (last_answer s h)) ≡ true

@@ -6,6 +6,7 @@ ghost use Rattle.sched_effect.specs.Runs.{Falls};
 ghost use Rattle.sched_task.specs.Polls.{is_ready};
 ghost use Rattle.sched_ticket.specs.Held.{IsOf};
 ghost use Rattle.sched_law.specs.Past.{nothing_yet, waits_for};
+ghost use Rattle.sched_law.specs.Poll.{CanRun};
 ghost use Rattle.sched_retry_or.specs.Falling.{FallingLaw, FallingPoll, gives_up};
 ghost use Rattle.sched_retry_or.specs.Ending.{RetryOrFits};
 
@@ -130,6 +131,16 @@ impl<'a, X: Effect, F: Fallback<X>> RetryOr<'a, X, F> {
                 }
             };
         }
+        self.poll_now(alloc, tick, cx)
+    }
+
+    // The same where it is not over, asks no fallback and waits for no later moment.
+    fn poll_now(&mut self, alloc: Global, tick: &Tick, cx: &mut Context<'_>) -> Poll<()>
+        requires { CanRun self.old.retrying.past tick.now }
+        ensures poll { FallingPoll self.old tick.entry.now (is_ready result) self.new }
+        ensures answers { is_ready result ≡ is_some self.new.retrying.past.over }
+        ensures kept { Keeps cx.old cx.new }
+    {
         match self.runner.poll_run(tick, cx) {
             Polled::Pending => Poll::Pending,
             Polled::CannotBegin => {
@@ -149,14 +160,9 @@ impl<'a, X: Effect, F: Fallback<X>> RetryOr<'a, X, F> {
             }
             Polled::Finished(Err(fault)) => {
                 let code = fault.code();
-                match after_loss(
-                    alloc,
-                    &mut self.runner,
-                    &mut self.pass,
-                    self.budget,
-                    tick,
-                    code,
-                ) {
+                let runner = &mut self.runner;
+                let pass = &mut self.pass;
+                match after_loss(alloc, runner, pass, self.budget, tick, code) {
                     Then::Recurs => Poll::Pending,
                     Then::Breaks(cause) => {
                         self.over = Some(How::Broken(cause));

@@ -1,5 +1,5 @@
 -- Seats of active jobs: polls leave their numbers, and closing leaves the jobs that were not seen over.
-use Rattle.std.proofs.Common.{◌≡◌, ℕ, zero, suc, ◌+◌, ◌<◌, Bool, true, false, List, [], ◌∷◌, ◌++◌, length, take, drop, Option, is_some, if◌then◌else◌, refl, sym, ap, ◌∙◌, subst, arith, append_assoc, append-nil, length-append, take-append-drop, drop_of_length-le, length-take, min}
+use Rattle.std.proofs.Common.{◌≡◌, ℕ, zero, suc, ◌+◌, ◌<◌, ◌≤◌, Bool, true, false, List, [], ◌∷◌, ◌++◌, length, take, drop, Option, is_some, if◌then◌else◌, refl, sym, ap, ◌∙◌, arith, append_assoc, append-nil, length-append, take-append-drop, drop_of_length-le, length-take, min}
 use Rattle.std.specs.Prelude.{All, Any, remove, slice_index_or}
 use Rattle.std.proofs.Math.Seq.{take-append_seam}
 use Rattle.std.proofs.lemmas.List.{take_more}
@@ -162,4 +162,30 @@ some_left left active seats outs n hold left_are d any = omega (
   length-append (open_numbers seats) (drop n active),
   ap (λ s. length (open_numbers s)) d.same,
   some_open outs any,
+)
+
+one_at_most : (n : ℕ) (over : Bool) → length (if over then [] else n ∷ []) ≤ 1
+one_at_most n true = omega arith
+one_at_most n false = omega arith
+
+open_at_most : (seats : List Noted) → length (open_numbers seats) ≤ length (numbers seats)
+open_at_most [] = omega arith
+open_at_most (seat ∷ seats) = omega (
+  arith,
+  open_at_most seats,
+  length-append (open_number seat) (open_numbers seats),
+  one_at_most seat.number (is_some seat.over),
+)
+
+-- no more are left than there were
+pub fewer_left : (left active : List ℕ) (seats outs : List Noted) (n hold : ℕ) → left ≡ open_numbers seats ++ drop n active →
+    Drove seats outs active n hold → length left ≤ length active
+fewer_left left active seats outs n hold left_are d = omega (
+  arith,
+  ap length left_are,
+  length-append (open_numbers seats) (drop n active),
+  open_at_most seats,
+  ap length d.numbers_are,
+  length-append (take n active) (drop n active),
+  ap length (take-append-drop n active),
 )

@@ -1,5 +1,5 @@
 -- A share goes on by claims and by closing jobs.
-use Rattle.std.proofs.Common.{◌≡◌, ℕ, zero, suc, ◌+◌, ◌<◌, ◌≤◌, ◌⊎◌, Bool, true, false, List, [], ◌∷◌, ◌++◌, length, take, drop, Option, Some, None, is_some, if◌then◌else◌, refl, sym, ap, ◌∙◌, subst, arith, append_assoc, length-append, take-append-drop, ⊎_elim}
+use Rattle.std.proofs.Common.{◌≡◌, ℕ, ◌+◌, ◌<◌, ◌≤◌, Bool, true, false, List, [], ◌∷◌, ◌++◌, length, take, drop, Option, Some, None, is_some, if◌then◌else◌, refl, sym, ap, ◌∙◌, subst, arith, append_assoc, length-append, take-append-drop, ⊎_elim}
 use Rattle.std.specs.Option.{ForSome}
 use Rattle.sched_ticket.specs.Lists.{total}
 use Rattle.sched_ticket.specs.Held.{Name, Held, IsOf}

@@ -1,5 +1,5 @@
 -- What a worker works with, what it notes of its jobs, and what it does to its share.
-use Rattle.std.specs.Prelude.{◌≡◌, ℕ, ◌+◌, ◌-◌, ◌≤◌, Bool, true, List, [], ◌∷◌, ◌++◌, length, Option, if◌then◌else◌, is_some}
+use Rattle.std.specs.Prelude.{◌≡◌, ℕ, ◌+◌, ◌-◌, ◌≤◌, true, List, [], ◌∷◌, ◌++◌, length, Option, if◌then◌else◌, is_some}
 use Rattle.sched_ticket.specs.Lists.{IsSame}
 use Rattle.sched_claim.specs.Portion.{Portion}
 use Rattle.sched_task.specs.declared.endings.How.{How}

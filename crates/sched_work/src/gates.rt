@@ -1,6 +1,6 @@
 //! What may hold up the polls of a job.
 
-/// Is asked before each poll of a job, and told after each.
+/// Is asked before each poll of a job, and told after each. The worker calls it while it has no job locked.
 pub trait Gate {
     /// Whether the job with this number may be polled now. `false` uses up the worker's turn without a poll.
     fn ready(&self, job: usize) -> bool;

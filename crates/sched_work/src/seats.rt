@@ -1,6 +1,5 @@
 //! A claimed job as a task of the loop.
-ghost use Rattle.std.specs.Prelude.{◌≡◌, true, None, if◌then◌else◌, is_some};
-ghost use Rattle.sched_work.specs.Working.{IsPolledSeat};
+ghost use Rattle.std.specs.Prelude.{◌≡◌};
 
 use crate::gates::Gate;
 use futures::task::{Context, Poll};

@@ -1,21 +1,29 @@
 //! One worker with the jobs of its share.
+ghost use Rattle.std.specs.Prelude.{◌≡◌, ◌≤◌, false, IfOk};
+ghost use Rattle.sched_ticket.specs.View.{terms};
+ghost use Rattle.sched_claim.specs.Portion.{IsPartOf};
+
 use crate::{Finish, Gate, OpenGate, Station, Worked, work_through};
 use futures::task::{Context, Poll};
 use sched_claim::{Claims, Share};
 use sched_task::{Clock, How, MidWords, Task, VirtualClock};
-use sched_time::{Millis, Moment, Tick};
-use std::alloc::{AllocError, Global};
+use sched_time::{Millis, Moment, NoMemory, Tick};
+use std::alloc::Global;
 use std::process::Abort;
-use std::sync::Mutex;
-use std::sync::atomic::{AtomicBool, Ordering};
+use std::sync::{Mutex, Wait};
 use std::test::Fail;
 
 mod gates;
 mod rows;
 
+// At moment 0.
 fn station(rt: &impl Abort, hold: usize) -> Station<VirtualClock, MidWords> {
     let start = Moment::new(0).expect(rt, "the moment is in range");
     Station::new(VirtualClock::at(start), MidWords, hold).expect(rt, "the hold is in range")
+}
+
+fn millis(rt: &impl Abort, duration: u64) -> Millis {
+    Millis::new(duration).expect(rt, "the duration is in range")
 }
 
 // Is won at its last poll, and waits this long after each poll before that.
@@ -28,13 +36,13 @@ struct Paced {
 }
 
 impl Paced {
-    fn new(polls: u64, pause: Option<Millis>) -> Paced {
-        Paced {
+    fn job(polls: u64, pause: Option<Millis>) -> Mutex<Paced> {
+        Mutex::new(Paced {
             left: polls,
             pause,
             due: None,
             over: None,
-        }
+        })
     }
 }
 
@@ -90,4 +98,18 @@ fn shown(rt: &impl Wait, job: &Mutex<Paced>) -> (u64, Option<How>) {
 }
 
 // The claims of so many jobs, and one share of them.
-fn claimed(rt: &impl Abort, alloc: Global, jobs: usize) -> (Claims, Share) { todo }
+fn claimed(alloc: Global, jobs: usize) -> Result<(Claims, Share), NoMemory>
+    requires { jobs ≤ 4096 }
+    ensures part { IfOk result (λ r. IsPartOf r.0 r.1) }
+    ensures jobs { IfOk result (λ r. r.0.terms ≡ terms jobs false) }
+{
+    let (claims, mut shares) = Claims::share_out(alloc, jobs, 1)?;
+    let Some(share) = shares.pop() else {
+        return Err(NoMemory);
+    };
+    Ok((claims, share))
+}
+
+fn after(turns: u64, finish: Finish) -> Worked {
+    Worked { turns, finish }
+}

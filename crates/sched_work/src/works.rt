@@ -1,5 +1,5 @@
 //! Working through a share.
-ghost use Rattle.std.specs.Prelude.{◌≡◌, ℕ, ◌<◌, ◌≤◌, ◌++◌, [], true, false, length, vec_len, drop, take, All, IfOk, IfErr, OnOk, OnErr};
+ghost use Rattle.std.specs.Prelude.{◌≡◌, ◌<◌, ◌≤◌, ◌++◌, [], max, true, false, length, vec_len, drop, take, All, IfOk, IfErr, OnOk};
 ghost use Rattle.std.specs.Option.{ForSome};
 ghost use Rattle.sched_claim.specs.Portion.{IsShareOf};
 ghost use Rattle.sched_work.specs.Working.{WentOn, numbers, open_numbers, still_to_do};
@@ -39,8 +39,8 @@ pub enum Finish {
 /// Works through a share: claims jobs, drives them until all are over, and claims again, until no job is left.
 ///
 /// It begins with the jobs that the share keeps, and drives at most as many at a time as the station holds. It takes at
-/// most `turns` turns: a turn is one poll of a job that was not seen over, or of one that the gate holds up, or one wait
-/// for the least moment that a job waits for. A job is locked for each poll of it, not between polls.
+/// most `turns` turns: a turn is one poll of a job, one look at a gate that is not ready for it, or one wait for the least
+/// moment that a job waits for. A job is locked for each poll of it, not between polls.
 ///
 /// Where it stops before all is over, the share keeps the jobs that it claimed and has not seen over, and a further call
 /// goes on with them.
@@ -62,6 +62,7 @@ where
     ensures turns { result.turns ≤ turns }
     ensures all_over { result.finish ≡ Finish.AllOver → (share.new.active ≡ []) × (0 < length share.new.pass.has.refusals) }
     ensures spent { result.finish ≡ Finish.TurnsSpent → (result.turns ≡ turns) × (0 < length share.new.active) }
+    ensures held { length share.new.active ≤ max (length share.old.active) station.old.hold }
     ensures hold { station.new.hold ≡ station.old.hold }
 {
     let mut used = 0;
@@ -94,6 +95,7 @@ fn claim_some<J: Claimed>(claims: &J, share: &mut Share, hold: usize) -> bool
     requires hold { 0 < hold }
     ensures of { IsShareOf (J.claims claims.now) share.new }
     ensures went_on { WentOn share.old share.new }
+    ensures held { length share.new.active ≤ max (length share.old.active) hold }
     ensures to_do { still_to_do share.new ≡ still_to_do share.old }
     ensures some { result ≡ true → 0 < length share.new.active }
     ensures none { result ≡ false → (share.new.active ≡ []) × (0 < length share.new.pass.has.refusals) }
@@ -122,6 +124,7 @@ where
     ensures pass { share.new.pass ≡ share.old.pass }
     ensures went_on { WentOn share.old share.new }
     ensures turns { IfOk result (λ used. used ≤ turns) }
+    ensures fewer { length share.new.active ≤ length share.old.active }
     ensures over { OnOk result (share.new.active ≡ drop station.old.hold share.old.active) }
     ensures spent { IfErr result (λ stop. stop ≡ LoopStop.TurnsSpent → 0 < length share.new.active) }
     ensures hold { station.new.hold ≡ station.old.hold }

@@ -1,4 +1,6 @@
-use super::calls::Calls;
+ghost use Rattle.std.specs.Prelude.{◌≡◌, []};
+
+use super::calls::{Cache, Calls};
 use super::*;
 
 // What a task shows that is over.
@@ -95,4 +97,74 @@ fn repeats_that_are_over_stay(rt: HostRuntime) {
         assert_eq!(rt; repeat.over(), Some(how));
         assert_eq!(rt; repeat.effect().runs().len(), runs);
     }
+}
+
+// A repeat that is broken stays as it is too.
+#[test]
+fn repeat_that_is_broken_stays(rt: HostRuntime) {
+    let alloc = rt.alloc();
+    let mut calls = Calls::new(alloc, 0, 0);
+    calls.starves = true;
+    let mut repeat = Repeat::new(alloc, calls, driver(&rt, alloc, Plan::forever()));
+    assert!(rt; poll(&rt, &mut repeat, 3), "broken");
+    repeat.cancel();
+    assert!(rt; repeat.take_ending().is_some(), "its ending");
+    assert!(rt; poll(&rt, &mut repeat, 1000), "over");
+    assert!(rt; repeat.take_ending().is_none(), "taken");
+    assert_eq!(rt; repeat.over(), Some(How::Broken(RunFault::NoMemory)));
+    assert_eq!(rt; repeat.begun().len(), 1);
+    assert!(rt; repeat.effect().runs().is_empty());
+}
+
+// What a retry with a fallback shows that is over.
+fn assert_stays_or<R>(rt: &R, retry: &mut RetryOr<'_, Calls, Cache>, how: How)
+where
+    R: RandomSource + AllocGlobal + Abort,
+{
+    let runs = retry.effect().runs().len();
+    let granted = retry.granted();
+    assert!(rt; poll(rt, retry, 1000), "over");
+    retry.cancel();
+    assert!(rt; retry.take_ending().is_some(), "its ending");
+    assert!(rt; poll(rt, retry, 0), "over");
+    assert!(rt; retry.take_ending().is_none(), "taken");
+    assert_eq!(rt; retry.over(), Some(how));
+    assert_eq!(rt; retry.due(), None);
+    assert_eq!(rt; retry.effect().runs().len(), runs);
+    assert_eq!(rt; retry.granted(), granted);
+}
+
+// A retry of calls by one recurrence and this many tickets, which is over after so many polls, and stays so.
+fn assert_ends_or<R>(rt: &R, calls: Calls, limit: u64, polls: u64, how: How)
+where
+    R: RandomSource + AllocGlobal + Abort,
+    requires { calls.runs.items ≡ [] }
+{
+    let alloc = rt.alloc();
+    let (budget, pass) = budget(rt, alloc, limit);
+    let cache = Cache::new(alloc, 0, Some(Ok(203)));
+    let driver = driver(rt, alloc, Plan::recurs(1));
+    let mut retry = RetryOr::new(alloc, calls, driver, pass, &budget, cache);
+    for _ in 1..polls {
+        assert!(rt; !poll(rt, &mut retry, 0), "goes on");
+    }
+    if polls == 0 {
+        retry.cancel();
+    }
+    assert!(rt; poll(rt, &mut retry, 0), "over");
+    assert_stays_or(rt, &mut retry, how);
+}
+
+// The same of retries with a fallback: won, done, refused a ticket, cancelled and broken.
+#[test]
+fn retries_or_that_are_over_stay(rt: HostRuntime) {
+    let alloc = rt.alloc();
+    let mut starving = Calls::new(alloc, 0, 0);
+    starving.starves = true;
+    let broken = How::Broken(RunFault::NoMemory);
+    assert_ends_or(&rt, Calls::new(alloc, 0, 0), 1, 1, How::Won);
+    assert_ends_or(&rt, Calls::new(alloc, 0, 9), 1, 3, How::ScheduleDone);
+    assert_ends_or(&rt, Calls::new(alloc, 0, 9), 0, 2, How::BudgetRefused);
+    assert_ends_or(&rt, Calls::new(alloc, 0, 9), 1, 0, How::Cancelled);
+    assert_ends_or(&rt, starving, 1, 1, broken);
 }

@@ -85,3 +85,34 @@ fn run_takes_polls(rt: HostRuntime) {
         _ => assert!(rt; false, "another ending"),
     }
 }
+
+// Polls a task so many times at one moment; it is not over after any of them.
+fn poll_times<R, T: Task>(rt: &R, task: &mut T, times: u64)
+where
+    R: RandomSource + AllocGlobal + Abort,
+{
+    for _ in 0..times {
+        assert!(rt; !poll(rt, task, 5), "goes on");
+    }
+}
+
+// A journal that is full breaks the task: its last run has no event and no ticket.
+#[test]
+fn journal_is_full(rt: HostRuntime) {
+    let alloc = rt.alloc();
+    let (budget, pass) = budget(&rt, alloc, 100_000);
+    let effect = scripted(&rt, alloc, &[lost(&rt, 7)]);
+    let plan = driver(&rt, alloc, Plan::forever());
+    let mut retry = Retry::new(alloc, effect, plan, pass, &budget);
+    poll_times(&rt, &mut retry, 65536);
+    assert_eq!(rt; retry.granted(), 65536);
+    assert!(rt; poll(&rt, &mut retry, 5), "broken");
+    assert_eq!(rt; retry.over(), Some(How::Broken(RunFault::JournalFull)));
+    assert_eq!(rt; retry.granted(), 65536);
+    assert_eq!(rt; retry.driver().journal().len(), 65536);
+    assert_eq!(rt; retry.effect().runs().len(), 65537);
+    match retry.take_ending() {
+        Some(Ending::Broken(RunFault::JournalFull)) => {}
+        _ => assert!(rt; false, "another ending"),
+    }
+}

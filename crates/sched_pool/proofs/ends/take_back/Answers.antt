@@ -1,4 +1,4 @@
-use Rattle.std.proofs.Common.{◌≡◌, ℕ, ◌+◌, ◌≤◌, [], ◌∷◌, length, vec_len, vec_capacity, arith, subst, length-append}
+use Rattle.std.proofs.Common.{ℕ, [], ◌∷◌, length, arith, subst, length-append}
 use Rattle.sched_ticket.specs.Held.{Name, IsOf}
 use Rattle.sched_pool.specs.Ends.{IsEnd}
 use Rattle.sched_pool.proofs.Sums.{none_taken, one_taken, count_taken}

@@ -1,7 +1,7 @@
 use Rattle.std.proofs.Common.{◌≡◌, rules, length, take, min, subst, arith}
 use Rattle.std.proofs.lemmas.Result.{IfOk-weaker, IfErr-weaker}
 use Rattle.sched_work.specs.Working.{numbers}
-use Rattle.sched_work.proofs.Closings.{each_number, drove, all_closed, some_left}
+use Rattle.sched_work.proofs.Closings.{each_number, drove, all_closed, some_left, fewer_left}
 use Rattle.sched_work.proofs.Shares.{went_nowhere, went_by_closing}
 use Rattle.sched_work.proofs.works.work_some.Goals as goal
 
@@ -31,6 +31,18 @@ returns-clause-went_on g c =
     let least : first ≡ min (length active) c.args.station.now.hold = search rules in
     let drives = drove made _ _ active first _ _ are c.as_mut_slice-tasks.ensures.value kept long least in
     went_by_closing _ _ _ _ c.close_over.ensures.pass drives.numbers_are c.close_over.ensures.active
+
+pub returns-clause-fewer : goal.returns-clause-fewer
+returns-clause-fewer g c =
+    let made = c.in_ok-seats.seats.items in
+    let active = c.args.share.now.active in
+    let first = c.min-first.result in
+    let are : numbers made ≡ take first active = subst (λ l. numbers made ≡ take first l) c.active-active.ensures.active c.in_ok-seats.ensures in
+    let kept = each_number _ _ _ _ _ c.run-ended.ensures.polled in
+    let long : c.in_ok-seats.seats.len ≡ length made = omega (arith, c.in_ok-seats.seats.ok.0) in
+    let least : first ≡ min (length active) c.args.station.now.hold = search rules in
+    let drives = drove made _ _ active first _ _ are c.as_mut_slice-tasks.ensures.value kept long least in
+    fewer_left _ _ _ _ _ _ c.close_over.ensures.active drives
 
 pub returns-clause-over : goal.returns-clause-over
 returns-clause-over g c =

@@ -1,9 +1,9 @@
-use Rattle.std.proofs.Common.{refl, ◌∙◌, arith}
+use Rattle.std.proofs.Common.{refl, ap, ◌∙◌, arith}
 use Rattle.sched_work.proofs.Shares.{went_nowhere, went_then, of_same}
 use Rattle.sched_work.proofs.works.work_through.Goals as goal
 
 pub loop-station-init : goal.loop-station-init
-loop-station-init g c = record { of = c.requires.of; went_on = went_nowhere _; turns = omega arith; hold = refl }
+loop-station-init g c = record { of = c.requires.of; went_on = went_nowhere _; held = omega arith; turns = omega arith; hold = refl }
 
 pub loop-station-preserved : goal.loop-station-preserved
 loop-station-preserved g c =
@@ -11,6 +11,7 @@ loop-station-preserved g c =
     record {
       of = of_same _ _ _ c.work_some.ensures.pass c.claim_some.ensures.of;
       went_on = went_then _ _ _ before.went_on (went_then _ _ _ c.claim_some.ensures.went_on c.work_some.ensures.went_on);
+      held = omega (arith, before.held, before.hold, ap (λ p. p.hold) c.station.view_is, c.claim_some.ensures.held, c.work_some.ensures.fewer);
       turns = omega (arith, before.turns, c.in-Ok.ensures.turns);
       hold = c.work_some.ensures.hold ∙ before.hold;
     }

@@ -1,4 +1,4 @@
-use Rattle.std.proofs.Common.{◌≡◌, ◌≤◌}
+use Rattle.std.proofs.Common.{◌≡◌, ◌≤◌, length, max}
 use Rattle.sched_claim.specs.Portion.{IsShareOf}
 use Rattle.sched_work.specs.Working.{WentOn, still_to_do}
 use Rattle.sched_work.proofs.works.work_through.Given as goal
@@ -7,6 +7,7 @@ abbrev pub invariant-loop-station : goal.invariant-loop-station
 invariant-loop-station g l = record {
   of : IsShareOf (g.J.Claimed.claims l.claims) l.share;
   went_on : WentOn l.fn.share l.share;
+  held : length l.share.active ≤ max (length l.fn.share.active) l.fn.station.hold;
   turns : l.used ≤ l.turns;
   hold : l.station.hold ≡ l.fn.station.hold;
 }

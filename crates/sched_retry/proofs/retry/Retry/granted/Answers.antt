@@ -1,4 +1,4 @@
-use Rattle.std.proofs.Common.{◌≡◌, ◌+◌, length, ap, ◌∙◌, subst}
+use Rattle.std.proofs.Common.{◌≡◌, ◌+◌, length, subst}
 use Rattle.sched_law.specs.Past.{bit}
 use Rattle.sched_law.specs.Law.{is_stop}
 use Rattle.sched_law.proofs.Events.{events_law}

@@ -1,0 +1,28 @@
+#!/usr/bin/env bash
+# How long a granted retry of an effect that fails at once takes, beside a step of its driver alone, and how long a poll
+# that only waits takes. Started by hand at the top of the repository: bench/retry.sh. It needs rt and a machine with
+# nothing else to do.
+set -euo pipefail
+cd "$(dirname "$0")/.."
+source bench/least.sh
+
+work=$(mktemp -d)
+trap 'rm -rf "$work"' EXIT
+(cd crates/bench_retry && rt run) >&2
+cp crates/bench_retry/out/bench_retry "$work/retry"
+
+# nanoseconds that one of a thousand in a round takes
+per_one() {
+    local what=$1 plan=$2 few=$3 many=$4
+    per_unit "$((1000 * (many - few)))" "$(least "$work/retry" "$what" "$plan" "$few")" \
+        "$(least "$work/retry" "$what" "$plan" "$many")"
+}
+
+machine
+for plan in spaced pair; do
+    retry=$(per_one retry "$plan" 10 2000)
+    step=$(per_one step "$plan" 10 2000)
+    wait=$(per_one wait "$plan" 10 20000)
+    awk -v p="$plan" -v r="$retry" -v s="$step" -v w="$wait" \
+        'BEGIN { printf "%s: a retry %s ns, a step %s ns, ratio %.2f; a poll that waits %s ns\n", p, r, s, r / s, w }'
+done

@@ -1,0 +1,75 @@
+//! What each kind of task shows.
+
+use crate::spare::Spare;
+use sched_driver::Driver;
+use sched_run::{Effect, Ran, Repeat, Retry, RetryOr, Scripted};
+use sched_time::Moment;
+
+/// What a task shows of its driver, its pass and its runs.
+pub trait Shown {
+    /// The driver.
+    fn driver(&self) -> &Driver;
+
+    /// How many tickets it was granted.
+    fn granted(&self) -> u64;
+
+    /// The moments at which runs were begun.
+    fn begun(&self) -> &[Moment];
+
+    /// The finished runs.
+    fn runs(&self) -> &[Ran];
+}
+
+impl<'a> Shown for Retry<'a, Scripted> {
+    fn driver(&self) -> &Driver {
+        Retry::driver(self)
+    }
+
+    fn granted(&self) -> u64 {
+        Retry::granted(self)
+    }
+
+    fn begun(&self) -> &[Moment] {
+        Retry::begun(self)
+    }
+
+    fn runs(&self) -> &[Ran] {
+        self.effect().runs()
+    }
+}
+
+impl<'a> Shown for RetryOr<'a, Scripted, Spare> {
+    fn driver(&self) -> &Driver {
+        RetryOr::driver(self)
+    }
+
+    fn granted(&self) -> u64 {
+        RetryOr::granted(self)
+    }
+
+    fn begun(&self) -> &[Moment] {
+        RetryOr::begun(self)
+    }
+
+    fn runs(&self) -> &[Ran] {
+        self.effect().runs()
+    }
+}
+
+impl Shown for Repeat<Scripted> {
+    fn driver(&self) -> &Driver {
+        Repeat::driver(self)
+    }
+
+    fn granted(&self) -> u64 {
+        0
+    }
+
+    fn begun(&self) -> &[Moment] {
+        Repeat::begun(self)
+    }
+
+    fn runs(&self) -> &[Ran] {
+        self.effect().runs()
+    }
+}
