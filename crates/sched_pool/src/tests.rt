@@ -2,11 +2,12 @@
 ghost use Rattle.std.specs.Prelude.{◌≡◌, [], None};
 ghost use Rattle.sched_ticket.specs.Held.{IsOf};
 ghost use Rattle.sched_law.specs.Past.{nothing_yet};
+ghost use Rattle.sched_claim.specs.Portion.{IsShareOf};
 
 use super::*;
 use sched_claim::Share;
 use sched_driver::Driver;
-use sched_effect::{Ran, Scripted};
+use sched_effect::{Effect, Ran, Scripted};
 use sched_job::{JobEnd, Seen};
 use sched_plan::{Plan, PlanFault};
 use sched_retry::{Ending, Retry};
@@ -84,6 +85,18 @@ fn board_of<'a, N: Naming>(
         assert_eq!(rt; added.ok(), Some(number));
     }
     board
+}
+
+// The one share of a board.
+fn one_share<X: Effect, N: Naming>(
+    rt: &impl Abort,
+    alloc: Global,
+    board: &mut Board<'_, X, N>,
+) -> Share
+    ensures { IsShareOf board.new.claims result }
+{
+    let mut shares = board.shares(alloc, 1).expect(rt, "it is open");
+    shares.pop().expect(rt, "one share")
 }
 
 // A station at moment 0.

@@ -4,7 +4,7 @@ ghost use Rattle.sched_claim.specs.Portion.{IsShareOf};
 
 use super::*;
 use futures::task::{Context, Poll};
-use sched_effect::{Code, Effect};
+use sched_effect::Code;
 use sched_time::NoMemory;
 use sched_work::Gate;
 use std::sync::atomic::{AtomicBool, Ordering};
@@ -95,8 +95,7 @@ where
     let driver = driver(rt, alloc, Plan::forever());
     let added = board.add(Retry::new(alloc, stuck, driver, part, budget));
     assert!(rt; added.is_ok());
-    let mut shares = board.shares(alloc, 1).expect(rt, "it is open");
-    let mut share = shares.pop().expect(rt, "one share");
+    let mut share = one_share(rt, alloc, &mut board);
     let mut station = station(rt, 1);
     let gate = Noting {
         polled: AtomicBool::new(false),

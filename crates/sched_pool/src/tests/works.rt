@@ -5,12 +5,29 @@ ghost use Rattle.sched_claim.specs.Portion.{IsShareOf};
 use super::*;
 use sched_effect::Code;
 
-// The one share of a board.
-fn one_share<N: Naming>(rt: &impl Abort, alloc: Global, board: &mut Board<'_, Scripted, N>) -> Share
-    ensures { IsShareOf board.new.claims result }
+// Two shares of a board.
+fn two_shares<N: Naming>(
+    rt: &impl Abort,
+    alloc: Global,
+    board: &mut Board<'_, Scripted, N>,
+) -> (Share, Share)
+    ensures one { IsShareOf board.new.claims result.0 }
+    ensures two { IsShareOf board.new.claims result.1 }
 {
-    let mut shares = board.shares(alloc, 1).expect(rt, "it is open");
-    shares.pop().expect(rt, "one share")
+    let mut shares = board.shares(alloc, 2).expect(rt, "it is open");
+    let two = shares.pop().expect(rt, "two shares");
+    let one = shares.pop().expect(rt, "two shares");
+    (one, two)
+}
+
+// Works the share off.
+fn works_off<R, N: Naming>(rt: &R, board: &Board<'_, Scripted, N>, share: &mut Share)
+where
+    R: Wait + RandomSource + AllocGlobal + Abort,
+    requires { IsShareOf board.now.claims share.old }
+{
+    let worked = board.work(rt, share, &mut station(rt, 1), &OpenGate, 1000);
+    assert_eq!(rt; worked.finish, Finish::AllOver);
 }
 
 fn assert_seen(rt: &impl Abort, seen: Option<Seen>, how: How, events: usize, granted: u64) {
@@ -72,18 +89,14 @@ where
     ensures { IsOf budget.entry.now result }
 {
     let mut board: Board<Scripted, N> = board_of(rt, alloc, budget, &mut pass, 3, 3);
-    let mut shares = board.shares(alloc, 2).expect(rt, "it is open");
-    let mut two = shares.pop().expect(rt, "two shares");
-    let mut one = shares.pop().expect(rt, "two shares");
+    let (mut one, mut two) = two_shares(rt, alloc, &mut board);
     assert_eq!(rt; one.claim(&board), Some(0));
     assert_eq!(rt; two.claim(&board), Some(1));
     assert_eq!(rt; one.claim(&board), Some(2));
     assert_eq!(rt; one.claim(&board), None);
     assert_eq!(rt; two.claim(&board), None);
-    for share in [&mut one, &mut two] {
-        let worked = board.work(rt, share, &mut station(rt, 1), &OpenGate, 1000);
-        assert_eq!(rt; worked.finish, Finish::AllOver);
-    }
+    works_off(rt, &board, &mut one);
+    works_off(rt, &board, &mut two);
     let end = board.finish(alloc, pass).ok().expect(rt, "there is memory");
     assert_eq!(rt; end.granted, 9);
     assert_eq!(rt; end.jobs.len(), 3);
