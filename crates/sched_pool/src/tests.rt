@@ -22,6 +22,7 @@ use std::random::RandomSource;
 use std::sync::Wait;
 
 mod boards;
+mod pools;
 mod runs;
 mod watchers;
 mod works;
@@ -103,4 +104,13 @@ fn one_share<X: Effect, N: Naming>(
 fn station(rt: &impl Abort, hold: usize) -> Station<VirtualClock, MidWords> {
     let start = Moment::new(0).expect(rt, "the moment is in range");
     Station::new(VirtualClock::at(start), MidWords, hold).expect(rt, "the hold is in range")
+}
+
+// So many stations, each of which holds one job.
+fn stations(rt: &impl Abort, alloc: Global, number: usize) -> Vec<Station<VirtualClock, MidWords>> {
+    let mut all = Vec::new(alloc);
+    for _ in 0..number {
+        all.push(station(rt, 1)).ok().expect(rt, "there is memory");
+    }
+    all
 }

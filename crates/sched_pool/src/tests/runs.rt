@@ -6,15 +6,6 @@ use sched_work::Gate;
 use std::sync::atomic::{AtomicBool, Ordering};
 use std::thread::Threads;
 
-// So many stations, each of which holds one job.
-fn stations(rt: &impl Abort, alloc: Global, number: usize) -> Vec<Station<VirtualClock, MidWords>> {
-    let mut all = Vec::new(alloc);
-    for _ in 0..number {
-        all.push(station(rt, 1)).ok().expect(rt, "there is memory");
-    }
-    all
-}
-
 // Two jobs run on two threads until both are over.
 fn runs_two<R, N: Naming + Send + Sync, Q: Gate + Sync>(
     rt: &R,
