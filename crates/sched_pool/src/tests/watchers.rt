@@ -52,6 +52,22 @@ impl Gate for Noting {
     }
 }
 
+// Reads the job until it is over. Tells whether each sight was of an open job or a cancelled one, without an event.
+fn reads<N: Naming>(rt: &impl Wait, board: &Board<'_, Stuck, N>) -> bool {
+    for _ in 0..100_000_000u32 {
+        let Some(seen) = board.watch(rt, 0) else {
+            return false;
+        };
+        if seen.events > 0 || seen.granted > 0 {
+            return false;
+        }
+        if let Some(how) = seen.over {
+            return how == How::Cancelled;
+        }
+    }
+    false
+}
+
 // Reads the job until it was polled, cancels it, and reads it again. Tells whether it was seen as it must be.
 fn cancels_once_polled<N: Naming>(
     rt: &impl Wait,
@@ -74,7 +90,29 @@ fn cancels_once_polled<N: Naming>(
         && seen.is_some_and(|seen| seen.over == Some(How::Cancelled) && seen.events == 0)
 }
 
-// A worker polls a job that never ends, while another thread watches it and cancels it.
+// One thread reads the job, while this one cancels it.
+fn one_reads<R, N: Naming + Send + Sync>(rt: &R, board: &Board<'_, Stuck, N>, gate: &Noting) -> bool
+where
+    R: Threads + Wait + Abort + Sync,
+{
+    let (seen, cancelled) = join(
+        rt,
+        move || reads(rt, board),
+        || cancels_once_polled(rt, board, gate),
+    );
+    seen && cancelled
+}
+
+// Two threads read the job, while this one cancels it.
+fn two_read<R, N: Naming + Send + Sync>(rt: &R, board: &Board<'_, Stuck, N>, gate: &Noting) -> bool
+where
+    R: Threads + Wait + Abort + Sync,
+{
+    let (seen, others) = join(rt, move || reads(rt, board), || one_reads(rt, board, gate));
+    seen && others
+}
+
+// A worker polls a job that never ends, while two threads watch it and one cancels it.
 fn watches<R, N: Naming + Send + Sync>(
     rt: &R,
     alloc: Global,
@@ -110,7 +148,7 @@ where
                 .work(rt, &mut share, &mut station, noting, 100_000_000)
                 .finish
         },
-        || cancels_once_polled(rt, watched, noting),
+        || two_read(rt, watched, noting),
     );
     assert_eq!(rt; finish, Finish::AllOver);
     assert!(rt; seen);
