@@ -84,9 +84,11 @@ fn cancels_once_polled<N: Naming>(
             break;
         }
     }
+    let polled = gate.polled.load(Ordering::SeqCst);
     let cancelled = board.cancel(rt, 0);
     let seen = board.watch(rt, 0);
-    open && cancelled
+    open && polled
+        && cancelled
         && seen.is_some_and(|seen| seen.over == Some(How::Cancelled) && seen.events == 0)
 }
 
