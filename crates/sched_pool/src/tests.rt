@@ -22,6 +22,7 @@ use std::random::RandomSource;
 use std::sync::Wait;
 
 mod boards;
+mod calls;
 mod pools;
 mod runs;
 mod watchers;

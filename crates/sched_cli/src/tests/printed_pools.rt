@@ -159,7 +159,7 @@ fn a_pool_s_writer_that_fails_after_k_bytes_has_the_first_k(rt: HostRuntime) -> 
     let alloc = rt.alloc();
     let options = pool(1, 100, 1000000).ok_or("out of range")?;
     let failed = Err(PrintFault::WriteFailed);
-    for works in [0usize, 1, 23, 24, 40] {
+    for works in 0..THIRD_TEXT.len() {
         let taken: Vec<u8> = Vec::new(alloc);
         let writer = Halting::failing_after(taken, 1, works as u64);
         let (printed, writer) = running(&rt, alloc, THIRD.as_bytes(), writer, &options);
@@ -180,7 +180,7 @@ fn a_pool_s_reader_that_fails_leaves_nothing_written(rt: HostRuntime) -> Result<
     let alloc = rt.alloc();
     let options = pool(1, 100, 1000000).ok_or("out of range")?;
     let failed = Err(PrintFault::ReadFailed);
-    for works in [0u64, 1, 30, 64] {
+    for works in 0..=THIRD.len() as u64 {
         let reader = Halting::failing_after(THIRD.as_bytes(), 1, works);
         let (printed, taken) = running(&rt, alloc, reader, Vec::new(alloc), &options);
         assert_eq!(rt; printed, (failed, 1, 0), "at read {works}");
