@@ -2,14 +2,12 @@
 use denote.RattleType.{RattleType}
 use denote.Struct.Tuple.{Tuple}
 use mathlib.Core.List.{[], ◌∷◌}
-use denote.Param.Send.{IsSend, view_send}
-use denote.Param.SendFields.{as_row_send, declared_send, variants_send}
+use denote.Hole.{as_row}
+use denote.Param.Send.{IsSend, view_send, sendable}
+use denote.Param.SendFields.{declared_send, variants_send}
 use denote.Model.Local.{Parts, rows}
 use denote.Model.Goals.{send, All, one_law, has_of, part_has, tied_goals}
 use Rattle.std.proofs.Crossing.{Box-send}
-use Rattle.sched_plan.proofs.leaves.Leaf.TheSendSync as leaf
-use Rattle.sched_plan.proofs.nodes.One.TheSendSync as one
-use Rattle.sched_plan.proofs.nodes.Two.TheSendSync as two
 use Rattle.sched_plan.specs.contracts.leaves.Leaf as Leaf
 use Rattle.sched_plan.specs.contracts.nodes.One as One
 use Rattle.sched_plan.specs.contracts.nodes.Two as Two
@@ -18,16 +16,25 @@ use Rattle.sched_plan.specs.contracts.plans.Plan.TheKnot as plan
 use Rattle.sched_plan.specs.declared.plans.Plan.TheDeep as deep
 use Rattle.sched_plan.proofs.sends.Rows.{rejoined_sends, pair_sends, number_sends, field_sends}
 
+leaf_sends : IsSend (as_row Leaf.the_field)
+leaf_sends = search sendable depth 60 fits 20000
+
+one_sends : IsSend (as_row One.the_field)
+one_sends = search sendable depth 60 fits 20000
+
+two_sends : IsSend (as_row Two.the_field)
+two_sends = search sendable depth 60
+
 module _ (p : Parts plan.frame) (s : IsSend (rows plan.frame p deep.member-Plan)) where
   abbrev R : RattleType
   R = rows plan.frame p deep.member-Plan
 
   shape_sends : IsSend (plan.at-PlanShape p)
   shape_sends = rejoined_sends (plan.layer-PlanShape R R) _ deep.split-PlanShape deep.join-PlanShape deep.joins-PlanShape (variants_send (plan.type-PlanShape R R) (
-    (field_sends _ (as_row_send Leaf.the_field leaf.the_field_send), tt),
+    (field_sends _ leaf_sends, tt),
     (
-      (field_sends _ (as_row_send One.the_field one.the_field_send), (field_sends _ (Box-send R s), tt)),
-      ((field_sends _ (as_row_send Two.the_field two.the_field_send), (field_sends _ (Box-send (Tuple (R ∷ R ∷ [])) (pair_sends R s)), tt)), tt),
+      (field_sends _ one_sends, (field_sends _ (Box-send R s), tt)),
+      ((field_sends _ two_sends, (field_sends _ (Box-send (Tuple (R ∷ R ∷ [])) (pair_sends R s)), tt)), tt),
     ),
   ))
 
