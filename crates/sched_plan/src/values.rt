@@ -74,10 +74,16 @@ impl Val {
     pub fn pair(alloc: Global, first: Val, second: Val) -> Result<Val, NoMemory>
         ensures { IfOk result (λ v. v ≡ pair first second) }
     {
-        let both = Box::new(alloc, (first, second))?;
-        Ok(Val {
+        Ok(Val::of_both(Box::new(alloc, (first, second))?))
+    }
+
+    /// Both values as one, in the box that they stand in.
+    pub fn of_both(both: Box<(Val, Val)>) -> Val
+        ensures { result ≡ pair both.value.0 both.value.1 }
+    {
+        Val {
             shape: ValShape::Pair(both),
-        })
+        }
     }
 
     /// The values in order.
@@ -128,20 +134,16 @@ impl Val {
 
     /// An equal value. Refused only for want of memory.
     #[cycle(copy)]
+    #[inline(always)]
     pub fn copy(&self, alloc: Global) -> Result<Val, NoMemory>
         ensures { IfOk result (λ v. v ≡ self.now) }
     {
-        let shape = match &self.shape {
-            ValShape::Unit => ValShape::Unit,
-            ValShape::Num(number) => ValShape::Num(*number),
-            ValShape::Pair(both) => {
-                let first = both.0.copy(alloc)?;
-                let second = both.1.copy(alloc)?;
-                ValShape::Pair(Box::new(alloc, (first, second))?)
-            }
-            ValShape::List(items) => ValShape::List(copy_items(alloc, items)?),
-        };
-        Ok(Val { shape })
+        match &self.shape {
+            ValShape::Unit => Ok(Val::unit()),
+            ValShape::Num(number) => Ok(Val::from(*number)),
+            ValShape::Pair(both) => copy_both(alloc, both),
+            ValShape::List(items) => copy_list(alloc, items),
+        }
     }
 
     /// Whether both values are equal.
@@ -190,6 +192,26 @@ impl Val {
         }
         Ok(())
     }
+}
+
+// The pair of equal values.
+#[cycle(copy)]
+#[inline(never)]
+fn copy_both(alloc: Global, both: &(Val, Val)) -> Result<Val, NoMemory>
+    ensures { IfOk result (λ v. v ≡ pair both.now.0 both.now.1) }
+{
+    let first = both.0.copy(alloc)?;
+    let second = both.1.copy(alloc)?;
+    Val::pair(alloc, first, second)
+}
+
+// The list of equal values in the same order.
+#[cycle(copy)]
+#[inline(never)]
+fn copy_list(alloc: Global, items: &Vec<Val>) -> Result<Val, NoMemory>
+    ensures { IfOk result (λ v. v ≡ list (items_of items.now.items)) }
+{
+    Ok(Val::list(copy_items(alloc, items)?))
 }
 
 // Equal values in the same order.

@@ -4,7 +4,7 @@ use Rattle.sched_step.specs.Progress.{Kept, none_kept, since, round_since, last_
 use Rattle.sched_step.specs.declared.marks.Mark.{Mark}
 use Rattle.sched_step.specs.declared.marks.Mark.TheVariants.{Bare, Since, RoundSince, LastAt, Total}
 use Rattle.sched_step.specs.declared.kept.KeptShape.{KeptShape}
-use Rattle.sched_step.specs.declared.kept.KeptShape.TheVariants.{Marked, Listed}
+use Rattle.sched_step.specs.declared.kept.KeptShape.TheVariants.{Bare as Nothing, Marked, Listed}
 
 abbrev pub kept_mark : Mark → Kept
 kept_mark Bare = none_kept
@@ -14,5 +14,6 @@ kept_mark (LastAt m) = last_at m
 kept_mark (Total n) = total n
 
 abbrev pub kept_phases : KeptShape → KeptPhases
+kept_phases Nothing = record { present = none_kept; next = none_kept }
 kept_phases (Marked present next) = record { present = kept_mark present; next = kept_mark next }
 kept_phases (Listed outputs) = record { present = listed outputs.present; next = listed outputs.next }

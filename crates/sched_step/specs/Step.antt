@@ -27,6 +27,10 @@ use Rattle.sched_step.specs.declared.turns.Turn.TheVariants.{Together, Uncrossed
 use Rattle.sched_step.specs.Progress.{Kept, none_kept, since, round_since, last_at, total, listed, Progress, at_leaf, at_one, at_two}
 use Rattle.sched_step.specs.StateOf.{leaf_state, first_kept, first_turn, state_of}
 
+-- the answer of this output and decision
+abbrev pub answered : Datum → Decision → Answer
+answered output decision = record { output = output; decision = decision }
+
 -- Leaves.
 
 -- the moment that is kept, else that of this event
@@ -131,7 +135,7 @@ leaf_decides (Lone delay) s e = if is_spent s then Done else Go (capped (e.now +
 
 -- what a leaf answers to one more event
 abbrev pub leaf_answers : Leaf → LeafState → Event → Answer
-leaf_answers l s e = record { output = leaf_gives l s e; decision = leaf_decides l s e }
+leaf_answers l s e = answered (leaf_gives l s e) (leaf_decides l s e)
 
 -- Nodes over one schedule.
 

@@ -2,21 +2,23 @@ ghost use Rattle.std.specs.Prelude.{◌≡◌, IfOk, IsTrue};
 ghost use Rattle.sched_plan.specs.Schedule.{is_valid, one as one_schedule, two as two_schedule};
 ghost use Rattle.sched_step.specs.Progress.{fits, at_one, at_two};
 ghost use Rattle.sched_step.specs.StateOf.{event_of};
-ghost use Rattle.sched_step.specs.Step.{from, step_of};
+ghost use Rattle.sched_step.specs.Step.{answered, from, step_of};
 ghost use Rattle.sched_step.specs.Tree.{first_next, second_next};
 
-use crate::answers::{feed, join, meet};
+use crate::decisions::{earlier, later};
 use crate::kept::Kept;
+use crate::leaves::begin;
 use crate::trees::{Tree, TreeShape};
 use crate::turns::{Moves, Turn, Turns};
-use sched_plan::{Answer, One, Plan, PlanShape, Two, Val};
+use sched_plan::{One, Plan, PlanShape, Two, Val};
 use sched_time::{Decision, NoMemory, Tick};
 use std::alloc::Global;
 
-/// Notes in the tree what it will be after one more event, and gives what the plan answers. A fresh step is made from
-/// before the first event, whatever the tree is.
+/// Notes in the tree what it will be after one more event, and makes `output` and `decision` what the plan answers. A fresh
+/// step is made from before the first event, whatever the tree is.
 #[cycle(advance)]
 #[tactic(auto, using(crate::proofs::laws::First::leaf_anew))]
+#[inline(always)]
 pub(crate) fn advance(
     alloc: Global,
     plan: &Plan,
@@ -24,25 +26,39 @@ pub(crate) fn advance(
     fresh: bool,
     tick: &Tick,
     input: &Val,
-) -> Result<Answer, NoMemory>
+    output: &mut Val,
+    decision: &mut Decision,
+) -> Result<(), NoMemory>
     requires { IsTrue (fits plan.now tree.old.present tick.now.now) }
     ensures present { tree.new.present ≡ tree.old.present }
-    ensures step { IfOk result (λ answer. (tree.new.next, answer) ≡
+    ensures step { IfOk result (λ _. (tree.new.next, answered output.new decision.new) ≡
         step_of plan.now (from fresh plan.now tree.old.present) (event_of tick.entry.now input.now)) }
 {
     match (plan.shape(), &mut tree.shape) {
         (PlanShape::Leaf(leaf), TreeShape::Leaf { present, next }) => {
-            let from = present.from(fresh, *leaf);
-            from.step(alloc, leaf, next, tick, input)
+            if fresh {
+                return begin(alloc, leaf, next, tick, input, output, decision);
+            }
+            present.step(alloc, leaf, next, tick, input, output, decision)
         }
         (PlanShape::One(node, plan), TreeShape::One(kept, tree)) => {
-            advance_one(alloc, node, plan, kept, tree, fresh, tick, input)
+            advance_one(
+                alloc, node, plan, kept, tree, fresh, tick, input, output, decision,
+            )
         }
         (PlanShape::Two(node, plans), TreeShape::Two(turns, sides)) => match *node {
-            Two::Meet => advance_meet(alloc, plans, turns, sides, fresh, tick, input),
-            Two::Join => advance_join(alloc, plans, turns, sides, fresh, tick, input),
-            Two::Follow => advance_follow(alloc, plans, turns, sides, fresh, tick, input),
-            Two::Feed => advance_feed(alloc, plans, turns, sides, fresh, tick, input),
+            Two::Meet => advance_meet(
+                alloc, plans, turns, sides, fresh, tick, input, output, decision,
+            ),
+            Two::Join => advance_join(
+                alloc, plans, turns, sides, fresh, tick, input, output, decision,
+            ),
+            Two::Follow => advance_follow(
+                alloc, plans, turns, sides, fresh, tick, input, output, decision,
+            ),
+            Two::Feed => advance_feed(
+                alloc, plans, turns, sides, fresh, tick, input, output, decision,
+            ),
         },
         _ => unreachable!(),
     }
@@ -51,6 +67,7 @@ pub(crate) fn advance(
 // A node over one plan: the plan is stepped, and the node makes its answer of the plan's.
 #[cycle(advance)]
 #[tactic(auto, using(crate::proofs::laws::First::one_anew))]
+#[inline(never)]
 fn advance_one(
     alloc: Global,
     node: &One,
@@ -60,24 +77,36 @@ fn advance_one(
     fresh: bool,
     tick: &Tick,
     input: &Val,
-) -> Result<Answer, NoMemory>
+    output: &mut Val,
+    decision: &mut Decision,
+) -> Result<(), NoMemory>
     requires valid { IsTrue (is_valid (one_schedule node.now plan.now)) }
     requires fits { IsTrue (fits (one_schedule node.now plan.now) (at_one kept.old.present tree.old.present) tick.now.now) }
     ensures kept { kept.new.present ≡ kept.old.present }
     ensures present { tree.new.present ≡ tree.old.present }
-    ensures step { IfOk result (λ answer. (at_one kept.new.next tree.new.next, answer) ≡
+    ensures step { IfOk result (λ _. (at_one kept.new.next tree.new.next, answered output.new decision.new) ≡
         step_of (one_schedule node.now plan.now)
         (from fresh (one_schedule node.now plan.now) (at_one kept.old.present tree.old.present))
         (event_of tick.entry.now input.now)) }
 {
     let begins = kept.begins(*node, tick.now);
-    let answer = advance(alloc, plan, tree, fresh || begins, tick, input)?;
-    kept.step(alloc, node, fresh, tick, input, answer)
+    advance(
+        alloc,
+        plan,
+        tree,
+        fresh || begins,
+        tick,
+        input,
+        output,
+        decision,
+    )?;
+    kept.step(alloc, node, fresh, tick, input, output, decision)
 }
 
 // Two plans side by side, while both go on.
 #[cycle(advance)]
 #[tactic(auto, using(crate::proofs::laws::First::two_anew))]
+#[inline(never)]
 fn advance_meet(
     alloc: Global,
     plans: &(Plan, Plan),
@@ -86,28 +115,55 @@ fn advance_meet(
     fresh: bool,
     tick: &Tick,
     input: &Val,
-) -> Result<Answer, NoMemory>
+    output: &mut Val,
+    decision: &mut Decision,
+) -> Result<(), NoMemory>
     requires { IsTrue (fits (two_schedule Two.Meet plans.now.0 plans.now.1)
         (at_two turns.old.present sides.old.0.present sides.old.1.present) tick.now.now) }
     ensures turn { turns.new.present ≡ turns.old.present }
     ensures first { sides.new.0.present ≡ sides.old.0.present }
     ensures second { sides.new.1.present ≡ sides.old.1.present }
-    ensures step { IfOk result (λ answer.
-        (at_two turns.new.next (first_next turns.new.moves sides.new.0) (second_next turns.new.moves sides.new.1), answer) ≡
+    ensures step { IfOk result (λ _. (
+      at_two turns.new.next (first_next turns.new.moves sides.new.0) (second_next turns.new.moves sides.new.1),
+      answered output.new decision.new,
+    ) ≡
         step_of (two_schedule Two.Meet plans.now.0 plans.now.1)
         (from fresh (two_schedule Two.Meet plans.now.0 plans.now.1)
         (at_two turns.old.present sides.old.0.present sides.old.1.present)) (event_of tick.entry.now input.now)) }
 {
     turns.next = Turn::Together;
     turns.moves = Moves::Both;
-    let first = advance(alloc, &plans.0, &mut sides.0, fresh, tick, input)?;
-    let second = advance(alloc, &plans.1, &mut sides.1, fresh, tick, input)?;
-    meet(alloc, first, second)
+    let mut both = Box::new(alloc, (Val::unit(), Val::unit()))?;
+    let mut second = Decision::Done;
+    advance(
+        alloc,
+        &plans.0,
+        &mut sides.0,
+        fresh,
+        tick,
+        input,
+        &mut both.0,
+        decision,
+    )?;
+    advance(
+        alloc,
+        &plans.1,
+        &mut sides.1,
+        fresh,
+        tick,
+        input,
+        &mut both.1,
+        &mut second,
+    )?;
+    *output = Val::of_both(both);
+    *decision = later(*decision, second);
+    Ok(())
 }
 
 // Two plans side by side, while one goes on; one that is done is stepped as well.
 #[cycle(advance)]
 #[tactic(auto, using(crate::proofs::laws::First::two_anew))]
+#[inline(never)]
 fn advance_join(
     alloc: Global,
     plans: &(Plan, Plan),
@@ -116,28 +172,55 @@ fn advance_join(
     fresh: bool,
     tick: &Tick,
     input: &Val,
-) -> Result<Answer, NoMemory>
+    output: &mut Val,
+    decision: &mut Decision,
+) -> Result<(), NoMemory>
     requires { IsTrue (fits (two_schedule Two.Join plans.now.0 plans.now.1)
         (at_two turns.old.present sides.old.0.present sides.old.1.present) tick.now.now) }
     ensures turn { turns.new.present ≡ turns.old.present }
     ensures first { sides.new.0.present ≡ sides.old.0.present }
     ensures second { sides.new.1.present ≡ sides.old.1.present }
-    ensures step { IfOk result (λ answer.
-        (at_two turns.new.next (first_next turns.new.moves sides.new.0) (second_next turns.new.moves sides.new.1), answer) ≡
+    ensures step { IfOk result (λ _. (
+      at_two turns.new.next (first_next turns.new.moves sides.new.0) (second_next turns.new.moves sides.new.1),
+      answered output.new decision.new,
+    ) ≡
         step_of (two_schedule Two.Join plans.now.0 plans.now.1)
         (from fresh (two_schedule Two.Join plans.now.0 plans.now.1)
         (at_two turns.old.present sides.old.0.present sides.old.1.present)) (event_of tick.entry.now input.now)) }
 {
     turns.next = Turn::Together;
     turns.moves = Moves::Both;
-    let first = advance(alloc, &plans.0, &mut sides.0, fresh, tick, input)?;
-    let second = advance(alloc, &plans.1, &mut sides.1, fresh, tick, input)?;
-    join(alloc, first, second)
+    let mut both = Box::new(alloc, (Val::unit(), Val::unit()))?;
+    let mut second = Decision::Done;
+    advance(
+        alloc,
+        &plans.0,
+        &mut sides.0,
+        fresh,
+        tick,
+        input,
+        &mut both.0,
+        decision,
+    )?;
+    advance(
+        alloc,
+        &plans.1,
+        &mut sides.1,
+        fresh,
+        tick,
+        input,
+        &mut both.1,
+        &mut second,
+    )?;
+    *output = Val::of_both(both);
+    *decision = earlier(*decision, second);
+    Ok(())
 }
 
 // Two plans one through the other: the input of the second is the output of the first.
 #[cycle(advance)]
 #[tactic(auto, using(crate::proofs::laws::First::two_anew))]
+#[inline(never)]
 fn advance_feed(
     alloc: Global,
     plans: &(Plan, Plan),
@@ -146,29 +229,54 @@ fn advance_feed(
     fresh: bool,
     tick: &Tick,
     input: &Val,
-) -> Result<Answer, NoMemory>
+    output: &mut Val,
+    decision: &mut Decision,
+) -> Result<(), NoMemory>
     requires { IsTrue (fits (two_schedule Two.Feed plans.now.0 plans.now.1)
         (at_two turns.old.present sides.old.0.present sides.old.1.present) tick.now.now) }
     ensures turn { turns.new.present ≡ turns.old.present }
     ensures first { sides.new.0.present ≡ sides.old.0.present }
     ensures second { sides.new.1.present ≡ sides.old.1.present }
-    ensures step { IfOk result (λ answer.
-        (at_two turns.new.next (first_next turns.new.moves sides.new.0) (second_next turns.new.moves sides.new.1), answer) ≡
+    ensures step { IfOk result (λ _. (
+      at_two turns.new.next (first_next turns.new.moves sides.new.0) (second_next turns.new.moves sides.new.1),
+      answered output.new decision.new,
+    ) ≡
         step_of (two_schedule Two.Feed plans.now.0 plans.now.1)
         (from fresh (two_schedule Two.Feed plans.now.0 plans.now.1)
         (at_two turns.old.present sides.old.0.present sides.old.1.present)) (event_of tick.entry.now input.now)) }
 {
     turns.next = Turn::Together;
     turns.moves = Moves::Both;
-    let first = advance(alloc, &plans.0, &mut sides.0, fresh, tick, input)?;
-    let fed = &first.output;
-    let second = advance(alloc, &plans.1, &mut sides.1, fresh, tick, fed)?;
-    Ok(feed(first, second))
+    let mut fed = Val::unit();
+    let mut first = Decision::Done;
+    advance(
+        alloc,
+        &plans.0,
+        &mut sides.0,
+        fresh,
+        tick,
+        input,
+        &mut fed,
+        &mut first,
+    )?;
+    advance(
+        alloc,
+        &plans.1,
+        &mut sides.1,
+        fresh,
+        tick,
+        &fed,
+        output,
+        decision,
+    )?;
+    *decision = later(first, *decision);
+    Ok(())
 }
 
 // Two plans in turn: the first until it is done; that event and all later ones go to the second.
 #[cycle(advance)]
 #[tactic(auto, using(crate::proofs::laws::First::two_anew))]
+#[inline(never)]
 fn advance_follow(
     alloc: Global,
     plans: &(Plan, Plan),
@@ -177,14 +285,18 @@ fn advance_follow(
     fresh: bool,
     tick: &Tick,
     input: &Val,
-) -> Result<Answer, NoMemory>
+    output: &mut Val,
+    decision: &mut Decision,
+) -> Result<(), NoMemory>
     requires { IsTrue (fits (two_schedule Two.Follow plans.now.0 plans.now.1)
         (at_two turns.old.present sides.old.0.present sides.old.1.present) tick.now.now) }
     ensures turn { turns.new.present ≡ turns.old.present }
     ensures first { sides.new.0.present ≡ sides.old.0.present }
     ensures second { sides.new.1.present ≡ sides.old.1.present }
-    ensures step { IfOk result (λ answer.
-        (at_two turns.new.next (first_next turns.new.moves sides.new.0) (second_next turns.new.moves sides.new.1), answer) ≡
+    ensures step { IfOk result (λ _. (
+      at_two turns.new.next (first_next turns.new.moves sides.new.0) (second_next turns.new.moves sides.new.1),
+      answered output.new decision.new,
+    ) ≡
         step_of (two_schedule Two.Follow plans.now.0 plans.now.1)
         (from fresh (two_schedule Two.Follow plans.now.0 plans.now.1)
         (at_two turns.old.present sides.old.0.present sides.old.1.present)) (event_of tick.entry.now input.now)) }
@@ -192,10 +304,28 @@ fn advance_follow(
     if let Turn::Crossed = turns.present.from(fresh, Two::Follow) {
         turns.next = Turn::Crossed;
         turns.moves = Moves::OnlySecond;
-        return advance(alloc, &plans.1, &mut sides.1, false, tick, input);
+        return advance(
+            alloc,
+            &plans.1,
+            &mut sides.1,
+            false,
+            tick,
+            input,
+            output,
+            decision,
+        );
     }
-    let answer = advance(alloc, &plans.0, &mut sides.0, fresh, tick, input)?;
-    if let Decision::Go(_) = answer.decision {
+    advance(
+        alloc,
+        &plans.0,
+        &mut sides.0,
+        fresh,
+        tick,
+        input,
+        output,
+        decision,
+    )?;
+    if let Decision::Go(_) = *decision {
         turns.next = Turn::Uncrossed;
         turns.moves = Moves::OnlyFirst;
         if fresh {
@@ -204,9 +334,18 @@ fn advance_follow(
             turns.moves = Moves::Both;
             sides.1.restart(&plans.1);
         }
-        return Ok(answer);
+        return Ok(());
     }
     turns.next = Turn::Crossed;
     turns.moves = Moves::Both;
-    advance(alloc, &plans.1, &mut sides.1, fresh, tick, input)
+    advance(
+        alloc,
+        &plans.1,
+        &mut sides.1,
+        fresh,
+        tick,
+        input,
+        output,
+        decision,
+    )
 }

@@ -1,25 +1,33 @@
 ghost use Rattle.std.specs.Prelude.{◌≡◌, ℕ, ◌<◌, ◌≤◌, min, get_or, length, IsTrue};
 ghost use Rattle.sched_time.specs.Capped.{capped};
-ghost use Rattle.sched_plan.specs.Answer.{giving};
-ghost use Rattle.sched_plan.specs.Datum.{first_part, second_part};
+ghost use Rattle.sched_plan.specs.Answer.{moved_decision};
 ghost use Rattle.sched_plan.specs.Delays.{added, added_out, jittered};
 ghost use Rattle.sched_plan.specs.Gates.{compares, gated, passes};
 ghost use Rattle.sched_plan.specs.Schedule.{one_in_range};
 ghost use Rattle.sched_step.specs.Kept.{kept_mark};
 ghost use Rattle.sched_step.specs.Progress.{one_keeps};
 ghost use Rattle.sched_step.specs.StateOf.{event_of};
-ghost use Rattle.sched_step.specs.Step.{delayed, ended, one_answers};
+ghost use Rattle.sched_step.specs.Step.{answered, one_answers};
 
 use crate::marks::Mark;
+use crate::outputs::{put_first, put_number, put_second, put_unit};
 use crate::times::{go_after, time_between};
-use sched_plan::{Answer, One, Side, Test, Val, ValShape};
+use sched_plan::{One, Side, Test, Val, ValShape};
 use sched_time::{Decision, FAR, Millis, Moment, Tick};
 
-/// What a node answers, where it keeps this mark and the plan under it gave this answer.
-pub(crate) fn changed(node: &One, mark: &Mark, tick: &Tick, input: &Val, answer: Answer) -> Answer
+/// Makes the output and decision of the plan under a node what the node answers, where it keeps this mark.
+pub(crate) fn change(
+    node: &One,
+    mark: &Mark,
+    tick: &Tick,
+    input: &Val,
+    output: &mut Val,
+    decision: &mut Decision,
+)
     requires valid { IsTrue (one_in_range node.now) }
     requires keeps { IsTrue (one_keeps node.now (kept_mark mark.now)) }
-    ensures { result ≡ one_answers node.now (kept_mark mark.now) (event_of tick.entry.now input.now) answer }
+    ensures { answered output.new decision.new ≡ one_answers node.now (kept_mark mark.now)
+        (event_of tick.entry.now input.now) (answered output.old decision.old) }
 {
     let now = tick.now;
     match *node {
@@ -28,52 +36,47 @@ pub(crate) fn changed(node: &One, mark: &Mark, tick: &Tick, input: &Val, answer:
             want,
             test,
             bound,
-        } => gate(side, want, test, bound, input, answer),
-        One::Gather(_) => with_output(Val::from(mark.total()), answer),
-        One::Add(more) => add(more, now, answer),
-        One::Set(delay) => set(delay, now, answer),
-        One::Cap(most) => cap(most, now, answer),
-        One::AddOut => add_out(now, answer),
-        One::Jitter { lane, least, most } => jitter(lane, least, most, tick, answer),
+        } => *decision = gate(side, want, test, bound, input, output, *decision),
+        One::Gather(_) => put_number(output, mark.total()),
+        One::Add(more) => *decision = add(more, now, *decision),
+        One::Set(delay) => *decision = set(delay, now, *decision),
+        One::Cap(most) => *decision = cap(most, now, *decision),
+        One::AddOut => *decision = add_out(now, output, *decision),
+        One::Jitter { lane, least, most } => *decision = jitter(lane, least, most, tick, *decision),
         One::Within(length) => {
             let first = mark.since().unwrap_or(now);
-            ended_where(length <= time_between(first, now), answer)
+            if length <= time_between(first, now) {
+                *decision = Decision::Done;
+            }
         }
-        One::Renew(_) | One::RenewIdle(_) => answer,
-        One::First => first(answer),
-        One::Second => second(answer),
-        One::Nothing => with_output(Val::unit(), answer),
+        One::Renew(_) | One::RenewIdle(_) => {}
+        One::First => put_first(output),
+        One::Second => put_second(output),
+        One::Nothing => put_unit(output),
     }
 }
 
-// The answer, but done where it is over.
-fn ended_where(over: bool, answer: Answer) -> Answer
-    ensures { result ≡ ended over answer }
-{
-    let Answer { output, decision } = answer;
-    let decision = if over { Decision::Done } else { decision };
-    Answer { output, decision }
-}
-
-// The answer with this output in the place of its own.
-fn with_output(output: Val, answer: Answer) -> Answer
-    ensures { result ≡ giving output answer }
-{
-    Answer {
-        output,
-        decision: answer.decision,
-    }
-}
-
-// The answer, but done where the test of the value has not the wanted result.
-fn gate(side: Side, want: bool, test: Test, bound: Millis, input: &Val, answer: Answer) -> Answer
-    ensures { result ≡ gated side want test bound input.now answer }
+// The decision, but done where the test of the value has not the wanted result.
+fn gate(
+    side: Side,
+    want: bool,
+    test: Test,
+    bound: Millis,
+    input: &Val,
+    output: &Val,
+    decision: Decision,
+) -> Decision
+    ensures { answered output.now result ≡ gated side want test bound input.now (answered output.now decision) }
 {
     let result = match side {
         Side::Input => is_passed(test, bound, input),
-        Side::Output => is_passed(test, bound, &answer.output),
+        Side::Output => is_passed(test, bound, output),
     };
-    ended_where(result != want, answer)
+    if result == want {
+        decision
+    } else {
+        Decision::Done
+    }
 }
 
 // The test of a value; what is no number fails it.
@@ -96,39 +99,34 @@ fn compare(test: Test, bound: Millis, number: Millis) -> bool
     }
 }
 
-// Each delay made longer.
-fn add(more: Millis, now: Moment, answer: Answer) -> Answer
-    ensures { result ≡ delayed (added more) now answer }
+// Going on after a delay that is longer by so much.
+fn add(more: Millis, now: Moment, decision: Decision) -> Decision
+    ensures { result ≡ moved_decision (added more) now decision }
 {
-    let Answer { output, decision } = answer;
-    let decision = match decision {
+    match decision {
         Decision::Go(interval) => {
             let delay = time_between(now, interval.start());
             go_after(now, delay.plus(more))
         }
         Decision::Done => Decision::Done,
-    };
-    Answer { output, decision }
+    }
 }
 
-// This delay in the place of each.
-fn set(delay: Millis, now: Moment, answer: Answer) -> Answer
-    ensures { result ≡ delayed (λ _. delay) now answer }
+// Going on after this delay.
+fn set(delay: Millis, now: Moment, decision: Decision) -> Decision
+    ensures { result ≡ moved_decision (λ _. delay) now decision }
 {
-    let Answer { output, decision } = answer;
-    let decision = match decision {
+    match decision {
         Decision::Go(_) => go_after(now, delay),
         Decision::Done => Decision::Done,
-    };
-    Answer { output, decision }
+    }
 }
 
-// Each delay, but at most this one.
-fn cap(most: Millis, now: Moment, answer: Answer) -> Answer
-    ensures { result ≡ delayed (λ delay. min delay most) now answer }
+// Going on after the delay, but at most this one.
+fn cap(most: Millis, now: Moment, decision: Decision) -> Decision
+    ensures { result ≡ moved_decision (λ delay. min delay most) now decision }
 {
-    let Answer { output, decision } = answer;
-    let decision = match decision {
+    match decision {
         Decision::Go(interval) => {
             let delay = time_between(now, interval.start());
             let delay = if most.get() < delay.get() {
@@ -139,23 +137,20 @@ fn cap(most: Millis, now: Moment, answer: Answer) -> Answer
             go_after(now, delay)
         }
         Decision::Done => Decision::Done,
-    };
-    Answer { output, decision }
+    }
 }
 
-// Each delay made longer by the output, where that is a number.
-fn add_out(now: Moment, answer: Answer) -> Answer
-    ensures { result ≡ delayed (added_out answer.output) now answer }
+// Going on after a delay that is longer by the output, where that is a number.
+fn add_out(now: Moment, output: &Val, decision: Decision) -> Decision
+    ensures { result ≡ moved_decision (added_out output.now) now decision }
 {
-    let Answer { output, decision } = answer;
-    let decision = match decision {
+    match decision {
         Decision::Go(interval) => {
             let delay = time_between(now, interval.start());
-            go_after(now, plus_number(delay, &output))
+            go_after(now, plus_number(delay, output))
         }
         Decision::Done => Decision::Done,
-    };
-    Answer { output, decision }
+    }
 }
 
 // The delay made longer by the value, where that is a number.
@@ -168,23 +163,21 @@ fn plus_number(delay: Millis, value: &Val) -> Millis
     }
 }
 
-// Each delay in the ratio that the lane's random word picks.
-fn jitter(lane: usize, least: u64, most: u64, tick: &Tick, answer: Answer) -> Answer
+// Going on after the delay in the ratio that the lane's random word picks.
+fn jitter(lane: usize, least: u64, most: u64, tick: &Tick, decision: Decision) -> Decision
     requires lane { lane ≤ 3 }
     requires order { least ≤ most }
     requires small { most ≤ 10000 }
-    ensures { result ≡ delayed (jittered least most (get_or tick.entry.now.words lane 0)) tick.entry.now.now answer }
+    ensures { result ≡ moved_decision (jittered least most (get_or tick.entry.now.words lane 0)) tick.entry.now.now decision }
 {
-    let Answer { output, decision } = answer;
     let now = tick.now;
-    let decision = match decision {
+    match decision {
         Decision::Go(interval) => {
             let delay = time_between(now, interval.start());
             go_after(now, jittered(least, most, tick.words[lane], delay))
         }
         Decision::Done => Decision::Done,
-    };
-    Answer { output, decision }
+    }
 }
 
 // The delay in the ratio that a random word picks between two bounds in thousandths, rounded down.
@@ -210,26 +203,4 @@ pub(crate) fn at_most_far(number: u128) -> Millis
         Err(_) => FAR,
     };
     Millis::new(millis).unwrap()
-}
-
-// The first part of the output; nothing where it is no pair.
-fn first(answer: Answer) -> Answer
-    ensures { result ≡ giving (first_part answer.output) answer }
-{
-    let Answer { output, decision } = answer;
-    Answer {
-        output: output.into_first(),
-        decision,
-    }
-}
-
-// The second part of the output; nothing where it is no pair.
-fn second(answer: Answer) -> Answer
-    ensures { result ≡ giving (second_part answer.output) answer }
-{
-    let Answer { output, decision } = answer;
-    Answer {
-        output: output.into_second(),
-        decision,
-    }
 }

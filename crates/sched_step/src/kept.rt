@@ -2,13 +2,13 @@ ghost use Rattle.std.specs.Prelude.{◌≡◌, IfOk, IsTrue};
 ghost use Rattle.sched_plan.specs.Schedule.{one_in_range};
 ghost use Rattle.sched_step.specs.Progress.{one_view, one_keeps, one_began};
 ghost use Rattle.sched_step.specs.StateOf.{event_of, first_kept};
-ghost use Rattle.sched_step.specs.Step.{begins, kept_from, one_next, one_answers};
+ghost use Rattle.sched_step.specs.Step.{answered, begins, kept_from, one_next, one_answers};
 
-use crate::changes::changed;
+use crate::changes::change;
 use crate::lists::Listed;
 use crate::marks::Mark;
-use sched_plan::{Answer, Fold, One, Val};
-use sched_time::{Millis, Moment, NoMemory, Tick};
+use sched_plan::{Fold, One, Val};
+use sched_time::{Decision, Millis, Moment, NoMemory, Tick};
 use std::alloc::Global;
 use std::marker::Model;
 
@@ -20,6 +20,8 @@ pub(crate) struct Kept {
 
 #[derive(Drop)]
 pub(crate) enum KeptShape {
+    /// Nothing.
+    Bare,
     /// A mark of a few words.
     Marked { present: Mark, next: Mark },
     /// The outputs so far.
@@ -44,6 +46,7 @@ impl Kept {
         ensures { result.present ≡ first_kept node }
     {
         let shape = match Mark::initial(node) {
+            Some(Mark::Bare) => KeptShape::Bare,
             Some(present) => {
                 let next = present;
                 KeptShape::Marked { present, next }
@@ -58,6 +61,7 @@ impl Kept {
         ensures { IfOk result (λ v. v ≡ one_view self.now.present plan) }
     {
         match &self.shape {
+            KeptShape::Bare => Ok(plan),
             KeptShape::Listed(outputs) => {
                 let shown = outputs.view(alloc)?;
                 Val::pair(alloc, shown, plan)
@@ -71,6 +75,7 @@ impl Kept {
         ensures { result ≡ one_keeps node self.now.present }
     {
         match &self.shape {
+            KeptShape::Bare => Mark::Bare.is_of(node),
             KeptShape::Listed(_) => match node {
                 One::Gather(Fold::List) => true,
                 _ => false,
@@ -84,7 +89,7 @@ impl Kept {
         ensures { result ≡ one_began self.now.present now }
     {
         match &self.shape {
-            KeptShape::Listed(_) => true,
+            KeptShape::Bare | KeptShape::Listed(_) => true,
             KeptShape::Marked { present, .. } => present.began_by(now),
         }
     }
@@ -94,6 +99,7 @@ impl Kept {
         ensures { IfOk result (λ kept. kept.present ≡ self.now.present) }
     {
         let shape = match &self.shape {
+            KeptShape::Bare => KeptShape::Bare,
             KeptShape::Listed(outputs) => KeptShape::Listed(outputs.copy(alloc)?),
             KeptShape::Marked { present, .. } => KeptShape::Marked {
                 present: *present,
@@ -110,6 +116,7 @@ impl Kept {
         ensures next { self.new.next ≡ first_kept node }
     {
         match &mut self.shape {
+            KeptShape::Bare => {}
             KeptShape::Listed(outputs) => outputs.restart(),
             KeptShape::Marked { present, next } => *next = present.from(true, node),
         }
@@ -120,6 +127,7 @@ impl Kept {
         ensures { self.new.present ≡ self.old.next }
     {
         match &mut self.shape {
+            KeptShape::Bare => {}
             KeptShape::Listed(outputs) => outputs.commit(),
             KeptShape::Marked { present, next } => *present = *next,
         }
@@ -131,12 +139,12 @@ impl Kept {
         ensures { result ≡ begins node self.now.present now }
     {
         match &self.shape {
-            KeptShape::Listed(_) => false,
+            KeptShape::Bare | KeptShape::Listed(_) => false,
             KeptShape::Marked { present, .. } => present.begins(node, now),
         }
     }
 
-    /// Notes what the step under way makes of it, and gives the node's answer from that of the plan under it.
+    /// Notes what the step under way makes of it, and makes the output and decision of the plan under the node the node's.
     pub(crate) fn step(
         &mut self,
         alloc: Global,
@@ -144,23 +152,29 @@ impl Kept {
         fresh: bool,
         tick: &Tick,
         input: &Val,
-        answer: Answer,
-    ) -> Result<Answer, NoMemory>
+        output: &mut Val,
+        decision: &mut Decision,
+    ) -> Result<(), NoMemory>
         requires valid { IsTrue (one_in_range node.now) }
         requires keeps { IsTrue (one_keeps node.now self.old.present) }
         ensures present { self.new.present ≡ self.old.present }
         ensures next { IfOk result (λ _. self.new.next ≡
-            one_next node.now (kept_from fresh node.now self.old.present) (event_of tick.entry.now input.now) answer) }
-        ensures answer { IfOk result (λ given. given ≡
-            one_answers node.now (kept_from fresh node.now self.old.present) (event_of tick.entry.now input.now) answer) }
+            one_next node.now (kept_from fresh node.now self.old.present) (event_of tick.entry.now input.now)
+            (answered output.old decision.old)) }
+        ensures answer { IfOk result (λ _. answered output.new decision.new ≡
+            one_answers node.now (kept_from fresh node.now self.old.present) (event_of tick.entry.now input.now)
+            (answered output.old decision.old)) }
     {
-        match &mut self.shape {
-            KeptShape::Listed(outputs) => outputs.step(alloc, fresh, answer),
+        let from = match &mut self.shape {
+            KeptShape::Bare => Mark::Bare,
+            KeptShape::Listed(outputs) => return outputs.step(alloc, fresh, output, *decision),
             KeptShape::Marked { present, next } => {
                 let from = present.from(fresh, *node);
-                *next = from.next(node, tick, input, &answer);
-                Ok(changed(node, &from, tick, input, answer))
+                *next = from.next(node, tick, input, output, decision);
+                from
             }
-        }
+        };
+        change(node, &from, tick, input, output, decision);
+        Ok(())
     }
 }

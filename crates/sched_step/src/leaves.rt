@@ -1,15 +1,15 @@
 ghost use Rattle.std.specs.Prelude.{◌≡◌, ◌+◌, ◌*◌, ◌/◌, ◌<◌, ◌≤◌, [], if◌then◌else◌, nat_lt, IfOk, IsTrue};
 ghost use Rattle.sched_time.specs.Capped.{capped};
 ghost use Rattle.sched_time.specs.declared.starts.Decision.{Decision};
-ghost use Rattle.sched_plan.specs.Datum.{num};
 ghost use Rattle.sched_plan.specs.Schedule.{leaf_in_range};
 ghost use Rattle.sched_step.specs.Progress.{leaf_view, leaf_keeps, leaf_began};
 ghost use Rattle.sched_step.specs.StateOf.{leaf_state, event_of};
-ghost use Rattle.sched_step.specs.Step.{count_of, output_next, output_after, started_of, planned_of, is_spent, leaf_from, leaf_next, leaf_answers, first_planned, next_fixed};
+ghost use Rattle.sched_step.specs.Step.{answered, count_of, output_next, output_after, started_of, planned_of, is_spent, leaf_next, leaf_answers, first_planned, next_fixed};
 
 use crate::changes::at_most_far;
+use crate::outputs::{put_copy, put_number};
 use crate::times::{go_after, go_at, next_boundary, time_between, view_moment};
-use sched_plan::{Answer, Leaf, Val};
+use sched_plan::{Leaf, Val};
 use sched_time::{Decision, Millis, Moment, NoMemory, Tick};
 use std::alloc::Global;
 
@@ -57,17 +57,6 @@ impl LeafState {
             Leaf::Identity => LeafState::Blank,
             Leaf::Unfold { seed, .. } => LeafState::Unfolded(seed),
             Leaf::Lone(_) => LeafState::Spent(false),
-        }
-    }
-
-    /// Where a step is made that may begin anew.
-    pub(crate) fn from(self, fresh: bool, leaf: Leaf) -> LeafState
-        ensures { result ≡ leaf_from fresh leaf self }
-    {
-        if fresh {
-            LeafState::initial(leaf)
-        } else {
-            self
         }
     }
 
@@ -135,97 +124,121 @@ impl LeafState {
         }
     }
 
-    /// Notes in `next` the state after one more event, and gives what the leaf answers to it. It takes memory for the
-    /// output alone.
+    /// Notes in `next` the state after one more event, and makes `output` and `decision` what the leaf answers to it. It takes memory for
+    /// the output alone.
     pub(crate) fn step(
-        self,
+        &self,
         alloc: Global,
         leaf: &Leaf,
         next: &mut LeafState,
         tick: &Tick,
         input: &Val,
-    ) -> Result<Answer, NoMemory>
+        output: &mut Val,
+        decision: &mut Decision,
+    ) -> Result<(), NoMemory>
         requires { IsTrue (leaf_in_range leaf.now) }
-        ensures next { IfOk result (λ _. next.new ≡ leaf_next leaf.now self (event_of tick.entry.now input.now)) }
+        ensures next { IfOk result (λ _. next.new ≡ leaf_next leaf.now self.now (event_of tick.entry.now input.now)) }
         ensures answer { IfOk result
-            (λ answer. answer ≡ leaf_answers leaf.now self (event_of tick.entry.now input.now)) }
+            (λ _. answered output.new decision.new ≡ leaf_answers leaf.now self.now (event_of tick.entry.now input.now)) }
     {
         let now = tick.now;
         match *leaf {
             Leaf::Forever => {
-                *next = LeafState::Counted(one_more(self.count()));
-                Ok(giving(self.count(), go_at(now)))
+                let count = self.count();
+                *next = LeafState::Counted(one_more(count));
+                put_number(output, count);
+                *decision = go_at(now);
             }
             Leaf::Recurs(most) => {
-                *next = LeafState::Counted(one_more(self.count()));
-                Ok(giving(self.count(), go_below(self.count(), most, now)))
+                let count = self.count();
+                *next = LeafState::Counted(one_more(count));
+                put_number(output, count);
+                *decision = go_below(count, most, now);
             }
             Leaf::Spaced(delay) => {
-                *next = LeafState::Counted(one_more(self.count()));
-                Ok(giving(self.count(), go_after(now, delay)))
+                let count = self.count();
+                *next = LeafState::Counted(one_more(count));
+                put_number(output, count);
+                *decision = go_after(now, delay);
             }
             Leaf::Fixed(length) => {
+                let count = self.count();
                 let start = next_fixed(length, self.planned(), now);
                 let first = first_planned(self.planned(), now);
-                *next = LeafState::Planned(one_more(self.count()), Some((first, start)));
-                Ok(giving(self.count(), go_at(start)))
+                *next = LeafState::Planned(one_more(count), Some((first, start)));
+                put_number(output, count);
+                *decision = go_at(start);
             }
             Leaf::Windowed(length) => {
+                let count = self.count();
                 let first = self.started().unwrap_or(now);
-                *next = LeafState::Windows(one_more(self.count()), Some(first));
-                Ok(giving(self.count(), go_at(next_boundary(length, first, now))))
+                *next = LeafState::Windows(one_more(count), Some(first));
+                put_number(output, count);
+                *decision = go_at(next_boundary(length, first, now));
             }
             Leaf::Linear(delay) => {
                 let count = one_more(self.count());
                 *next = LeafState::Counted(count);
                 let delay = delay.times(count.get());
-                Ok(giving(delay, go_after(now, delay)))
+                put_number(output, delay);
+                *decision = go_after(now, delay);
             }
             Leaf::Exponential { factor, .. } => {
                 let delay = self.output();
                 *next = LeafState::Product(delay.times(factor));
-                Ok(giving(delay, go_after(now, delay)))
+                put_number(output, delay);
+                *decision = go_after(now, delay);
             }
             Leaf::ExponentialMilli { thousandths, .. } => {
                 let delay = self.output();
                 *next = LeafState::Scaled(scaled(delay, thousandths));
-                Ok(giving(delay, go_after(now, delay)))
+                put_number(output, delay);
+                *decision = go_after(now, delay);
             }
             Leaf::Fibonacci(_) => {
                 let delay = self.output();
                 let after = self.output_after();
                 *next = LeafState::Summands(after, delay.plus(after));
-                Ok(giving(delay, go_after(now, delay)))
+                put_number(output, delay);
+                *decision = go_after(now, delay);
             }
             Leaf::Elapsed => {
                 let first = self.started().unwrap_or(now);
                 *next = LeafState::Started(Some(first));
-                Ok(giving(time_between(first, now), go_at(now)))
+                put_number(output, time_between(first, now));
+                *decision = go_at(now);
             }
             Leaf::Identity => {
                 *next = LeafState::Blank;
-                Ok(Answer {
-                    output: input.copy(alloc)?,
-                    decision: go_at(now),
-                })
+                put_copy(alloc, output, input)?;
+                *decision = go_at(now);
             }
             Leaf::Unfold { factor, more, .. } => {
                 let number = self.output();
                 *next = LeafState::Unfolded(factor.times(number.get()).plus(more));
-                Ok(giving(number, go_at(now)))
+                put_number(output, number);
+                *decision = go_at(now);
             }
             Leaf::Lone(delay) => {
+                let is_spent = self.is_spent();
                 *next = LeafState::Spent(true);
-                Ok(lone(self.is_spent(), delay, now))
+                if is_spent {
+                    put_number(output, Millis::from(0));
+                    *decision = Decision::Done;
+                } else {
+                    put_number(output, delay);
+                    *decision = go_after(now, delay);
+                }
             }
         }
+        Ok(())
     }
 
     // How many events it counted, or 0.
-    fn count(self) -> Millis
-        ensures { result ≡ count_of self }
+    fn count(&self) -> Millis
+        ensures { result ≡ count_of self.now }
     {
-        match self {
+        match *self {
             LeafState::Counted(count)
             | LeafState::Planned(count, _)
             | LeafState::Windows(count, _) => count,
@@ -234,10 +247,10 @@ impl LeafState {
     }
 
     // What the next event puts out, or 0.
-    fn output(self) -> Millis
-        ensures { result ≡ output_next self }
+    fn output(&self) -> Millis
+        ensures { result ≡ output_next self.now }
     {
-        match self {
+        match *self {
             LeafState::Product(number)
             | LeafState::Scaled(number)
             | LeafState::Summands(number, _)
@@ -247,44 +260,63 @@ impl LeafState {
     }
 
     // What the event after that puts out, or 0.
-    fn output_after(self) -> Millis
-        ensures { result ≡ output_after self }
+    fn output_after(&self) -> Millis
+        ensures { result ≡ output_after self.now }
     {
-        match self {
+        match *self {
             LeafState::Summands(_, number) => number,
             _ => Millis::from(0),
         }
     }
 
     // The first moment, if there was one.
-    fn started(self) -> Option<Moment>
-        ensures { result ≡ started_of self }
+    fn started(&self) -> Option<Moment>
+        ensures { result ≡ started_of self.now }
     {
-        match self {
+        match *self {
             LeafState::Windows(_, first) | LeafState::Started(first) => first,
             _ => None,
         }
     }
 
     // The first moment and the start planned last, if there was one.
-    fn planned(self) -> Option<(Moment, Moment)>
-        ensures { result ≡ planned_of self }
+    fn planned(&self) -> Option<(Moment, Moment)>
+        ensures { result ≡ planned_of self.now }
     {
-        match self {
+        match *self {
             LeafState::Planned(_, planned) => planned,
             _ => None,
         }
     }
 
     // Whether the one event is past.
-    fn is_spent(self) -> bool
-        ensures { result ≡ is_spent self }
+    fn is_spent(&self) -> bool
+        ensures { result ≡ is_spent self.now }
     {
-        match self {
+        match *self {
             LeafState::Spent(spent) => spent,
             _ => false,
         }
     }
+}
+
+/// A leaf's first step, from before the first event.
+#[inline(never)]
+pub(crate) fn begin(
+    alloc: Global,
+    leaf: &Leaf,
+    next: &mut LeafState,
+    tick: &Tick,
+    input: &Val,
+    output: &mut Val,
+    decision: &mut Decision,
+) -> Result<(), NoMemory>
+    requires { IsTrue (leaf_in_range leaf.now) }
+    ensures next { IfOk result (λ _. next.new ≡ leaf_next leaf.now (leaf_state leaf.now []) (event_of tick.entry.now input.now)) }
+    ensures answer { IfOk result
+        (λ _. answered output.new decision.new ≡ leaf_answers leaf.now (leaf_state leaf.now []) (event_of tick.entry.now input.now)) }
+{
+    LeafState::initial(*leaf).step(alloc, leaf, next, tick, input, output, decision)
 }
 
 // The count after one more event.
@@ -292,16 +324,6 @@ fn one_more(count: Millis) -> Millis
     ensures { result ≡ capped (count + 1) }
 {
     count.plus(Millis::from(1))
-}
-
-// An answer with a number.
-fn giving(number: Millis, decision: Decision) -> Answer
-    ensures { result ≡ record { output = num number; decision = decision } }
-{
-    Answer {
-        output: Val::from(number),
-        decision,
-    }
 }
 
 // Going on at once while there were fewer events.
@@ -346,18 +368,4 @@ fn scaled(number: Millis, thousandths: u64) -> Millis
     ensures { result ≡ capped (number * thousandths / 1000) }
 {
     at_most_far(u128::from(number.get()) * u128::from(thousandths) / 1000)
-}
-
-// What is answered to a first event, and to a later one.
-fn lone(spent: bool, delay: Millis, now: Moment) -> Answer
-    ensures { result ≡ record {
-      output = num (if spent then 0 else delay);
-      decision = (if spent then Decision.Done else Decision.Go (capped (now + delay)));
-    } }
-{
-    if spent {
-        giving(Millis::from(0), Decision::Done)
-    } else {
-        giving(delay, go_after(now, delay))
-    }
 }

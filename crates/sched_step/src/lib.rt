@@ -2,12 +2,13 @@
 #![tactic(auto)]
 
 mod advance;
-mod answers;
 mod changes;
+mod decisions;
 mod kept;
 mod leaves;
 mod lists;
 mod marks;
+mod outputs;
 mod states;
 mod steps;
 #[cfg(test)]

@@ -1,13 +1,13 @@
 ghost use Rattle.std.specs.Prelude.{◌≡◌, ◌<◌, ◌≤◌, [], ◌∷◌, ◌++◌, if◌then◌else◌, IfOk, IfSome, vec_len, vec_capacity};
 ghost use Rattle.sched_plan.specs.Datum.{list, items_of};
-ghost use Rattle.sched_plan.specs.Answer.{giving};
 ghost use Rattle.sched_plan.specs.Outputs.{goes_on};
 ghost use Rattle.sched_step.specs.Listed.{items_next};
 
-use sched_plan::{Answer, Val};
+use sched_plan::Val;
 use sched_time::{Decision, NoMemory};
 use std::alloc::Global;
 use std::marker::Model;
+use std::mem;
 
 /// The outputs that a node keeps: what they are, and what the step under way makes of them. They are never copied but
 /// for an output that shows them.
@@ -73,6 +73,7 @@ impl Listed {
     }
 
     /// The step under way is taken. It takes no memory.
+    #[inline(never)]
     pub(crate) fn commit(&mut self)
         ensures { self.new.present ≡ self.old.next }
     {
@@ -85,35 +86,32 @@ impl Listed {
         }
     }
 
-    /// Notes the output of an answer that goes on, and gives the answer with the outputs so far in the place of its own.
-    /// A fresh step begins from none.
+    /// Notes the output where the plan under the node goes on, and puts the outputs so far in its place. A fresh step begins from none.
+    #[inline(never)]
     pub(crate) fn step(
         &mut self,
         alloc: Global,
         fresh: bool,
-        answer: Answer,
-    ) -> Result<Answer, NoMemory>
+        output: &mut Val,
+        decision: Decision,
+    ) -> Result<(), NoMemory>
         ensures present { self.new.present ≡ self.old.present }
         ensures next { let before = (if fresh then [] else self.old.present) in IfOk result (λ _. self.new.next ≡
-            (if goes_on answer.decision then before ++ answer.output ∷ [] else before)) }
-        ensures answer { let before = (if fresh then [] else self.old.present) in
-            IfOk result (λ given. given ≡ giving (list (items_of before)) answer) }
+            (if goes_on decision then before ++ output.old ∷ [] else before)) }
+        ensures output { let before = (if fresh then [] else self.old.present) in
+            IfOk result (λ _. output.new ≡ list (items_of before)) }
     {
         let shown = if fresh {
             Vec::new(alloc)
         } else {
             copy_all(alloc, &self.items)?
         };
-        let Answer { output, decision } = answer;
+        let last = mem::replace(output, Val::list(shown));
         let more = match decision {
-            Decision::Go(_) => Some(output),
+            Decision::Go(_) => Some(last),
             Decision::Done => None,
         };
-        self.note(fresh, more)?;
-        Ok(Answer {
-            output: Val::list(shown),
-            decision,
-        })
+        self.note(fresh, more)
     }
 
     // The step under way begins from none where it is anew, and adds this output.

@@ -3,10 +3,10 @@ ghost use Rattle.sched_plan.specs.Outputs.{number_of};
 ghost use Rattle.sched_step.specs.Kept.{kept_mark};
 ghost use Rattle.sched_step.specs.Progress.{listed, total as number_total, one_view, one_keeps, one_began};
 ghost use Rattle.sched_step.specs.StateOf.{event_of, first_kept};
-ghost use Rattle.sched_step.specs.Step.{begins, fold_next, is_over, kept_from, one_next, round_next, since_of, total_of};
+ghost use Rattle.sched_step.specs.Step.{answered, begins, fold_next, is_over, kept_from, one_next, round_next, since_of, total_of};
 
 use crate::times::{time_between, view_moment};
-use sched_plan::{Answer, Fold, One, Val, ValShape};
+use sched_plan::{Fold, One, Val, ValShape};
 use sched_time::{Decision, Millis, Moment, NoMemory, Tick};
 use std::alloc::Global;
 
@@ -142,15 +142,22 @@ impl Mark {
         }
     }
 
-    /// After one more event, to which the plan under the node gave this answer.
-    pub(crate) fn next(&self, node: &One, tick: &Tick, input: &Val, answer: &Answer) -> Mark
+    /// After one more event, to which the plan under the node gave this output and decision.
+    pub(crate) fn next(
+        &self,
+        node: &One,
+        tick: &Tick,
+        input: &Val,
+        output: &Val,
+        decision: &Decision,
+    ) -> Mark
         requires { IsTrue (one_keeps node.now (kept_mark self.now)) }
-        ensures { kept_mark result ≡
-            one_next node.now (kept_mark self.now) (event_of tick.entry.now input.now) answer.now }
+        ensures { kept_mark result ≡ one_next node.now (kept_mark self.now) (event_of tick.entry.now input.now)
+            (answered output.now decision.now) }
     {
         let now = tick.now;
         match *node {
-            One::Gather(fold) => Mark::Total(folded(fold, self.total(), answer)),
+            One::Gather(fold) => Mark::Total(folded(fold, self.total(), output, decision)),
             One::Within(_) => Mark::Since(Some(self.since().unwrap_or(now))),
             One::Renew(length) => Mark::RoundSince(Some(round(length, self.since(), now))),
             One::RenewIdle(_) => Mark::LastAt(Some(now)),
@@ -187,18 +194,18 @@ fn round(length: Millis, since: Option<Moment>, now: Moment) -> Moment
     }
 }
 
-// What a fold makes of the outputs so far and of this answer's.
-fn folded(fold: Fold, total: Millis, answer: &Answer) -> Millis
+// What a fold makes of the outputs so far and of this one.
+fn folded(fold: Fold, total: Millis, output: &Val, decision: &Decision) -> Millis
     requires { fold ≢ Fold.List }
-    ensures { number_total result ≡ fold_next fold (number_total total) answer.now }
+    ensures { number_total result ≡ fold_next fold (number_total total) (answered output.now decision.now) }
 {
-    if let Decision::Done = answer.decision {
+    if let Decision::Done = *decision {
         return total;
     }
     match fold {
-        Fold::Sum => total.plus(number(&answer.output)),
+        Fold::Sum => total.plus(number(output)),
         Fold::Count => total.plus(Millis::from(1)),
-        Fold::Max => greater(total, number(&answer.output)),
+        Fold::Max => greater(total, number(output)),
         Fold::List => unreachable!(),
     }
 }

@@ -8,7 +8,7 @@ ghost use Rattle.sched_step.specs.Starts.{StartsBy};
 use crate::advance::advance;
 use crate::states::State;
 use sched_plan::{Answer, Plan, Val};
-use sched_time::{NoMemory, Tick};
+use sched_time::{Decision, NoMemory, Tick};
 use std::alloc::Global;
 
 impl State {
@@ -39,9 +39,20 @@ impl State {
         // Both tell what the proof rests on: that the moment is within `FAR`, and that the plan is valid.
         let _millis = tick.now.get();
         let _shape = plan.shape();
-        let answer = advance(alloc, plan, &mut self.tree, false, tick, input)?;
+        let mut output = Val::unit();
+        let mut decision = Decision::Done;
+        advance(
+            alloc,
+            plan,
+            &mut self.tree,
+            false,
+            tick,
+            input,
+            &mut output,
+            &mut decision,
+        )?;
         self.tree.commit();
-        Ok(answer)
+        Ok(Answer { output, decision })
     }
 }
 

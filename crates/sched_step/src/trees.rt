@@ -2,6 +2,7 @@ ghost use Rattle.std.specs.Prelude.{◌≡◌, [], IfOk, IsTrue};
 ghost use Rattle.sched_time.specs.declared.numbers.TheConstants.{FAR};
 ghost use Rattle.sched_step.specs.Progress.{fits, view_of};
 ghost use Rattle.sched_step.specs.StateOf.{state_of};
+ghost use Rattle.sched_step.specs.Tree.{first_next, second_next};
 
 use crate::kept::Kept;
 use crate::leaves::LeafState;
@@ -166,26 +167,43 @@ impl Tree {
     }
 
     /// The step under way is taken: it is now what it was to be. It takes no memory, and leaves what doesn't move alone.
+    #[cycle(commit)]
+    #[inline(always)]
     pub(crate) fn commit(&mut self)
         ensures { self.new.present ≡ self.old.next }
     {
         match &mut self.shape {
             TreeShape::Leaf { present, next } => *present = *next,
-            TreeShape::One(kept, tree) => {
-                kept.commit();
-                tree.commit();
-            }
-            TreeShape::Two(turns, sides) => {
-                turns.present = turns.next;
-                match turns.moves {
-                    Moves::Both => {
-                        sides.0.commit();
-                        sides.1.commit();
-                    }
-                    Moves::OnlyFirst => sides.0.commit(),
-                    Moves::OnlySecond => sides.1.commit(),
-                }
-            }
+            TreeShape::One(kept, tree) => commit_one(kept, tree),
+            TreeShape::Two(turns, sides) => commit_two(turns, sides),
         }
+    }
+}
+
+#[cycle(commit)]
+#[inline(never)]
+fn commit_one(kept: &mut Kept, tree: &mut Tree)
+    ensures kept { kept.new.present ≡ kept.old.next }
+    ensures tree { tree.new.present ≡ tree.old.next }
+{
+    kept.commit();
+    tree.commit();
+}
+
+#[cycle(commit)]
+#[inline(never)]
+fn commit_two(turns: &mut Turns, sides: &mut (Tree, Tree))
+    ensures turn { turns.new.present ≡ turns.old.next }
+    ensures first { sides.new.0.present ≡ first_next turns.old.moves sides.old.0 }
+    ensures second { sides.new.1.present ≡ second_next turns.old.moves sides.old.1 }
+{
+    turns.present = turns.next;
+    match turns.moves {
+        Moves::Both => {
+            sides.0.commit();
+            sides.1.commit();
+        }
+        Moves::OnlyFirst => sides.0.commit(),
+        Moves::OnlySecond => sides.1.commit(),
     }
 }

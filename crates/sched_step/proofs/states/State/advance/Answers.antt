@@ -26,14 +26,14 @@ stepped s p old next new e a is from to = (λ i. (to i, a)) ∙ is ∙ ap (λ q.
 pub returns-clause-law : goal.returns-clause-law
 returns-clause-law c = λ h from.
     let e = event_of c.args.tick.now c.args.input.now in
-    law_at c.args.plan.now c.args.self.now h e (c.commit.new.self.present, c.in_ok-answer.answer) c.shape-shape.ensures.valid
-    (stepped c.args.plan.now c.args.self.now _ _ _ e _ c.in_ok-answer.ensures.step c.self.view_is c.commit.ensures) from
+    law_at c.args.plan.now c.args.self.now h e (c.commit.new.self.present, _) c.shape-shape.ensures.valid
+    (stepped c.args.plan.now c.args.self.now _ _ _ e _ c.in_ok-advance.ensures.step c.self.view_is c.commit.ensures) from
 
 pub returns-clause-starts : goal.returns-clause-starts
 returns-clause-starts c =
     let in_range : c.args.tick.now.now ≤ FAR = omega arith in
     let e = event_of c.args.tick.now c.args.input.now in
-    subst (λ (r : Progress × Answer). StartsBy e.now r.1.decision) (sym c.in_ok-answer.ensures.step)
+    subst (λ (r : Progress × Answer). StartsBy e.now r.1.decision) (sym c.in_ok-advance.ensures.step)
     (starts_law c.args.plan.now c.self.inside.tree.present e in_range)
 
 fits_at : (s : Schedule) (p : Progress) (e : Event) (r : Progress × Answer) (m : ℕ) → r ≡ step_of s p e →
@@ -44,12 +44,12 @@ fits_at s p e r m is fitting le =
 pub returns-clause-fits : goal.returns-clause-fits
 returns-clause-fits c = λ later after.
     let e = event_of c.args.tick.now c.args.input.now in
-    fits_at c.args.plan.now c.args.self.now e (c.commit.new.self.present, c.in_ok-answer.answer) later
-    (stepped c.args.plan.now c.args.self.now _ _ _ e _ c.in_ok-answer.ensures.step c.self.view_is c.commit.ensures) c.requires after
+    fits_at c.args.plan.now c.args.self.now e (c.commit.new.self.present, _) later
+    (stepped c.args.plan.now c.args.self.now _ _ _ e _ c.in_ok-advance.ensures.step c.self.view_is c.commit.ensures) c.requires after
 
 pub returns-clause-shape : goal.returns-clause-shape
 returns-clause-shape c =
     let in_range : c.args.tick.now.now ≤ FAR = omega arith in
     let e = event_of c.args.tick.now c.args.input.now in
-    fits_at c.args.plan.now c.args.self.now e (c.commit.new.self.present, c.in_ok-answer.answer) FAR
-    (stepped c.args.plan.now c.args.self.now _ _ _ e _ c.in_ok-answer.ensures.step c.self.view_is c.commit.ensures) c.requires in_range
+    fits_at c.args.plan.now c.args.self.now e (c.commit.new.self.present, _) FAR
+    (stepped c.args.plan.now c.args.self.now _ _ _ e _ c.in_ok-advance.ensures.step c.self.view_is c.commit.ensures) c.requires in_range
