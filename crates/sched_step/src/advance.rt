@@ -16,6 +16,8 @@ use std::alloc::Global;
 
 /// Notes in the tree what it will be after one more event, and makes `output` and `decision` what the plan answers. A fresh
 /// step is made from before the first event, whatever the tree is.
+///
+/// It is inlined where it is called, and the functions of the nodes are not: so a leaf takes no call that goes down.
 #[cycle(advance)]
 #[tactic(auto, using(crate::proofs::laws::First::leaf_anew))]
 #[inline(always)]
