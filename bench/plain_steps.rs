@@ -1,6 +1,7 @@
 // The steps of schedules as one would write them by hand, in place and with nothing proved, to hold those of the library
 // against: plain_steps PLAN EVENTS, where PLAN is pair, fixed, tree, crossed, exponential, retry or rounds, steps one so
-// often; plain_steps print PLAN EVENTS writes the lines that zsched plan prints of it.
+// often; with a further word it keeps a journal of the events and the last output, as a driver does, and begins anew
+// after 65,536; plain_steps print PLAN EVENTS writes the lines that zsched plan prints of it.
 use std::hint::black_box;
 use std::io::Write;
 
@@ -270,6 +271,33 @@ fn print(mut schedule: Schedule, events: u64) -> std::io::Result<()> {
     out.flush()
 }
 
+// An event, as a journal keeps it.
+struct Event {
+    _tick: Tick,
+    _input: Value,
+}
+
+// The same with a journal and the last output; it answers where it ended.
+fn drive(plan: &str, events: u64) -> u64 {
+    let mut schedule = named(plan);
+    let mut journal = Vec::new();
+    let mut last = None;
+    let mut now = 0;
+    for _ in 0..events {
+        if journal.len() == 65536 {
+            journal = Vec::new();
+            schedule = named(plan);
+        }
+        let tick = black_box(Tick { now, words: [0; 4] });
+        let answer = black_box(schedule.step(&tick));
+        journal.push(Event { _tick: tick, _input: Value::Unit });
+        now = answer.1.unwrap_or(now);
+        last = Some(answer);
+    }
+    black_box(&last);
+    now
+}
+
 fn main() -> std::io::Result<()> {
     let mut words = std::env::args().skip(1);
     let mut plan = words.next().unwrap();
@@ -281,6 +309,10 @@ fn main() -> std::io::Result<()> {
     let mut schedule = named(&plan);
     if prints {
         return print(schedule, events);
+    }
+    if words.next().is_some() {
+        println!("{plan}: {events} events, at {}", drive(&plan, events));
+        return Ok(());
     }
     let mut now = 0;
     for _ in 0..events {

@@ -14,10 +14,24 @@ bin/zsched plan --steps 0 <<< '"forever"'
 cp crates/zsched/out/zsched "$work/zsched"
 rustc -O -C target-cpu=x86-64 -o "$work/plain" bench/plain_steps.rs
 
-# nanoseconds that one step takes
+# nanoseconds that one step takes, with what else the program is told
 per_step() {
     local program=$1 plan=$2 few=$3 many=$4
-    per_unit "$((many - few))" "$(least "$program" "$plan" "$few")" "$(least "$program" "$plan" "$many")"
+    shift 4
+    per_unit "$((many - few))" "$(least "$program" "$plan" "$few" "$@")" "$(least "$program" "$plan" "$many" "$@")"
+}
+
+# allocations of a whole run
+allocations() {
+    valgrind "$@" 2>&1 > /dev/null | awk '/total heap usage/ { gsub(",", ""); print $5 }'
+}
+
+# allocations that one step takes
+per_step_allocated() {
+    local few many
+    few=$(allocations "$1" "$2" 160)
+    many=$(allocations "$1" "$2" 960)
+    awk -v a="$few" -v b="$many" 'BEGIN { printf "%.2f", (b - a) / 800 }'
 }
 
 # instructions of a whole run
@@ -44,7 +58,12 @@ for row in "pair 100000 5000000" "fixed 100000 10000000" "tree 1000 50000" "cros
         'BEGIN { printf "%s: a step %s ns, by hand %s ns, ratio %.2f\n", p, s, b, s / b }'
     if command -v valgrind > /dev/null; then
         echo "$plan: instructions of a step $(per_step_counted "$work/steps" "$plan"), by hand $(per_step_counted "$work/plain" "$plan")"
+        echo "$plan: allocations of a step $(per_step_allocated "$work/steps" "$plan"), by hand $(per_step_allocated "$work/plain" "$plan")"
     fi
+    next=$(per_step "$work/steps" "$plan" "$few" "$many" driver)
+    plain=$(per_step "$work/plain" "$plan" "$few" "$many" driver)
+    awk -v p="$plan" -v s="$next" -v b="$plain" \
+        'BEGIN { printf "%s: by a driver with its journal %s ns, by hand with a journal %s ns, ratio %.2f\n", p, s, b, s / b }'
 done
 
 echo '{"meet":[{"recurs":4611686018427387903},{"spaced":1}]}' > "$work/pair.json"

@@ -1,15 +1,19 @@
-//! Steps a schedule in place: `bench_steps [PLAN] [EVENTS]`, where PLAN is `pair`, `fixed`, `tree`, `crossed`,
-//! `exponential`, `retry` or `rounds`; of `pair` and 1,000 events where nothing is said. It prints where the run ended and
-//! no time; a script measures it from outside.
+//! Steps a schedule in place: `bench_steps [PLAN] [EVENTS] [driver]`, where PLAN is `pair`, `fixed`, `tree`, `crossed`,
+//! `exponential`, `retry` or `rounds`; of `pair` and 1,000 events where nothing is said. With `driver` a driver steps it,
+//! which keeps a journal. It prints where the run ended and no time; a script measures it from outside.
 #![tactic(auto)]
 
 ghost use Rattle.std.specs.Prelude.{ℕ, ◌≤◌, IfOk};
 
+use sched_driver::Driver;
 use sched_plan::{Fold, Plan, PlanFault, Val};
 use sched_step::initial;
 use sched_time::{FAR, Moment, NoMemory, Tick};
 use std::alloc::Global;
 use std::{env, io};
+
+// How many events a journal holds.
+const JOURNAL: u64 = 65536;
 
 fn main(rt: HostRuntime) -> io::Result<()> {
     let mut words = env::args(&rt)?.skip(1);
@@ -25,7 +29,11 @@ fn main(rt: HostRuntime) -> io::Result<()> {
     let Ok(plan) = plan_named(rt.alloc(), name) else {
         return println!(rt; "no plan");
     };
-    match run_of(rt.alloc(), &plan, events) {
+    let ended = match words.next() {
+        Some(_) => driven_of(rt.alloc(), &plan, events),
+        None => run_of(rt.alloc(), &plan, events),
+    };
+    match ended {
         Ok(now) => println!(rt; "{name}: {events} events, at {now}", now = now.get()),
         Err(_) => println!(rt; "no memory"),
     }
@@ -92,6 +100,31 @@ fn run_of(alloc: Global, plan: &Plan, events: u64) -> Result<Moment, NoMemory> {
         let words = [0; 4];
         let answer = state.advance(alloc, plan, &Tick { now, words }, &input)?;
         if let Some(start) = answer.decision.start() {
+            now = start;
+        }
+    }
+    Ok(now)
+}
+
+/// The same by drivers, of which each takes as many events as its journal holds.
+fn driven_of(alloc: Global, plan: &Plan, events: u64) -> Result<Moment, NoMemory> {
+    let mut now = Moment::new(0).unwrap();
+    for _ in 0..events / JOURNAL {
+        now = drive(alloc, plan, now, JOURNAL)?;
+    }
+    drive(alloc, plan, now, events % JOURNAL)
+}
+
+/// So many events of a new driver, from this moment on.
+fn drive(alloc: Global, plan: &Plan, from: Moment, events: u64) -> Result<Moment, NoMemory> {
+    let mut driver = Driver::new(alloc, plan.copy(alloc)?)?;
+    let mut now = from;
+    for _ in 0..events {
+        let words = [0; 4];
+        let Ok(decision) = driver.next(alloc, Tick { now, words }, Val::unit()) else {
+            return Err(NoMemory);
+        };
+        if let Some(start) = decision.start() {
             now = start;
         }
     }
