@@ -32,6 +32,12 @@ fn fault_of(alloc: Global, text: &str) -> Result<Option<ReadFault>, Fail> {
     }
 }
 
+// Asserts that the text is read as this plan.
+fn reads(rt: &impl Abort, alloc: Global, text: &str, plan: Plan) -> Result<(), Fail> {
+    assert!(rt; plan_of(alloc, text)?.same(&plan), "{text}");
+    Ok(())
+}
+
 // Asserts that each text has this fault.
 fn refuses(rt: &impl Abort, alloc: Global, texts: &[&str], fault: ReadFault) -> Result<(), Fail> {
     for text in texts {

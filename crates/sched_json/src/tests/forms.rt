@@ -1,4 +1,4 @@
-use super::{plan_of, refuses};
+use super::{plan_of, reads, refuses};
 use crate::ReadFault;
 use sched_plan::{Fold, Plan, Side, Test};
 use std::test::Fail;
@@ -6,64 +6,84 @@ use std::test::Fail;
 #[test]
 fn leaves_are_read(rt: HostRuntime) -> Result<(), Fail> {
     let alloc = rt.alloc();
-    let table = vec![in alloc;
-        (r#""forever""#, Plan::forever()?),
-        (r#""elapsed""#, Plan::elapsed()?),
-        (r#""identity""#, Plan::identity()?),
-        (r#"{"recurs":0}"#, Plan::recurs(0)?),
-        (r#" { "recurs" : 3 } "#, Plan::recurs(3)?),
-        (
-            r#"{"recurs":4611686018427387903}"#,
-            Plan::recurs(4611686018427387903)?
-        ),
-        (r#"{"spaced":3}"#, Plan::spaced(3)?),
-        (r#"{"fixed":3}"#, Plan::fixed(3)?),
-        (r#"{"windowed":3}"#, Plan::windowed(3)?),
-        (r#"{"linear":3}"#, Plan::linear(3)?),
-        (r#"{"exponential":[3,2]}"#, Plan::exponential(3, 2)?),
-        (r#"{"exponential":[2,1000]}"#, Plan::exponential(2, 1000)?),
-        (
-            r#"{"exponential_milli":[3,1500]}"#,
-            Plan::exponential_milli(3, 1500)?
-        ),
-        (
-            r#"{"exponential_milli":[3,1000000]}"#,
-            Plan::exponential_milli(3, 1000000)?
-        ),
-        (r#"{"fibonacci":3}"#, Plan::fibonacci(3)?),
-        (r#"{"unfold":[1,3,2]}"#, Plan::unfold(1, 3, 2)?),
-        (r#"{"lone":3}"#, Plan::lone(3)?),
-    ]?;
-    for (text, plan) in &table {
-        assert!(rt; plan_of(alloc, text)?.same(plan), "{text}");
-    }
+    reads(&rt, alloc, r#""forever""#, Plan::forever()?)?;
+    reads(&rt, alloc, r#""elapsed""#, Plan::elapsed()?)?;
+    reads(&rt, alloc, r#""identity""#, Plan::identity()?)?;
+    reads(&rt, alloc, r#"{"recurs":0}"#, Plan::recurs(0)?)?;
+    reads(&rt, alloc, r#" { "recurs" : 3 } "#, Plan::recurs(3)?)?;
+    reads(
+        &rt,
+        alloc,
+        r#"{"recurs":4611686018427387903}"#,
+        Plan::recurs(4611686018427387903)?,
+    )?;
+    reads(&rt, alloc, r#"{"spaced":3}"#, Plan::spaced(3)?)?;
+    reads(&rt, alloc, r#"{"fixed":3}"#, Plan::fixed(3)?)?;
+    reads(&rt, alloc, r#"{"windowed":3}"#, Plan::windowed(3)?)?;
+    Ok(())
+}
+
+#[test]
+fn leaves_whose_delay_grows_are_read(rt: HostRuntime) -> Result<(), Fail> {
+    let alloc = rt.alloc();
+    reads(&rt, alloc, r#"{"linear":3}"#, Plan::linear(3)?)?;
+    reads(
+        &rt,
+        alloc,
+        r#"{"exponential":[3,2]}"#,
+        Plan::exponential(3, 2)?,
+    )?;
+    reads(
+        &rt,
+        alloc,
+        r#"{"exponential":[2,1000]}"#,
+        Plan::exponential(2, 1000)?,
+    )?;
+    reads(
+        &rt,
+        alloc,
+        r#"{"exponential_milli":[3,1500]}"#,
+        Plan::exponential_milli(3, 1500)?,
+    )?;
+    reads(
+        &rt,
+        alloc,
+        r#"{"exponential_milli":[3,1000000]}"#,
+        Plan::exponential_milli(3, 1000000)?,
+    )?;
+    reads(&rt, alloc, r#"{"fibonacci":3}"#, Plan::fibonacci(3)?)?;
+    reads(&rt, alloc, r#"{"unfold":[1,3,2]}"#, Plan::unfold(1, 3, 2)?)?;
+    reads(&rt, alloc, r#"{"lone":3}"#, Plan::lone(3)?)?;
     Ok(())
 }
 
 #[test]
 fn nodes_over_two_plans_are_read(rt: HostRuntime) -> Result<(), Fail> {
     let alloc = rt.alloc();
-    let table = vec![in alloc;
-        (
-            r#"{"meet":[{"recurs":3},{"spaced":100}]}"#,
-            Plan::meet(alloc, Plan::recurs(3)?, Plan::spaced(100)?)?,
-        ),
-        (
-            r#"{"join":[{"recurs":1},{"lone":50}]}"#,
-            Plan::join(alloc, Plan::recurs(1)?, Plan::lone(50)?)?,
-        ),
-        (
-            r#"{"follow":[{"recurs":2},{"spaced":50}]}"#,
-            Plan::follow(alloc, Plan::recurs(2)?, Plan::spaced(50)?)?,
-        ),
-        (
-            r#"{"feed":[{"spaced":10},"identity"]}"#,
-            Plan::feed(alloc, Plan::spaced(10)?, Plan::identity()?)?,
-        ),
-    ]?;
-    for (text, plan) in &table {
-        assert!(rt; plan_of(alloc, text)?.same(plan), "{text}");
-    }
+    reads(
+        &rt,
+        alloc,
+        r#"{"meet":[{"recurs":3},{"spaced":100}]}"#,
+        Plan::meet(alloc, Plan::recurs(3)?, Plan::spaced(100)?)?,
+    )?;
+    reads(
+        &rt,
+        alloc,
+        r#"{"join":[{"recurs":1},{"lone":50}]}"#,
+        Plan::join(alloc, Plan::recurs(1)?, Plan::lone(50)?)?,
+    )?;
+    reads(
+        &rt,
+        alloc,
+        r#"{"follow":[{"recurs":2},{"spaced":50}]}"#,
+        Plan::follow(alloc, Plan::recurs(2)?, Plan::spaced(50)?)?,
+    )?;
+    reads(
+        &rt,
+        alloc,
+        r#"{"feed":[{"spaced":10},"identity"]}"#,
+        Plan::feed(alloc, Plan::spaced(10)?, Plan::identity()?)?,
+    )?;
     let deeper = plan_of(
         alloc,
         r#"{"follow":[{"meet":["forever",{"fixed":7}]},{"join":[{"recurs":1},"forever"]}]}"#,
@@ -77,35 +97,42 @@ fn nodes_over_two_plans_are_read(rt: HostRuntime) -> Result<(), Fail> {
 #[test]
 fn nodes_that_change_delays_are_read(rt: HostRuntime) -> Result<(), Fail> {
     let alloc = rt.alloc();
-    let table = vec![in alloc;
-        (
-            r#"{"add":[3,{"spaced":10}]}"#,
-            Plan::add(alloc, 3, Plan::spaced(10)?)?
-        ),
-        (
-            r#"{"set":[3,{"spaced":10}]}"#,
-            Plan::set(alloc, 3, Plan::spaced(10)?)?
-        ),
-        (
-            r#"{"cap":[3,{"spaced":10}]}"#,
-            Plan::cap(alloc, 3, Plan::spaced(10)?)?
-        ),
-        (
-            r#"{"add_out":{"linear":5}}"#,
-            Plan::add_out(alloc, Plan::linear(5)?)?
-        ),
-        (
-            r#"{"jitter":[3,800,1200,{"spaced":1000}]}"#,
-            Plan::jitter(alloc, 3, 800, 1200, Plan::spaced(1000)?)?,
-        ),
-        (
-            r#"{"jitter":[0,0,10000,{"spaced":1000}]}"#,
-            Plan::jitter(alloc, 0, 0, 10000, Plan::spaced(1000)?)?,
-        ),
-    ]?;
-    for (text, plan) in &table {
-        assert!(rt; plan_of(alloc, text)?.same(plan), "{text}");
-    }
+    reads(
+        &rt,
+        alloc,
+        r#"{"add":[3,{"spaced":10}]}"#,
+        Plan::add(alloc, 3, Plan::spaced(10)?)?,
+    )?;
+    reads(
+        &rt,
+        alloc,
+        r#"{"set":[3,{"spaced":10}]}"#,
+        Plan::set(alloc, 3, Plan::spaced(10)?)?,
+    )?;
+    reads(
+        &rt,
+        alloc,
+        r#"{"cap":[3,{"spaced":10}]}"#,
+        Plan::cap(alloc, 3, Plan::spaced(10)?)?,
+    )?;
+    reads(
+        &rt,
+        alloc,
+        r#"{"add_out":{"linear":5}}"#,
+        Plan::add_out(alloc, Plan::linear(5)?)?,
+    )?;
+    reads(
+        &rt,
+        alloc,
+        r#"{"jitter":[3,800,1200,{"spaced":1000}]}"#,
+        Plan::jitter(alloc, 3, 800, 1200, Plan::spaced(1000)?)?,
+    )?;
+    reads(
+        &rt,
+        alloc,
+        r#"{"jitter":[0,0,10000,{"spaced":1000}]}"#,
+        Plan::jitter(alloc, 0, 0, 10000, Plan::spaced(1000)?)?,
+    )?;
     Ok(())
 }
 
@@ -146,46 +173,48 @@ fn nodes_that_look_at_outputs_are_read(rt: HostRuntime) -> Result<(), Fail> {
         let gather = Plan::gather(alloc, fold, Plan::recurs(2)?)?;
         assert!(rt; plan_of(alloc, text.as_str())?.same(&gather), "{text}");
     }
-    let table = vec![in alloc;
-        (
-            r#"{"first":{"recurs":1}}"#,
-            Plan::first(alloc, Plan::recurs(1)?)?
-        ),
-        (
-            r#"{"second":{"recurs":1}}"#,
-            Plan::second(alloc, Plan::recurs(1)?)?
-        ),
-        (
-            r#"{"nothing":"forever"}"#,
-            Plan::nothing(alloc, Plan::forever()?)?
-        ),
-    ]?;
-    for (text, plan) in &table {
-        assert!(rt; plan_of(alloc, text)?.same(plan), "{text}");
-    }
+    reads(
+        &rt,
+        alloc,
+        r#"{"first":{"recurs":1}}"#,
+        Plan::first(alloc, Plan::recurs(1)?)?,
+    )?;
+    reads(
+        &rt,
+        alloc,
+        r#"{"second":{"recurs":1}}"#,
+        Plan::second(alloc, Plan::recurs(1)?)?,
+    )?;
+    reads(
+        &rt,
+        alloc,
+        r#"{"nothing":"forever"}"#,
+        Plan::nothing(alloc, Plan::forever()?)?,
+    )?;
     Ok(())
 }
 
 #[test]
 fn nodes_of_rounds_are_read(rt: HostRuntime) -> Result<(), Fail> {
     let alloc = rt.alloc();
-    let table = vec![in alloc;
-        (
-            r#"{"within":[0,"forever"]}"#,
-            Plan::within(alloc, 0, Plan::forever()?)?
-        ),
-        (
-            r#"{"renew":[100,{"recurs":2}]}"#,
-            Plan::renew(alloc, 100, Plan::recurs(2)?)?
-        ),
-        (
-            r#"{"renew_idle":[100,{"recurs":2}]}"#,
-            Plan::renew_idle(alloc, 100, Plan::recurs(2)?)?
-        ),
-    ]?;
-    for (text, plan) in &table {
-        assert!(rt; plan_of(alloc, text)?.same(plan), "{text}");
-    }
+    reads(
+        &rt,
+        alloc,
+        r#"{"within":[0,"forever"]}"#,
+        Plan::within(alloc, 0, Plan::forever()?)?,
+    )?;
+    reads(
+        &rt,
+        alloc,
+        r#"{"renew":[100,{"recurs":2}]}"#,
+        Plan::renew(alloc, 100, Plan::recurs(2)?)?,
+    )?;
+    reads(
+        &rt,
+        alloc,
+        r#"{"renew_idle":[100,{"recurs":2}]}"#,
+        Plan::renew_idle(alloc, 100, Plan::recurs(2)?)?,
+    )?;
     Ok(())
 }
 
