@@ -1,5 +1,7 @@
 #!/usr/bin/env bash
-# How long a draw of the budget takes, beside a bare fetch_add loop in Rust on the same machine.
+# How long a draw of a budget takes, of one that keeps its limit and of one that may rise, and a draw and a deposit of a
+# quota, beside a bare fetch_add loop in Rust on the same machine; those of a quota beside the same arithmetic under a
+# mutex too.
 # Started by hand at the top of the repository: bench/draw.sh. It needs rt, rustc and a machine with nothing else to do.
 set -euo pipefail
 cd "$(dirname "$0")/.."
@@ -7,22 +9,45 @@ source bench/least.sh
 
 work=$(mktemp -d)
 trap 'rm -rf "$work"' EXIT
-(cd crates/bench_draw && rt run) >&2
-cp crates/bench_draw/out/bench_draw "$work/draw"
-rustc -O -C target-cpu=x86-64 -o "$work/bare" bench/bare.rs
+for program in bench_draw bench_quota; do
+    (cd "crates/$program" && rt run) >&2
+    cp "crates/$program/out/$program" "$work/$program"
+done
+for program in bare locked_quota; do
+    rustc -O -C target-cpu=x86-64 -o "$work/$program" "bench/$program.rs"
+done
 
-# nanoseconds that one draw of one thread takes: two lengths of run, so that starting the program does not count
-per_draw() {
-    local program=$1 threads=$2 few=$3 many=$4
-    per_unit "$((many - few))" "$(least "$program" "$threads" "$few")" "$(least "$program" "$threads" "$many")"
+# per_call THREADS PROGRAM [ARGS..]: nanoseconds that one call of one thread takes: two lengths of run, so that starting
+# the program does not count
+per_call() {
+    local threads=$1 few=$((4000000 / $1)) many=$((200000000 / $1))
+    shift
+    per_unit "$((many - few))" "$(least "$@" "$threads" "$few")" "$(least "$@" "$threads" "$many")"
+}
+
+# ratio A B
+ratio() {
+    awk -v a="$1" -v b="$2" 'BEGIN { printf "%.2f", a / b }'
+}
+
+# rising_draws THREADS DRAWS
+rising_draws() {
+    "$work/bench_draw" "$1" "$2" rising
 }
 
 machine
 for threads in 1 "$(nproc)"; do
-    few=$((4000000 / threads))
-    many=$((200000000 / threads))
-    draw=$(per_draw "$work/draw" "$threads" "$few" "$many")
-    bare=$(per_draw "$work/bare" "$threads" "$few" "$many")
-    awk -v t="$threads" -v d="$draw" -v b="$bare" \
-        'BEGIN { printf "threads %d: draw %s ns, bare fetch_add %s ns, ratio %.2f\n", t, d, b, d / b }'
+    draw=$(per_call "$threads" "$work/bench_draw")
+    bare=$(per_call "$threads" "$work/bare")
+    echo "threads $threads: draw $draw ns, bare fetch_add $bare ns, ratio $(ratio "$draw" "$bare")"
+    rising=$(per_call "$threads" rising_draws)
+    echo "threads $threads: draw of a rising budget $rising ns, ratio to the other $(ratio "$rising" "$draw")"
+done
+for threads in 1 2 4; do
+    bare=$(per_call "$threads" "$work/bare")
+    for call in granted refused deposit; do
+        quota=$(per_call "$threads" "$work/bench_quota" "$call")
+        locked=$(per_call "$threads" "$work/locked_quota" "$call")
+        echo "threads $threads: quota $call $quota ns, bare fetch_add $bare ns, ratio $(ratio "$quota" "$bare"), mutex $locked ns"
+    done
 done

@@ -5,7 +5,7 @@
 
 ghost use Rattle.std.specs.Prelude.{◌≡◌, [], IfSome};
 ghost use Rattle.sched_ticket.specs.Held.{IsOf};
-ghost use Rattle.sched_law.specs.Past.{nothing_yet};
+ghost use Rattle.sched_task_law.specs.Past.{nothing_yet};
 
 use futures::task::{Context, Poll};
 use sched_driver::Driver;
@@ -16,7 +16,7 @@ use sched_retry::Retry;
 use sched_task::{MidWords, VirtualClock};
 use sched_ticket::{Budget, Naming, Pass};
 use sched_time::{Millis, Moment, NoMemory};
-use sched_work::{OpenGate, Station};
+use sched_worker::{OpenGate, Station};
 use std::alloc::{AllocGlobal, Global};
 use std::marker::Brand;
 use std::random::RandomSource;

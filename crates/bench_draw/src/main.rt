@@ -1,8 +1,10 @@
-//! Draws tickets of one budget with several threads: `bench_draw [THREADS] [DRAWS]`, of 2 threads and 1,000 draws each
-//! where nothing is said. It prints what was drawn and no time; a script measures it from outside.
+//! Draws tickets of one budget with several threads: `bench_draw [THREADS] [DRAWS] [rising]`, of 2 threads and 1,000
+//! draws each where nothing is said, and of a budget that keeps its limit, or of a rising one. It prints what was drawn
+//! and no time; a script measures it from outside.
 #![tactic(auto)]
 
-ghost use Rattle.std.specs.Prelude.{◌*◌, ◌≤◌, All, IfOk, IfSome};
+ghost use Rattle.std.specs.Prelude.{◌≡◌, ◌*◌, ◌≤◌, false, All, IfOk, IfSome};
+ghost use Rattle.sched_ticket.specs.View.{terms};
 ghost use Rattle.sched_ticket.specs.Held.{IsOf};
 
 use sched_ticket::{Budget, Pass, TicketFault};
@@ -20,10 +22,11 @@ fn main(rt: HostRuntime) -> io::Result<()> {
         .next()
         .and_then(|word| word.as_str().parse().ok())
         .unwrap_or(1000);
+    let rises = words.next().is_some_and(|word| word.as_str() == "rising");
     let count = if threads == 1 {
-        draw_alone(rt.alloc(), draws)
+        draw_alone(rt.alloc(), rises, draws)
     } else {
-        draw_beside(&rt, rt.alloc(), threads, draws)
+        draw_beside(&rt, rt.alloc(), rises, threads, draws)
     };
     match count {
         Ok(Some(count)) => println!(rt; "{threads} threads, {draws} draws each: {count} tickets"),
@@ -32,11 +35,22 @@ fn main(rt: HostRuntime) -> io::Result<()> {
     }
 }
 
-/// This thread draws so many tickets. It answers how many the budget gave out.
-fn draw_alone(alloc: Global, draws: u64) -> Result<Option<u64>, TicketFault>
-    ensures { IfOk result (λ o. IfSome o (λ n. n ≤ draws)) }
+/// A budget of so many tickets, whose limit may rise or not.
+fn budget_of(alloc: Global, rises: bool, limit: u64) -> Result<(Budget, Pass), TicketFault>
+    ensures { IfOk result (λ r. (r.0.terms ≡ terms limit rises) × IsOf r.0 r.1) }
 {
-    let (budget, pass) = Budget::new(alloc, draws)?;
+    if rises {
+        Budget::rising(alloc, limit)
+    } else {
+        Budget::new(alloc, limit)
+    }
+}
+
+/// This thread draws so many tickets. It answers how many the budget gave out.
+fn draw_alone(alloc: Global, rises: bool, draws: u64) -> Result<Option<u64>, TicketFault>
+    ensures { IfOk result (λ o. IfSome o (λ n. rises ≡ false → n ≤ draws)) }
+{
+    let (budget, pass) = budget_of(alloc, rises, draws)?;
     let pass = draw_times(&budget, pass, draws);
     Ok(budget.close(pass).ok())
 }
@@ -45,12 +59,13 @@ fn draw_alone(alloc: Global, draws: u64) -> Result<Option<u64>, TicketFault>
 fn draw_beside<R: Threads + Sync>(
     rt: &R,
     alloc: Global,
+    rises: bool,
     threads: u64,
     draws: u64,
 ) -> Result<Option<u64>, TicketFault>
-    ensures { IfOk result (λ o. IfSome o (λ n. n ≤ threads * draws)) }
+    ensures { IfOk result (λ o. IfSome o (λ n. rises ≡ false → n ≤ threads * draws)) }
 {
-    let (budget, mut first) = Budget::new(alloc, threads.saturating_mul(draws))?;
+    let (budget, mut first) = budget_of(alloc, rises, threads.saturating_mul(draws))?;
     let passes = split_off(alloc, &budget, &mut first, threads)?;
     let Ok(passes) = draw_each(rt, &budget, passes, draws) else {
         return Err(TicketFault::NoMemory);

@@ -1,15 +1,25 @@
 -- What a printing of a pool answers follows from what its steps answer.
-use Rattle.std.proofs.Common.{ℕ, List, Option, Result, Ok, Err, inl, inr}
+use Rattle.std.proofs.Common.{◌≡◌, ℕ, List, Option, Some, Result, Ok, Err, IsUtf8, inl, inr}
 use Rattle.std.proofs.KnownBytes.{Keeps-refl}
-use Rattle.sched_law.specs.Past.{Past}
-use Rattle.sched_jobs.specs.Job.{Job}
-use Rattle.sched_report.specs.PoolText.{pool_text}
-use Rattle.sched_batch.specs.Batch.{AreRun}
-use Rattle.sched_cli.specs.Whole.{IsWholeInput}
+use Rattle.serde_json.specs.Read.{read}
+use Rattle.serde_json.specs.View.{view}
+use Rattle.serde_json.specs.declared.value.Value.{Value}
+use Rattle.sched_plan.specs.declared.plans.PlanFault.TheVariants as builder
+use Rattle.sched_json.specs.declared.faults.ReadFault.{ReadFault}
+use Rattle.sched_json.specs.declared.faults.ReadFault.TheVariants as reading
+use Rattle.sched_task_law.specs.Past.{Past}
+use Rattle.sched_jobs_json.specs.Each.{Lists}
+use Rattle.sched_jobs_json.specs.JobsOf.{reading_of_jobs}
+use Rattle.sched_plan_text.specs.Refusal.{refusal_of}
+use Rattle.sched_plan_text.specs.Printing.{ReadsValue}
+use Rattle.sched_jobs_json.specs.Job.{Job}
+use Rattle.sched_pool_text.specs.PoolText.{pool_text}
+use Rattle.sched_scripted_pool.specs.Batch.{AreRun}
+use Rattle.sched_plan_text.specs.Whole.{IsWholeInput}
 use Rattle.sched_cli.specs.PoolPrinting.{SpellsJobs, ReadsJobs, IsRunFault, WritesPool, PrintsPool}
 use Rattle.sched_cli.specs.declared.options.PoolOptions.{PoolOptions}
-use Rattle.sched_cli.specs.declared.faults.PrintFault.{PrintFault}
-use Rattle.sched_cli.specs.declared.faults.PrintFault.TheVariants.{ReadFailed, TooLong, NotJson, NotAPlan, OutOfRange, TooDeep, TooMany, NoMemory, NotStarted, WriteFailed, Unfinished, Mixed}
+use Rattle.sched_plan_text.specs.declared.faults.PrintFault.{PrintFault}
+use Rattle.sched_plan_text.specs.declared.faults.PrintFault.TheVariants.{ReadFailed, TooLong, NotJson, NotAPlan, OutOfRange, TooDeep, TooMany, NoMemory, NotStarted, WriteFailed, Unfinished, Mixed}
 
 module _ (o : PoolOptions) (l m t : Option (List ℕ)) (bytes : List ℕ) (whole : IsWholeInput l m bytes) where
   -- a fault of reading ends the printing, with nothing written
@@ -59,3 +69,27 @@ module _ (o : PoolOptions) (l m t : Option (List ℕ)) (bytes : List ℕ) (whole
     pool_written t' ends granted run (Err TooMany) wrote = absurd wrote
     pool_written t' ends granted run (Err NotStarted) wrote = absurd wrote
     pool_written t' ends granted run (Err Mixed) wrote = absurd wrote
+
+-- bytes that spell no value spell no jobs
+pub jobs_in_no_value : (bytes : List ℕ) (fault : PrintFault) → ReadsValue bytes (Err fault) → ReadsJobs bytes (Err fault)
+jobs_in_no_value bytes NotJson reads = reads
+jobs_in_no_value bytes NoMemory reads = reads
+jobs_in_no_value bytes NotAPlan reads = absurd reads
+jobs_in_no_value bytes OutOfRange reads = absurd reads
+jobs_in_no_value bytes TooDeep reads = absurd reads
+jobs_in_no_value bytes TooMany reads = absurd reads
+jobs_in_no_value bytes ReadFailed reads = absurd reads
+jobs_in_no_value bytes TooLong reads = absurd reads
+jobs_in_no_value bytes NotStarted reads = absurd reads
+jobs_in_no_value bytes WriteFailed reads = absurd reads
+jobs_in_no_value bytes Unfinished reads = absurd reads
+jobs_in_no_value bytes Mixed reads = absurd reads
+
+-- a value that is refused is no list of jobs, for the fault of reading it
+pub jobs_refused : (bytes : List ℕ) (v : Value) (fault : ReadFault) → IsUtf8 bytes → read bytes ≡ Some (view v) →
+    Lists {A = Job} (Err fault) (reading_of_jobs (view v)) → ReadsJobs bytes (Err (refusal_of fault))
+jobs_refused bytes v reading.NotAPlan text is h = (view v, text, is, h)
+jobs_refused bytes v (reading.Plan builder.OutOfRange) text is h = (view v, text, is, h)
+jobs_refused bytes v (reading.Plan builder.TooDeep) text is h = (view v, text, is, h)
+jobs_refused bytes v (reading.Plan builder.TooMany) text is h = (view v, text, is, h)
+jobs_refused bytes v (reading.Plan builder.NoMemory) text is h = tt

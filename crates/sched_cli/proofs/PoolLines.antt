@@ -2,14 +2,14 @@
 use Rattle.std.proofs.Common.{◌≡◌, ℕ, ◌+◌, List, [], ◌∷◌, ◌++◌, drop, Option, Err, sym, ◌∙◌, ap, subst, append_assoc, refl}
 use Rattle.std.proofs.lemmas.List.{append-nil}
 use Rattle.std.proofs.KnownBytes.{Appends-nil}
-use Rattle.sched_law.specs.Past.{Past}
-use Rattle.sched_report.specs.PoolText.{job_text, lines_from, total_text, pool_text}
-use Rattle.sched_cli.specs.Printing.{WritesText}
-use Rattle.sched_cli.specs.Whole.{IsFront, WritesFront, WritesAllBut, StopsWriting}
-use Rattle.sched_cli.specs.declared.faults.PrintFault.{PrintFault}
-use Rattle.sched_cli.proofs.Printed.{IsFront-trans}
-use Rattle.sched_cli.proofs.PrintSteps.{front_of_text}
-use Rattle.sched_cli.proofs.Written.{grows, moves, stops}
+use Rattle.sched_task_law.specs.Past.{Past}
+use Rattle.sched_pool_text.specs.PoolText.{job_text, lines_from, total_text, pool_text}
+use Rattle.sched_plan_text.specs.Printing.{WritesText}
+use Rattle.sched_plan_text.specs.Whole.{IsFront, WritesFront, WritesAllBut, StopsWriting}
+use Rattle.sched_plan_text.specs.declared.faults.PrintFault.{PrintFault}
+use Rattle.sched_plan_text.proofs.Printed.{IsFront-trans}
+use Rattle.sched_plan_text.proofs.PrintSteps.{front_of_text}
+use Rattle.sched_plan_text.proofs.Written.{grows, moves, stops}
 
 -- the lines of the jobs before this one are written but for what is pending
 pub record IsPrintedTo (ends : List Past) (n : ℕ) (pending : List ℕ) (old new : Option (List ℕ)) : Type 0 where

@@ -1,6 +1,6 @@
 use Rattle.std.specs.Prelude.{◌≤◌, ◌<◌, ◌^◌}
 use Rattle.sched_time.specs.declared.numbers.TheConstants.{FAR}
-use Rattle.sched_cli.specs.declared.options.PlanOptions.{PlanOptions}
+use Rattle.sched_plan_text.specs.declared.options.PlanOptions.{PlanOptions}
 use Rattle.sched_cli.specs.declared.options.PoolOptions.{PoolOptions}
 use Rattle.sched_cli.specs.declared.options.Asked.{Asked}
 use Rattle.sched_cli.specs.declared.options.Asked.TheVariants.{Plan, Pool}

@@ -8,16 +8,16 @@ use Rattle.sched_json.specs.declared.faults.ReadFault.{ReadFault}
 use Rattle.sched_json.specs.declared.faults.ReadFault.TheVariants as reading
 use Rattle.sched_task.specs.declared.endings.How.{How}
 use Rattle.sched_task.specs.declared.endings.How.TheVariants.{Won, ScheduleDone, BudgetRefused}
-use Rattle.sched_law.specs.Past.{Past}
-use Rattle.sched_jobs.specs.Job.{Job}
-use Rattle.sched_jobs.specs.JobsOf.{jobs_of}
-use Rattle.sched_report.specs.PoolText.{pool_text}
-use Rattle.sched_batch.specs.Batch.{AreRun}
-use Rattle.sched_cli.specs.Whole.{StopsReading, WritesFront}
-use Rattle.sched_cli.specs.Printing.{Spells, SpellsNothing, IsInput}
+use Rattle.sched_task_law.specs.Past.{Past}
+use Rattle.sched_jobs_json.specs.Job.{Job}
+use Rattle.sched_jobs_json.specs.JobsOf.{jobs_of}
+use Rattle.sched_pool_text.specs.PoolText.{pool_text}
+use Rattle.sched_scripted_pool.specs.Batch.{AreRun}
+use Rattle.sched_plan_text.specs.Whole.{StopsReading, WritesFront}
+use Rattle.sched_plan_text.specs.Printing.{Spells, SpellsNothing, IsInput}
 use Rattle.sched_cli.specs.declared.options.PoolOptions.{PoolOptions}
-use Rattle.sched_cli.specs.declared.faults.PrintFault.{PrintFault}
-use Rattle.sched_cli.specs.declared.faults.PrintFault.TheVariants.{ReadFailed, TooLong, NotJson, NotAPlan, OutOfRange, TooDeep, TooMany, NoMemory, NotStarted, WriteFailed, Unfinished, Mixed}
+use Rattle.sched_plan_text.specs.declared.faults.PrintFault.{PrintFault}
+use Rattle.sched_plan_text.specs.declared.faults.PrintFault.TheVariants.{ReadFailed, TooLong, NotJson, NotAPlan, OutOfRange, TooDeep, TooMany, NoMemory, NotStarted, WriteFailed, Unfinished, Mixed}
 
 -- the bytes spell these jobs
 abbrev pub SpellsJobs : List ℕ → List Job → Type 0

@@ -1,24 +1,17 @@
-//! What the program `zsched` reads and writes: its command line, its streams, what it prints and its faults.
+//! What the program `zsched` reads and writes: its command line, and what it prints of pools; and what it prints of plans.
 #![tactic(auto)]
 
-mod counts;
 mod faults;
 mod options;
 mod pools;
-mod printing;
-mod streams;
 #[cfg(test)]
 mod tests;
-mod whole;
 mod words;
 
-pub use counts::Counted;
-pub use faults::{PrintFault, WordsFault};
-pub use options::{
-    Asked, MOST_STEPS, MOST_TICKETS, MOST_TURNS, MOST_WORKERS, PlanOptions, PoolOptions,
-};
+pub use faults::WordsFault;
+pub use options::{Asked, MOST_TICKETS, MOST_TURNS, MOST_WORKERS, PoolOptions};
 pub use pools::print_pool;
-pub use printing::print_plan;
-pub use streams::{Sink, Source};
-pub use whole::LONGEST_INPUT;
+pub use sched_plan_text::{
+    Counted, LONGEST_INPUT, MOST_STEPS, PlanOptions, PrintFault, Sink, Source, print_plan,
+};
 pub use words::read_words;

@@ -1,9 +1,6 @@
 ghost use Rattle.std.specs.Prelude.{◌≤◌};
 
-use sched_time::{Millis, Moment};
-
-/// The most events that one plan is stepped for.
-pub const MOST_STEPS: u64 = 4096;
+use sched_plan_text::PlanOptions;
 
 /// The most workers of a pool.
 pub const MOST_WORKERS: u64 = 16;
@@ -21,22 +18,6 @@ pub enum Asked {
     Plan(PlanOptions),
     /// Run jobs on one budget, and print how each ended.
     Pool(PoolOptions),
-}
-
-/// How a plan is stepped. A moment and a duration are in milliseconds.
-#[derive(Clone, Copy, Debug, PartialEq, Eq)]
-pub struct PlanOptions {
-    /// The most events to print, from 0 to 4096.
-    pub steps: u64,
-    /// The moment of the first event.
-    pub from: Moment,
-    /// How long after a planned start its event comes.
-    pub took: Millis,
-    /// The input of every event.
-    pub input: Millis,
-    /// The random word of every event, in all four lanes.
-    pub word: u32,
-    ghost in_range: { steps ≤ 4096 },
 }
 
 /// How jobs are run.

@@ -1,23 +1,18 @@
 ghost use Rattle.std.specs.Prelude.{◌≡◌, ◌≤◌, length, vec_len, IfOk, IfErr};
-ghost use Rattle.sched_batch.specs.Batch.{AreRun};
-ghost use Rattle.sched_report.specs.PoolText.{pool_text};
-ghost use Rattle.sched_cli.specs.Printing.{WritesText};
+ghost use Rattle.sched_scripted_pool.specs.Batch.{AreRun};
+ghost use Rattle.sched_pool_text.specs.PoolText.{pool_text};
+ghost use Rattle.sched_plan_text.specs.Printing.{WritesText};
 ghost use Rattle.sched_cli.specs.PoolPrinting.{ReadsJobs, IsRunFault, WritesPool, PrintsPool, is_answered, all_answered};
-ghost use Rattle.sched_cli.specs.Whole.{count_of_reads, count_of_writes};
+ghost use Rattle.sched_plan_text.specs.Whole.{count_of_reads, count_of_writes};
 
-use crate::faults::PrintFault;
 use crate::options::PoolOptions;
-use crate::streams::{Sink, Source};
-use crate::whole::{put_all, put_long, read_all};
-use sched_batch::{Batch, BatchFault, run_batch};
 use sched_effect::{Effect, Scripted};
-use sched_job::JobEnd;
-use sched_jobs::{JobRead, read_jobs};
-use sched_json::ReadFault;
-use sched_plan::PlanFault;
-use sched_report::{push_line, push_total};
+use sched_jobs_json::{JobRead, read_jobs};
+use sched_plan_text::{PrintFault, Sink, Source, put_all, put_long, read_all, read_value};
+use sched_pool_job::JobEnd;
+use sched_pool_text::{push_line, push_total};
+use sched_scripted_pool::{Batch, BatchFault, run_batch};
 use sched_task::How;
-use serde_json::Value;
 use std::alloc::{AllocGlobal, Global};
 use std::random::RandomSource;
 use std::sync::Wait;
@@ -76,23 +71,13 @@ where
 }
 
 // The jobs that the bytes spell.
+#[tactic(auto, using(crate::proofs::PoolFaults::jobs_in_no_value, crate::proofs::PoolFaults::jobs_refused))]
 fn jobs_in(alloc: Global, bytes: &[u8]) -> Result<Vec<JobRead>, PrintFault>
     ensures jobs { ReadsJobs bytes.now result }
     ensures few { IfOk result (λ jobs. vec_len jobs ≤ 4096) }
 {
-    let value = match Value::from_slice(alloc, bytes) {
-        Ok(value) => value,
-        Err(error) if error.is_memory() => return Err(PrintFault::NoMemory),
-        Err(_) => return Err(PrintFault::NotJson),
-    };
-    match read_jobs(alloc, &value) {
-        Ok(jobs) => Ok(jobs),
-        Err(ReadFault::NotAPlan) => Err(PrintFault::NotAPlan),
-        Err(ReadFault::Plan(PlanFault::OutOfRange)) => Err(PrintFault::OutOfRange),
-        Err(ReadFault::Plan(PlanFault::TooDeep)) => Err(PrintFault::TooDeep),
-        Err(ReadFault::Plan(PlanFault::TooMany)) => Err(PrintFault::TooMany),
-        Err(ReadFault::Plan(PlanFault::NoMemory)) => Err(PrintFault::NoMemory),
-    }
+    let value = read_value(alloc, bytes)?;
+    Ok(read_jobs(alloc, &value)?)
 }
 
 // Writes what is printed of jobs that were run, and tells whether each of them answered.

@@ -2,11 +2,10 @@ ghost use Rattle.std.specs.Prelude.{IfOk, IfSome};
 ghost use Rattle.sched_cli.specs.Options.{AreInRange, PoolIsInRange, IsAskedInRange};
 
 use crate::faults::WordsFault;
-use crate::options::{
-    Asked, MOST_STEPS, MOST_TICKETS, MOST_TURNS, MOST_WORKERS, PlanOptions, PoolOptions,
-};
+use crate::options::{Asked, MOST_TICKETS, MOST_TURNS, MOST_WORKERS, PoolOptions};
 use clap::error::ErrorKind;
 use clap::{Arg, ArgMatches, Command, Error, value_parser};
+use sched_plan_text::{MOST_STEPS, PlanOptions};
 use sched_time::{FAR, Millis, Moment};
 use std::alloc::{AllocError, Global};
 

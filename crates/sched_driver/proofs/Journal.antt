@@ -3,7 +3,7 @@ use Rattle.std.proofs.Common.{◌≡◌, ℕ, suc, zero, ◌-◌, ◌<◌, ◌�
 use Rattle.sched_time.specs.declared.numbers.TheConstants.{FAR}
 use Rattle.sched_plan.specs.Schedule.{Schedule}
 use Rattle.sched_plan.specs.History.{last_moment}
-use Rattle.sched_plan.specs.HistoryLaws.{last_moment-push, IsHistory-push}
+use Rattle.sched_plan.proofs.HistoryLaws.{last_moment-push, IsHistory-push}
 use Rattle.sched_plan.specs.Answer.{answer}
 use Rattle.sched_plan.specs.declared.history.Event.{Event}
 use Rattle.sched_plan.specs.declared.history.Answer.{Answer}

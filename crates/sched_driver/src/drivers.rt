@@ -1,6 +1,7 @@
-ghost use Rattle.std.specs.Prelude.{◌≡◌, ◌≤◌, [], length, IfOk, IfErr, option_copied};
+ghost use Rattle.std.specs.Prelude.{◌≡◌, ℕ, ◌≤◌, [], length, IfOk, IfErr, IsTrue, option_copied};
 ghost use Rattle.sched_plan.specs.History.{IsHistory, last_moment};
 ghost use Rattle.sched_plan.specs.Answer.{answer};
+ghost use Rattle.sched_step.specs.Progress.{fits};
 ghost use Rattle.sched_step.specs.StateOf.{state_of, event_of};
 ghost use Rattle.sched_step.specs.Starts.{StartsBy};
 ghost use Rattle.sched_driver.specs.Driven.{last_output, next_start_of, after};
@@ -10,18 +11,22 @@ use sched_step::{State, initial};
 use sched_time::{Decision, Moment, NoMemory, Tick};
 use std::alloc::Global;
 use std::marker::Model;
+use thiserror::Error;
 
 /// The most events of a journal.
 pub const MOST_EVENTS: usize = 65536;
 
 /// Why `next` refused an event.
-#[derive(Clone, Copy, Debug, PartialEq, Eq)]
+#[derive(Clone, Copy, Debug, PartialEq, Eq, Error)]
 pub enum DriveFault {
     /// The event is before the journal's last event, which is at `floor`.
+    #[error("the event is before the last one, at {}", .floor.get())]
     Backwards { floor: Moment },
     /// The journal holds 65,536 events.
+    #[error("the journal is full")]
     JournalFull,
     /// A growth was refused.
+    #[error("no memory")]
     NoMemory,
 }
 
@@ -64,7 +69,7 @@ impl Model for Driver {
 impl Driver {
     ghost use Rattle.sched_driver.specs.Driver.{HasRoom, Refuses};
 
-    /// A driver of the plan before its first event. Refused only for want of memory; the plan is then dropped.
+    /// A driver of the plan before its first event. Fails only with `NoMemory`; the plan is then dropped.
     pub fn new(alloc: Global, plan: Plan) -> Result<Driver, NoMemory>
         ensures plan { IfOk result (λ driver. driver.plan ≡ plan) }
         ensures fresh { IfOk result (λ driver. driver.journal ≡ []) }
@@ -133,9 +138,12 @@ impl Driver {
         &self.plan
     }
 
-    /// The plan's state after the events of the journal.
+    /// The plan's state after the events of the journal. It fits the plan from the last event's moment on, so that it
+    /// can be stepped there without a test.
     pub fn state(&self) -> &State
-        ensures { result.now ≡ state_of self.now.plan self.now.journal }
+        ensures value { result.now ≡ state_of self.now.plan self.now.journal }
+        ensures fits { (later : ℕ) → last_moment self.now.journal ≤ later →
+            IsTrue (fits self.now.plan result.now later) }
     {
         &self.state
     }

@@ -2,11 +2,15 @@
 //! failure.
 #![tactic(auto)]
 
+mod calls;
+mod codes;
 mod effects;
 mod fallbacks;
 mod ran;
 mod scripted;
 
+pub use calls::{Action, Call};
+pub use codes::Tagged;
 pub use effects::Effect;
 pub use fallbacks::Fallback;
 pub use ran::{Code, Coded, Ran};

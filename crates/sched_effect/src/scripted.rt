@@ -1,6 +1,8 @@
 //! An effect whose outcomes are written down before.
-ghost use Rattle.std.specs.Prelude.{◌≡◌, ◌-◌, ◌<◌, [], length, min, slice_index_or, IsSome, IfSome, ◌↔◌};
-ghost use Rattle.sched_effect.specs.Played.{Follows};
+ghost use Rattle.std.specs.Prelude.{◌≡◌, ◌++◌, ◌<◌, [], length, IsSome, IfSome, ◌↔◌};
+ghost use Rattle.futures.specs.Task.{Keeps};
+ghost use Rattle.sched_effect.specs.Runs.{ended_by};
+ghost use Rattle.sched_effect.specs.Played.{Follows, IsNext};
 
 use crate::effects::Effect;
 use crate::ran::{Code, Ran};
@@ -54,7 +56,7 @@ impl Scripted {
 
     // The outcome of the next run.
     fn next(&self) -> Ran
-        ensures { result ≡ slice_index_or self.now.script (min (length self.now.runs) (length self.now.script - 1)) result }
+        ensures { IsNext self.now.script self.now.runs result }
     {
         let _ = &self.runs;
         self.script[self.runs.len().min(self.script.len() - 1)]
@@ -72,7 +74,12 @@ impl Effect for Scripted {
 
     ghost unused = { λ s new. new };
 
-    fn poll_run(&mut self, _cx: &mut Context<'_>) -> Poll<Result<Result<Code, Code>, NoMemory>> {
+    /// Ends the next run of the script.
+    fn poll_run(&mut self, _cx: &mut Context<'_>) -> Poll<Result<Result<Code, Code>, NoMemory>>
+        ensures runs { self.new.runs ≡ self.old.runs ++ ended_by (λ c. c.0) (λ c. c.0) result }
+        ensures script { self.new.script ≡ self.old.script }
+        ensures kept { Keeps _cx.old _cx.new }
+    {
         let ran = self.next();
         if self.runs.push(ran).is_err() {
             return Poll::Ready(Err(NoMemory));

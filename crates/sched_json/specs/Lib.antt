@@ -3,3 +3,5 @@ pub mod Words
 pub mod Forms
 pub mod Nodes
 pub mod PlanOf
+pub mod Node
+pub mod Texts

@@ -1,5 +1,5 @@
 -- Which plan a JSON value spells, or the first fault found in it.
-use Rattle.std.specs.Prelude.{ℕ, List, [], ◌∷◌, Option, Some, None, Result}
+use Rattle.std.specs.Prelude.{ℕ, List, [], ◌∷◌, Option, Some, None, option_map, Result}
 use Rattle.serde_json.specs.Data.{Data, string, array, object, Items, no_items, item, Members, no_members, member}
 use Rattle.sched_plan.specs.Schedule.{Schedule, one, two}
 use Rattle.sched_plan.specs.declared.leaves.Leaf.{Leaf}
@@ -56,3 +56,16 @@ part_of d = record { json = d; plan = reading_of d }
 -- right, then what its builder refuses
 abbrev pub plan_of : Data → Result Schedule ReadFault
 plan_of d = (reading_of d).answer
+
+-- what a value's own form spells, if it has the form of a node
+abbrev pub spelt_by_name : List ℕ → Option Spelt
+spelt_by_name name = option_map of_leaf (meant_by names name)
+
+abbrev pub spelt_of_members : Members → Option Spelt
+spelt_of_members (member name value no_members) = spelt_by from_pairs name (part_of value) (parts_of value)
+spelt_of_members _ = None
+
+abbrev pub spelt_of : Data → Option Spelt
+spelt_of (string name) = spelt_by_name name
+spelt_of (object members) = spelt_of_members members
+spelt_of _ = None

@@ -38,7 +38,9 @@ pub(crate) fn three_numbers(value: &Value) -> Result<(u64, u64, u64), ReadFault>
 
 /// `[n,A]`
 pub(crate) fn number_and_plan(value: &Value) -> Result<(u64, &Value), ReadFault>
-    ensures ok { IfOk result (λ form. number_and_part (parts_of (view value.now)) ≡ Some (form.0, part_of (view form.1.now))) }
+    ensures ok { IfOk result
+        (λ form. number_and_part (parts_of (view value.now)) ≡
+        Some (form.0, part_of (view form.1.now))) }
     ensures nested { IfOk result (λ form. depth (view form.1.now) ≤ depth (view value.now)) }
     ensures err { IfErr result (λ fault. (fault ≡ NotAPlan) × (number_and_part (parts_of (view value.now)) ≡ None)) }
 {
@@ -48,7 +50,9 @@ pub(crate) fn number_and_plan(value: &Value) -> Result<(u64, &Value), ReadFault>
 
 /// `[LANE,least,most,A]`
 pub(crate) fn jitter_and_plan(value: &Value) -> Result<(u64, u64, u64, &Value), ReadFault>
-    ensures ok { IfOk result (λ form. jitter_and_part (parts_of (view value.now)) ≡ Some (Jitter form.0 form.1 form.2, part_of (view form.3.now))) }
+    ensures ok { IfOk result
+        (λ form. jitter_and_part (parts_of (view value.now)) ≡
+        Some (Jitter form.0 form.1 form.2, part_of (view form.3.now))) }
     ensures nested { IfOk result (λ form. depth (view form.3.now) ≤ depth (view value.now)) }
     ensures err { IfErr result (λ fault. (fault ≡ NotAPlan) × (jitter_and_part (parts_of (view value.now)) ≡ None)) }
 {
@@ -58,7 +62,9 @@ pub(crate) fn jitter_and_plan(value: &Value) -> Result<(u64, u64, u64, &Value), 
 
 /// `[SIDE,WANT,TEST,bound,A]`
 pub(crate) fn gate_and_plan(value: &Value) -> Result<(Side, bool, Test, u64, &Value), ReadFault>
-    ensures ok { IfOk result (λ form. gate_and_part (parts_of (view value.now)) ≡ Some (Gate form.0 form.1 form.2 form.3, part_of (view form.4.now))) }
+    ensures ok { IfOk result
+        (λ form. gate_and_part (parts_of (view value.now)) ≡
+        Some (Gate form.0 form.1 form.2 form.3, part_of (view form.4.now))) }
     ensures nested { IfOk result (λ form. depth (view form.4.now) ≤ depth (view value.now)) }
     ensures err { IfErr result (λ fault. (fault ≡ NotAPlan) × (gate_and_part (parts_of (view value.now)) ≡ None)) }
 {
@@ -69,7 +75,9 @@ pub(crate) fn gate_and_plan(value: &Value) -> Result<(Side, bool, Test, u64, &Va
 
 /// `[FOLD,A]`
 pub(crate) fn gather_and_plan(value: &Value) -> Result<(Fold, &Value), ReadFault>
-    ensures ok { IfOk result (λ form. gather_and_part (parts_of (view value.now)) ≡ Some (Gather form.0, part_of (view form.1.now))) }
+    ensures ok { IfOk result
+        (λ form. gather_and_part (parts_of (view value.now)) ≡
+        Some (Gather form.0, part_of (view form.1.now))) }
     ensures nested { IfOk result (λ form. depth (view form.1.now) ≤ depth (view value.now)) }
     ensures err { IfErr result (λ fault. (fault ≡ NotAPlan) × (gather_and_part (parts_of (view value.now)) ≡ None)) }
 {
@@ -79,7 +87,9 @@ pub(crate) fn gather_and_plan(value: &Value) -> Result<(Fold, &Value), ReadFault
 
 /// `[A,B]`
 pub(crate) fn two_plans(value: &Value) -> Result<(&Value, &Value), ReadFault>
-    ensures ok { IfOk result (λ form. two_parts (parts_of (view value.now)) ≡ Some (part_of (view form.0.now), part_of (view form.1.now))) }
+    ensures ok { IfOk result
+        (λ form. two_parts (parts_of (view value.now)) ≡
+        Some (part_of (view form.0.now), part_of (view form.1.now))) }
     ensures first { IfOk result (λ form. depth (view form.0.now) ≤ depth (view value.now)) }
     ensures second { IfOk result (λ form. depth (view form.1.now) ≤ depth (view value.now)) }
     ensures err { IfErr result (λ fault. (fault ≡ NotAPlan) × (two_parts (parts_of (view value.now)) ≡ None)) }
@@ -100,7 +110,9 @@ fn items(value: &Value) -> &[Value]
 
 // The items, where there are two.
 fn two_of(items: &[Value]) -> Option<(&Value, &Value)>
-    ensures some { IfSome result (λ all. two_parts (parts_of_items (items_view items.now)) ≡ Some (part_of (view all.0.now), part_of (view all.1.now))) }
+    ensures some { IfSome result
+        (λ all. two_parts (parts_of_items (items_view items.now)) ≡
+        Some (part_of (view all.0.now), part_of (view all.1.now))) }
     ensures first { IfSome result (λ all. depth (view all.0.now) ≤ items_depth (items_view items.now)) }
     ensures last { IfSome result (λ all. depth (view all.1.now) ≤ items_depth (items_view items.now)) }
     ensures none { IfNone result (two_parts (parts_of_items (items_view items.now)) ≡ None) }
@@ -114,7 +126,9 @@ fn two_of(items: &[Value]) -> Option<(&Value, &Value)>
 
 // The items, where there are three.
 fn three_of(items: &[Value]) -> Option<(&Value, &Value, &Value)>
-    ensures some { IfSome result (λ all. three_parts (parts_of_items (items_view items.now)) ≡ Some (part_of (view all.0.now), part_of (view all.1.now), part_of (view all.2.now))) }
+    ensures some { IfSome result
+        (λ all. three_parts (parts_of_items (items_view items.now)) ≡
+        Some (part_of (view all.0.now), part_of (view all.1.now), part_of (view all.2.now))) }
     ensures none { IfNone result (three_parts (parts_of_items (items_view items.now)) ≡ None) }
 {
     let mut items = items.iter();
@@ -126,7 +140,14 @@ fn three_of(items: &[Value]) -> Option<(&Value, &Value, &Value)>
 
 // The items, where there are four.
 fn four_of(items: &[Value]) -> Option<(&Value, &Value, &Value, &Value)>
-    ensures some { IfSome result (λ all. four_parts (parts_of_items (items_view items.now)) ≡ Some (part_of (view all.0.now), part_of (view all.1.now), part_of (view all.2.now), part_of (view all.3.now))) }
+    ensures some { IfSome result
+        (λ all. four_parts (parts_of_items (items_view items.now)) ≡
+        Some (
+          part_of (view all.0.now),
+          part_of (view all.1.now),
+          part_of (view all.2.now),
+          part_of (view all.3.now),
+        )) }
     ensures last { IfSome result (λ all. depth (view all.3.now) ≤ items_depth (items_view items.now)) }
     ensures none { IfNone result (four_parts (parts_of_items (items_view items.now)) ≡ None) }
 {
@@ -147,7 +168,15 @@ fn four_of(items: &[Value]) -> Option<(&Value, &Value, &Value, &Value)>
 
 // The items, where there are five.
 fn five_of(items: &[Value]) -> Option<(&Value, &Value, &Value, &Value, &Value)>
-    ensures some { IfSome result (λ all. five_parts (parts_of_items (items_view items.now)) ≡ Some (part_of (view all.0.now), part_of (view all.1.now), part_of (view all.2.now), part_of (view all.3.now), part_of (view all.4.now))) }
+    ensures some { IfSome result
+        (λ all. five_parts (parts_of_items (items_view items.now)) ≡
+        Some (
+          part_of (view all.0.now),
+          part_of (view all.1.now),
+          part_of (view all.2.now),
+          part_of (view all.3.now),
+          part_of (view all.4.now),
+        )) }
     ensures last { IfSome result (λ all. depth (view all.4.now) ≤ items_depth (items_view items.now)) }
     ensures none { IfNone result (five_parts (parts_of_items (items_view items.now)) ≡ None) }
 {

@@ -1,9 +1,9 @@
 //! The nodes that stand on no other plan.
 ghost use Rattle.serde_json.specs.View.{view};
-ghost use Rattle.sched_json.specs.Reading.{Reads};
 ghost use Rattle.sched_json.specs.Forms.{spelt_by};
 ghost use Rattle.sched_json.specs.Nodes.{leaf_rows};
-ghost use Rattle.sched_json.specs.PlanOf.{part_of, parts_of, reading_of_node, reading_of_name};
+ghost use Rattle.sched_json.specs.Node.{IsLeaf};
+ghost use Rattle.sched_json.specs.PlanOf.{part_of, parts_of, spelt_by_name};
 
 use crate::faults::ReadFault;
 use crate::forms::{number, three_numbers, two_numbers};
@@ -12,7 +12,7 @@ use serde_json::Value;
 
 /// The leaf that is spelt as this string.
 pub(crate) fn read_name(name: &str) -> Result<Plan, ReadFault>
-    ensures { Reads result (reading_of_name name.now) }
+    ensures { IsLeaf result (spelt_by_name name.now) }
 {
     match name {
         "forever" => Ok(Plan::forever()?),
@@ -24,7 +24,7 @@ pub(crate) fn read_name(name: &str) -> Result<Plan, ReadFault>
 
 /// The leaf of this name over its value.
 pub(crate) fn read_leaf(name: &str, value: &Value) -> Result<Plan, ReadFault>
-    ensures { Reads result (reading_of_node (spelt_by leaf_rows name.now (part_of (view value.now)) (parts_of (view value.now)))) }
+    ensures { IsLeaf result (spelt_by leaf_rows name.now (part_of (view value.now)) (parts_of (view value.now))) }
 {
     match name {
         "recurs" => Ok(Plan::recurs(number(value)?)?),

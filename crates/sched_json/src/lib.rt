@@ -4,10 +4,16 @@
 mod faults;
 mod forms;
 mod leaves;
+mod nodes;
 mod plans;
+mod spelling;
 #[cfg(test)]
 mod tests;
+mod texts;
 mod words;
 
 pub use faults::ReadFault;
+pub use nodes::{Node, OneNode};
 pub use plans::read_plan;
+pub use spelling::read_node;
+pub use texts::{TextFault, read_text};

@@ -4,4 +4,10 @@ pub mod WorkedLeaves
 pub mod WorkedNodes
 pub mod WorkedRounds
 pub mod Items
+pub mod HistoryLaws
+pub mod SequenceLaws
+pub mod OutputLaws
+pub mod RoundLaws
+pub mod DelayLaws
+pub mod PrefixLaws
 pub mod Starts

@@ -4,9 +4,11 @@ use Rattle.sched_time.specs.declared.starts.Decision.TheVariants.{Go, Done}
 use Rattle.sched_plan.specs.Datum.{unit, num, pair, list, items_of}
 use Rattle.sched_plan.specs.History.{last_moment, repeats, prefixes}
 use Rattle.sched_plan.specs.Rounds.{blocks, last_block, last_run}
-use Rattle.sched_plan.specs.Outputs.{outputs, earlier_outputs, sum_of, count_of, greatest_of, list_of, fed}
+use Rattle.sched_plan.specs.Outputs.{outputs, earlier_outputs, fed}
 use Rattle.sched_plan.specs.Sequences.{linear_at, exponential_at, milli_at, fibonacci_at, unfold_at}
 use Rattle.sched_plan.specs.Delays.{jittered, moved, added}
+use Rattle.sched_plan.specs.Answer.{gathered}
+use Rattle.sched_plan.specs.declared.nodes.Fold.TheVariants.{Sum, Count, Max, List as Listing}
 use Rattle.sched_plan.specs.declared.history.Event.{Event}
 use Rattle.sched_plan.specs.declared.history.Answer.{Answer}
 use Rattle.sched_plan.proofs.Worked.{at, middle_word, gives}
@@ -46,33 +48,33 @@ earlier_of_three : map (earlier_outputs (recurring 3)) (prefixes (at (0 ∷ 0 �
     [] ∷ (num 0 ∷ []) ∷ (num 0 ∷ num 1 ∷ []) ∷ (num 0 ∷ num 1 ∷ num 2 ∷ []) ∷ (num 0 ∷ num 1 ∷ num 2 ∷ []) ∷ []
 earlier_of_three = refl
 
-sums_of_three : map (λ h. sum_of (earlier_outputs (recurring 3) h)) (prefixes (at (0 ∷ 0 ∷ 0 ∷ 0 ∷ []))) ≡
+sums_of_three : map (λ h. gathered Sum (earlier_outputs (recurring 3) h)) (prefixes (at (0 ∷ 0 ∷ 0 ∷ 0 ∷ []))) ≡
     num 0 ∷ num 0 ∷ num 1 ∷ num 3 ∷ []
 sums_of_three = refl
 
-counts_of_three : map (λ h. count_of (earlier_outputs (recurring 3) h)) (prefixes (at (0 ∷ 0 ∷ 0 ∷ 0 ∷ []))) ≡
+counts_of_three : map (λ h. gathered Count (earlier_outputs (recurring 3) h)) (prefixes (at (0 ∷ 0 ∷ 0 ∷ 0 ∷ []))) ≡
     num 0 ∷ num 1 ∷ num 2 ∷ num 3 ∷ []
 counts_of_three = refl
 
-greatest_of_three : map (λ h. greatest_of (earlier_outputs (recurring 3) h)) (prefixes (at (0 ∷ 0 ∷ 0 ∷ 0 ∷ []))) ≡
+greatest_of_three : map (λ h. gathered Max (earlier_outputs (recurring 3) h)) (prefixes (at (0 ∷ 0 ∷ 0 ∷ 0 ∷ []))) ≡
     num 0 ∷ num 0 ∷ num 1 ∷ num 2 ∷ []
 greatest_of_three = refl
 
 -- what a fold has kept once two events went on
-list_of_two : list_of (outputs (recurring 2) (at (0 ∷ 0 ∷ []))) ≡ list (items_of (num 0 ∷ num 1 ∷ []))
+list_of_two : gathered Listing (outputs (recurring 2) (at (0 ∷ 0 ∷ []))) ≡ list (items_of (num 0 ∷ num 1 ∷ []))
 list_of_two = refl
 
 -- what is no number is counted and listed, and else passed over
-unit_and_pair : sum_of (unit ∷ num 4 ∷ pair (num 1) (num 2) ∷ num 5 ∷ []) ≡ num 9
+unit_and_pair : gathered Sum (unit ∷ num 4 ∷ pair (num 1) (num 2) ∷ num 5 ∷ []) ≡ num 9
 unit_and_pair = refl
 
-greatest_past_a_pair : greatest_of (num 4 ∷ pair (num 7) (num 8) ∷ []) ≡ num 4
+greatest_past_a_pair : gathered Max (num 4 ∷ pair (num 7) (num 8) ∷ []) ≡ num 4
 greatest_past_a_pair = refl
 
-count_with_a_unit : count_of (unit ∷ num 4 ∷ []) ≡ num 2
+count_with_a_unit : gathered Count (unit ∷ num 4 ∷ []) ≡ num 2
 count_with_a_unit = refl
 
-sum_at_the_end : sum_of (num 4611686018427387903 ∷ num 1 ∷ []) ≡ num 4611686018427387903
+sum_at_the_end : gathered Sum (num 4611686018427387903 ∷ num 1 ∷ []) ≡ num 4611686018427387903
 sum_at_the_end = refl
 
 -- the inputs of the second schedule are the outputs of the first

@@ -3,13 +3,14 @@ use Rattle.std.specs.Prelude.{ℕ, ◌+◌, ◌-◌, ◌%◌, min, max, Bool, tr
 use Rattle.sched_time.specs.Capped.{capped}
 use Rattle.sched_time.specs.declared.starts.Decision.{Decision}
 use Rattle.sched_time.specs.declared.starts.Decision.TheVariants.{Go, Done}
-use Rattle.sched_plan.specs.Datum.{Datum, unit, num, pair, first_part, second_part}
+use Rattle.sched_plan.specs.Datum.{Datum, num, pair, list, items_of, first_part, second_part}
 use Rattle.sched_plan.specs.Schedule.{Schedule, leaf, one, two}
 use Rattle.sched_plan.specs.History.{first_moment, last_moment, last_input, last_words, repeats, prefixes}
 use Rattle.sched_plan.specs.Sequences.{linear_at, exponential_at, milli_at, fibonacci_at, unfold_at}
-use Rattle.sched_plan.specs.Outputs.{earlier_outputs, sum_of, count_of, greatest_of, list_of, fed}
+use Rattle.sched_plan.specs.Outputs.{earlier_outputs, sum_in, count_in, greatest_in, fed}
 use Rattle.sched_plan.specs.Rounds.{last_block, last_run}
-use Rattle.sched_plan.specs.Delays.{added, added_out, jittered, moved}
+use Rattle.sched_plan.specs.Delays.{added, added_out, jittered}
+use Rattle.sched_plan.specs.Changes.{ended_where, delayed, giving, silent}
 use Rattle.sched_plan.specs.Gates.{gated}
 use Rattle.sched_plan.specs.declared.leaves.Leaf.{Leaf}
 use Rattle.sched_plan.specs.declared.leaves.Leaf.TheVariants.{Forever, Recurs, Spaced, Fixed, Windowed, Linear, Exponential, ExponentialMilli, Fibonacci, Elapsed, Identity, Unfold, Lone}
@@ -86,24 +87,24 @@ abbrev pub leaf_answer : Leaf → List Event → Answer
 leaf_answer l h = record { output = leaf_output l h; decision = leaf_decision l h }
 
 -- the intervals of both: going on at the later start where both go on, else done
-abbrev pub later : Decision → Decision → Decision
-later (Go s) (Go t) = Go (max s t)
-later (Go s) Done = Done
-later Done d = Done
+abbrev pub meet_decisions : Decision → Decision → Decision
+meet_decisions (Go s) (Go t) = Go (max s t)
+meet_decisions (Go s) Done = Done
+meet_decisions Done d = Done
 
 -- the intervals of either: going on at the earlier start where both go on, and where one does at its start
-abbrev pub earlier : Decision → Decision → Decision
-earlier (Go s) (Go t) = Go (min s t)
-earlier (Go s) Done = Go s
-earlier Done d = d
+abbrev pub join_decisions : Decision → Decision → Decision
+join_decisions (Go s) (Go t) = Go (min s t)
+join_decisions (Go s) Done = Go s
+join_decisions Done d = d
 
 -- two schedules side by side, as ZIO's `&&`: the pair of outputs, while both go on
-abbrev pub both : Answer → Answer → Answer
-both a b = record { output = pair a.output b.output; decision = later a.decision b.decision }
+abbrev pub meet_answer : Answer → Answer → Answer
+meet_answer a b = record { output = pair a.output b.output; decision = meet_decisions a.decision b.decision }
 
 -- two schedules side by side, as ZIO's `||`: the pair of outputs, while one goes on
-abbrev pub either : Answer → Answer → Answer
-either a b = record { output = pair a.output b.output; decision = earlier a.decision b.decision }
+abbrev pub join_answer : Answer → Answer → Answer
+join_answer a b = record { output = pair a.output b.output; decision = join_decisions a.decision b.decision }
 
 -- the shortest prefix of the history on which a schedule with these answers is done, if there is one
 abbrev pub crossing : (List Event → Answer) → List Event → Option (List Event)
@@ -120,47 +121,26 @@ follow_answer front rest None h = front h
 follow_answer front rest (Some p) h = rest (from_end_of p h)
 
 -- the second schedule, as ZIO's `>>>`, while both go on
-abbrev pub through : Answer → Answer → Answer
-through a b = record { output = b.output; decision = later a.decision b.decision }
-
--- a schedule that is done once so much time has passed since the first event, as ZIO's `upTo`
-abbrev pub up_to : ℕ → List Event → Answer → Answer
-up_to d h a = if nat_le d (last_moment h - first_moment h) then record { output = a.output; decision = Done } else a
-
--- the decision, at a start moved by what is made of its delay from now on
-abbrev pub moved_decision : (ℕ → ℕ) → ℕ → Decision → Decision
-moved_decision delay now (Go start) = Go (moved delay now start)
-moved_decision delay now Done = Done
-
--- an answer with each delay changed
-abbrev pub shifted : (ℕ → ℕ) → List Event → Answer → Answer
-shifted delay h a = record { output = a.output; decision = moved_decision delay (last_moment h) a.decision }
+abbrev pub feed_answer : Answer → Answer → Answer
+feed_answer a b = record { output = b.output; decision = meet_decisions a.decision b.decision }
 
 -- what is made of outputs
 abbrev pub gathered : Fold → List Datum → Datum
-gathered Sum ds = sum_of ds
-gathered Count ds = count_of ds
-gathered Max ds = greatest_of ds
-gathered Listing ds = list_of ds
-
--- an answer with this output in place of its own
-abbrev pub giving : Datum → Answer → Answer
-giving output a = record { output = output; decision = a.decision }
-
--- the decision alone
-abbrev pub silent : Answer → Answer
-silent a = giving unit a
+gathered Sum ds = num (sum_in ds)
+gathered Count ds = num (count_in ds)
+gathered Max ds = num (greatest_in ds)
+gathered Listing ds = list (items_of ds)
 
 -- what a node over one schedule answers, where the schedule has these answers
 abbrev pub changed : One → (List Event → Answer) → List Event → Answer
 changed (Gate side want test bound) f h = gated side want test bound (last_input h) (f h)
 changed (Gather fold) f h = giving (gathered fold (earlier_outputs f h)) (f h)
-changed (Add d) f h = shifted (added d) h (f h)
-changed (Set d) f h = shifted (λ _. d) h (f h)
-changed (Cap d) f h = shifted (λ delay. min delay d) h (f h)
-changed AddOut f h = shifted (added_out (f h).output) h (f h)
-changed (Jitter lane least most) f h = shifted (jittered least most (get_or (last_words h) lane 0)) h (f h)
-changed (Within d) f h = up_to d h (f h)
+changed (Add d) f h = delayed (added d) (last_moment h) (f h)
+changed (Set d) f h = delayed (λ _. d) (last_moment h) (f h)
+changed (Cap d) f h = delayed (λ delay. min delay d) (last_moment h) (f h)
+changed AddOut f h = delayed (added_out (f h).output) (last_moment h) (f h)
+changed (Jitter lane least most) f h = delayed (jittered least most (get_or (last_words h) lane 0)) (last_moment h) (f h)
+changed (Within d) f h = ended_where (nat_le d (last_moment h - first_moment h)) (f h)
 changed (Renew d) f h = f (last_block d h)
 changed (RenewIdle d) f h = f (last_run d h)
 changed First f h = giving (first_part (f h).output) (f h)
@@ -169,10 +149,10 @@ changed Nothing f h = silent (f h)
 
 -- what a node over two schedules answers, where the schedules have these answers
 abbrev pub combined : Two → (List Event → Answer) → (List Event → Answer) → List Event → Answer
-combined Meet f g h = both (f h) (g h)
-combined Join f g h = either (f h) (g h)
+combined Meet f g h = meet_answer (f h) (g h)
+combined Join f g h = join_answer (f h) (g h)
 combined Follow f g h = follow_answer f g (crossing f h) h
-combined Feed f g h = through (f h) (g (fed f h))
+combined Feed f g h = feed_answer (f h) (g (fed f h))
 
 -- what the schedule answers at the last event of the history
 abbrev pub answer : Schedule → List Event → Answer

@@ -1,7 +1,7 @@
 -- What a gate makes of an answer.
 use Rattle.std.specs.Prelude.{ℕ, Bool, true, false, not, if◌then◌else◌, nat_lt, nat_le, nat_eq}
-use Rattle.sched_time.specs.declared.starts.Decision.TheVariants.{Done}
 use Rattle.sched_plan.specs.Datum.{Datum, unit, num, pair, list}
+use Rattle.sched_plan.specs.Changes.{ended}
 use Rattle.sched_plan.specs.declared.nodes.Side.{Side}
 use Rattle.sched_plan.specs.declared.nodes.Side.TheVariants.{Input, Output}
 use Rattle.sched_plan.specs.declared.nodes.Test.{Test}
@@ -34,4 +34,4 @@ is_wanted false result = not result
 -- the answer, but done where the test has not the wanted result
 abbrev pub gated : Side → Bool → Test → ℕ → Datum → Answer → Answer
 gated side want test bound input a =
-    if is_wanted want (passes test bound (tested side input a)) then a else record { output = a.output; decision = Done }
+    if is_wanted want (passes test bound (tested side input a)) then a else ended a

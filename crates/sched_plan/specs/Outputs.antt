@@ -3,7 +3,7 @@ use Rattle.std.specs.Prelude.{ℕ, max, Bool, true, false, List, [], ◌∷◌, 
 use Rattle.sched_time.specs.Capped.{capped}
 use Rattle.sched_time.specs.declared.starts.Decision.{Decision}
 use Rattle.sched_time.specs.declared.starts.Decision.TheVariants.{Go, Done}
-use Rattle.sched_plan.specs.Datum.{Datum, unit, num, pair, list, items_of}
+use Rattle.sched_plan.specs.Datum.{Datum, unit, num, pair, list}
 use Rattle.sched_plan.specs.History.{prefixes}
 use Rattle.sched_plan.specs.declared.history.Event.{Event}
 use Rattle.sched_plan.specs.declared.history.Answer.{Answer}
@@ -53,20 +53,6 @@ count_in ds = capped (length ds)
 -- the greatest of the numbers, 0 where there is none
 abbrev pub greatest_in : List Datum → ℕ
 greatest_in ds = fold max 0 (numbers_in ds)
-
--- the same as values
-abbrev pub sum_of : List Datum → Datum
-sum_of ds = num (sum_in ds)
-
-abbrev pub count_of : List Datum → Datum
-count_of ds = num (count_in ds)
-
-abbrev pub greatest_of : List Datum → Datum
-greatest_of ds = num (greatest_in ds)
-
--- all of the values, in order
-abbrev pub list_of : List Datum → Datum
-list_of ds = list (items_of ds)
 
 -- the event with this input in place of its own
 abbrev pub with_input : Datum → Event → Event

@@ -19,14 +19,14 @@ abbrev pub blocks : ℕ → List Event → List (List Event)
 blocks d h = blocks_past d 0 h
 
 -- the last of these histories, or the empty one where there is none
-abbrev pub last_of : List (List Event) → List Event
-last_of [] = []
-last_of (b ∷ []) = b
-last_of (b ∷ c ∷ bs) = last_of (c ∷ bs)
+abbrev pub last_history : List (List Event) → List Event
+last_history [] = []
+last_history (b ∷ []) = b
+last_history (b ∷ c ∷ bs) = last_history (c ∷ bs)
 
 -- the block that the history ends with
 abbrev pub last_block : ℕ → List Event → List Event
-last_block d h = last_of (blocks d h)
+last_block d h = last_history (blocks d h)
 
 -- the nonempty suffixes, longest first
 abbrev pub suffixes : List Event → List (List Event)

@@ -12,4 +12,4 @@ pub use history::{Answer, Event};
 pub use leaves::Leaf;
 pub use nodes::{Fold, One, Side, Test, Two};
 pub use plans::{MOST_DEPTH, MOST_NODES, Plan, PlanFault, PlanShape};
-pub use values::{Val, ValShape};
+pub use values::{Val, ValShape, copy_items};

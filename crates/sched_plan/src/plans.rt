@@ -6,6 +6,7 @@ use crate::nodes::{One, Two};
 use sched_time::NoMemory;
 use std::alloc::Global;
 use std::marker::Model;
+use thiserror::Error;
 
 mod builders;
 #[cfg(test)]
@@ -18,15 +19,19 @@ pub const MOST_NODES: usize = 256;
 pub const MOST_DEPTH: usize = 32;
 
 /// Why a builder refused a plan.
-#[derive(Clone, Copy, Debug, PartialEq, Eq)]
+#[derive(Clone, Copy, Debug, PartialEq, Eq, Error)]
 pub enum PlanFault {
     /// A parameter is outside its range.
+    #[error("a parameter is out of range")]
     OutOfRange,
     /// The plan would be deeper than 32.
+    #[error("the plan is too deep")]
     TooDeep,
     /// The plan would have more than 256 nodes.
+    #[error("the plan has too many nodes")]
     TooMany,
     /// A growth was refused.
+    #[error("no memory")]
     NoMemory,
 }
 
@@ -100,7 +105,7 @@ impl Plan {
         self.depth
     }
 
-    /// An equal plan. Refused only for want of memory.
+    /// An equal plan. Fails only with `NoMemory`.
     pub fn copy(&self, alloc: Global) -> Result<Plan, NoMemory>
         ensures { IfOk result (λ plan. plan ≡ self.now) }
     {

@@ -70,7 +70,7 @@ impl Val {
         Some(Val::from(number))
     }
 
-    /// Both values as one. Refused only for want of memory; both values are then dropped.
+    /// Both values as one. Fails only with `NoMemory`; both values are then dropped.
     pub fn pair(alloc: Global, first: Val, second: Val) -> Result<Val, NoMemory>
         ensures { IfOk result (λ v. v ≡ pair first second) }
     {
@@ -132,7 +132,7 @@ impl Val {
         }
     }
 
-    /// An equal value. Refused only for want of memory.
+    /// An equal value. Fails only with `NoMemory`.
     #[cycle(copy)]
     #[inline(always)]
     pub fn copy(&self, alloc: Global) -> Result<Val, NoMemory>
@@ -160,7 +160,7 @@ impl Val {
         }
     }
 
-    /// The value as text: `()`, a decimal number, `(a, b)` or `[a, b, c]`. Refused only for want of memory.
+    /// The value as text: `()`, a decimal number, `(a, b)` or `[a, b, c]`. Fails only with `NoMemory`.
     pub fn text(&self, alloc: Global) -> Result<String, NoMemory>
         ensures { IfOk result (λ text. string_bytes text ≡ text_of self.now) }
     {
@@ -214,9 +214,10 @@ fn copy_list(alloc: Global, items: &Vec<Val>) -> Result<Val, NoMemory>
     Ok(Val::list(copy_items(alloc, items)?))
 }
 
-// Equal values in the same order.
+/// Equal values in the same order. Fails only with `NoMemory`.
 #[cycle(copy)]
-fn copy_items(alloc: Global, items: &Vec<Val>) -> Result<Vec<Val>, NoMemory>
+#[inline(always)]
+pub fn copy_items(alloc: Global, items: &Vec<Val>) -> Result<Vec<Val>, NoMemory>
     ensures { IfOk result (λ copies. copies.items ≡ items.now.items) }
 {
     let mut copies = Vec::with_capacity(alloc, items.len())?;

@@ -1,20 +1,21 @@
 -- The ends of a board's jobs, one by one, and their sum.
-use Rattle.std.proofs.Common.{◌≡◌, ℕ, suc, ◌+◌, ◌<◌, true, List, [], ◌∷◌, ◌++◌, map, length, refl, sym, ap, ◌∙◌, arith, length-append}
+use Rattle.std.proofs.Common.{◌≡◌, ℕ, suc, ◌+◌, ◌<◌, ◌≤◌, true, false, List, [], ◌∷◌, ◌++◌, map, length, refl, sym, ap, ◌∙◌, arith, length-append}
 use Rattle.std.specs.Prelude.{All, slice_index_or}
 use Rattle.std.proofs.lemmas.List.Elements.{All-nil, All-push}
 use Rattle.sched_ticket.specs.Lists.{total}
 use Rattle.sched_ticket.specs.View.{both}
-use Rattle.sched_ticket.specs.Steps.{IsSound}
+use Rattle.sched_ticket.specs.Steps.{IsSound, IsWithin}
 use Rattle.sched_ticket.specs.Calls.{IsWhole}
 use Rattle.sched_ticket.specs.Held.{Name, Held, IsOf}
+use Rattle.sched_ticket.specs.declared.view.Terms.{Terms}
 use Rattle.sched_ticket.specs.declared.view.View.{View}
 use Rattle.sched_ticket.proofs.Sums.{total-append}
-use Rattle.sched_law.specs.Kind.{retry}
-use Rattle.sched_law.specs.Past.{Past}
-use Rattle.sched_law.specs.Law.{Law}
-use Rattle.sched_law.proofs.Lists.{by_test}
-use Rattle.sched_job.specs.Ends.{is_refused, IsRefusedBy}
-use Rattle.sched_job.proofs.Kept.{denied_by}
+use Rattle.sched_task_law.specs.Kind.{retry}
+use Rattle.sched_task_law.specs.Past.{Past}
+use Rattle.sched_task_law.specs.Law.{Law}
+use Rattle.sched_task_law.proofs.Lists.{by_test}
+use Rattle.sched_pool_job.specs.Ends.{is_refused, IsRefusedBy}
+use Rattle.sched_pool_job.proofs.Kept.{denied_by}
 use Rattle.sched_pool.specs.Ends.{joined, IsEnd, has_refused, Agrees}
 
 append_none : (xs : List ℕ) → xs ++ [] ≡ xs
@@ -33,9 +34,14 @@ joined_push : (xs : List (List ℕ)) (x : List ℕ) → joined (xs ++ x ∷ []) 
 joined_push [] x = append_none x
 joined_push (y ∷ ys) x = ap (λ l. y ++ l) (joined_push ys x) ∙ sym (append_twice y (joined ys) x)
 
+-- a pass's tickets are within the limit of a budget that keeps it
+limited : (b : Name) (p : Held) → IsOf b p → IsWithin p.has → b.terms.rises ≡ false → length p.has.tickets ≤ b.terms.limit
+limited b p of within keeps =
+    omega (arith, within.few, within.fixed (ap (λ (t : Terms). t.rises) of.1 ∙ keeps), ap (λ (t : Terms). t.limit) of.1)
+
 -- no job was taken back yet
-pub none_taken : (b : Name) (before : Held) → IsOf b before → IsEnd b 0 before [] before 0
-none_taken b before of = record {
+pub none_taken : (b : Name) (before : Held) → IsOf b before → IsWithin before.has → IsEnd b 0 before [] before 0
+none_taken b before of within = record {
   all = refl;
   laws = All-nil (Law retry);
   of = of;
@@ -44,42 +50,10 @@ none_taken b before of = record {
   each = refl;
   tickets = sym (append_none before.has.tickets);
   sound = λ some. absurd (omega (arith, some));
+  limited = λ keeps. omega (arith, limited b before of within keeps);
+  found = omega (arith, within.few);
   refused = All-nil (IsRefusedBy before);
 }
-
--- a pass keeps its refusals where another is joined into it
-more_refused : (p mine q : Held) → q.has ≡ both p.has mine.has → (v : Past) → IsRefusedBy p v → IsRefusedBy q v
-more_refused p mine q join v refused = λ denied.
-    omega (arith, refused denied, ap (λ (w : View). length w.refusals) join, length-append p.has.refusals mine.has.refusals)
-
-its_refusal : (p mine q : Held) → q.has ≡ both p.has mine.has → (v : Past) → IsRefusedBy mine v → IsRefusedBy q v
-its_refusal p mine q join v refused = λ denied.
-    omega (arith, refused denied, ap (λ (w : View). length w.refusals) join, length-append p.has.refusals mine.has.refusals)
-
--- one more job is taken back, with its pass
-pub one_taken : (b : Name) (n : ℕ) (before p mine q : Held) (ends : List Past) (granted : ℕ) (v : Past) →
-    IsEnd b n before ends p granted → Law retry v → v.granted ≡ length mine.has.tickets → IsRefusedBy mine v →
-    IsOf b q → q.has ≡ both p.has mine.has → IsSound q.has → IsEnd b (n + 1) before (ends ++ v ∷ []) q (granted + v.granted)
-one_taken b n before p mine q ends granted v h law same refused of join sound =
-    let f : Past → ℕ = λ w. w.granted in
-    record {
-      all = omega (arith, h.all, length-append ends (v ∷ []));
-      laws = All-push (Law retry) ends v h.laws law;
-      of = of;
-      sum = omega (arith, h.sum, total-append f ends (v ∷ []));
-      drawn = h.drawn ++ mine.has.tickets ∷ [];
-      each = map_push length h.drawn mine.has.tickets
-          ∙ ap (λ l. l ++ length mine.has.tickets ∷ []) h.each
-          ∙ ap (λ k. map f ends ++ k ∷ []) (sym same)
-          ∙ sym (map_push f ends v);
-      tickets = ap (λ (w : View). w.tickets) join
-          ∙ ap (λ l. l ++ mine.has.tickets) h.tickets
-          ∙ append_twice before.has.tickets (joined h.drawn) mine.has.tickets
-          ∙ ap (λ l. before.has.tickets ++ l) (sym (joined_push h.drawn mine.has.tickets));
-      sound = λ _. sound;
-      refused = All-push (IsRefusedBy q) ends v
-          (λ k d small. more_refused p mine q join (slice_index_or ends k d) (h.refused k d small)) (its_refusal p mine q join v refused);
-    }
 
 length_joined : (xs : List (List ℕ)) → length (joined xs) ≡ total (λ n. n) (map length xs)
 length_joined [] = refl
@@ -103,6 +77,49 @@ count_taken b n before ends pass granted h =
       total_map f ends,
       h.sum,
     )
+
+-- a pass keeps its refusals where another is joined into it
+more_refused : (p mine q : Held) → q.has ≡ both p.has mine.has → (v : Past) → IsRefusedBy p v → IsRefusedBy q v
+more_refused p mine q join v refused = λ denied.
+    omega (arith, refused denied, ap (λ (w : View). length w.refusals) join, length-append p.has.refusals mine.has.refusals)
+
+its_refusal : (p mine q : Held) → q.has ≡ both p.has mine.has → (v : Past) → IsRefusedBy mine v → IsRefusedBy q v
+its_refusal p mine q join v refused = λ denied.
+    omega (arith, refused denied, ap (λ (w : View). length w.refusals) join, length-append p.has.refusals mine.has.refusals)
+
+-- one more job is taken back, with its pass
+pub one_taken : (b : Name) (n : ℕ) (before p mine q : Held) (ends : List Past) (granted : ℕ) (v : Past) →
+    IsEnd b n before ends p granted → Law retry v → v.granted ≡ length mine.has.tickets → IsRefusedBy mine v →
+    IsOf b q → q.has ≡ both p.has mine.has → IsSound q.has → IsEnd b (n + 1) before (ends ++ v ∷ []) q (granted + v.granted)
+one_taken b n before p mine q ends granted v h law same refused of join sound =
+    let f : Past → ℕ = λ w. w.granted in
+    let counted : length q.has.tickets ≡ length before.has.tickets + (granted + v.granted) = omega (
+      arith,
+      count_taken b n before ends p granted h,
+      same,
+      ap (λ (w : View). length w.tickets) join,
+      length-append p.has.tickets mine.has.tickets,
+    ) in
+    record {
+      all = omega (arith, h.all, length-append ends (v ∷ []));
+      laws = All-push (Law retry) ends v h.laws law;
+      of = of;
+      sum = omega (arith, h.sum, total-append f ends (v ∷ []));
+      drawn = h.drawn ++ mine.has.tickets ∷ [];
+      each = map_push length h.drawn mine.has.tickets
+          ∙ ap (λ l. l ++ length mine.has.tickets ∷ []) h.each
+          ∙ ap (λ k. map f ends ++ k ∷ []) (sym same)
+          ∙ sym (map_push f ends v);
+      tickets = ap (λ (w : View). w.tickets) join
+          ∙ ap (λ l. l ++ mine.has.tickets) h.tickets
+          ∙ append_twice before.has.tickets (joined h.drawn) mine.has.tickets
+          ∙ ap (λ l. before.has.tickets ++ l) (sym (joined_push h.drawn mine.has.tickets));
+      sound = λ _. sound;
+      limited = λ keeps. omega (arith, limited b q of sound.within keeps, counted);
+      found = omega (arith, sound.within.few, counted);
+      refused = All-push (IsRefusedBy q) ends v
+          (λ k d small. more_refused p mine q join (slice_index_or ends k d) (h.refused k d small)) (its_refusal p mine q join v refused);
+    }
 
 -- where a job was refused, so was the pass
 was_refused : (pass : Held) (ends : List Past) → All (Law retry) ends → All (IsRefusedBy pass) ends → has_refused ends ≡ true →

@@ -1,14 +1,14 @@
 -- A board that was taken back.
-use Rattle.std.specs.Prelude.{◌≡◌, ℕ, ◌+◌, ◌<◌, Bool, true, List, [], ◌∷◌, ◌++◌, map, length, All}
+use Rattle.std.specs.Prelude.{◌≡◌, ℕ, ◌+◌, ◌<◌, ◌≤◌, Bool, true, false, List, [], ◌∷◌, ◌++◌, map, length, All}
 use Rattle.std.specs.List.{list_any}
 use Rattle.sched_ticket.specs.Lists.{total}
 use Rattle.sched_ticket.specs.Steps.{IsSound}
 use Rattle.sched_ticket.specs.Calls.{IsWhole}
 use Rattle.sched_ticket.specs.Held.{Name, Held, IsOf}
-use Rattle.sched_law.specs.Kind.{retry}
-use Rattle.sched_law.specs.Past.{Past}
-use Rattle.sched_law.specs.Law.{Law}
-use Rattle.sched_job.specs.Ends.{is_refused, IsRefusedBy}
+use Rattle.sched_task_law.specs.Kind.{retry}
+use Rattle.sched_task_law.specs.Past.{Past}
+use Rattle.sched_task_law.specs.Law.{Law}
+use Rattle.sched_pool_job.specs.Ends.{is_refused, IsRefusedBy}
 
 -- lists, one after the other
 abbrev pub joined : List (List ℕ) → List ℕ
@@ -30,6 +30,9 @@ pub record IsEnd (budget : Name) (jobs : ℕ) (before : Held) (ends : List Past)
   pub tickets : pass.has.tickets ≡ before.has.tickets ++ joined drawn
   -- each of them once, where passes were joined
   pub sound : 0 < jobs → IsSound pass.has
+  -- the tickets never pass the limit, of a rising budget the greatest that the pass has found
+  pub limited : budget.terms.rises ≡ false → length before.has.tickets + granted ≤ budget.terms.limit
+  pub found : length before.has.tickets + granted ≤ pass.has.floor
   -- where the budget refused a job a ticket, the pass has a refusal
   pub refused : All (IsRefusedBy pass) ends
 

@@ -1,3 +1,14 @@
 pub mod Boards
 pub mod Ends
 pub mod Runs
+pub use Rattle.sched_ticket.specs.View
+pub use Rattle.sched_ticket.specs.Steps
+pub use Rattle.sched_ticket.specs.Calls
+pub use Rattle.sched_ticket.specs.Held
+pub use Rattle.sched_task_law.specs.Kind
+pub use Rattle.sched_task_law.specs.Past
+pub use Rattle.sched_task_law.specs.Law
+pub use Rattle.sched_claim.specs.Portion
+pub use Rattle.sched_wheel.specs.Polled
+pub use Rattle.sched_worker.specs.Working
+pub use Rattle.sched_pool_job.specs.Jobs

@@ -2,7 +2,7 @@
 use Rattle.std.specs.Prelude.{◌≡◌, ℕ, Bool, false, List, None, is_some, IsSome}
 use Rattle.std.specs.List.{list_all}
 use Rattle.sched_ticket.specs.Held.{Name, Held}
-use Rattle.sched_law.specs.Past.{Past}
+use Rattle.sched_task_law.specs.Past.{Past}
 use Rattle.sched_pool.specs.Boards.{Boarded, IsCrew}
 use Rattle.sched_pool.specs.Ends.{IsEnd}
 use Rattle.sched_pool.specs.declared.runs.PoolStop.{PoolStop}

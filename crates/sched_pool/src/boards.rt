@@ -1,13 +1,13 @@
 //! The board: jobs under locks, with watchers and cancels beside the workers.
 ghost use Rattle.std.specs.Prelude.{◌≡◌, ◌+◌, ◌<◌, ◌≤◌, ◌↔◌, ℕ, length, None, IsTrue, IsSome, IfOk, IfErr, OnOk, IfSome};
-ghost use Rattle.sched_law.specs.Past.{nothing_yet};
-ghost use Rattle.sched_job.specs.Jobs.{IsSeen};
+ghost use Rattle.sched_task_law.specs.Past.{nothing_yet};
+ghost use Rattle.sched_pool_job.specs.Jobs.{IsSeen};
 ghost use Rattle.sched_pool.specs.Boards.{Boarded, RefusesAdd, RefusesShares, SharedOut};
 
 use crate::faults::{AddFault, AddRefused, ShareFault};
 use sched_claim::{Claimed, Claims, Share};
 use sched_effect::Effect;
-use sched_job::{Job, Seen};
+use sched_pool_job::{Job, Seen};
 use sched_retry::Retry;
 use sched_task::Task;
 use sched_ticket::{Budget, Naming};

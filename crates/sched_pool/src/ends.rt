@@ -5,7 +5,7 @@ ghost use Rattle.sched_pool.specs.Ends.{IsEnd};
 
 use crate::boards::Board;
 use sched_effect::Effect;
-use sched_job::{Job, JobEnd};
+use sched_pool_job::{Job, JobEnd};
 use sched_ticket::{Budget, Naming, Pass};
 use std::alloc::Global;
 use std::sync::Mutex;
@@ -55,13 +55,13 @@ fn take_back<X: Effect, N: Naming>(
     requires none { ends.items ≡ [] }
     ensures { IsEnd N.budget (vec_len jobs.entry) pass result.jobs.items result.pass result.granted }
 {
-    let mut granted = 0;
+    let handed_in = pass.count();
     for job in jobs {
         let (end, mine) = job.into_inner().into_end();
         pass = pass.join(mine, budget);
-        granted += end.granted();
         ends.push_reserved(end);
     }
+    let granted = pass.count() - handed_in;
     PoolEnd {
         jobs: ends,
         pass,

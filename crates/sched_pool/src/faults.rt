@@ -2,32 +2,41 @@
 
 use sched_effect::Effect;
 use sched_retry::Retry;
+use thiserror::Error;
 
 /// Why a board took no job.
-#[derive(Clone, Copy, Debug, PartialEq, Eq, Drop)]
+#[derive(Clone, Copy, Debug, PartialEq, Eq, Drop, Error)]
 pub enum AddFault {
     /// Its jobs were shared out.
+    #[error("the board's jobs were shared out")]
     Sealed,
     /// It has 4,096 jobs.
+    #[error("the board has 4096 jobs")]
     BoardFull,
     /// A growth was refused.
+    #[error("no memory")]
     NoMemory,
 }
 
 /// A retry that a board did not take, as it was.
 #[derive(Drop)]
 pub struct AddRefused<'a, X: Effect> {
+    /// The retry.
     pub retry: Retry<'a, X>,
+    /// Why it was not taken.
     pub fault: AddFault,
 }
 
 /// Why a board's jobs were not shared out.
-#[derive(Clone, Copy, Debug, PartialEq, Eq, Drop)]
+#[derive(Clone, Copy, Debug, PartialEq, Eq, Drop, Error)]
 pub enum ShareFault {
     /// There are no workers, or more than 16.
+    #[error("1 to 16 workers are wanted")]
     BadWorkers,
     /// Its jobs were shared out before.
+    #[error("the board's jobs were shared out before")]
     Sealed,
     /// A growth was refused.
+    #[error("no memory")]
     NoMemory,
 }

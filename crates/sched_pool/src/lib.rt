@@ -2,6 +2,9 @@
 //!
 //! All jobs of a board draw on one budget, which the board's type names: so whoever holds a job's lock knows whose tickets
 //! the job has. In the end the board is taken back: each job's law still holds, and the passes of all are one again.
+//!
+//! Beside the board stand here all names that a program with a pool uses: of plans, drivers, effects, retries, budgets,
+//! clocks, workers and what is left of jobs.
 #![tactic(auto)]
 
 mod boards;
@@ -17,3 +20,13 @@ pub use boards::{Board, MAX_JOBS, MAX_WORKERS};
 pub use ends::PoolEnd;
 pub use faults::{AddFault, AddRefused, ShareFault};
 pub use runs::PoolStop;
+pub use sched_claim::{Claimed, Share};
+pub use sched_driver::Driver;
+pub use sched_effect::{Code, Coded, Effect, Ran, Scripted};
+pub use sched_plan::{Plan, PlanFault};
+pub use sched_pool_job::{JobEnd, Seen};
+pub use sched_retry::{Ending, Retry};
+pub use sched_task::{Clock, How, MidWords, RunFault, VirtualClock};
+pub use sched_ticket::{Budget, Naming, Pass, PassesOut, TicketFault};
+pub use sched_time::{Millis, Moment, NoMemory};
+pub use sched_worker::{Finish, Gate, OpenGate, Station, Worked};

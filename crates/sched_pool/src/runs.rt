@@ -1,9 +1,10 @@
 //! Running a board on threads.
-ghost use Rattle.std.specs.Prelude.{◌≡◌, ◌≤◌, true, vec_len, vec_capacity, All, IfOk, IfErr};
+ghost use Rattle.std.specs.Prelude.{◌≡◌, ◌≤◌, true, false, vec_len, vec_capacity, All, IfOk, IfErr};
 ghost use Rattle.sched_ticket.specs.Held.{IsOf};
 ghost use Rattle.sched_claim.specs.Portion.{IsShareOf};
 ghost use Rattle.sched_pool.specs.Ends.{IsEnd};
 ghost use Rattle.sched_pool.specs.Runs.{all_over, StopFits};
+ghost use Rattle.sched_pool.specs.declared.runs.Effort.{Effort};
 
 use crate::boards::Board;
 use crate::ends::PoolEnd;
@@ -11,11 +12,11 @@ use crate::faults::ShareFault;
 use rand_core::Rng;
 use sched_claim::Share;
 use sched_effect::Effect;
-use sched_job::JobEnd;
+use sched_pool_job::JobEnd;
 use sched_task::Clock;
 use sched_ticket::{Naming, Pass};
 use sched_time::NoMemory;
-use sched_work::{Finish, Gate, Station};
+use sched_worker::{Finish, Gate, Station};
 use std::alloc::{AllocGlobal, Global};
 use std::marker::Model;
 use std::random::RandomSource;
@@ -45,7 +46,7 @@ struct Shift<'b, R, Q> {
     rt: &'b R,
     gate: &'b Q,
     turns: u64,
-    starved: AtomicBool,
+    no_memory: AtomicBool,
 }
 
 // A worker of a board: a share of it, and a station.
@@ -91,7 +92,7 @@ where
         } = self;
         let worked = board.work(shift.rt, &mut share, &mut station, shift.gate, shift.turns);
         if worked.finish == Finish::NoMemory {
-            shift.starved.store(true, Ordering::SeqCst);
+            shift.no_memory.store(true, Ordering::SeqCst);
         }
     }
 }
@@ -100,13 +101,13 @@ where
 #[derive(Clone, Copy, Drop)]
 enum Effort {
     Worked,
-    Starved,
+    NoMemory,
     NotStarted,
 }
 
 impl<'a, X: Effect, N: Naming> Board<'a, X, N> {
     /// Runs the board: a thread for each station drives jobs in at most `turns` turns, and then the board is taken back.
-    /// Where every job is over it is `Ok`.
+    /// Where every job is over it is `Ok`. Want of memory of a worker comes before a thread that was not started.
     pub fn run<R, C, G, Q>(
         mut self,
         rt: &R,
@@ -136,7 +137,7 @@ impl<'a, X: Effect, N: Naming> Board<'a, X, N> {
         };
         match work_beside(rt, alloc, &self, shares, stations, gate, turns) {
             Effort::Worked => {}
-            Effort::Starved => return Err(PoolStop::NoMemory(self, pass)),
+            Effort::NoMemory => return Err(PoolStop::NoMemory(self, pass)),
             Effort::NotStarted => return Err(PoolStop::NotStarted(self, pass)),
         }
         match self.finish(alloc, pass) {
@@ -219,16 +220,25 @@ where
         rt,
         gate,
         turns,
-        starved: AtomicBool::new(false),
+        no_memory: AtomicBool::new(false),
     };
     let Ok(workers) = crew(alloc, &shift, board, shares, stations) else {
-        return Effort::Starved;
+        return Effort::NoMemory;
     };
     let started = start_all(rt, workers);
-    if !started {
+    how_far(started, shift.no_memory.load(Ordering::SeqCst))
+}
+
+// How far the threads of a run got: want of memory comes before a thread that was not started.
+fn how_far(started: bool, no_memory: bool) -> Effort
+    ensures memory { no_memory ≡ true → result ≡ Effort.NoMemory }
+    ensures threads { no_memory ≡ false → started ≡ false → result ≡ Effort.NotStarted }
+    ensures worked { no_memory ≡ false → started ≡ true → result ≡ Effort.Worked }
+{
+    if no_memory {
+        Effort::NoMemory
+    } else if !started {
         Effort::NotStarted
-    } else if shift.starved.load(Ordering::SeqCst) {
-        Effort::Starved
     } else {
         Effort::Worked
     }

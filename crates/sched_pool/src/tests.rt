@@ -1,20 +1,10 @@
 //! Boards, their workers and what is taken back.
 ghost use Rattle.std.specs.Prelude.{◌≡◌, [], None};
 ghost use Rattle.sched_ticket.specs.Held.{IsOf};
-ghost use Rattle.sched_law.specs.Past.{nothing_yet};
+ghost use Rattle.sched_task_law.specs.Past.{nothing_yet};
 ghost use Rattle.sched_claim.specs.Portion.{IsShareOf};
 
 use super::*;
-use sched_claim::Share;
-use sched_driver::Driver;
-use sched_effect::{Effect, Ran, Scripted};
-use sched_job::{JobEnd, Seen};
-use sched_plan::{Plan, PlanFault};
-use sched_retry::{Ending, Retry};
-use sched_task::{How, MidWords, VirtualClock};
-use sched_ticket::{Budget, Naming, Pass};
-use sched_time::{Millis, Moment};
-use sched_work::{Finish, OpenGate, Station};
 use std::alloc::{AllocGlobal, Global};
 use std::marker::Brand;
 use std::process::Abort;

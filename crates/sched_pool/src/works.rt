@@ -1,8 +1,9 @@
 //! One worker of a board.
 ghost use Rattle.std.specs.Prelude.{◌≡◌, ◌<◌, ◌≤◌, [], length};
 ghost use Rattle.sched_claim.specs.Portion.{IsShareOf};
-ghost use Rattle.sched_work.specs.Working.{WentOn};
-ghost use Rattle.sched_work.specs.declared.works.Finish.{Finish};
+ghost use Rattle.sched_wheel.specs.Polled.{IsLeft};
+ghost use Rattle.sched_worker.specs.Working.{WentOn};
+ghost use Rattle.sched_worker.specs.declared.works.Finish.{Finish};
 
 use crate::boards::Board;
 use rand_core::Rng;
@@ -10,7 +11,7 @@ use sched_claim::Share;
 use sched_effect::Effect;
 use sched_task::Clock;
 use sched_ticket::Naming;
-use sched_work::{Gate, Station, Worked, work_through};
+use sched_worker::{Gate, Station, Worked, work_through};
 use std::alloc::AllocGlobal;
 use std::random::RandomSource;
 use std::sync::Wait;
@@ -32,6 +33,9 @@ impl<'a, X: Effect, N: Naming> Board<'a, X, N> {
         ensures of { IsShareOf self.now.claims share.new }
         ensures went_on { WentOn share.old share.new }
         ensures turns { result.turns ≤ turns }
+        ensures polls { IsLeft turns (G.stream station.old.rng) (G.stream station.new.rng) }
+        ensures used { result.finish ≡ Finish.AllOver →
+            IsLeft result.turns (G.stream station.old.rng) (G.stream station.new.rng) }
         ensures all_over { result.finish ≡ Finish.AllOver →
             (share.new.active ≡ []) × (0 < length share.new.pass.has.refusals) }
         ensures spent { result.finish ≡ Finish.TurnsSpent →

@@ -1,22 +1,24 @@
 -- A poll of a repeat keeps its law, whatever happens in it.
 use Rattle.std.proofs.Common.{◌≡◌, ℕ, ◌<◌, ◌≤◌, inl, inr, Bool, true, false, Option, Some, None, is_some, IfSome, IsSomeAnd, refl, sym, ap, ◌∙◌, subst}
 use Rattle.sched_time.specs.declared.numbers.Tick.{Tick}
-use Rattle.sched_plan.specs.Datum.{num}
-use Rattle.sched_step.specs.StateOf.{event_of}
-use Rattle.sched_driver.specs.Driven.{after as driven_after}
-use Rattle.sched_driver.specs.Driver.{HasRoom}
-use Rattle.sched_effect.specs.declared.ran.Ran.TheVariants.{Won, Lost}
+use Rattle.sched_effect.specs.declared.ran.Ran.TheVariants as ran
 use Rattle.sched_task.specs.declared.endings.How.{How}
-use Rattle.sched_task.specs.declared.endings.How.TheVariants.{ScheduleDone, Failed, Broken}
+use Rattle.sched_task.specs.declared.endings.How.TheVariants as how
 use Rattle.sched_task.specs.declared.endings.RunFault.{RunFault}
 use Rattle.sched_task.specs.declared.endings.RunFault.TheVariants.{NoMemory}
-use Rattle.sched_law.specs.Kind.{repeat}
-use Rattle.sched_law.specs.Past.{is_spent, is_stopped, waits_for}
-use Rattle.sched_law.specs.Poll.{Happened, stays, cannot_begin, runs_on, starves, ends, breaks, exhausts, recurs, after, CanRun, May, Refuses}
-use Rattle.sched_law.specs.Runner.{Runs, past_of, is_running, with_run, with_finished}
-use Rattle.sched_law.proofs.Lists.{by_test}
-use Rattle.sched_law.proofs.Law.{law_after}
-use Rattle.sched_repeat.specs.Repeating.{Repeating, RepeatLaw, RepeatPoll}
+use Rattle.sched_task_law.specs.Kind.{repeat}
+use Rattle.sched_task_law.specs.Past.{schedule_is_done, is_under_way, is_stopped, waits_for}
+use Rattle.sched_task_law.specs.Poll.{Happened, stays, cannot_begin, runs_on, cannot_run, ends, breaks, stops_done, recurs, after, CanRun, Steps, May}
+use Rattle.sched_task_law.specs.Runner.{Runs, past_of, with_run, with_finished}
+use Rattle.sched_task_law.specs.Attempt.{with_step, Stepped, Breaks}
+use Rattle.sched_task_law.proofs.Lists.{by_test}
+use Rattle.sched_task_law.proofs.Fields.{last_finished}
+use Rattle.sched_task_law.proofs.Law.{law_after}
+use Rattle.sched_repeat.specs.Repeating.{Repeating, repeating, RepeatLaw, RepeatPoll}
+use Rattle.sched_repeat.specs.Comes.{Succeeded, Comes}
+use Rattle.sched_repeat.specs.Ending.{how_of, RepeatFits}
+use Rattle.sched_repeat.specs.declared.endings.RepeatEnding.{RepeatEnding}
+use Rattle.sched_repeat.specs.declared.endings.RepeatEnding.TheVariants.{ScheduleDone, Failed, Cancelled, Broken}
 
 -- a repeat after a poll: it keeps its law, and the poll was one
 pub record Settled (v : Repeating) (t : Tick) (ready : Bool) (u : Repeating) : Type 0 where
@@ -55,9 +57,6 @@ rests_waiting v t law unended waits = record {
   poll = record { happened = stays; may = inr waits; leaves = refl; ready_is = ap is_some (sym unended) };
   untaken = untaken_false v law unended ∙ rw unended refl;
 }
-
-abbrev pub repeating : Runs → Option How → Bool → Repeating
-repeating r over untaken = record { past = past_of r over false 0; untaken = untaken }
 
 -- What is known of the fields of a repeat before a poll that polls a run.
 pub record Ready (r : Runs) (over : Option How) (untaken : Bool) (t : Tick) : Type 0 where
@@ -99,57 +98,69 @@ module _ (r : Runs) (over : Option How) (untaken : Bool) (t : Tick) (now : Ready
       (λ i. record { past = past_of (sym left i) over false 0; untaken = (none ∙ sym unended_untaken) i }) in
       subst (λ (u : Repeating). Settled v t false u) same (subst (λ ready. Settled v t ready (next v t runs_on)) none was)
 
-  pub cannot_start : (s : Runs) → (is_running r ≡ false) × (s ≡ r) → Settled v t true (repeating s (Some (Broken NoMemory)) true)
-  cannot_start s left =
-      subst (λ (s : Runs). Settled v t true (repeating s (Some (Broken NoMemory)) true)) (sym left.1)
+  pub no_start : (s : Runs) → (is_under_way r.runs r.begun ≡ false) × (s ≡ r) → Settled v t true (repeating s (Some (how.Broken NoMemory)) true)
+  no_start s left =
+      subst (λ (s : Runs). Settled v t true (repeating s (Some (how.Broken NoMemory)) true)) (sym left.1)
       (settled cannot_begin (now.can, left.0))
 
-  pub is_starved : (s : Runs) → s ≡ with_run r t → Settled v t true (repeating s (Some (Broken NoMemory)) true)
-  is_starved s left =
-      subst (λ (s : Runs). Settled v t true (repeating s (Some (Broken NoMemory)) true)) (sym left) (settled starves now.can)
+  pub no_run : (s : Runs) → s ≡ with_run r t → Settled v t true (repeating s (Some (how.Broken NoMemory)) true)
+  no_run s left =
+      subst (λ (s : Runs). Settled v t true (repeating s (Some (how.Broken NoMemory)) true)) (sym left) (settled cannot_run now.can)
 
-  pub fails : (s : Runs) (code : ℕ) → s ≡ with_finished r t (Lost code) → Settled v t true (repeating s (Some Failed) true)
+  pub fails : (s : Runs) (code : ℕ) → s ≡ with_finished r t (ran.Lost code) → Settled v t true (repeating s (Some how.Failed) true)
   fails s code left =
-      subst (λ (s : Runs). Settled v t true (repeating s (Some Failed) true)) (sym left)
-      (settled (ends (Lost code)) (now.can, refl))
+      subst (λ (s : Runs). Settled v t true (repeating s (Some how.Failed) true)) (sym left)
+      (settled (ends (ran.Lost code)) (now.can, refl))
 
-  -- After a success: r1 are the runs as its poll left them, s those after the step.
-  module _ (r1 s : Runs) (code item : ℕ) (same : code ≡ item) (left : r1 ≡ with_finished r t (Won item)) where
-    abbrev with_step : Runs → ℕ → Runs
-    with_step r n = record r { driver = driven_after r.driver (event_of t (num n)) }
+  steps : (done : Bool) (s : Runs) (came : Succeeded r t done s) →
+      Steps repeat (past_of r over false 0) t (ran.Won came.code)
+      × (schedule_is_done (with_step (with_finished r t (ran.Won came.code)) t came.code).driver ≡ done)
+  steps done s came = (
+    record { can = now.can; called = refl; room = came.stepped.room },
+    subst (λ (s : Runs). schedule_is_done s.driver ≡ done) came.stepped.left came.stepped.done_is,
+  )
 
-    stepped : s ≡ with_step r1 code → s ≡ with_step (with_finished r t (Won item)) item
-    stepped step = step ∙ ap (λ r1. with_step r1 code) left ∙ ap (λ n. with_step (with_finished r t (Won item)) n) same
+  goes_on : (s : Runs) → Succeeded r t false s → Settled v t false (repeating s over untaken)
+  goes_on s came =
+      let h = recurs (ran.Won came.code) in
+      let was = settled h (steps false s came) in
+      let same : next v t h ≡ repeating s over untaken =
+      (λ i. record { past = past_of (sym came.stepped.left i) over false 0; untaken = (none ∙ sym unended_untaken) i }) in
+      subst (λ (u : Repeating). Settled v t false u) same (subst (λ ready. Settled v t ready (next v t h)) none was)
 
-    room : HasRoom r1.driver t.now → HasRoom r.driver t.now
-    room had = subst (λ (r1 : Runs). HasRoom r1.driver t.now) left had
+  breaks_to : (fault : RunFault) (s : Runs) → Breaks ran.Won r t fault s → Settled v t true (repeating s (Some (how.Broken fault)) true)
+  breaks_to fault s broke = elim broke [
+    | inl begin ↦ subst (λ (f : RunFault). Settled v t true (repeating s (Some (how.Broken f)) true)) (sym begin.cause)
+        (no_start s (begin.idle, begin.same))
+    | inr left ↦ elim left [
+      | inl run ↦ subst (λ (f : RunFault). Settled v t true (repeating s (Some (how.Broken f)) true)) (sym run.cause)
+          (no_run s run.left)
+      | inr step ↦ subst (λ (s : Runs). Settled v t true (repeating s (Some (how.Broken fault)) true)) (sym step.left)
+          (settled (breaks (ran.Won step.code) fault) (now.can, refl, step.refused))
+    ]
+  ]
 
-    pub breaks_by : (fault : RunFault) → Refuses r1.driver t.now fault → s ≡ r1 →
-        Settled v t true (repeating s (Some (Broken fault)) true)
-    breaks_by fault refused kept =
-        subst (λ (s : Runs). Settled v t true (repeating s (Some (Broken fault)) true)) (sym (kept ∙ left))
-        (settled (breaks (Won item) fault) (now.can, refl, subst (λ (r1 : Runs). Refuses r1.driver t.now fault) left refused))
+  -- a poll of a run that comes to nothing leaves a repeat that goes on
+  pub goes_to : {F : Type 0} (fault_code : F → ℕ) (s : Runs) → Comes fault_code r t None s → Settled v t false (repeating s over untaken)
+  goes_to fc s came = elim came [ inl run ↦ pends s run | inr step ↦ goes_on s step ]
 
-    pub is_done : s ≡ with_step r1 code → HasRoom r1.driver t.now → is_spent s.driver ≡ true →
-        Settled v t true (repeating s (Some ScheduleDone) true)
-    is_done step had spent =
-        subst (λ (s : Runs). Settled v t true (repeating s (Some ScheduleDone) true)) (sym (stepped step))
-        (settled (exhausts (Won item)) (
-          record { can = now.can; called = refl; room = room had },
-          subst (λ (s : Runs). is_spent s.driver ≡ true) (stepped step) spent,
-        ))
+  -- one that comes to an ending leaves a repeat that is over as that says
+  pub ends_to : {F : Type 0} (fault_code : F → ℕ) (ending : RepeatEnding F) (s : Runs) → Comes fault_code r t (Some ending) s →
+      Settled v t true (repeating s (Some (how_of ending)) true)
+  ends_to fc ScheduleDone s came =
+      subst (λ (s : Runs). Settled v t true (repeating s (Some how.ScheduleDone) true)) (sym came.stepped.left)
+      (settled (stops_done (ran.Won came.code)) (steps true s came))
+  ends_to fc (Failed fault) s came = fails s (fc fault) came
+  ends_to fc Cancelled s came = absurd came
+  ends_to fc (Broken fault) s came = breaks_to fault s came
 
-    pub goes_on : s ≡ with_step r1 code → HasRoom r1.driver t.now → is_spent s.driver ≡ false →
-        Settled v t false (repeating s over untaken)
-    goes_on step had unspent =
-        let h = recurs (Won item) in
-        let was = settled h (
-          record { can = now.can; called = refl; room = room had },
-          subst (λ (s : Runs). is_spent s.driver ≡ false) (stepped step) unspent,
-        ) in
-        let same : next v t h ≡ repeating s over untaken =
-        (λ i. record { past = past_of (sym (stepped step) i) over false 0; untaken = (none ∙ sym unended_untaken) i }) in
-        subst (λ (u : Repeating). Settled v t false u) same (subst (λ ready. Settled v t ready (next v t h)) none was)
+-- and the ending fits what the poll left
+pub ending_fits : {F : Type 0} (fault_code : F → ℕ) (r : Runs) (t : Tick) (ending : RepeatEnding F) (s : Runs) →
+    Comes fault_code r t (Some ending) s → RepeatFits fault_code (Some (how_of ending)) s.runs ending
+ending_fits fc r t ScheduleDone s came = refl
+ending_fits fc r t (Failed fault) s came = (refl, last_finished r s t (ran.Lost (fc fault)) came)
+ending_fits fc r t Cancelled s came = refl
+ending_fits fc r t (Broken fault) s came = refl
 
 -- a poll of the value that a contract sees
 pub polled_as : (t : Tick) (ready : Bool) (v w u : Repeating) → v ≡ w → RepeatPoll v t ready u → RepeatPoll w t ready u

@@ -4,14 +4,21 @@ use Rattle.sched_effect.specs.declared.ran.Ran.{Ran}
 use Rattle.sched_effect.specs.declared.ran.Ran.TheVariants.{Lost}
 use Rattle.sched_task.specs.declared.endings.How.{How}
 use Rattle.sched_task.specs.declared.endings.How.TheVariants as how
-use Rattle.sched_law.specs.Lists.{last_of}
+use Rattle.sched_task_law.specs.Lists.{last_element}
 use Rattle.sched_repeat.specs.declared.endings.RepeatEnding.{RepeatEnding}
 use Rattle.sched_repeat.specs.declared.endings.RepeatEnding.TheVariants.{ScheduleDone, Failed, Cancelled, Broken}
+
+-- how it says that the repeat is over
+abbrev pub how_of : {F : Type 0} → RepeatEnding F → How
+how_of ScheduleDone = how.ScheduleDone
+how_of (Failed fault) = how.Failed
+how_of Cancelled = how.Cancelled
+how_of (Broken fault) = how.Broken fault
 
 module _ {F : Type 0} (fault_code : F → ℕ) where
   -- an ending says how the task is over; a fault in it has the code of the last run
   abbrev pub RepeatFits : Option How → List Ran → RepeatEnding F → Type 0
   RepeatFits over runs ScheduleDone = over ≡ Some how.ScheduleDone
-  RepeatFits over runs (Failed fault) = (over ≡ Some how.Failed) × (last_of runs ≡ Some (Lost (fault_code fault)))
+  RepeatFits over runs (Failed fault) = (over ≡ Some how.Failed) × (last_element runs ≡ Some (Lost (fault_code fault)))
   RepeatFits over runs Cancelled = over ≡ Some how.Cancelled
   RepeatFits over runs (Broken fault) = over ≡ Some (how.Broken fault)

@@ -1,2 +1,3 @@
 pub mod Repeating
 pub mod Ending
+pub mod Comes

@@ -1,12 +1,14 @@
 -- What contracts see of a repeat, what is true of it between any two polls, and one poll of it.
-use Rattle.std.specs.Prelude.{◌≡◌, Bool, true, if◌then◌else◌, is_some, refl}
+use Rattle.std.specs.Prelude.{◌≡◌, Bool, true, false, if◌then◌else◌, Option, is_some, refl}
 use Rattle.std.specs.Coded.{Coded, code_by, coded×, coded_bool}
 use Rattle.sched_time.specs.declared.numbers.Tick.{Tick}
-use Rattle.sched_law.specs.Kind.{repeat}
-use Rattle.sched_law.specs.Past.{Past}
-use Rattle.sched_law.specs.Poll.{OnePoll, cancelled}
-use Rattle.sched_law.specs.Law.{Law}
-use Rattle.sched_law.specs.Codes.{coded_past}
+use Rattle.sched_task.specs.declared.endings.How.{How}
+use Rattle.sched_task_law.specs.Kind.{repeat}
+use Rattle.sched_task_law.specs.Past.{Past}
+use Rattle.sched_task_law.specs.Runner.{Runs, past_of}
+use Rattle.sched_task_law.specs.Poll.{OnePoll, cancelled}
+use Rattle.sched_task_law.specs.Law.{Law}
+use Rattle.sched_task_law.specs.Codes.{coded_past}
 
 pub record Repeating : Type 0 where
   -- what it has done so far
@@ -18,6 +20,10 @@ abbrev pub coded_repeating : Coded Repeating
 coded_repeating =
     code_by (Past × Bool) (coded× coded_past coded_bool)
     (λ v. (v.past, v.untaken)) (λ p. record { past = p.0; untaken = p.1 }) (λ _. refl)
+
+-- the repeat of these runs: it draws no ticket, so none is denied or granted
+abbrev pub repeating : Runs → Option How → Bool → Repeating
+repeating r over untaken = record { past = past_of r over false 0; untaken = untaken }
 
 -- The law of a task that runs again after each success.
 pub record RepeatLaw (v : Repeating) : Type 0 where

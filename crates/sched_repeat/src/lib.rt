@@ -1,6 +1,7 @@
 //! Effects that are run again after each success.
 #![tactic(auto)]
 
+mod attempts;
 mod endings;
 mod repeat;
 

@@ -2,17 +2,18 @@
 ghost use Rattle.std.specs.Prelude.{◌≡◌, ◌<◌, ◌≤◌, false, [], is_some, IfSome, IsSomeAnd, MatchBool};
 ghost use Rattle.futures.specs.Task.{Keeps};
 ghost use Rattle.sched_task.specs.Polls.{is_ready};
-ghost use Rattle.sched_law.specs.Past.{nothing_yet, waits_for};
-ghost use Rattle.sched_law.specs.Poll.{CanRun};
+ghost use Rattle.sched_task_law.specs.Past.{nothing_yet, waits_for};
+ghost use Rattle.sched_task_law.specs.Poll.{CanRun};
 ghost use Rattle.sched_repeat.specs.Repeating.{RepeatLaw, RepeatPoll, gives_up};
 ghost use Rattle.sched_repeat.specs.Ending.{RepeatFits};
 
+use crate::attempts::poll_attempt;
 use crate::endings::RepeatEnding;
 use futures::task::{Context, Poll};
 use sched_driver::Driver;
 use sched_effect::{Coded, Effect};
-use sched_law::{Polled, Runner};
-use sched_task::{How, RunFault, Task};
+use sched_task::{How, Task};
+use sched_task_law::Runner;
 use sched_time::{Moment, Tick};
 use std::alloc::Global;
 use std::marker::Model;
@@ -26,9 +27,8 @@ pub struct Repeat<X: Effect> {
 }
 
 impl<X: Effect> Model for Repeat<X> {
-    ghost use Rattle.std.specs.Prelude.{false, is_some, IfSome};
-    ghost use Rattle.sched_law.specs.Runner.{past_of};
-    ghost use Rattle.sched_repeat.specs.Repeating.{Repeating, coded_repeating, RepeatLaw};
+    ghost use Rattle.std.specs.Prelude.{is_some, IfSome};
+    ghost use Rattle.sched_repeat.specs.Repeating.{Repeating, coded_repeating, repeating, RepeatLaw};
 
     ghost Value = { Repeating };
 
@@ -36,9 +36,10 @@ impl<X: Effect> Model for Repeat<X> {
 
     ghost use Rattle.sched_repeat.specs.Ending.{RepeatFits};
 
-    ghost view = { λ r. record { past = past_of r.runner r.over false 0; untaken = is_some r.ending } };
+    ghost view = { λ r. repeating r.runner r.over (is_some r.ending) };
 
-    ghost invariant = { λ r. RepeatLaw record { past = past_of r.runner r.over false 0; untaken = is_some r.ending } × IfSome r.ending (RepeatFits X.Fault.coded r.over r.runner.runs) };
+    ghost invariant = { λ r. RepeatLaw (repeating r.runner r.over (is_some r.ending))
+        × IfSome r.ending (RepeatFits X.Fault.coded r.over r.runner.runs) };
 }
 
 impl<X: Effect> Repeat<X> {
@@ -82,42 +83,21 @@ impl<X: Effect> Repeat<X> {
         ensures answers { is_ready result ≡ is_some self.new.past.over }
         ensures kept { Keeps cx.old cx.new }
     {
-        match self.runner.poll_run(tick, cx) {
-            Polled::Pending => Poll::Pending,
-            Polled::CannotBegin => {
-                self.over = Some(How::Broken(RunFault::NoMemory));
-                self.ending = Some(RepeatEnding::Broken(RunFault::NoMemory));
+        match poll_attempt(alloc, &mut self.runner, tick, cx) {
+            None => Poll::Pending,
+            Some(ending) => {
+                self.over = Some(ending.how());
+                self.ending = Some(ending);
                 Poll::Ready(())
             }
-            Polled::Starved => {
-                self.over = Some(How::Broken(RunFault::NoMemory));
-                self.ending = Some(RepeatEnding::Broken(RunFault::NoMemory));
-                Poll::Ready(())
-            }
-            Polled::Finished(Err(fault)) => {
-                self.over = Some(How::Failed);
-                self.ending = Some(RepeatEnding::Failed(fault));
-                Poll::Ready(())
-            }
-            Polled::Finished(Ok(item)) => match self.runner.step(alloc, tick, item.code()) {
-                Ok(Some(_)) => Poll::Pending,
-                Ok(None) => {
-                    self.over = Some(How::ScheduleDone);
-                    self.ending = Some(RepeatEnding::ScheduleDone);
-                    Poll::Ready(())
-                }
-                Err(cause) => {
-                    self.over = Some(How::Broken(cause));
-                    self.ending = Some(RepeatEnding::Broken(cause));
-                    Poll::Ready(())
-                }
-            },
         }
     }
 
     // Whether it waits for a moment after this one.
     fn rests(&self, now: Moment) -> bool
-        ensures { MatchBool result (IsSomeAnd (waits_for self.now.past) (λ m. now < m)) (IfSome (waits_for self.now.past) (λ m. m ≤ now)) }
+        ensures { MatchBool result
+            (IsSomeAnd (waits_for self.now.past) (λ m. now < m))
+            (IfSome (waits_for self.now.past) (λ m. m ≤ now)) }
     {
         match self.due() {
             Some(start) => now.get() < start.get(),
@@ -201,7 +181,7 @@ impl<X: Effect> Repeat<X> {
 
 impl<X: Effect> Task for Repeat<X> {
     ghost use Rattle.std.specs.Prelude.{◌≡◌};
-    ghost use Rattle.sched_law.specs.Past.{waits_for as start_of, waits_for-over};
+    ghost use Rattle.sched_task_law.specs.Past.{waits_for as start_of, waits_for-over};
     ghost use Rattle.sched_repeat.specs.Repeating.{RepeatPoll, gives_up as given_up};
 
     ghost ended = { λ v. v.past.over };

@@ -2,29 +2,33 @@
 use Rattle.std.proofs.Common.{◌≡◌, ℕ, ◌+◌, ◌<◌, ◌≤◌, inl, inr, Bool, true, false, if◌then◌else◌, length, Option, Some, None, is_some, IfSome, IsSomeAnd, refl, sym, ap, ◌∙◌, subst, arith}
 use Rattle.sched_time.specs.declared.numbers.Tick.{Tick}
 use Rattle.sched_effect.specs.declared.ran.Ran.{Ran}
-use Rattle.sched_effect.specs.declared.ran.Ran.TheVariants.{Lost}
+use Rattle.sched_effect.specs.declared.ran.Ran.TheVariants as ran
 use Rattle.sched_task.specs.declared.endings.How.{How}
-use Rattle.sched_task.specs.declared.endings.How.TheVariants.{ScheduleDone, BudgetRefused, Broken}
+use Rattle.sched_task.specs.declared.endings.How.TheVariants as how
+use Rattle.sched_task.specs.declared.endings.RunFault.{RunFault}
 use Rattle.sched_task.specs.declared.endings.RunFault.TheVariants.{NoMemory}
 use Rattle.sched_ticket.specs.Held.{Name, Held, IsOf}
 use Rattle.sched_ticket.specs.Calls.{Drew, DrewNone}
-use Rattle.sched_law.specs.Kind.{Kind, retry, draws, calls, final}
-use Rattle.sched_law.specs.Lists.{last_of}
-use Rattle.sched_law.specs.Past.{is_stopped, waits_for}
-use Rattle.sched_law.specs.Poll.{Happened, stays, cannot_begin, runs_on, starves, ends, breaks, exhausts, overdraws, recurs, asks, asks_in_vain, falls, stop, after, CanRun, May}
-use Rattle.sched_law.specs.Runner.{Runs, past_of, is_running, with_run, with_finished}
-use Rattle.sched_law.proofs.Lists.{by_test}
-use Rattle.sched_law.proofs.Fields.{last_finished}
-use Rattle.sched_law.proofs.Law.{law_after}
+use Rattle.sched_task_law.specs.Kind.{Kind, retry, draws, calls, final}
+use Rattle.sched_task_law.specs.Lists.{last_element}
+use Rattle.sched_task_law.specs.Past.{schedule_is_done, is_under_way, is_stopped, waits_for}
+use Rattle.sched_task_law.specs.Law.{is_refused}
+use Rattle.sched_task_law.specs.Attempt.{with_step, Stepped, Breaks}
+use Rattle.sched_task_law.specs.Poll.{Happened, stays, cannot_begin, runs_on, cannot_run, ends, breaks, stops_done, stops_denied, recurs, asks, cannot_ask, falls, stop, after, CanRun, Steps, May}
+use Rattle.sched_task_law.specs.Runner.{Runs, past_of, with_run, with_finished}
+use Rattle.sched_task_law.proofs.Lists.{by_test}
+use Rattle.sched_task_law.proofs.Fields.{last_finished}
+use Rattle.sched_task_law.proofs.Law.{law_after}
 use Rattle.sched_retry.specs.Retrying.{Retrying, retrying, RetryLaw, Draws, RetryPoll}
-use Rattle.sched_retry.specs.AfterLoss.{AfterLoss, with_step}
-use Rattle.sched_retry.specs.declared.losses.Then.{Then}
-use Rattle.sched_retry.specs.declared.losses.Then.TheVariants.{Breaks, Exhausts, Overdraws, Recurs}
+use Rattle.sched_retry.specs.Comes.{Recurs, Comes}
+use Rattle.sched_retry.specs.Ending.{how_of, EndingFits}
+use Rattle.sched_retry.specs.declared.endings.Ending.{Ending}
+use Rattle.sched_retry.specs.declared.endings.Ending.TheVariants.{Won, ScheduleDone, BudgetRefused, Cancelled, Broken}
 
 -- the fallback is asked
 abbrev pub asks_fallback : Happened → Bool
 asks_fallback asks = true
-asks_fallback asks_in_vain = true
+asks_fallback cannot_ask = true
 asks_fallback falls = true
 asks_fallback _ = false
 
@@ -59,15 +63,15 @@ granted_after : (kind : Kind) (v : Retrying) (t : Tick) (h : Happened) (q : Held
 granted_after kind v t stays q drawn had draws = had ∙ sym (same_tickets v.pass q draws)
 granted_after kind v t cannot_begin q drawn had draws = had ∙ sym (same_tickets v.pass q draws)
 granted_after kind v t runs_on q drawn had draws = had ∙ sym (same_tickets v.pass q draws)
-granted_after kind v t starves q drawn had draws = had ∙ sym (same_tickets v.pass q draws)
+granted_after kind v t cannot_run q drawn had draws = had ∙ sym (same_tickets v.pass q draws)
 granted_after kind v t (ends r) q drawn had draws = had ∙ sym (same_tickets v.pass q draws)
 granted_after kind v t (breaks r fault) q drawn had draws = had ∙ sym (same_tickets v.pass q draws)
-granted_after kind v t (exhausts r) q drawn had draws = had ∙ sym (same_tickets v.pass q draws)
-granted_after kind v t (overdraws r) q drawn had draws = had ∙ sym (refused_tickets v.pass q draws)
+granted_after kind v t (stops_done r) q drawn had draws = had ∙ sym (same_tickets v.pass q draws)
+granted_after kind v t (stops_denied r) q drawn had draws = had ∙ sym (refused_tickets v.pass q draws)
 granted_after kind v t (recurs r) q drawn had draws =
     rw drawn (ap (λ n. n + 1) had ∙ sym (drew_tickets v.pass q draws.0 draws.1))
 granted_after kind v t asks q drawn had draws = had ∙ sym (same_tickets v.pass q draws)
-granted_after kind v t asks_in_vain q drawn had draws = had ∙ sym (same_tickets v.pass q draws)
+granted_after kind v t cannot_ask q drawn had draws = had ∙ sym (same_tickets v.pass q draws)
 granted_after kind v t falls q drawn had draws = had ∙ sym (same_tickets v.pass q draws)
 
 same_refused : (denied : Bool) (p q : Held) → (denied ≡ true → 0 < length p.has.refusals) → q ≡ p → denied ≡ true → 0 < length q.has.refusals
@@ -79,16 +83,16 @@ denied_after : (kind : Kind) (v : Retrying) (t : Tick) (h : Happened) (q : Held)
 denied_after kind v t stays q had draws = same_refused v.past.denied v.pass q had draws
 denied_after kind v t cannot_begin q had draws = same_refused v.past.denied v.pass q had draws
 denied_after kind v t runs_on q had draws = same_refused v.past.denied v.pass q had draws
-denied_after kind v t starves q had draws = same_refused v.past.denied v.pass q had draws
+denied_after kind v t cannot_run q had draws = same_refused v.past.denied v.pass q had draws
 denied_after kind v t (ends r) q had draws = same_refused v.past.denied v.pass q had draws
 denied_after kind v t (breaks r fault) q had draws = same_refused v.past.denied v.pass q had draws
-denied_after kind v t (exhausts r) q had draws = same_refused v.past.denied v.pass q had draws
-denied_after kind v t (overdraws r) q had draws = λ yes. refused_refusals v.pass q draws
+denied_after kind v t (stops_done r) q had draws = same_refused v.past.denied v.pass q had draws
+denied_after kind v t (stops_denied r) q had draws = λ yes. refused_refusals v.pass q draws
 denied_after kind v t (recurs r) q had draws = λ yes. (
     let none : length v.pass.has.refusals ≡ 0 = ap length draws.1.unrefused in
     let some = had yes in absurd (omega arith))
 denied_after kind v t asks q had draws = same_refused v.past.denied v.pass q had draws
-denied_after kind v t asks_in_vain q had draws = same_refused v.past.denied v.pass q had draws
+denied_after kind v t cannot_ask q had draws = same_refused v.past.denied v.pass q had draws
 denied_after kind v t falls q had draws = same_refused v.past.denied v.pass q had draws
 
 -- the retry after a poll in which this happened
@@ -199,16 +203,16 @@ module _ (kind : Kind) (r : Runs) (over : Option How) (denied : Bool) (p : Held)
       }) in
       subst (λ (u : Retrying). Settled kind v t false u) same (subst (λ ready. Settled kind v t ready (next kind v t runs_on p)) none was)
 
-  pub cannot_start : (s : Runs) → (is_running r ≡ false) × (s ≡ r) →
-      Settled kind v t true (retrying s (Some (Broken NoMemory)) denied p b true)
-  cannot_start s left =
+  pub no_start : (s : Runs) → (is_under_way r.runs r.begun ≡ false) × (s ≡ r) →
+      Settled kind v t true (retrying s (Some (how.Broken NoMemory)) denied p b true)
+  no_start s left =
       let was = settled cannot_begin p (now.can, left.0) refl now.law.of refl in
-      subst (λ (s : Runs). Settled kind v t true (retrying s (Some (Broken NoMemory)) denied p b true)) (sym left.1) was
+      subst (λ (s : Runs). Settled kind v t true (retrying s (Some (how.Broken NoMemory)) denied p b true)) (sym left.1) was
 
-  pub is_starved : (s : Runs) → s ≡ with_run r t → Settled kind v t true (retrying s (Some (Broken NoMemory)) denied p b true)
-  is_starved s left =
-      let was = settled starves p now.can refl now.law.of refl in
-      subst (λ (s : Runs). Settled kind v t true (retrying s (Some (Broken NoMemory)) denied p b true)) (sym left) was
+  pub no_run : (s : Runs) → s ≡ with_run r t → Settled kind v t true (retrying s (Some (how.Broken NoMemory)) denied p b true)
+  no_run s left =
+      let was = settled cannot_run p now.can refl now.law.of refl in
+      subst (λ (s : Runs). Settled kind v t true (retrying s (Some (how.Broken NoMemory)) denied p b true)) (sym left) was
 
   pub wins : (s : Runs) (ran : Ran) → calls kind ran ≡ false → s ≡ with_finished r t ran →
       Settled kind v t true (retrying s (Some (final kind)) denied p b true)
@@ -216,80 +220,158 @@ module _ (kind : Kind) (r : Runs) (over : Option How) (denied : Bool) (p : Held)
       let was = settled (ends ran) p (now.can, uncalled) refl now.law.of refl in
       subst (λ (s : Runs). Settled kind v t true (retrying s (Some (final kind)) denied p b true)) (sym left) was
 
-  -- the retry after a failure, by what came of it
-  abbrev pub over_after : Then → Option How
-  over_after (Breaks fault) = Some (Broken fault)
-  over_after Exhausts = stop kind ScheduleDone
-  over_after Overdraws = stop kind BudgetRefused
-  over_after Recurs = over
+  -- the task after a poll that came to this
+  abbrev pub over_by : {I F : Type 0} → Option (Ending I F) → Option How
+  over_by None = over
+  over_by (Some (Won item)) = Some (final kind)
+  over_by (Some (ScheduleDone fault)) = stop kind how.ScheduleDone
+  over_by (Some (BudgetRefused fault)) = stop kind how.BudgetRefused
+  over_by (Some Cancelled) = Some how.Cancelled
+  over_by (Some (Broken fault)) = Some (how.Broken fault)
 
-  abbrev pub denied_by : Then → Bool
-  denied_by (Breaks fault) = denied
-  denied_by Exhausts = denied
-  denied_by Overdraws = true
-  denied_by Recurs = denied
+  abbrev pub denied_by : {I F : Type 0} → Option (Ending I F) → Bool
+  denied_by (Some (BudgetRefused fault)) = true
+  denied_by _ = denied
 
-  abbrev pub ready_after : Then → Bool
-  ready_after (Breaks fault) = true
-  ready_after Exhausts = is_some (stop kind ScheduleDone)
-  ready_after Overdraws = is_some (stop kind BudgetRefused)
-  ready_after Recurs = false
+  abbrev pub ready_by : {I F : Type 0} → Option (Ending I F) → Bool
+  ready_by None = false
+  ready_by (Some (ScheduleDone fault)) = is_some (stop kind how.ScheduleDone)
+  ready_by (Some (BudgetRefused fault)) = is_some (stop kind how.BudgetRefused)
+  ready_by (Some _) = true
 
-  abbrev pub untaken_after : Then → Bool
-  untaken_after (Breaks fault) = true
-  untaken_after Exhausts = is_some (stop kind ScheduleDone)
-  untaken_after Overdraws = is_some (stop kind BudgetRefused)
-  untaken_after Recurs = untaken
+  abbrev pub untaken_by : {I F : Type 0} → Option (Ending I F) → Bool
+  untaken_by None = untaken
+  untaken_by (Some (ScheduleDone fault)) = is_some (stop kind how.ScheduleDone)
+  untaken_by (Some (BudgetRefused fault)) = is_some (stop kind how.BudgetRefused)
+  untaken_by (Some _) = true
 
-  abbrev pub loses_to : Then → Runs → Held → Retrying
-  loses_to came_to s q = retrying s (over_after came_to) (denied_by came_to) q b (untaken_after came_to)
+  abbrev pub come_to : {I F : Type 0} → Option (Ending I F) → Runs → Held → Retrying
+  come_to ending s q = retrying s (over_by ending) (denied_by ending) q b (untaken_by ending)
 
-  lost_on : (came_to : Then) (code : ℕ) (s : Runs) (q : Held) → calls kind (Lost code) ≡ true →
-      AfterLoss (with_finished r t (Lost code)) p t code came_to s q → IsOf b q →
-      Settled kind v t (ready_after came_to) (loses_to came_to s q)
-  lost_on (Breaks fault) code s q called came of =
-      let was = settled (breaks (Lost code) fault) q (now.can, called, came.0) came.2 of refl in
-      subst (λ (u : Retrying). Settled kind v t true u)
-      (λ i. record { past = past_of (sym came.1 i) (Some (Broken fault)) denied (sym (same_tickets p q came.2) i); pass = q; budget = b; untaken = true })
-      was
-  lost_on Exhausts code s q called came of =
-      let was = settled (exhausts (Lost code)) q (record { can = now.can; called = called; room = came.0.0 }, came.0.2) came.1 of refl in
-      subst (λ (u : Retrying). Settled kind v t (is_some (stop kind ScheduleDone)) u)
-      (λ i. record { past = past_of (sym came.0.1 i) (stop kind ScheduleDone) denied (sym (same_tickets p q came.1) i); pass = q; budget = b; untaken = is_some (stop kind ScheduleDone) })
-      was
-  lost_on Overdraws code s q called came of =
-      let was = settled (overdraws (Lost code)) q (record { can = now.can; called = called; room = came.0.0 }, came.0.2, now.drawn) came.1 of refl in
-      subst (λ (u : Retrying). Settled kind v t (is_some (stop kind BudgetRefused)) u)
-      (λ i. record { past = past_of (sym came.0.1 i) (stop kind BudgetRefused) true (sym (refused_tickets p q came.1) i); pass = q; budget = b; untaken = is_some (stop kind BudgetRefused) })
-      was
-  lost_on Recurs code s q called came of =
+  steps : (code : ℕ) (done : Bool) (s : Runs) → calls kind (ran.Lost code) ≡ true → Stepped ran.Lost r t code done s →
+      Steps kind (past_of r over denied (length p.has.tickets)) t (ran.Lost code)
+      × (schedule_is_done (with_step (with_finished r t (ran.Lost code)) t code).driver ≡ done)
+  steps code done s called step = (
+    record { can = now.can; called = called; room = step.room },
+    subst (λ (s : Runs). schedule_is_done s.driver ≡ done) step.left step.done_is,
+  )
+
+  breaks_to : (fault : RunFault) (s : Runs) (q : Held) → ((code : ℕ) → calls kind (ran.Lost code) ≡ true) → Breaks ran.Lost r t fault s →
+      q ≡ p → IsOf b q → Settled kind v t true (retrying s (Some (how.Broken fault)) denied q b true)
+  breaks_to fault s q calls_for broke same of =
+      subst (λ (q : Held). Settled kind v t true (retrying s (Some (how.Broken fault)) denied q b true)) (sym same) (elim broke [
+        | inl begin ↦ subst (λ (f : RunFault). Settled kind v t true (retrying s (Some (how.Broken f)) denied p b true)) (sym begin.cause)
+            (no_start s (begin.idle, begin.same))
+        | inr left ↦ elim left [
+          | inl run ↦ subst (λ (f : RunFault). Settled kind v t true (retrying s (Some (how.Broken f)) denied p b true)) (sym run.cause)
+              (no_run s run.left)
+          | inr step ↦ (
+              let was = settled (breaks (ran.Lost step.code) fault) p (now.can, calls_for step.code, step.refused) refl now.law.of refl in
+              subst (λ (s : Runs). Settled kind v t true (retrying s (Some (how.Broken fault)) denied p b true)) (sym step.left) was)
+        ]
+      ])
+
+  recurs_to : (s : Runs) (q : Held) → ((code : ℕ) → calls kind (ran.Lost code) ≡ true) → Recurs r p t s q → IsOf b q →
+      Settled kind v t false (retrying s over denied q b untaken)
+  recurs_to s q calls_for came of =
       let none : is_some over ≡ false = ap is_some now.can.unended in
-      let h = recurs (Lost code) in
-      let was = settled h q (record { can = now.can; called = called; room = came.0.0 }, came.0.2) came.1 of refl in
+      let h = recurs (ran.Lost came.code) in
+      let was = settled h q (steps came.code false s (calls_for came.code) came.stepped) (came.ticket, came.drew) of refl in
       let granted : (if draws kind then length p.has.tickets + 1 else length p.has.tickets) ≡ length q.has.tickets =
-      rw now.drawn (sym (drew_tickets p q came.1.0 came.1.1)) in
+      rw now.drawn (sym (drew_tickets p q came.ticket came.drew)) in
       let same : next kind v t h q ≡ retrying s over denied q b untaken =
       (λ i. record {
-        past = past_of (sym came.0.1 i) over denied (granted i);
+        past = past_of (sym came.stepped.left i) over denied (granted i);
         pass = q;
         budget = b;
         untaken = (none ∙ sym unended_untaken) i;
       }) in
       subst (λ (u : Retrying). Settled kind v t false u) same (subst (λ ready. Settled kind v t ready (next kind v t h q)) none was)
 
-  -- a failure, with the runs as its poll left them
-  pub loses : (came_to : Then) (code fault : ℕ) (r1 s : Runs) (q : Held) → calls kind (Lost fault) ≡ true → code ≡ fault →
-      r1 ≡ with_finished r t (Lost fault) → AfterLoss r1 p t code came_to s q → IsOf b q →
-      Settled kind v t (ready_after came_to) (loses_to came_to s q)
-  loses came_to code fault r1 s q called same left came of =
-      let at = subst (λ (n : ℕ). AfterLoss r1 p t n came_to s q) same came in
-      lost_on came_to fault s q called (subst (λ (r1 : Runs). AfterLoss r1 p t fault came_to s q) left at) of
+  -- whatever a poll of a run comes to, the retry is settled after it
+  pub comes_to : {I F : Type 0} (item_code : I → ℕ) (fault_code : F → ℕ) (ending : Option (Ending I F)) (s : Runs) (q : Held) →
+      ((code : ℕ) → calls kind (ran.Won code) ≡ false) → ((code : ℕ) → calls kind (ran.Lost code) ≡ true) →
+      Comes item_code fault_code r p t ending s q → IsOf b q → Settled kind v t (ready_by ending) (come_to ending s q)
+  comes_to ic fc None s q ends_it calls_for came of = elim came [
+    | inl same ↦ subst (λ (q : Held). Settled kind v t false (retrying s over denied q b untaken)) (sym same.1) (pends s same.0)
+    | inr step ↦ recurs_to s q calls_for step of
+  ]
+  comes_to ic fc (Some (Won item)) s q ends_it calls_for came of =
+      subst (λ (q : Held). Settled kind v t true (retrying s (Some (final kind)) denied q b true)) (sym came.1)
+      (wins s (ran.Won (ic item)) (ends_it (ic item)) came.0)
+  comes_to ic fc (Some (ScheduleDone fault)) s q ends_it calls_for came of =
+      let was = settled (stops_done (ran.Lost (fc fault))) q (steps (fc fault) true s (calls_for (fc fault)) came.0) came.1 of refl in
+      subst (λ (u : Retrying). Settled kind v t (is_some (stop kind how.ScheduleDone)) u)
+      (λ i. record {
+        past = past_of (sym came.0.left i) (stop kind how.ScheduleDone) denied (sym (same_tickets p q came.1) i);
+        pass = q;
+        budget = b;
+        untaken = is_some (stop kind how.ScheduleDone);
+      }) was
+  comes_to ic fc (Some (BudgetRefused fault)) s q ends_it calls_for came of =
+      let steps = steps (fc fault) false s (calls_for (fc fault)) came.0 in
+      let was = settled (stops_denied (ran.Lost (fc fault))) q (steps.0, steps.1, now.drawn) came.1 of refl in
+      subst (λ (u : Retrying). Settled kind v t (is_some (stop kind how.BudgetRefused)) u)
+      (λ i. record {
+        past = past_of (sym came.0.left i) (stop kind how.BudgetRefused) true (sym (refused_tickets p q came.1) i);
+        pass = q;
+        budget = b;
+        untaken = is_some (stop kind how.BudgetRefused);
+      }) was
+  comes_to ic fc (Some Cancelled) s q ends_it calls_for came of = absurd came
+  comes_to ic fc (Some (Broken fault)) s q ends_it calls_for came of = breaks_to fault s q calls_for came.0 came.1 of
+
+-- a retry that is not over is not denied
+pub undenied : (over : Option How) → over ≡ None → is_refused over ≡ false
+undenied over unended = ap is_refused unended
+
+denied_as : {v : Retrying} {t : Tick} {s : Runs} {over : Option How} {q : Held} {b : Name} {was is : Bool} → was ≡ is →
+    Settled retry v t true (retrying s over was q b true) → Settled retry v t true (retrying s over is q b true)
+denied_as {v} {t} {s} {over} {q} {b} same was = subst (λ (d : Bool). Settled retry v t true (retrying s over d q b true)) same was
+
+pub last_stepped : (r s : Runs) (t : Tick) (code : ℕ) → s ≡ with_step (with_finished r t (ran.Lost code)) t code →
+    last_element s.runs ≡ Some (ran.Lost code)
+last_stepped r s t code left =
+    ap (λ (s : Runs). last_element s.runs) left ∙ last_finished r (with_finished r t (ran.Lost code)) t (ran.Lost code) refl
+
+-- the ending of a poll ends a retry as it says
+pub retry_ends : {I F : Type 0} (item_code : I → ℕ) (fault_code : F → ℕ) (r : Runs) (over : Option How) (p : Held) (b : Name)
+    (untaken : Bool) (t : Tick) → Ready retry r over (is_refused over) p b untaken t → (ending : Ending I F) (s : Runs) (q : Held) →
+    Comes item_code fault_code r p t (Some ending) s q → IsOf b q →
+    Settled retry (retrying r over (is_refused over) p b untaken) t true
+    (retrying s (Some (how_of ending)) (is_refused (Some (how_of ending))) q b true)
+retry_ends ic fc r over p b untaken t now ending s q came of =
+    let was = comes_to retry r over (is_refused over) p b untaken t now ic fc (Some ending) s q (λ _. refl) (λ _. refl) came of in
+    let no = undenied over now.can.unended in
+    elim ending as (λ e. Settled retry (retrying r over (is_refused over) p b untaken) t
+    (ready_by retry r over (is_refused over) p b untaken t now (Some e)) (come_to retry r over (is_refused over) p b untaken t now (Some e) s q) →
+    Settled retry (retrying r over (is_refused over) p b untaken) t true
+    (retrying s (Some (how_of e)) (is_refused (Some (how_of e))) q b true)) [
+      | Won item ↦ λ was. denied_as no was
+      | ScheduleDone fault ↦ λ was. denied_as no was
+      | BudgetRefused fault ↦ λ was. was
+      | Cancelled ↦ λ was. denied_as no was
+      | Broken fault ↦ λ was. denied_as no was
+    ] was
 
 -- a poll of the value that a contract sees
 pub polled_as : (kind : Kind) (t : Tick) (ready : Bool) (v w u : Retrying) → v ≡ w → RetryPoll kind v t ready u → RetryPoll kind w t ready u
 polled_as kind t ready v w u same poll = subst (λ (v : Retrying). RetryPoll kind v t ready u) same poll
 
-pub last_stepped : (r r1 s : Runs) (t : Tick) (code n : ℕ) → r1 ≡ with_finished r t (Lost code) → s ≡ with_step r1 t n →
-    last_of s.runs ≡ Some (Lost code)
-last_stepped r r1 s t code n left stepped =
-    ap (λ (s : Runs). last_of s.runs) stepped ∙ last_finished r r1 t (Lost code) left
+-- a poll that comes to none leaves it to go on
+pub retry_goes_on : {I F : Type 0} (item_code : I → ℕ) (fault_code : F → ℕ) (r : Runs) (over : Option How) (p : Held) (b : Name)
+    (untaken : Bool) (t : Tick) → Ready retry r over (is_refused over) p b untaken t → (s : Runs) (q : Held) →
+    Comes item_code fault_code r p t None s q → IsOf b q →
+    Settled retry (retrying r over (is_refused over) p b untaken) t false (retrying s over (is_refused over) q b untaken)
+retry_goes_on ic fc r over p b untaken t now s q came of =
+    comes_to retry r over (is_refused over) p b untaken t now ic fc None s q (λ _. refl) (λ _. refl) came of
+
+-- and it fits what the poll left
+pub ending_fits : {I F : Type 0} (item_code : I → ℕ) (fault_code : F → ℕ) (r : Runs) (p : Held) (t : Tick) (ending : Ending I F)
+    (s : Runs) (q : Held) → Comes item_code fault_code r p t (Some ending) s q →
+    EndingFits item_code fault_code (Some (how_of ending)) s.runs ending
+ending_fits ic fc r p t (Won item) s q came = (refl, last_finished r s t (ran.Won (ic item)) came.0)
+ending_fits ic fc r p t (ScheduleDone fault) s q came = (refl, last_stepped r s t (fc fault) came.0.left)
+ending_fits ic fc r p t (BudgetRefused fault) s q came = (refl, last_stepped r s t (fc fault) came.0.left)
+ending_fits ic fc r p t Cancelled s q came = refl
+ending_fits ic fc r p t (Broken fault) s q came = refl

@@ -4,17 +4,25 @@ use Rattle.sched_effect.specs.declared.ran.Ran.{Ran}
 use Rattle.sched_effect.specs.declared.ran.Ran.TheVariants as ran
 use Rattle.sched_task.specs.declared.endings.How.{How}
 use Rattle.sched_task.specs.declared.endings.How.TheVariants as how
-use Rattle.sched_law.specs.Lists.{last_of}
+use Rattle.sched_task_law.specs.Lists.{last_element}
 use Rattle.sched_retry.specs.declared.endings.Ending.{Ending}
 use Rattle.sched_retry.specs.declared.endings.Ending.TheVariants.{Won, ScheduleDone, BudgetRefused, Cancelled, Broken}
+
+-- how it says that the task is over
+abbrev pub how_of : {I F : Type 0} → Ending I F → How
+how_of (Won item) = how.Won
+how_of (ScheduleDone fault) = how.ScheduleDone
+how_of (BudgetRefused fault) = how.BudgetRefused
+how_of Cancelled = how.Cancelled
+how_of (Broken fault) = how.Broken fault
 
 module _ {I F : Type 0} (item_code : I → ℕ) (fault_code : F → ℕ) where
   -- an ending says how the task is over; an item or a fault in it has the code of the last run
   abbrev pub EndingFits : Option How → List Ran → Ending I F → Type 0
-  EndingFits over runs (Won item) = (over ≡ Some how.Won) × (last_of runs ≡ Some (ran.Won (item_code item)))
+  EndingFits over runs (Won item) = (over ≡ Some how.Won) × (last_element runs ≡ Some (ran.Won (item_code item)))
   EndingFits over runs (ScheduleDone fault) =
-      (over ≡ Some how.ScheduleDone) × (last_of runs ≡ Some (ran.Lost (fault_code fault)))
+      (over ≡ Some how.ScheduleDone) × (last_element runs ≡ Some (ran.Lost (fault_code fault)))
   EndingFits over runs (BudgetRefused fault) =
-      (over ≡ Some how.BudgetRefused) × (last_of runs ≡ Some (ran.Lost (fault_code fault)))
+      (over ≡ Some how.BudgetRefused) × (last_element runs ≡ Some (ran.Lost (fault_code fault)))
   EndingFits over runs Cancelled = over ≡ Some how.Cancelled
   EndingFits over runs (Broken fault) = over ≡ Some (how.Broken fault)

@@ -1,4 +1,4 @@
 pub mod Codes
 pub mod Retrying
-pub mod AfterLoss
+pub mod Comes
 pub mod Ending

@@ -5,12 +5,12 @@ use Rattle.sched_time.specs.declared.numbers.Tick.{Tick}
 use Rattle.sched_task.specs.declared.endings.How.{How}
 use Rattle.sched_ticket.specs.Held.{Name, Held, IsOf}
 use Rattle.sched_ticket.specs.Calls.{Drew, DrewNone}
-use Rattle.sched_law.specs.Kind.{Kind}
-use Rattle.sched_law.specs.Past.{Past}
-use Rattle.sched_law.specs.Poll.{Happened, overdraws, recurs, OnePoll, cancelled}
-use Rattle.sched_law.specs.Law.{Law}
-use Rattle.sched_law.specs.Runner.{Runs, past_of}
-use Rattle.sched_law.specs.Codes.{coded_past}
+use Rattle.sched_task_law.specs.Kind.{Kind}
+use Rattle.sched_task_law.specs.Past.{Past}
+use Rattle.sched_task_law.specs.Poll.{Happened, stops_denied, recurs, OnePoll, cancelled}
+use Rattle.sched_task_law.specs.Law.{Law}
+use Rattle.sched_task_law.specs.Runner.{Runs, past_of}
+use Rattle.sched_task_law.specs.Codes.{coded_past}
 use Rattle.sched_retry.specs.Codes.{coded_held, coded_name}
 
 pub record Retrying : Type 0 where
@@ -51,7 +51,7 @@ pub record RetryLaw (kind : Kind) (v : Retrying) : Type 0 where
 -- What a poll does to the pass: it draws where a finished run lets the schedule go on, and nowhere else.
 abbrev pub Draws : Happened → Held → Held → Type 0
 Draws (recurs r) p q = (k : ℕ) × Drew p.has k q.has
-Draws (overdraws r) p q = DrewNone p.has q.has
+Draws (stops_denied r) p q = DrewNone p.has q.has
 Draws _ p q = q ≡ p
 
 -- One poll of a retry, exactly.

@@ -1,6 +1,8 @@
 //! What a task hands out once it is over.
+ghost use Rattle.std.specs.Prelude.{◌≡◌};
+ghost use Rattle.sched_retry.specs.Ending.{how_of};
 
-use sched_task::RunFault;
+use sched_task::{How, RunFault};
 
 /// How a retry ended, with what it ended with.
 #[derive(Drop)]
@@ -15,4 +17,19 @@ pub enum Ending<I: Drop, F: Drop> {
     Cancelled,
     /// It could not go on.
     Broken(RunFault),
+}
+
+impl<I: Drop, F: Drop> Ending<I, F> {
+    /// How the task ended.
+    pub fn how(&self) -> How
+        ensures { result ≡ how_of self.now }
+    {
+        match self {
+            Ending::Won(_) => How::Won,
+            Ending::ScheduleDone(_) => How::ScheduleDone,
+            Ending::BudgetRefused(_) => How::BudgetRefused,
+            Ending::Cancelled => How::Cancelled,
+            Ending::Broken(cause) => How::Broken(*cause),
+        }
+    }
 }

@@ -3,21 +3,21 @@ ghost use Rattle.std.specs.Prelude.{◌≡◌, ◌+◌, ◌≤◌, true, false, 
 ghost use Rattle.futures.specs.Task.{Keeps};
 ghost use Rattle.sched_task.specs.Polls.{is_ready};
 ghost use Rattle.sched_ticket.specs.Held.{IsOf};
-ghost use Rattle.sched_law.specs.Kind.{retry};
-ghost use Rattle.sched_law.specs.Past.{nothing_yet, waits_for, bit};
-ghost use Rattle.sched_law.specs.Poll.{CanRun};
+ghost use Rattle.sched_task_law.specs.Kind.{retry};
+ghost use Rattle.sched_task_law.specs.Past.{nothing_yet, waits_for, bit};
+ghost use Rattle.sched_task_law.specs.Poll.{CanRun};
 ghost use Rattle.sched_retry.specs.Retrying.{RetryLaw, RetryPoll, gives_up};
-ghost use Rattle.sched_law.specs.Law.{is_stop};
+ghost use Rattle.sched_task_law.specs.Law.{is_stop};
 ghost use Rattle.sched_retry.specs.Ending.{EndingFits};
 
+use crate::attempts::poll_attempt;
 use crate::endings::Ending;
-use crate::losses::{Then, after_loss};
 use crate::whole::Whole;
 use futures::task::{Context, Poll};
 use sched_driver::Driver;
 use sched_effect::{Coded, Effect};
-use sched_law::{Polled, Runner};
-use sched_task::{How, RunFault, Task};
+use sched_task::{How, Task};
+use sched_task_law::Runner;
 use sched_ticket::{Budget, Pass};
 use sched_time::{Moment, Tick};
 use std::alloc::Global;
@@ -29,7 +29,6 @@ use std::marker::Model;
 pub struct Retry<'a, X: Effect> {
     runner: Runner<X>,
     over: Option<How>,
-    denied: bool,
     ending: Option<Ending<X::Item, X::Fault>>,
     pass: Pass,
     budget: &'a Budget,
@@ -37,7 +36,8 @@ pub struct Retry<'a, X: Effect> {
 
 impl<'a, X: Effect> Model for Retry<'a, X> {
     ghost use Rattle.std.specs.Prelude.{is_some, IfSome};
-    ghost use Rattle.sched_law.specs.Kind.{retry};
+    ghost use Rattle.sched_task_law.specs.Kind.{retry};
+    ghost use Rattle.sched_task_law.specs.Law.{is_refused};
     ghost use Rattle.sched_retry.specs.Retrying.{Retrying, coded_retrying, retrying, RetryLaw};
 
     ghost Value = { Retrying };
@@ -46,9 +46,11 @@ impl<'a, X: Effect> Model for Retry<'a, X> {
 
     ghost use Rattle.sched_retry.specs.Ending.{EndingFits};
 
-    ghost view = { λ r. retrying r.runner r.over r.denied r.pass r.budget.now (is_some r.ending) };
+    ghost view = { λ r. retrying r.runner r.over (is_refused r.over) r.pass r.budget.now (is_some r.ending) };
 
-    ghost invariant = { λ r. RetryLaw retry (retrying r.runner r.over r.denied r.pass r.budget.now (is_some r.ending)) × IfSome r.ending (EndingFits X.Item.coded X.Fault.coded r.over r.runner.runs) };
+    ghost invariant = { λ r.
+        RetryLaw retry (retrying r.runner r.over (is_refused r.over) r.pass r.budget.now (is_some r.ending))
+        × IfSome r.ending (EndingFits X.Item.coded X.Fault.coded r.over r.runner.runs) };
 }
 
 impl<'a, X: Effect> Retry<'a, X> {
@@ -72,7 +74,6 @@ impl<'a, X: Effect> Retry<'a, X> {
         Retry {
             runner: Runner::new(alloc, effect, driver),
             over: None,
-            denied: false,
             ending: None,
             pass,
             budget,
@@ -105,53 +106,23 @@ impl<'a, X: Effect> Retry<'a, X> {
         ensures answers { is_ready result ≡ is_some self.new.past.over }
         ensures kept { Keeps cx.old cx.new }
     {
-        match self.runner.poll_run(tick, cx) {
-            Polled::Pending => Poll::Pending,
-            Polled::CannotBegin => {
-                self.over = Some(How::Broken(RunFault::NoMemory));
-                self.ending = Some(Ending::Broken(RunFault::NoMemory));
+        let runner = &mut self.runner;
+        let pass = &mut self.pass;
+        match poll_attempt(alloc, runner, pass, self.budget, tick, cx) {
+            None => Poll::Pending,
+            Some(ending) => {
+                self.over = Some(ending.how());
+                self.ending = Some(ending);
                 Poll::Ready(())
-            }
-            Polled::Starved => {
-                self.over = Some(How::Broken(RunFault::NoMemory));
-                self.ending = Some(Ending::Broken(RunFault::NoMemory));
-                Poll::Ready(())
-            }
-            Polled::Finished(Ok(item)) => {
-                self.over = Some(How::Won);
-                self.ending = Some(Ending::Won(item));
-                Poll::Ready(())
-            }
-            Polled::Finished(Err(fault)) => {
-                let code = fault.code();
-                let runner = &mut self.runner;
-                let pass = &mut self.pass;
-                match after_loss(alloc, runner, pass, self.budget, tick, code) {
-                    Then::Recurs => Poll::Pending,
-                    Then::Breaks(cause) => {
-                        self.over = Some(How::Broken(cause));
-                        self.ending = Some(Ending::Broken(cause));
-                        Poll::Ready(())
-                    }
-                    Then::Exhausts => {
-                        self.over = Some(How::ScheduleDone);
-                        self.ending = Some(Ending::ScheduleDone(fault));
-                        Poll::Ready(())
-                    }
-                    Then::Overdraws => {
-                        self.denied = true;
-                        self.over = Some(How::BudgetRefused);
-                        self.ending = Some(Ending::BudgetRefused(fault));
-                        Poll::Ready(())
-                    }
-                }
             }
         }
     }
 
     // Whether it waits for a moment after this one.
     fn rests(&self, now: Moment) -> bool
-        ensures { MatchBool result (IsSomeAnd (waits_for self.now.past) (λ m. now < m)) (IfSome (waits_for self.now.past) (λ m. m ≤ now)) }
+        ensures { MatchBool result
+            (IsSomeAnd (waits_for self.now.past) (λ m. now < m))
+            (IfSome (waits_for self.now.past) (λ m. m ≤ now)) }
     {
         match self.due() {
             Some(start) => now.get() < start.get(),
@@ -163,7 +134,7 @@ impl<'a, X: Effect> Retry<'a, X> {
     pub fn due(&self) -> Option<Moment>
         ensures { result ≡ waits_for self.now.past }
     {
-        if self.over.is_some() || self.denied {
+        if self.over.is_some() {
             None
         } else {
             self.runner.due()
@@ -238,7 +209,6 @@ impl<'a, X: Effect> Retry<'a, X> {
         let Retry {
             runner,
             over: _,
-            denied: _,
             ending: _,
             pass,
             budget: _,
@@ -254,14 +224,14 @@ impl<'a, X: Effect> Retry<'a, X> {
         ensures begun { result.begun.items ≡ self.entry.past.begun }
         ensures over { result.over ≡ self.entry.past.over }
         ensures untaken { is_some result.ending ≡ self.entry.untaken }
-        ensures fits { IfSome result.ending (EndingFits X.Item.coded X.Fault.coded self.entry.past.over self.entry.past.runs) }
+        ensures fits { IfSome result.ending (EndingFits X.Item.coded X.Fault.coded
+            self.entry.past.over self.entry.past.runs) }
         ensures pass { result.pass ≡ self.entry.pass }
         ensures law { RetryLaw retry self.entry }
     {
         let Retry {
             runner,
             over,
-            denied: _,
             ending,
             pass,
             budget: _,
@@ -280,8 +250,8 @@ impl<'a, X: Effect> Retry<'a, X> {
 
 impl<'a, X: Effect> Task for Retry<'a, X> {
     ghost use Rattle.std.specs.Prelude.{◌≡◌};
-    ghost use Rattle.sched_law.specs.Kind.{retry};
-    ghost use Rattle.sched_law.specs.Past.{waits_for as start_of, waits_for-over};
+    ghost use Rattle.sched_task_law.specs.Kind.{retry};
+    ghost use Rattle.sched_task_law.specs.Past.{waits_for as start_of, waits_for-over};
     ghost use Rattle.sched_retry.specs.Retrying.{RetryPoll, gives_up as given_up};
 
     ghost ended = { λ v. v.past.over };

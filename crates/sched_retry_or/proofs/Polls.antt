@@ -1,29 +1,42 @@
 -- A poll of a retry with a fallback keeps its law, whatever happens in it.
-use Rattle.std.proofs.Common.{◌≡◌, ℕ, ◌<◌, ◌≤◌, Bool, true, false, ◌||◌, List, [], ◌∷◌, length, Option, Some, None, option_map, is_some, IfSome, IsSomeAnd, Result, Ok, refl, sym, ap, ◌∙◌, subst, arith}
-use Rattle.futures.specs.declared.task.Poll.TheVariants as poll
+use Rattle.std.proofs.Common.{◌≡◌, ℕ, ◌<◌, ◌≤◌, Bool, true, false, ◌||◌, inl, inr, List, [], ◌∷◌, length, Option, Some, None, option_map, option_and_then, is_some, IfSome, IsSomeAnd, Result, Ok, Err, refl, sym, ap, ◌∙◌, subst, arith}
 use Rattle.sched_time.specs.declared.numbers.Tick.{Tick}
 use Rattle.sched_plan.specs.Datum.{Datum}
 use Rattle.sched_plan.specs.Schedule.{Schedule}
+use Rattle.sched_time.specs.Decision.{start_of}
+use Rattle.sched_time.specs.declared.starts.Decision.{Decision}
+use Rattle.sched_time.specs.declared.starts.Decision.TheVariants.{Go, Done}
+use Rattle.sched_plan.specs.Answer.{is_done}
 use Rattle.sched_plan.specs.declared.history.Event.{Event}
-use Rattle.sched_driver.specs.Driven.{last_answer, last_output}
-use Rattle.sched_effect.specs.Runs.{ran_by, Falls}
+use Rattle.sched_driver.specs.Driven.{Driven, last_answer, last_output, next_start_of}
+use Rattle.sched_effect.specs.Runs.{ran_by}
 use Rattle.sched_effect.specs.declared.ran.Ran.{Ran}
-use Rattle.sched_effect.specs.declared.ran.Ran.TheVariants.{Lost}
+use Rattle.sched_effect.specs.declared.ran.Ran.TheVariants as ran
 use Rattle.sched_task.specs.declared.endings.How.{How}
-use Rattle.sched_task.specs.declared.endings.How.TheVariants.{Broken}
+use Rattle.sched_task.specs.declared.endings.How.TheVariants as how
 use Rattle.sched_task.specs.declared.endings.RunFault.TheVariants as fault
-use Rattle.sched_ticket.specs.Held.{Name, Held}
-use Rattle.sched_law.specs.Kind.{retry_or}
-use Rattle.sched_law.specs.Lists.{last_of}
-use Rattle.sched_law.specs.Past.{Past, was_done, is_spent, is_stopped, waits_for}
-use Rattle.sched_law.specs.Poll.{Happened, stays, cannot_begin, runs_on, starves, ends, breaks, exhausts, overdraws, recurs, asks, asks_in_vain, falls, stopped_by, CanAsk, CanRun}
-use Rattle.sched_law.specs.Law.{Law, is_stop}
-use Rattle.sched_law.specs.Runner.{Runs, past_of, with_run}
-use Rattle.sched_law.proofs.Lists.{by_test}
-use Rattle.sched_law.proofs.Law.{or_false, or_true, law_after}
+use Rattle.sched_ticket.specs.Held.{Name, Held, IsOf}
+use Rattle.sched_task_law.specs.Kind.{retry_or}
+use Rattle.sched_task_law.specs.Lists.{last_element}
+use Rattle.sched_task_law.specs.Past.{Past, decision_on, was_done, schedule_is_done, is_under_way, is_stopped, waits_for}
+use Rattle.sched_task_law.specs.Poll.{Happened, stays, cannot_begin, runs_on, cannot_run, ends, breaks, stops_done, stops_denied, recurs, asks, cannot_ask, falls, stopped_by, CanAsk, CanRun}
+use Rattle.sched_task_law.specs.Law.{Law, is_stop}
+use Rattle.sched_task_law.specs.Runner.{Runs, past_of, with_run}
+use Rattle.sched_task_law.proofs.Lists.{by_test}
+use Rattle.sched_task_law.proofs.Fields.{last_finished}
+use Rattle.sched_task_law.proofs.Law.{or_false, or_true, law_after}
 use Rattle.sched_retry.specs.Retrying.{Retrying, retrying, RetryLaw}
-use Rattle.sched_retry.proofs.Polls.{Settled, Ready, asks_fallback, rests_over, rests_waiting, untaken_false}
-use Rattle.sched_retry_or.specs.Falling.{Falling, FallingLaw, FallingPoll, Asks, IsAsked, HasFallen, KeepsFault}
+use Rattle.sched_retry.specs.Comes.{Comes}
+use Rattle.sched_retry.specs.Ending.{how_of}
+use Rattle.sched_retry.specs.declared.endings.Ending.{Ending}
+use Rattle.sched_retry.specs.declared.endings.Ending.TheVariants as ending
+use Rattle.sched_retry.proofs.Polls.{Settled, Ready, asks_fallback, rests_over, rests_waiting, untaken_false, ready_by, come_to, comes_to, last_stepped}
+use Rattle.sched_retry_or.specs.Falling.{Falling, FallingLaw, FallingPoll, Asks, IsAsked, HasFallen, KeepsStop}
+use Rattle.sched_retry_or.specs.Ending.{RetryOrFits}
+use Rattle.sched_retry_or.specs.Stops.{or_stopped, stops_refused, Asked}
+use Rattle.sched_retry_or.specs.declared.endings.RetryOrEnding.{RetryOrEnding}
+use Rattle.sched_retry_or.specs.declared.endings.RetryOrEnding.TheVariants.{Won, Fallen, Cancelled, Broken}
+use Rattle.sched_retry_or.specs.declared.stopped.Stopped.{Stopped}
 
 -- the retry with its fallback
 abbrev pub falling : Retrying → Option (ℕ × Datum) → Option Ran → Falling
@@ -39,14 +52,14 @@ unasked : (p : Past) (h : Happened) (v u : Falling) → asks_fallback h ≡ fals
 unasked p stays v u run asked answered = (asked, answered)
 unasked p cannot_begin v u run asked answered = (asked, answered)
 unasked p runs_on v u run asked answered = (asked, answered)
-unasked p starves v u run asked answered = (asked, answered)
+unasked p cannot_run v u run asked answered = (asked, answered)
 unasked p (ends r) v u run asked answered = (asked, answered)
 unasked p (breaks r f) v u run asked answered = (asked, answered)
-unasked p (exhausts r) v u run asked answered = (asked, answered)
-unasked p (overdraws r) v u run asked answered = (asked, answered)
+unasked p (stops_done r) v u run asked answered = (asked, answered)
+unasked p (stops_denied r) v u run asked answered = (asked, answered)
 unasked p (recurs r) v u run asked answered = (asked, answered)
 unasked p asks v u run asked answered = absurd (cc)
-unasked p asks_in_vain v u run asked answered = absurd (cc)
+unasked p cannot_ask v u run asked answered = absurd (cc)
 unasked p falls v u run asked answered = absurd (cc)
 
 no_stop : (over : Option How) (P : Type 0) → is_stop over ≡ false → is_stop over ≡ true → P
@@ -82,13 +95,13 @@ falling_waiting v t law unended waits =
     let was = rests_waiting retry_or v.retrying t law.law unended waits in
     record { poll = was.poll; fallback = unasked v.retrying.past was.poll.poll.happened v v was.run refl refl }
 
-unstopped_of : {F : Type 0} (code : F → ℕ) (v : Past) (kept : Option F) → KeepsFault code v kept → kept ≡ None → v.over ≡ None →
-    is_stopped v ≡ false
-unstopped_of code v kept keeps none unended = subst (λ (k : Option _). KeepsFault code v k) none keeps unended
+unstopped_of : {F : Type 0} (code : F → ℕ) (v : Past) (kept : Option (Stopped F)) → KeepsStop code v kept → kept ≡ None →
+    v.over ≡ None → is_stopped v ≡ false
+unstopped_of code v kept keeps none unended = subst (λ (k : Option _). KeepsStop code v k) none keeps unended
 
--- one that keeps no fault and waits for no later moment can poll a run
-pub can_run : {F : Type 0} (code : F → ℕ) (kept : Option F) (v w : Past) (t : Tick) → v ≡ w → KeepsFault code v kept → kept ≡ None →
-    v.over ≡ None → IfSome (waits_for w) (λ m. m ≤ t.now) → CanRun w t
+-- one that has not stopped and waits for no later moment can poll a run
+pub can_run : {F : Type 0} (code : F → ℕ) (kept : Option (Stopped F)) (v w : Past) (t : Tick) → v ≡ w → KeepsStop code v kept →
+    kept ≡ None → v.over ≡ None → IfSome (waits_for w) (λ m. m ≤ t.now) → CanRun w t
 can_run code kept v w t seen keeps unkept unended due =
     subst (λ (w : Past). CanRun w t) seen (record {
       unended = unended;
@@ -96,9 +109,9 @@ can_run code kept v w t seen keeps unkept unended due =
       due = subst (λ (w : Past). IfSome (waits_for w) (λ m. m ≤ t.now)) (sym seen) due;
     })
 
--- what can poll a run keeps no fault
-pub unkept_of : {F : Type 0} (code : F → ℕ) (v : Past) (kept : Option F) → KeepsFault code v kept → is_stopped v ≡ false →
-    is_some kept ≡ false
+-- what can poll a run has not stopped
+pub unkept_of : {F : Type 0} (code : F → ℕ) (v : Past) (kept : Option (Stopped F)) → KeepsStop code v kept → is_stopped v ≡ false →
+    kept ≡ None
 unkept_of code v None keeps unstopped = refl
 unkept_of code v (Some f) keeps unstopped = let stopped = keeps.0 in absurd (cc)
 
@@ -115,35 +128,61 @@ given_some : (s : Schedule) (h : List Event) → 0 < length h → is_some (optio
 given_some s [] some = absurd (omega arith)
 given_some s (e ∷ h) some = refl
 
-spent_some : (s : Schedule) (h : List Event) → was_done (last_answer s h) ≡ true → is_some (option_map (λ a. a.output) (last_answer s h)) ≡ true
-spent_some s [] spent = absurd (cc)
-spent_some s (e ∷ h) spent = refl
+done_some : (s : Schedule) (h : List Event) → was_done (last_answer s h) ≡ true → is_some (option_map (λ a. a.output) (last_answer s h)) ≡ true
+done_some s [] done = absurd (cc)
+done_some s (e ∷ h) done = refl
 
 -- what is stopped has stepped
 pub stopped_output : (v : Past) → Law retry_or v → is_stopped v ≡ true → is_some (last_output v.driver) ≡ true
 stopped_output v law stopped =
     by_test v.denied
     (λ denied. given_some v.driver.plan v.driver.journal (law.denied denied).stepped)
-    (λ undenied. spent_some v.driver.plan v.driver.journal (or_true v.denied (is_spent v.driver) stopped undenied))
+    (λ undenied. done_some v.driver.plan v.driver.journal (or_true v.denied (schedule_is_done v.driver) stopped undenied))
 
-pub stopped_kept : {F : Type 0} (code : F → ℕ) (v : Past) (kept : Option F) (f : F) → KeepsFault code v kept → kept ≡ Some f →
-    (is_stopped v ≡ true) × (last_of v.runs ≡ Some (Lost (code f)))
-stopped_kept code v kept f keeps is = subst (λ (k : Option _). KeepsFault code v k) is keeps
+undecided : (d : Decision) → is_done d ≡ true → start_of d ≡ None
+undecided (Go start) done = absurd (cc)
+undecided Done done = refl
 
--- What a poll of the fallback leaves, where `kept` is the fault that it is asked with.
+start_none : (plan : Schedule) (journal : List Event) → was_done (last_answer plan journal) ≡ true →
+    option_and_then (λ a. start_of a.decision) (last_answer plan journal) ≡ None
+start_none plan [] done = refl
+start_none plan (e ∷ h) done = undecided (decision_on plan (e ∷ h)) done
+
+-- a task that has stopped ends as one that has
+stopped_stop : (v : Past) → is_stop (Some (stopped_by v)) ≡ true
+stopped_stop v = by_test v.denied (λ denied. rw denied refl) (λ undenied. rw undenied refl)
+
+-- a schedule that is done has planned no start
+done_start : (d : Driven) → schedule_is_done d ≡ true → next_start_of d ≡ None
+done_start d done = start_none d.plan d.journal done
+
+pub stopped_kept : {F : Type 0} (code : F → ℕ) (v : Past) (kept : Option (Stopped F)) (f : Stopped F) → KeepsStop code v kept →
+    kept ≡ Some f → KeepsStop code v (Some f)
+stopped_kept code v kept f keeps is = subst (λ (k : Option _). KeepsStop code v k) is keeps
+
+-- a task that has stopped waits for nothing
+pub stopped_rests : {F : Type 0} (code : F → ℕ) (v : Past) (kept : Option (Stopped F)) → KeepsStop code v kept →
+    is_some kept ≡ true → waits_for v ≡ None
+stopped_rests code v None keeps some = absurd (cc)
+stopped_rests code v (Some f) keeps some =
+    by_test (is_some v.over || (is_under_way v.runs v.begun || v.denied)) (λ yes. rw yes refl)
+    (λ no. rw no (done_start v.driver (or_true v.denied (schedule_is_done v.driver) keeps.0
+    (or_false (is_under_way v.runs v.begun) v.denied (or_false (is_some v.over) _ no).1).1)))
+
+-- What a poll of the fallback leaves, where `f` is why the retry stopped, with the failure that it is asked with.
 module _ {I F : Type 0} (item_code : I → ℕ) (fault_code : F → ℕ) (v : Retrying) (asked asked' : Option (ℕ × Datum))
-    (answered answered' : Option Ran) (t : Tick) (f : F)
-    (law : RetryLaw retry_or v) (unended : v.past.over ≡ None)
-    (kept : (is_stopped v.past ≡ true) × (last_of v.past.runs ≡ Some (Lost (fault_code f)))) where
+    (answered answered' : Option Ran) (t : Tick) (f : Stopped F)
+    (law : RetryLaw retry_or v) (unended : v.past.over ≡ None) (kept : KeepsStop fault_code v.past (Some f)) where
   can : CanAsk retry_or v.past
   can = record { has_fallback = refl; unended = unended; stopped = kept.0 }
 
-  is_asked : (output : Datum) → last_output v.past.driver ≡ Some output → asked' ≡ Some (fault_code f, output) → IsAsked v.past asked'
+  is_asked : (output : Datum) → last_output v.past.driver ≡ Some output → asked' ≡ Some (fault_code f.fault, output) →
+      IsAsked v.past asked'
   is_asked output given same =
-      record { code = fault_code f; output = output; last = kept.1; given = given; asked_is = same }
+      record { code = fault_code f.fault; output = output; last = kept.1; given = given; asked_is = same }
 
   pub asks_on : (o : Option Datum) → o ≡ last_output v.past.driver →
-      IsSomeAnd o (λ output. Falls item_code fault_code poll.Pending (fault_code f) output asked' answered') →
+      IsSomeAnd o (λ output. Asked item_code fault_code f output None asked' answered') →
       SettledOr (falling v asked answered) t false (falling v asked' answered')
   asks_on None same left = absurd left
   asks_on (Some output) same left = record {
@@ -161,13 +200,13 @@ module _ {I F : Type 0} (item_code : I → ℕ) (fault_code : F → ℕ) (v : Re
 
   -- the retry with this ending
   abbrev pub ended_with : How → Retrying
-  ended_with how = record v { past = record v.past { over = Some how }; untaken = true }
+  ended_with over = record v { past = record v.past { over = Some over }; untaken = true }
 
-  pub asks_vainly : SettledOr (falling v asked answered) t true (falling (ended_with (Broken fault.NoMemory)) asked' answered')
-  asks_vainly = record {
+  no_answer : SettledOr (falling v asked answered) t true (falling (ended_with (how.Broken fault.NoMemory)) asked' answered')
+  no_answer = record {
     law = record {
       law = record {
-        law = law_after retry_or v.past t asks_in_vain law.law can;
+        law = law_after retry_or v.past t cannot_ask law.law can;
         granted = law.granted;
         denied = law.denied;
         of = law.of;
@@ -177,7 +216,7 @@ module _ {I F : Type 0} (item_code : I → ℕ) (fault_code : F → ℕ) (v : Re
     };
     poll = record {
       poll = record {
-        poll = record { happened = asks_in_vain; may = can; leaves = refl; ready_is = refl };
+        poll = record { happened = cannot_ask; may = can; leaves = refl; ready_is = refl };
         pass = refl;
         budget = refl;
         untaken = rw unended refl;
@@ -187,10 +226,10 @@ module _ {I F : Type 0} (item_code : I → ℕ) (fault_code : F → ℕ) (v : Re
   }
 
   answers_at : (run : Result I F) (output : Datum) → last_output v.past.driver ≡ Some output →
-      Falls item_code fault_code (poll.Ready (Ok run)) (fault_code f) output asked' answered' →
+      asked' ≡ Some (fault_code f.fault, output) → answered' ≡ Some (ran_by item_code fault_code run) →
       SettledOr (falling v asked answered) t true (falling (ended_with (stopped_by v.past)) asked' answered')
-  answers_at run output given left =
-      let ask = is_asked output given left.0 in
+  answers_at run output given as_asked as_answered =
+      let ask = is_asked output given as_asked in
       record {
         law = record {
           law = record {
@@ -202,7 +241,7 @@ module _ {I F : Type 0} (item_code : I → ℕ) (fault_code : F → ℕ) (v : Re
           };
           fallen = λ _. record {
             ask = record { code = ask.code; output = ask.output; last = ask.last; given = ask.given; asked_is = ask.asked_is };
-            some = ap is_some left.1;
+            some = ap is_some as_answered;
           };
         };
         poll = record {
@@ -212,57 +251,150 @@ module _ {I F : Type 0} (item_code : I → ℕ) (fault_code : F → ℕ) (v : Re
             budget = refl;
             untaken = rw unended refl;
           };
-          fallback = record { ask = ask; some = ap is_some left.1 };
+          fallback = record { ask = ask; some = ap is_some as_answered };
         };
       }
 
-  pub answers : (run : Result I F) (o : Option Datum) → o ≡ last_output v.past.driver →
-      IsSomeAnd o (λ output. Falls item_code fault_code (poll.Ready (Ok run)) (fault_code f) output asked' answered') →
-      (how : How) → how ≡ stopped_by v.past →
-      SettledOr (falling v asked answered) t true (falling (ended_with how) asked' answered')
-  answers run None same left how is = absurd left
-  answers run (Some output) same left how is =
-      subst (λ (h : How). SettledOr (falling v asked answered) t true (falling (ended_with h) asked' answered')) (sym is)
-      (answers_at run output (sym same) left)
+  -- the ending that a poll of the fallback comes to ends the retry
+  pub asked_to : (o : Option Datum) → o ≡ last_output v.past.driver → (over : How) (e : RetryOrEnding I F) →
+      IsSomeAnd o (λ output. Asked item_code fault_code f output (Some (over, e)) asked' answered') →
+      SettledOr (falling v asked answered) t true (falling (ended_with over) asked' answered')
+  asked_to None same over e left = absurd left
+  asked_to (Some output) same over (Won item) left = absurd left
+  asked_to (Some output) same over (Fallen run) left =
+      subst (λ (h : How). SettledOr (falling v asked answered) t true (falling (ended_with h) asked' answered'))
+      (sym (left.0 ∙ kept.2)) (answers_at run output (sym same) left.1 left.2)
+  asked_to (Some output) same over Cancelled left = absurd left
+  asked_to (Some output) same over (Broken cause) left =
+      subst (λ (h : How). SettledOr (falling v asked answered) t true (falling (ended_with h) asked' answered')) (sym left.0) no_answer
 
-  -- and what it gave is its answer
-  pub answer_fits : (run : Result I F) (o : Option Datum) →
-      IsSomeAnd o (λ output. Falls item_code fault_code (poll.Ready (Ok run)) (fault_code f) output asked' answered') →
-      (how : How) → how ≡ stopped_by v.past → (is_stop (Some how) ≡ true) × (answered' ≡ Some (ran_by item_code fault_code run))
-  answer_fits run None left how is = absurd left
-  answer_fits run (Some output) left how is =
-      (by_test v.past.denied (λ denied. rw (is, denied) refl) (λ undenied. rw (is, undenied) refl), left.1)
+  -- and fits what the poll left
+  pub asked_fits : (o : Option Datum) (over : How) (e : RetryOrEnding I F) →
+      IsSomeAnd o (λ output. Asked item_code fault_code f output (Some (over, e)) asked' answered') →
+      RetryOrFits item_code fault_code (Some over) v.past.runs answered' e
+  asked_fits None over e left = absurd left
+  asked_fits (Some output) over (Won item) left = absurd left
+  asked_fits (Some output) over (Fallen run) left =
+      (ap (λ (h : How). is_stop (Some h)) (left.0 ∙ kept.2) ∙ stopped_stop v.past, left.2)
+  asked_fits (Some output) over Cancelled left = absurd left
+  asked_fits (Some output) over (Broken cause) left = ap Some (left.0 ∙ ap how.Broken (sym left.1))
+
+-- one that is over keeps why it stopped, if it did
+pub keeps_over : {F : Type 0} (code : F → ℕ) (r : Runs) (over : Option How) (how : How) (n : ℕ) (kept : Option (Stopped F)) →
+    KeepsStop code (past_of r over (stops_refused kept) n) kept → KeepsStop code (past_of r (Some how) (stops_refused kept) n) kept
+keeps_over code r over how n None keeps = λ unended. absurd (cc)
+keeps_over code r over how n (Some f) keeps = keeps
 
 -- a poll of the value that a contract sees
 pub polled_as : (t : Tick) (ready : Bool) (v w u : Falling) → v ≡ w → FallingPoll v t ready u → FallingPoll w t ready u
 polled_as t ready v w u same poll = subst (λ (v : Falling). FallingPoll v t ready u) same poll
 
--- a task that is not stopped, after a poll that leaves its driver
-pub unstopped_same : (r s : Runs) (t : Tick) (denied : Bool) → s ≡ with_run r t → (denied || is_spent r.driver) ≡ false →
-    (denied || is_spent s.driver) ≡ false
-unstopped_same r s t denied left unstopped = ap (λ (s : Runs). denied || is_spent s.driver) left ∙ unstopped
+-- The same facts, of what `or_stopped` answers.
+abbrev FitsOk : {I F : Type 0} → (I → ℕ) → (F → ℕ) → Option How → List Ran → Option Ran → Result (RetryOrEnding I F) (Stopped F) → Type 0
+FitsOk ic fc over runs answered (Ok e) = RetryOrFits ic fc over runs answered e
+FitsOk ic fc over runs answered (Err f) = Unit {0}
 
-or_any : (b : Bool) → (b || true) ≡ true
-or_any true = refl
-or_any false = refl
+abbrev SettledErr : {I F : Type 0} → Retrying → Tick → Runs → Held → Name → Result (RetryOrEnding I F) (Stopped F) → Type 0
+SettledErr v t s q b (Ok e) = Unit {0}
+SettledErr v t s q b (Err f) = Settled retry_or v t false (retrying s None (stops_refused (Some f)) q b false)
 
--- a step stops a task, or not
-pub stepped_unstopped : (r s w : Runs) (denied : Bool) → s ≡ w → is_spent w.driver ≡ false → (denied || is_spent r.driver) ≡ false →
-    (denied || is_spent s.driver) ≡ false
-stepped_unstopped r s w denied step unspent before =
-    ap (λ (s : Runs). denied || is_spent s.driver) step ∙ rw (unspent, (or_false denied (is_spent r.driver) before).0) refl
+abbrev KeepsErr : {I F : Type 0} → (F → ℕ) → Runs → Option How → ℕ → Result (RetryOrEnding I F) (Stopped F) → Type 0
+KeepsErr code s over n (Ok e) = Unit {0}
+KeepsErr code s over n (Err f) = KeepsStop code (past_of s over (stops_refused (Some f)) n) (Some f)
 
-pub stepped_stopped : (s w : Runs) (denied : Bool) → s ≡ w → is_spent w.driver ≡ true → (denied || is_spent s.driver) ≡ true
-stepped_stopped s w denied step spent =
-    ap (λ (s : Runs). denied || is_spent s.driver) step ∙ ap (λ b. denied || b) spent ∙ or_any denied
+-- What a poll of a run comes to, of a retry that has not stopped.
+module _ {I F : Type 0} (item_code : I → ℕ) (fault_code : F → ℕ) (r : Runs) (over : Option How) (kept : Option (Stopped F))
+    (p : Held) (b : Name) (untaken : Bool) (t : Tick) (unkept : kept ≡ None)
+    (now : Ready retry_or r over (stops_refused kept) p b untaken t) (s : Runs) (q : Held) where
+  abbrev pub was : Retrying
+  was = retrying r over (stops_refused kept) p b untaken
 
--- no fault is kept of a task that is not stopped, or that is over
-pub keeps_none : {F : Type 0} (code : F → ℕ) (s : Runs) (over : Option How) (denied : Bool) (n : ℕ) (kept : Option F) →
-    is_some kept ≡ false → (denied || is_spent s.driver) ≡ false → KeepsFault code (past_of s over denied n) kept
-keeps_none code s over denied n None none unstopped = λ _. unstopped
-keeps_none code s over denied n (Some f) none unstopped = absurd (cc)
+  undenied : stops_refused kept ≡ false
+  undenied = ap stops_refused unkept
 
-pub keeps_over : {F : Type 0} (code : F → ℕ) (s : Runs) (how : How) (denied : Bool) (n : ℕ) (kept : Option F) →
-    is_some kept ≡ false → KeepsFault code (past_of s (Some how) denied n) kept
-keeps_over code s how denied n None none = λ unended. absurd (cc)
-keeps_over code s how denied n (Some f) none = absurd (cc)
+  undone : schedule_is_done r.driver ≡ false
+  undone = (or_false (stops_refused kept) (schedule_is_done r.driver) now.can.unstopped).1
+
+  came : (e : Option (Ending I F)) → Comes item_code fault_code r p t e s q → IsOf b q →
+      Settled retry_or was t (ready_by retry_or r over (stops_refused kept) p b untaken t now e)
+      (come_to retry_or r over (stops_refused kept) p b untaken t now e s q)
+  came e = comes_to retry_or r over (stops_refused kept) p b untaken t now item_code fault_code e s q (λ _. refl) (λ _. refl)
+
+  -- it goes on
+  pub goes_to : Comes item_code fault_code r p t None s q → IsOf b q →
+      Settled retry_or was t false (retrying s over (stops_refused kept) q b untaken)
+  goes_to = came None
+
+  -- and has not stopped
+  pub goes_keeping : (n : ℕ) → Comes item_code fault_code r p t None s q →
+      KeepsStop fault_code (past_of s over (stops_refused kept) n) kept
+  goes_keeping n came =
+      let going : schedule_is_done s.driver ≡ false = elim came [
+        | inl same ↦ ap (λ (s : Runs). schedule_is_done s.driver) same.0 ∙ undone
+        | inr step ↦ step.stepped.done_is
+      ] in
+      subst (λ (k : Option (Stopped F)). KeepsStop fault_code (past_of s over (stops_refused k) n) k) (sym unkept) (λ _. going)
+
+  -- it ends without its fallback
+  pub ends_to : (e : Ending I F) (fit : RetryOrEnding I F) → Comes item_code fault_code r p t (Some e) s q → IsOf b q →
+      or_stopped e ≡ Ok fit → Settled retry_or was t true (retrying s (Some (how_of e)) (stops_refused kept) q b true)
+  ends_to (ending.Won item) fit = λ left of is. came (Some (ending.Won item)) left of
+  ends_to (ending.ScheduleDone f) fit = λ left of is. absurd (cc)
+  ends_to (ending.BudgetRefused f) fit = λ left of is. absurd (cc)
+  ends_to ending.Cancelled fit = λ left of is. absurd left
+  ends_to (ending.Broken cause) fit = λ left of is. came (Some (ending.Broken cause)) left of
+
+  -- and not as one that has stopped
+  pub ends_unstopped : (e : Ending I F) (fit : RetryOrEnding I F) → Comes item_code fault_code r p t (Some e) s q →
+      or_stopped e ≡ Ok fit → is_stop (Some (how_of e)) ≡ false
+  ends_unstopped (ending.Won item) fit left is = refl
+  ends_unstopped (ending.ScheduleDone f) fit left is = absurd (cc)
+  ends_unstopped (ending.BudgetRefused f) fit left is = absurd (cc)
+  ends_unstopped ending.Cancelled fit left is = absurd left
+  ends_unstopped (ending.Broken cause) fit left is = refl
+
+  -- its ending fits what the poll left
+  pub ends_fits : (e : Ending I F) (fit : RetryOrEnding I F) → Comes item_code fault_code r p t (Some e) s q →
+      or_stopped e ≡ Ok fit → (answered : Option Ran) → RetryOrFits item_code fault_code (Some (how_of e)) s.runs answered fit
+  ends_fits (ending.Won item) fit left is answered =
+      subst (λ (x : Result _ _). FitsOk item_code fault_code (Some how.Won) s.runs answered x) is
+      (refl, last_finished r s t (ran.Won (item_code item)) left.0)
+  ends_fits (ending.ScheduleDone f) fit left is answered = absurd (cc)
+  ends_fits (ending.BudgetRefused f) fit left is answered = absurd (cc)
+  ends_fits ending.Cancelled fit left is answered = absurd left
+  ends_fits (ending.Broken cause) fit left is answered =
+      subst (λ (x : Result _ _). FitsOk item_code fault_code (Some (how.Broken cause)) s.runs answered x) is refl
+
+  -- and it has not stopped
+  pub ends_keeping : (over : How) (n : ℕ) → KeepsStop fault_code (past_of s (Some over) (stops_refused kept) n) kept
+  ends_keeping over n =
+      subst (λ (k : Option (Stopped F)). KeepsStop fault_code (past_of s (Some over) (stops_refused k) n) k) (sym unkept)
+      (λ unended. absurd (cc))
+
+  -- it stops, and goes on to its fallback
+  pub stops_to : (e : Ending I F) (f : Stopped F) → Comes item_code fault_code r p t (Some e) s q → IsOf b q →
+      or_stopped e ≡ Err f → Settled retry_or was t false (retrying s over (stops_refused (Some f)) q b untaken)
+  stops_to (ending.Won item) f = λ left of is. absurd (cc)
+  stops_to (ending.ScheduleDone x) f = λ left of is.
+      stops_as was t s over (stops_refused (Some f)) q b untaken now.can.unended (untaken_false retry_or was now.law now.can.unended)
+      (subst (λ (y : Result _ _). SettledErr was t s q b y) is
+      (subst (λ (d : Bool). Settled retry_or was t false (retrying s None d q b false)) undenied
+      (came (Some (ending.ScheduleDone x)) left of)))
+  stops_to (ending.BudgetRefused x) f = λ left of is.
+      stops_as was t s over (stops_refused (Some f)) q b untaken now.can.unended (untaken_false retry_or was now.law now.can.unended)
+      (subst (λ (y : Result _ _). SettledErr was t s q b y) is (came (Some (ending.BudgetRefused x)) left of))
+  stops_to ending.Cancelled f = λ left of is. absurd (cc)
+  stops_to (ending.Broken cause) f = λ left of is. absurd (cc)
+
+  -- and keeps why
+  pub stops_keeping : (e : Ending I F) (f : Stopped F) (n : ℕ) → Comes item_code fault_code r p t (Some e) s q →
+      or_stopped e ≡ Err f → KeepsStop fault_code (past_of s over (stops_refused (Some f)) n) (Some f)
+  stops_keeping (ending.Won item) f n left is = absurd (cc)
+  stops_keeping (ending.ScheduleDone x) f n left is =
+      subst (λ (y : Result _ _). KeepsErr fault_code s over n y) is
+      (left.0.done_is, last_stepped r s t (fault_code x) left.0.left, refl)
+  stops_keeping (ending.BudgetRefused x) f n left is =
+      subst (λ (y : Result _ _). KeepsErr fault_code s over n y) is
+      (refl, last_stepped r s t (fault_code x) left.0.left, refl)
+  stops_keeping ending.Cancelled f n left is = absurd (cc)
+  stops_keeping (ending.Broken cause) f n left is = absurd (cc)

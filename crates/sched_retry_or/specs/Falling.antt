@@ -7,12 +7,13 @@ use Rattle.sched_plan.specs.DatumCode.{coded_datum}
 use Rattle.sched_driver.specs.Driven.{last_output}
 use Rattle.sched_effect.specs.declared.ran.Ran.{Ran}
 use Rattle.sched_effect.specs.declared.ran.Ran.TheVariants.{Lost}
-use Rattle.sched_law.specs.Kind.{retry_or}
-use Rattle.sched_law.specs.Lists.{last_of}
-use Rattle.sched_law.specs.Past.{Past, is_stopped}
-use Rattle.sched_law.specs.Poll.{Happened, asks, asks_in_vain, falls}
-use Rattle.sched_law.specs.Law.{is_stop}
-use Rattle.sched_law.specs.Codes.{coded_ran}
+use Rattle.sched_task_law.specs.Kind.{retry_or}
+use Rattle.sched_task_law.specs.Lists.{last_element}
+use Rattle.sched_task_law.specs.Past.{Past, is_stopped}
+use Rattle.sched_task_law.specs.Poll.{Happened, asks, cannot_ask, falls, stopped_by}
+use Rattle.sched_task_law.specs.Law.{is_stop}
+use Rattle.sched_task_law.specs.Codes.{coded_ran}
+use Rattle.sched_retry_or.specs.declared.stopped.Stopped.{Stopped}
 use Rattle.sched_retry.specs.Retrying.{Retrying, coded_retrying, RetryLaw, RetryPoll, gives_up as retry_gives_up}
 
 pub record Falling : Type 0 where
@@ -32,7 +33,7 @@ coded_falling =
 pub record IsAsked (v : Past) (asked : Option (ℕ × Datum)) : Type 0 where
   pub code : ℕ
   pub output : Datum
-  pub last : last_of v.runs ≡ Some (Lost code)
+  pub last : last_element v.runs ≡ Some (Lost code)
   pub given : last_output v.driver ≡ Some output
   pub asked_is : asked ≡ Some (code, output)
 
@@ -49,7 +50,7 @@ pub record FallingLaw (v : Falling) : Type 0 where
 -- What a poll does to the fallback: it is asked where no run is, and then alone.
 abbrev pub Asks : Past → Happened → Falling → Falling → Type 0
 Asks p asks v u = IsAsked p u.asked × (u.answered ≡ None)
-Asks p asks_in_vain v u = Unit {0}
+Asks p cannot_ask v u = Unit {0}
 Asks p falls v u = HasFallen p u.asked u.answered
 Asks p _ v u = (u.asked ≡ v.asked) × (u.answered ≡ v.answered)
 
@@ -62,7 +63,8 @@ pub record FallingPoll (v : Falling) (t : Tick) (ready : Bool) (u : Falling) : T
 abbrev pub gives_up : Falling → Falling
 gives_up v = record v { retrying = retry_gives_up v.retrying }
 
--- The fault that the fallback is asked with is kept where the task is stopped: it is that of the last run.
-abbrev pub KeepsFault : {F : Type 0} → (F → ℕ) → Past → Option F → Type 0
-KeepsFault code v None = v.over ≡ None → is_stopped v ≡ false
-KeepsFault code v (Some fault) = (is_stopped v ≡ true) × (last_of v.runs ≡ Some (Lost (code fault)))
+-- Where the task is stopped, it is kept why, with the fault of the last run, with which the fallback is asked.
+abbrev pub KeepsStop : {F : Type 0} → (F → ℕ) → Past → Option (Stopped F) → Type 0
+KeepsStop code v None = v.over ≡ None → is_stopped v ≡ false
+KeepsStop code v (Some stopped) =
+    (is_stopped v ≡ true) × (last_element v.runs ≡ Some (Lost (code stopped.fault))) × (stopped.how ≡ stopped_by v)

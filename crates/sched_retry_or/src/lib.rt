@@ -3,6 +3,8 @@
 
 mod endings;
 mod retry_or;
+mod stopped;
+mod stops;
 
 pub use endings::RetryOrEnding;
 pub use retry_or::RetryOr;

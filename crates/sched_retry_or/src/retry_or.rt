@@ -1,24 +1,24 @@
 //! Retries with a fallback.
-ghost use Rattle.std.specs.Prelude.{◌≡◌, ◌<◌, ◌≤◌, true, false, [], length, is_some, IfSome, IsSomeAnd, MatchBool, if◌then◌else◌};
+ghost use Rattle.std.specs.Prelude.{◌≡◌, ◌<◌, ◌≤◌, false, [], length, is_some, IfSome, IsSomeAnd, MatchBool};
 ghost use Rattle.futures.specs.Task.{Keeps};
-ghost use Rattle.sched_driver.specs.Driven.{last_output};
-ghost use Rattle.sched_effect.specs.Runs.{Falls};
 ghost use Rattle.sched_task.specs.Polls.{is_ready};
 ghost use Rattle.sched_ticket.specs.Held.{IsOf};
-ghost use Rattle.sched_law.specs.Past.{nothing_yet, waits_for};
-ghost use Rattle.sched_law.specs.Poll.{CanRun};
+ghost use Rattle.sched_task_law.specs.Past.{nothing_yet, waits_for};
+ghost use Rattle.sched_task_law.specs.Poll.{CanRun};
 ghost use Rattle.sched_retry_or.specs.Falling.{FallingLaw, FallingPoll, gives_up};
 ghost use Rattle.sched_retry_or.specs.Ending.{RetryOrFits};
 
 use crate::endings::RetryOrEnding;
+use crate::stopped::Stopped;
+use crate::stops::{ask, or_stopped};
 use futures::task::{Context, Poll};
 use sched_driver::Driver;
 use sched_effect::{Coded, Effect, Fallback};
-use sched_law::{Polled, Runner};
-use sched_retry::{Then, after_loss};
-use sched_task::{How, RunFault, Task};
+use sched_retry::poll_attempt;
+use sched_task::{How, Task};
+use sched_task_law::Runner;
 use sched_ticket::{Budget, Pass};
-use sched_time::{Moment, NoMemory, Tick};
+use sched_time::{Moment, Tick};
 use std::alloc::Global;
 use std::marker::Model;
 
@@ -27,8 +27,7 @@ use std::marker::Model;
 pub struct RetryOr<'a, X: Effect, F: Fallback<X>> {
     runner: Runner<X>,
     over: Option<How>,
-    denied: bool,
-    fault: Option<X::Fault>,
+    stopped: Option<Stopped<X::Fault>>,
     ending: Option<RetryOrEnding<X::Item, X::Fault>>,
     pass: Pass,
     budget: &'a Budget,
@@ -37,9 +36,10 @@ pub struct RetryOr<'a, X: Effect, F: Fallback<X>> {
 
 impl<'a, X: Effect, F: Fallback<X>> Model for RetryOr<'a, X, F> {
     ghost use Rattle.std.specs.Prelude.{length, is_some, IfSome};
-    ghost use Rattle.sched_law.specs.Runner.{past_of};
+    ghost use Rattle.sched_task_law.specs.Runner.{past_of};
     ghost use Rattle.sched_retry.specs.Retrying.{retrying};
-    ghost use Rattle.sched_retry_or.specs.Falling.{Falling, coded_falling, FallingLaw, KeepsFault};
+    ghost use Rattle.sched_retry_or.specs.Falling.{Falling, coded_falling, FallingLaw, KeepsStop};
+    ghost use Rattle.sched_retry_or.specs.Stops.{stops_refused};
 
     ghost Value = { Falling };
 
@@ -47,25 +47,20 @@ impl<'a, X: Effect, F: Fallback<X>> Model for RetryOr<'a, X, F> {
 
     ghost use Rattle.sched_retry_or.specs.Ending.{RetryOrFits};
 
-    ghost view = { λ r. record { retrying = retrying r.runner r.over r.denied r.pass r.budget.now (is_some r.ending); asked = F.asked r.fallback; answered = F.answered r.fallback } };
+    ghost view = { λ r. record {
+      retrying = retrying r.runner r.over (stops_refused r.stopped) r.pass r.budget.now (is_some r.ending);
+      asked = F.asked r.fallback;
+      answered = F.answered r.fallback;
+    } };
 
-    ghost invariant = { λ r. FallingLaw record { retrying = retrying r.runner r.over r.denied r.pass r.budget.now (is_some r.ending); asked = F.asked r.fallback; answered = F.answered r.fallback } × IfSome r.ending (RetryOrFits X.Item.coded X.Fault.coded r.over r.runner.runs (F.answered r.fallback)) × KeepsFault X.Fault.coded (past_of r.runner r.over r.denied (length r.pass.has.tickets)) r.fault };
-}
-
-// Asks the fallback with the fault and the driver's last output.
-fn ask<X: Effect, F: Fallback<X>>(
-    runner: &Runner<X>,
-    fault: &X::Fault,
-    fallback: &mut F,
-    cx: &mut Context<'_>,
-) -> Poll<Result<Result<X::Item, X::Fault>, NoMemory>>
-    requires { is_some (last_output runner.now.driver) ≡ true }
-    ensures falls { IsSomeAnd (last_output runner.now.driver) (λ output. Falls X.Item.coded X.Fault.coded result
-        (X.Fault.coded fault.now) output (F.asked fallback.new) (F.answered fallback.new)) }
-    ensures kept { Keeps cx.old cx.new }
-{
-    let output = runner.driver().last().unwrap();
-    fallback.poll_fallback(fault, output, cx)
+    ghost invariant = { λ r. FallingLaw record {
+      retrying = retrying r.runner r.over (stops_refused r.stopped) r.pass r.budget.now (is_some r.ending);
+      asked = F.asked r.fallback;
+      answered = F.answered r.fallback;
+    }
+        × IfSome r.ending (RetryOrFits X.Item.coded X.Fault.coded r.over r.runner.runs (F.answered r.fallback))
+        × KeepsStop X.Fault.coded
+        (past_of r.runner r.over (stops_refused r.stopped) (length r.pass.has.tickets)) r.stopped };
 }
 
 impl<'a, X: Effect, F: Fallback<X>> RetryOr<'a, X, F> {
@@ -92,8 +87,7 @@ impl<'a, X: Effect, F: Fallback<X>> RetryOr<'a, X, F> {
         RetryOr {
             runner: Runner::new(alloc, effect, driver),
             over: None,
-            denied: false,
-            fault: None,
+            stopped: None,
             ending: None,
             pass,
             budget,
@@ -116,17 +110,12 @@ impl<'a, X: Effect, F: Fallback<X>> RetryOr<'a, X, F> {
         if self.rests(tick.now) {
             return Poll::Pending;
         }
-        if let Some(fault) = &self.fault {
-            return match ask(&self.runner, fault, &mut self.fallback, cx) {
-                Poll::Pending => Poll::Pending,
-                Poll::Ready(Err(_)) => {
-                    self.over = Some(How::Broken(RunFault::NoMemory));
-                    self.ending = Some(RetryOrEnding::Broken(RunFault::NoMemory));
-                    Poll::Ready(())
-                }
-                Poll::Ready(Ok(run)) => {
-                    self.over = Some(stopped_by(self.denied));
-                    self.ending = Some(RetryOrEnding::Fallen(run));
+        if let Some(stopped) = &self.stopped {
+            return match ask(&self.runner, stopped, &mut self.fallback, cx) {
+                None => Poll::Pending,
+                Some((how, ending)) => {
+                    self.over = Some(how);
+                    self.ending = Some(ending);
                     Poll::Ready(())
                 }
             };
@@ -141,51 +130,30 @@ impl<'a, X: Effect, F: Fallback<X>> RetryOr<'a, X, F> {
         ensures answers { is_ready result ≡ is_some self.new.retrying.past.over }
         ensures kept { Keeps cx.old cx.new }
     {
-        match self.runner.poll_run(tick, cx) {
-            Polled::Pending => Poll::Pending,
-            Polled::CannotBegin => {
-                self.over = Some(How::Broken(RunFault::NoMemory));
-                self.ending = Some(RetryOrEnding::Broken(RunFault::NoMemory));
-                Poll::Ready(())
+        let runner = &mut self.runner;
+        let pass = &mut self.pass;
+        let Some(ending) = poll_attempt(alloc, runner, pass, self.budget, tick, cx) else {
+            return Poll::Pending;
+        };
+        let how = ending.how();
+        match or_stopped(ending) {
+            Err(stopped) => {
+                self.stopped = Some(stopped);
+                Poll::Pending
             }
-            Polled::Starved => {
-                self.over = Some(How::Broken(RunFault::NoMemory));
-                self.ending = Some(RetryOrEnding::Broken(RunFault::NoMemory));
+            Ok(ending) => {
+                self.over = Some(how);
+                self.ending = Some(ending);
                 Poll::Ready(())
-            }
-            Polled::Finished(Ok(item)) => {
-                self.over = Some(How::Won);
-                self.ending = Some(RetryOrEnding::Won(item));
-                Poll::Ready(())
-            }
-            Polled::Finished(Err(fault)) => {
-                let code = fault.code();
-                let runner = &mut self.runner;
-                let pass = &mut self.pass;
-                match after_loss(alloc, runner, pass, self.budget, tick, code) {
-                    Then::Recurs => Poll::Pending,
-                    Then::Breaks(cause) => {
-                        self.over = Some(How::Broken(cause));
-                        self.ending = Some(RetryOrEnding::Broken(cause));
-                        Poll::Ready(())
-                    }
-                    Then::Exhausts => {
-                        self.fault = Some(fault);
-                        Poll::Pending
-                    }
-                    Then::Overdraws => {
-                        self.denied = true;
-                        self.fault = Some(fault);
-                        Poll::Pending
-                    }
-                }
             }
         }
     }
 
     // Whether it waits for a moment after this one.
     fn rests(&self, now: Moment) -> bool
-        ensures { MatchBool result (IsSomeAnd (waits_for self.now.retrying.past) (λ m. now < m)) (IfSome (waits_for self.now.retrying.past) (λ m. m ≤ now)) }
+        ensures { MatchBool result
+            (IsSomeAnd (waits_for self.now.retrying.past) (λ m. now < m))
+            (IfSome (waits_for self.now.retrying.past) (λ m. m ≤ now)) }
     {
         match self.due() {
             Some(start) => now.get() < start.get(),
@@ -197,7 +165,7 @@ impl<'a, X: Effect, F: Fallback<X>> RetryOr<'a, X, F> {
     pub fn due(&self) -> Option<Moment>
         ensures { result ≡ waits_for self.now.retrying.past }
     {
-        if self.over.is_some() || self.denied {
+        if self.over.is_some() || self.stopped.is_some() {
             None
         } else {
             self.runner.due()
@@ -273,8 +241,7 @@ impl<'a, X: Effect, F: Fallback<X>> RetryOr<'a, X, F> {
         let RetryOr {
             runner,
             over: _,
-            denied: _,
-            fault: _,
+            stopped: _,
             ending: _,
             pass,
             budget: _,
@@ -285,20 +252,9 @@ impl<'a, X: Effect, F: Fallback<X>> RetryOr<'a, X, F> {
     }
 }
 
-// Why no run begins any more.
-fn stopped_by(denied: bool) -> How
-    ensures { result ≡ (if denied then How.BudgetRefused else How.ScheduleDone) }
-{
-    if denied {
-        How::BudgetRefused
-    } else {
-        How::ScheduleDone
-    }
-}
-
 impl<'a, X: Effect, F: Fallback<X>> Task for RetryOr<'a, X, F> {
     ghost use Rattle.std.specs.Prelude.{◌≡◌};
-    ghost use Rattle.sched_law.specs.Past.{waits_for as start_of, waits_for-over};
+    ghost use Rattle.sched_task_law.specs.Past.{waits_for as start_of, waits_for-over};
     ghost use Rattle.sched_retry_or.specs.Falling.{FallingPoll, gives_up as given_up};
 
     ghost ended = { λ v. v.retrying.past.over };

@@ -2,14 +2,27 @@
 //!
 //! A `Retry` runs an effect until it succeeds, again after each failure as its driver's schedule says, with a ticket of a
 //! shared budget for each retry. A `RetryOr` asks a fallback in the end, and a `Repeat` runs again after each success. Each
-//! is polled by hand with `poll_at`, or is a future by `Timed`.
+//! is polled by hand with `poll_at`, or is a future by `Timed`, which `block_on` runs to its end.
+//!
+//! All that one retry names is here: a program that stands on this crate alone needs no other line in crates.txt.
 #![tactic(auto)]
 
 #[cfg(test)]
 mod tests;
 
-pub use sched_effect::{Code, Coded, Effect, Fallback, Ran, Scripted};
+pub use futures::Future;
+pub use futures::executor::block_on;
+pub use futures::task::{Context, Poll};
+pub use rand_core::Rng;
+pub use sched_driver::{DriveFault, Driver, Event};
+pub use sched_effect::{Action, Call, Code, Coded, Effect, Fallback, Ran, Scripted, Tagged};
+pub use sched_plan::{Fold, Plan, PlanFault, Test, Val};
 pub use sched_repeat::{Repeat, RepeatEnding};
 pub use sched_retry::{Ending, Retry};
 pub use sched_retry_or::{RetryOr, RetryOrEnding};
-pub use sched_task::{Clock, How, MidWords, RunFault, Task, Timed, VirtualClock, four_words};
+pub use sched_task::{
+    Clock, How, MidWords, RunFault, SystemClock, SystemWords, Task, TimeSource, Timed,
+    VirtualClock, four_words,
+};
+pub use sched_ticket::{Budget, Pass, PassesOut, Refusal, TicketFault};
+pub use sched_time::{Decision, FAR, Interval, Millis, Moment, NoMemory, Tick};

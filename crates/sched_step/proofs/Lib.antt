@@ -1,7 +1,7 @@
 pub mod History
-pub mod Prefixes
+pub mod WorkedStates
 pub mod Fixed
 pub mod Moments
-pub mod KeepsList
+pub mod Marked
 pub mod laws
 pub mod sends

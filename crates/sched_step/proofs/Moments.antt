@@ -2,9 +2,9 @@
 use Rattle.std.proofs.Common.{◌≡◌, ℕ, ◌-◌, List, [], ◌∷◌, ◌++◌, Bool, true, false, cond, if◌then◌else◌, ltb, leb, not, Some, refl, sym, ap, ◌∙◌, inl, inr, lt-ltb, le-ltb, le-leb}
 use Rattle.std.proofs.lemmas.Bool.{cases_lt, lt-leb}
 use Rattle.sched_plan.specs.History.{first_moment, last_moment}
-use Rattle.sched_plan.specs.HistoryLaws.{last_moment-push}
+use Rattle.sched_plan.proofs.HistoryLaws.{last_moment-push}
 use Rattle.sched_plan.specs.Rounds.{is_within, last_block, last_run}
-use Rattle.sched_plan.specs.RoundLaws.{last_block-push, last_run-push}
+use Rattle.sched_plan.proofs.RoundLaws.{last_block-push, last_run-push}
 use Rattle.sched_plan.specs.declared.history.Event.{Event}
 use Rattle.sched_step.specs.StateOf.{began_at, ended_at}
 use Rattle.sched_step.specs.Step.{kept_or_now, is_over, round_next}

@@ -8,4 +8,8 @@ pub mod Tree
 pub mod TreeFalls
 pub mod StateOf
 pub mod Step
-pub mod Starts
+pub use Rattle.sched_plan.specs.Datum
+pub use Rattle.sched_plan.specs.Schedule
+pub use Rattle.sched_plan.specs.History
+pub use Rattle.sched_plan.specs.Answer
+pub use Rattle.sched_plan.specs.Starts

@@ -151,6 +151,12 @@ two_keeps Follow Uncrossed = true
 two_keeps Follow Crossed = true
 two_keeps k t = false
 
+-- whether the schedules are stepped side by side, each with the same event
+abbrev pub is_beside : Two → Bool
+is_beside Meet = true
+is_beside Join = true
+is_beside k = false
+
 -- node by node the progress is of the schedule's shape, and keeps no first moment after `now`
 abbrev pub fits : Schedule → Progress → ℕ → Bool
 fits (leaf l) (at_leaf s) now = leaf_keeps l s && leaf_began s now

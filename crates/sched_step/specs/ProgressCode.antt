@@ -43,30 +43,30 @@ values_from _ = []
 abbrev tagged : ℕ → Gv → Gv → Gv
 tagged tag a b = gcons (gnum tag) (gcons a b)
 
-abbrev leaf_code : LeafState → Gv
-leaf_code (Counted n) = tagged 0 (gnum n) gnil
-leaf_code (Planned n p) = tagged 1 (gnum n) (plan_code p)
-leaf_code (Windows n m) = tagged 2 (gnum n) (moment_code m)
-leaf_code (Product x) = tagged 3 (gnum x) gnil
-leaf_code (Scaled x) = tagged 4 (gnum x) gnil
-leaf_code (Summands x y) = tagged 5 (gnum x) (gnum y)
-leaf_code (Started m) = tagged 6 gnil (moment_code m)
-leaf_code Blank = tagged 7 gnil gnil
-leaf_code (Unfolded x) = tagged 8 (gnum x) gnil
-leaf_code (Spent b) = tagged 9 (gnum (bit b)) gnil
+abbrev leaf_state_code : LeafState → Gv
+leaf_state_code (Counted n) = tagged 0 (gnum n) gnil
+leaf_state_code (Planned n p) = tagged 1 (gnum n) (plan_code p)
+leaf_state_code (Windows n m) = tagged 2 (gnum n) (moment_code m)
+leaf_state_code (Product x) = tagged 3 (gnum x) gnil
+leaf_state_code (Scaled x) = tagged 4 (gnum x) gnil
+leaf_state_code (Summands x y) = tagged 5 (gnum x) (gnum y)
+leaf_state_code (Started m) = tagged 6 gnil (moment_code m)
+leaf_state_code Blank = tagged 7 gnil gnil
+leaf_state_code (Unfolded x) = tagged 8 (gnum x) gnil
+leaf_state_code (Spent b) = tagged 9 (gnum (bit b)) gnil
 
 -- the leaves' states in the order of their tags
-abbrev leaf_at : ℕ → Gv → Gv → LeafState
-leaf_at tag a b =
+abbrev leaf_state_at : ℕ → Gv → Gv → LeafState
+leaf_state_at tag a b =
     let n = number_from a in
     let states =
     Counted n ∷ Planned n (plan_from b) ∷ Windows n (moment_from b) ∷ Product n ∷ Scaled n ∷ Summands n (number_from b) ∷
     Started (moment_from b) ∷ Blank ∷ Unfolded n ∷ Spent (nat_eq n 1) ∷ [] in
     get_or states tag Blank
 
-abbrev leaf_from : Gv → LeafState
-leaf_from (gcons (gnum tag) (gcons a b)) = leaf_at tag a b
-leaf_from _ = Blank
+abbrev leaf_state_from : Gv → LeafState
+leaf_state_from (gcons (gnum tag) (gcons a b)) = leaf_state_at tag a b
+leaf_state_from _ = Blank
 
 abbrev kept_code : Kept → Gv
 kept_code none_kept = gcons (gnum 0) gnil
@@ -92,22 +92,22 @@ turn_code Together = gnum 0
 turn_code Uncrossed = gnum 1
 turn_code Crossed = gnum 2
 
-abbrev turn_at : ℕ → Turn
-turn_at tag = get_or (Together ∷ Uncrossed ∷ Crossed ∷ []) tag Together
+abbrev turn_of_tag : ℕ → Turn
+turn_of_tag tag = get_or (Together ∷ Uncrossed ∷ Crossed ∷ []) tag Together
 
 abbrev turn_from : Gv → Turn
-turn_from (gnum tag) = turn_at tag
+turn_from (gnum tag) = turn_of_tag tag
 turn_from _ = Together
 
 -- progress is stored as the tag of its shape, what its node keeps and up to two parts
 abbrev progress_code : Progress → Gv
-progress_code (at_leaf s) = gcons (gnum 0) (gcons (leaf_code s) (gcons gnil gnil))
+progress_code (at_leaf s) = gcons (gnum 0) (gcons (leaf_state_code s) (gcons gnil gnil))
 progress_code (at_one k p) = gcons (gnum 1) (gcons (kept_code k) (gcons (progress_code p) gnil))
 progress_code (at_two t p q) = gcons (gnum 2) (gcons (turn_code t) (gcons (progress_code p) (progress_code q)))
 
 abbrev shape_at : ℕ → Gv → Progress → Progress → Progress
 shape_at tag k p q =
-    cond (nat_eq tag 0) (at_leaf (leaf_from k)) (cond (nat_eq tag 1) (at_one (kept_from k) p) (at_two (turn_from k) p q))
+    cond (nat_eq tag 0) (at_leaf (leaf_state_from k)) (cond (nat_eq tag 1) (at_one (kept_from k) p) (at_two (turn_from k) p q))
 
 abbrev progress_from : Gv → Progress
 progress_from (gcons (gnum tag) (gcons k (gcons p q))) = shape_at tag k (progress_from p) (progress_from q)
@@ -125,13 +125,13 @@ values_back : (ds : List Datum) → values_from (values_code ds) ≡ ds
 values_back [] = refl
 values_back (d ∷ ds) = λ i. datum_back d i ∷ values_back ds i
 
-leaf_back : (s : LeafState) → leaf_from (leaf_code s) ≡ s
-leaf_back (Planned n p) = λ i. Planned n (plan_back p i)
-leaf_back (Windows n m) = λ i. Windows n (moment_back m i)
-leaf_back (Started m) = λ i. Started (moment_back m i)
-leaf_back (Spent true) = refl
-leaf_back (Spent false) = refl
-leaf_back s = refl
+leaf_state_back : (s : LeafState) → leaf_state_from (leaf_state_code s) ≡ s
+leaf_state_back (Planned n p) = λ i. Planned n (plan_back p i)
+leaf_state_back (Windows n m) = λ i. Windows n (moment_back m i)
+leaf_state_back (Started m) = λ i. Started (moment_back m i)
+leaf_state_back (Spent true) = refl
+leaf_state_back (Spent false) = refl
+leaf_state_back s = refl
 
 pub kept_back : (k : Kept) → kept_from (kept_code k) ≡ k
 kept_back (since m) = λ i. since (moment_back m i)
@@ -145,7 +145,7 @@ turn_back Together = refl
 turn_back _ = refl
 
 pub progress_back : (p : Progress) → progress_from (progress_code p) ≡ p
-progress_back (at_leaf s) = λ i. at_leaf (leaf_back s i)
+progress_back (at_leaf s) = λ i. at_leaf (leaf_state_back s i)
 progress_back (at_one k p) = λ i. at_one (kept_back k i) (progress_back p i)
 progress_back (at_two t p q) = λ i. at_two (turn_back t i) (progress_back p i) (progress_back q i)
 

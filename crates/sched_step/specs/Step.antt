@@ -1,6 +1,6 @@
 -- One step as the code makes it, from the kept progress alone. That it meets the definition over whole histories is
 -- what `step` ensures.
-use Rattle.std.specs.Prelude.{ℕ, ◌+◌, ◌-◌, ◌*◌, ◌/◌, min, max, Bool, true, false, if◌then◌else◌, nat_lt, nat_le, List, [], ◌∷◌, ◌++◌, get_or, Option, Some, None}
+use Rattle.std.specs.Prelude.{◌≡◌, ℕ, ◌+◌, ◌-◌, ◌*◌, ◌/◌, min, max, Bool, true, false, if◌then◌else◌, nat_lt, nat_le, List, [], ◌∷◌, ◌++◌, get_or, Option, Some, None}
 use Rattle.sched_time.specs.Capped.{capped}
 use Rattle.sched_time.specs.declared.starts.Decision.{Decision}
 use Rattle.sched_time.specs.declared.starts.Decision.TheVariants.{Go, Done}
@@ -9,7 +9,8 @@ use Rattle.sched_plan.specs.Schedule.{Schedule, leaf, one, two}
 use Rattle.sched_plan.specs.Outputs.{goes_on, number_of, with_input}
 use Rattle.sched_plan.specs.Delays.{added, added_out, jittered}
 use Rattle.sched_plan.specs.Gates.{gated}
-use Rattle.sched_plan.specs.Answer.{both, either, through, giving, silent, moved_decision, is_done, next_boundary}
+use Rattle.sched_plan.specs.Changes.{ended_where, delayed, giving, silent}
+use Rattle.sched_plan.specs.Answer.{meet_answer, join_answer, feed_answer, is_done, next_boundary}
 use Rattle.sched_plan.specs.declared.leaves.Leaf.{Leaf}
 use Rattle.sched_plan.specs.declared.leaves.Leaf.TheVariants.{Forever, Recurs, Spaced, Fixed, Windowed, Linear, Exponential, ExponentialMilli, Fibonacci, Elapsed, Identity, Unfold, Lone}
 use Rattle.sched_plan.specs.declared.nodes.Fold.{Fold}
@@ -70,9 +71,9 @@ planned_of (Planned n p) = p
 planned_of s = None
 
 -- whether the one event of a lone schedule is past
-abbrev pub is_spent : LeafState → Bool
-is_spent (Spent b) = b
-is_spent s = false
+abbrev pub lone_is_past : LeafState → Bool
+lone_is_past (Spent b) = b
+lone_is_past s = false
 
 -- the next start of `fixed d`, from the first moment and the start planned last
 abbrev pub next_fixed : ℕ → Option (ℕ × ℕ) → ℕ → ℕ
@@ -114,7 +115,7 @@ leaf_gives (Fibonacci delay) s e = num (output_next s)
 leaf_gives Elapsed s e = num (e.now - kept_or_now (started_of s) e.now)
 leaf_gives Identity s e = e.input
 leaf_gives (Unfold seed factor more) s e = num (output_next s)
-leaf_gives (Lone delay) s e = num (if is_spent s then 0 else delay)
+leaf_gives (Lone delay) s e = num (if lone_is_past s then 0 else delay)
 leaf_gives l s e = num (count_of s)
 
 -- what a leaf decides at one more event
@@ -131,7 +132,7 @@ leaf_decides (Fibonacci delay) s e = Go (capped (e.now + output_next s))
 leaf_decides Elapsed s e = Go e.now
 leaf_decides Identity s e = Go e.now
 leaf_decides (Unfold seed factor more) s e = Go e.now
-leaf_decides (Lone delay) s e = if is_spent s then Done else Go (capped (e.now + delay))
+leaf_decides (Lone delay) s e = if lone_is_past s then Done else Go (capped (e.now + delay))
 
 -- what a leaf answers to one more event
 abbrev pub leaf_answers : Leaf → LeafState → Event → Answer
@@ -167,11 +168,18 @@ begins (Renew d) s now = is_over d (since_of s) now
 begins (RenewIdle d) s now = is_over d (since_of s) now
 begins k s now = false
 
+-- what a fold makes of its number and of one more answer; a list is no number
+abbrev pub fold_total : Fold → ℕ → Answer → ℕ
+fold_total Sum n a = if goes_on a.decision then capped (n + number_of a.output) else n
+fold_total Count n a = if goes_on a.decision then capped (n + 1) else n
+fold_total Max n a = if goes_on a.decision then max n (number_of a.output) else n
+fold_total Listing n a = n
+
 -- what a fold keeps after one more event, to which the schedule under it gave this answer
 abbrev pub fold_next : Fold → Kept → Answer → Kept
-fold_next Sum s a = total (if goes_on a.decision then capped (total_of s + number_of a.output) else total_of s)
-fold_next Count s a = total (if goes_on a.decision then capped (total_of s + 1) else total_of s)
-fold_next Max s a = total (if goes_on a.decision then max (total_of s) (number_of a.output) else total_of s)
+fold_next Sum s a = total (fold_total Sum (total_of s) a)
+fold_next Count s a = total (fold_total Count (total_of s) a)
+fold_next Max s a = total (fold_total Max (total_of s) a)
 fold_next Listing s a = listed (if goes_on a.decision then listed_of s ++ a.output ∷ [] else listed_of s)
 
 -- the moment at which the present round began, if this event may begin one
@@ -185,14 +193,6 @@ one_next (Within d) s e a = since (Some (kept_or_now (since_of s) e.now))
 one_next (Renew d) s e a = round_since (Some (round_next (is_over d (since_of s) e.now) (since_of s) e.now))
 one_next (RenewIdle d) s e a = last_at (Some e.now)
 one_next k s e a = none_kept
-
--- the answer, but done where so much time has passed
-abbrev pub ended : Bool → Answer → Answer
-ended over a = if over then record { output = a.output; decision = Done } else a
-
--- the answer with its delay from `now` on changed
-abbrev pub delayed : (ℕ → ℕ) → ℕ → Answer → Answer
-delayed delay now a = record { output = a.output; decision = moved_decision delay now a.decision }
 
 -- what a fold shows of what it keeps
 abbrev pub fold_shows : Fold → Kept → Datum
@@ -208,7 +208,7 @@ one_answers (Set d) s e a = delayed (λ _. d) e.now a
 one_answers (Cap d) s e a = delayed (λ delay. min delay d) e.now a
 one_answers AddOut s e a = delayed (added_out a.output) e.now a
 one_answers (Jitter lane least most) s e a = delayed (jittered least most (get_or e.words lane 0)) e.now a
-one_answers (Within d) s e a = ended (nat_le d (e.now - kept_or_now (since_of s) e.now)) a
+one_answers (Within d) s e a = ended_where (nat_le d (e.now - kept_or_now (since_of s) e.now)) a
 one_answers (Renew d) s e a = a
 one_answers (RenewIdle d) s e a = a
 one_answers First s e a = giving (first_part a.output) a
@@ -245,11 +245,11 @@ follow_step front rest Crossed p q e = past_crossing p (rest q e)
 -- the node's step over those of both schedules
 abbrev pub two_step : Two → (Progress → Event → Progress × Answer) → (Progress → Event → Progress × Answer) → Turn → Progress → Progress → Event → Progress × Answer
 two_step Meet front rest t p q e =
-    let a = front p e in let b = rest q e in side_by_side a b (both a.1 b.1)
+    let a = front p e in let b = rest q e in side_by_side a b (meet_answer a.1 b.1)
 two_step Join front rest t p q e =
-    let a = front p e in let b = rest q e in side_by_side a b (either a.1 b.1)
+    let a = front p e in let b = rest q e in side_by_side a b (join_answer a.1 b.1)
 two_step Feed front rest t p q e =
-    let a = front p e in let b = rest q (with_input a.1.output e) in side_by_side a b (through a.1 b.1)
+    let a = front p e in let b = rest q (with_input a.1.output e) in side_by_side a b (feed_answer a.1 b.1)
 two_step Follow front rest t p q e = follow_step front rest t p q e
 
 -- The parts of progress, of whichever shape it is.
@@ -292,17 +292,21 @@ step_of (two k a b) p e = two_step k (step_of a) (step_of b) (turn_in p) (first_
 -- A step may begin anew, from before the first event, whatever the progress is.
 
 -- the leaf's state that a step is made from
-abbrev pub leaf_from : Bool → Leaf → LeafState → LeafState
-leaf_from fresh l s = if fresh then leaf_state l [] else s
+abbrev pub leaf_origin : Bool → Leaf → LeafState → LeafState
+leaf_origin fresh l s = if fresh then leaf_state l [] else s
 
 -- what the node keeps where a step is made
-abbrev pub kept_from : Bool → One → Kept → Kept
-kept_from fresh k s = if fresh then first_kept k else s
+abbrev pub kept_origin : Bool → One → Kept → Kept
+kept_origin fresh k s = if fresh then first_kept k else s
 
 -- whose turn it is where a step is made
-abbrev pub turn_from : Bool → Two → Turn → Turn
-turn_from fresh k t = if fresh then first_turn k else t
+abbrev pub turn_origin : Bool → Two → Turn → Turn
+turn_origin fresh k t = if fresh then first_turn k else t
 
 -- the progress that a step is made from
-abbrev pub from : Bool → Schedule → Progress → Progress
-from fresh s p = if fresh then state_of s [] else p
+abbrev pub origin : Bool → Schedule → Progress → Progress
+origin fresh s p = if fresh then state_of s [] else p
+
+-- the progress after one more event, and the answer to it, are these; a fresh step begins anew
+abbrev pub Steps : Schedule → Bool → Event → Progress → Progress → Answer → Type 0
+Steps s fresh e p next given = (next, given) ≡ step_of s (origin fresh s p) e

@@ -1,6 +1,6 @@
 ghost use Rattle.std.specs.Prelude.{◌≡◌, ℕ, ◌<◌, ◌≤◌, min, get_or, length, IsTrue};
 ghost use Rattle.sched_time.specs.Capped.{capped};
-ghost use Rattle.sched_plan.specs.Answer.{moved_decision};
+ghost use Rattle.sched_plan.specs.Changes.{moved_decision};
 ghost use Rattle.sched_plan.specs.Delays.{added, added_out, jittered};
 ghost use Rattle.sched_plan.specs.Gates.{compares, gated, passes};
 ghost use Rattle.sched_plan.specs.Schedule.{one_in_range};
@@ -12,37 +12,39 @@ ghost use Rattle.sched_step.specs.Step.{answered, one_answers};
 use crate::marks::Mark;
 use crate::outputs::{put_first, put_number, put_second, put_unit};
 use crate::times::{go_after, time_between};
+use crate::walks::Walk;
 use sched_plan::{One, Side, Test, Val, ValShape};
 use sched_time::{Decision, FAR, Millis, Moment, Tick};
 
 /// Makes the output and decision of the plan under a node what the node answers, where it keeps this mark.
 pub(crate) fn change(
+    walk: &Walk<'_>,
     node: &One,
     mark: &Mark,
-    tick: &Tick,
-    input: &Val,
     output: &mut Val,
     decision: &mut Decision,
 )
     requires valid { IsTrue (one_in_range node.now) }
     requires keeps { IsTrue (one_keeps node.now (kept_mark mark.now)) }
     ensures { answered output.new decision.new ≡ one_answers node.now (kept_mark mark.now)
-        (event_of tick.entry.now input.now) (answered output.old decision.old) }
+        (event_of walk.now.tick walk.now.input.now) (answered output.old decision.old) }
 {
-    let now = tick.now;
+    let now = walk.tick.now;
     match *node {
         One::Gate {
             side,
             want,
             test,
             bound,
-        } => *decision = gate(side, want, test, bound, input, output, *decision),
+        } => *decision = gate(side, want, test, bound, walk.input, output, *decision),
         One::Gather(_) => put_number(output, mark.total()),
         One::Add(more) => *decision = add(more, now, *decision),
         One::Set(delay) => *decision = set(delay, now, *decision),
         One::Cap(most) => *decision = cap(most, now, *decision),
         One::AddOut => *decision = add_out(now, output, *decision),
-        One::Jitter { lane, least, most } => *decision = jitter(lane, least, most, tick, *decision),
+        One::Jitter { lane, least, most } => *decision = jitter(
+            lane, least, most, &walk.tick, *decision,
+        ),
         One::Within(length) => {
             let first = mark.since().unwrap_or(now);
             if length <= time_between(first, now) {
@@ -168,7 +170,8 @@ fn jitter(lane: usize, least: u64, most: u64, tick: &Tick, decision: Decision) -
     requires lane { lane ≤ 3 }
     requires order { least ≤ most }
     requires small { most ≤ 10000 }
-    ensures { result ≡ moved_decision (jittered least most (get_or tick.entry.now.words lane 0)) tick.entry.now.now decision }
+    ensures { result ≡ moved_decision (jittered least most (get_or tick.entry.now.words lane 0))
+        tick.entry.now.now decision }
 {
     let now = tick.now;
     match decision {
@@ -181,7 +184,7 @@ fn jitter(lane: usize, least: u64, most: u64, tick: &Tick, decision: Decision) -
 }
 
 // The delay in the ratio that a random word picks between two bounds in thousandths, rounded down.
-#[tactic(auto, using(sched_plan::specs::DelayLaws::jitter_fits))]
+#[tactic(auto, using(sched_plan::proofs::DelayLaws::jitter_fits))]
 fn jittered(least: u64, most: u64, word: u32, delay: Millis) -> Millis
     requires order { least ≤ most }
     requires small { most ≤ 10000 }

@@ -1,11 +1,11 @@
 ghost use Rattle.std.specs.Prelude.{◌≡◌};
-ghost use Rattle.sched_plan.specs.Answer.{earlier, later};
+ghost use Rattle.sched_plan.specs.Answer.{join_decisions, meet_decisions};
 
 use sched_time::Decision;
 
 /// Going on at the later start where both do.
-pub(crate) fn later(one: Decision, other: Decision) -> Decision
-    ensures { result ≡ later one other }
+pub(crate) fn meet(one: Decision, other: Decision) -> Decision
+    ensures { result ≡ meet_decisions one other }
 {
     match one {
         Decision::Go(one) => match other {
@@ -17,8 +17,8 @@ pub(crate) fn later(one: Decision, other: Decision) -> Decision
 }
 
 /// Going on at the earlier start where both do, and where one does at its start.
-pub(crate) fn earlier(one: Decision, other: Decision) -> Decision
-    ensures { result ≡ earlier one other }
+pub(crate) fn join(one: Decision, other: Decision) -> Decision
+    ensures { result ≡ join_decisions one other }
 {
     match one {
         Decision::Go(first) => match other {

@@ -1,14 +1,16 @@
 ghost use Rattle.std.specs.Prelude.{◌≡◌, IfOk, IsTrue};
 ghost use Rattle.sched_plan.specs.Schedule.{one_in_range};
+ghost use Rattle.sched_step.specs.Kept.{kept_mark, kept_phases};
 ghost use Rattle.sched_step.specs.Progress.{one_view, one_keeps, one_began};
 ghost use Rattle.sched_step.specs.StateOf.{event_of, first_kept};
-ghost use Rattle.sched_step.specs.Step.{answered, begins, kept_from, one_next, one_answers};
+ghost use Rattle.sched_step.specs.Step.{answered, begins, kept_origin, one_next, one_answers};
 
 use crate::changes::change;
 use crate::lists::Listed;
 use crate::marks::Mark;
+use crate::walks::Walk;
 use sched_plan::{Fold, One, Val};
-use sched_time::{Decision, Millis, Moment, NoMemory, Tick};
+use sched_time::{Decision, Millis, Moment, NoMemory};
 use std::alloc::Global;
 use std::marker::Model;
 
@@ -28,6 +30,16 @@ pub(crate) enum KeptShape {
     Listed(Listed),
 }
 
+impl KeptShape {
+    // A mark, with no step under way.
+    fn at(present: Mark) -> KeptShape
+        ensures { (kept_phases result).present ≡ kept_mark present }
+    {
+        let next = present;
+        KeptShape::Marked { present, next }
+    }
+}
+
 impl Model for Kept {
     ghost use Rattle.sched_step.specs.Phases.{KeptPhases, coded_kept_phases};
 
@@ -45,13 +57,23 @@ impl Kept {
     pub(crate) fn initial(alloc: Global, node: One) -> Kept
         ensures { result.present ≡ first_kept node }
     {
-        let shape = match Mark::initial(node) {
-            Some(Mark::Bare) => KeptShape::Bare,
-            Some(present) => {
-                let next = present;
-                KeptShape::Marked { present, next }
+        let shape = match node {
+            One::Gather(Fold::List) => KeptShape::Listed(Listed::new(alloc)),
+            One::Gather(Fold::Sum | Fold::Count | Fold::Max) => {
+                KeptShape::at(Mark::Total(Millis::from(0)))
             }
-            None => KeptShape::Listed(Listed::new(alloc)),
+            One::Within(_) => KeptShape::at(Mark::Since(None)),
+            One::Renew(_) => KeptShape::at(Mark::RoundSince(None)),
+            One::RenewIdle(_) => KeptShape::at(Mark::LastAt(None)),
+            One::Gate { .. }
+            | One::Add(_)
+            | One::Set(_)
+            | One::Cap(_)
+            | One::AddOut
+            | One::Jitter { .. }
+            | One::First
+            | One::Second
+            | One::Nothing => KeptShape::Bare,
         };
         Kept { shape }
     }
@@ -94,7 +116,7 @@ impl Kept {
         }
     }
 
-    /// An equal one. Refused only for want of memory.
+    /// An equal one. Fails only with `NoMemory`.
     pub(crate) fn copy(&self, alloc: Global) -> Result<Kept, NoMemory>
         ensures { IfOk result (λ kept. kept.present ≡ self.now.present) }
     {
@@ -118,7 +140,7 @@ impl Kept {
         match &mut self.shape {
             KeptShape::Bare => {}
             KeptShape::Listed(outputs) => outputs.restart(),
-            KeptShape::Marked { present, next } => *next = present.from(true, node),
+            KeptShape::Marked { present, next } => *next = present.origin(true, node),
         }
     }
 
@@ -144,14 +166,12 @@ impl Kept {
         }
     }
 
-    /// Notes what the step under way makes of it, and makes the output and decision of the plan under the node the node's.
+    /// Notes what the step under way makes of it, and makes of the output and decision of the plan under the node those of
+    /// the node.
     pub(crate) fn step(
         &mut self,
-        alloc: Global,
+        walk: &Walk<'_>,
         node: &One,
-        fresh: bool,
-        tick: &Tick,
-        input: &Val,
         output: &mut Val,
         decision: &mut Decision,
     ) -> Result<(), NoMemory>
@@ -159,22 +179,22 @@ impl Kept {
         requires keeps { IsTrue (one_keeps node.now self.old.present) }
         ensures present { self.new.present ≡ self.old.present }
         ensures next { IfOk result (λ _. self.new.next ≡
-            one_next node.now (kept_from fresh node.now self.old.present) (event_of tick.entry.now input.now)
-            (answered output.old decision.old)) }
+            one_next node.now (kept_origin walk.now.fresh node.now self.old.present)
+            (event_of walk.now.tick walk.now.input.now) (answered output.old decision.old)) }
         ensures answer { IfOk result (λ _. answered output.new decision.new ≡
-            one_answers node.now (kept_from fresh node.now self.old.present) (event_of tick.entry.now input.now)
-            (answered output.old decision.old)) }
+            one_answers node.now (kept_origin walk.now.fresh node.now self.old.present)
+            (event_of walk.now.tick walk.now.input.now) (answered output.old decision.old)) }
     {
         let from = match &mut self.shape {
             KeptShape::Bare => Mark::Bare,
-            KeptShape::Listed(outputs) => return outputs.step(alloc, fresh, output, *decision),
+            KeptShape::Listed(outputs) => return outputs.step(walk, output, *decision),
             KeptShape::Marked { present, next } => {
-                let from = present.from(fresh, *node);
-                *next = from.next(node, tick, input, output, decision);
+                let from = present.origin(walk.fresh, *node);
+                *next = from.next(walk, node, output, decision);
                 from
             }
         };
-        change(node, &from, tick, input, output, decision);
+        change(walk, node, &from, output, decision);
         Ok(())
     }
 }

@@ -4,13 +4,15 @@ ghost use Rattle.sched_time.specs.declared.starts.Decision.{Decision};
 ghost use Rattle.sched_plan.specs.Schedule.{leaf_in_range};
 ghost use Rattle.sched_step.specs.Progress.{leaf_view, leaf_keeps, leaf_began};
 ghost use Rattle.sched_step.specs.StateOf.{leaf_state, event_of};
-ghost use Rattle.sched_step.specs.Step.{answered, count_of, output_next, output_after, started_of, planned_of, is_spent, leaf_next, leaf_answers, first_planned, next_fixed};
+ghost use Rattle.sched_step.specs.Step.{answered, leaf_next, leaf_answers, count_of, output_next, output_after};
+ghost use Rattle.sched_step.specs.Step.{started_of, planned_of, lone_is_past, first_planned, next_fixed};
 
 use crate::changes::at_most_far;
 use crate::outputs::{put_copy, put_number};
 use crate::times::{go_after, go_at, next_boundary, time_between, view_moment};
+use crate::walks::Walk;
 use sched_plan::{Leaf, Val};
-use sched_time::{Decision, Millis, Moment, NoMemory, Tick};
+use sched_time::{Decision, Millis, Moment, NoMemory};
 use std::alloc::Global;
 
 // What is kept of a leaf's events.
@@ -124,24 +126,23 @@ impl LeafState {
         }
     }
 
-    /// Notes in `next` the state after one more event, and makes `output` and `decision` what the leaf answers to it. It takes memory for
-    /// the output alone.
+    /// Notes in `next` the state after one more event, and makes `output` and `decision` what the leaf answers to it. It
+    /// takes memory for the output alone.
     pub(crate) fn step(
         &self,
-        alloc: Global,
+        walk: &Walk<'_>,
         leaf: &Leaf,
         next: &mut LeafState,
-        tick: &Tick,
-        input: &Val,
         output: &mut Val,
         decision: &mut Decision,
     ) -> Result<(), NoMemory>
         requires { IsTrue (leaf_in_range leaf.now) }
-        ensures next { IfOk result (λ _. next.new ≡ leaf_next leaf.now self.now (event_of tick.entry.now input.now)) }
-        ensures answer { IfOk result
-            (λ _. answered output.new decision.new ≡ leaf_answers leaf.now self.now (event_of tick.entry.now input.now)) }
+        ensures next { IfOk result (λ _.
+            next.new ≡ leaf_next leaf.now self.now (event_of walk.now.tick walk.now.input.now)) }
+        ensures answer { IfOk result (λ _. answered output.new decision.new ≡
+            leaf_answers leaf.now self.now (event_of walk.now.tick walk.now.input.now)) }
     {
-        let now = tick.now;
+        let now = walk.tick.now;
         match *leaf {
             Leaf::Forever => {
                 let count = self.count();
@@ -210,7 +211,7 @@ impl LeafState {
             }
             Leaf::Identity => {
                 *next = LeafState::Blank;
-                put_copy(alloc, output, input)?;
+                put_copy(walk.alloc, output, walk.input)?;
                 *decision = go_at(now);
             }
             Leaf::Unfold { factor, more, .. } => {
@@ -220,9 +221,9 @@ impl LeafState {
                 *decision = go_at(now);
             }
             Leaf::Lone(delay) => {
-                let is_spent = self.is_spent();
+                let is_past = self.is_past();
                 *next = LeafState::Spent(true);
-                if is_spent {
+                if is_past {
                     put_number(output, Millis::from(0));
                     *decision = Decision::Done;
                 } else {
@@ -290,8 +291,8 @@ impl LeafState {
     }
 
     // Whether the one event is past.
-    fn is_spent(&self) -> bool
-        ensures { result ≡ is_spent self.now }
+    fn is_past(&self) -> bool
+        ensures { result ≡ lone_is_past self.now }
     {
         match *self {
             LeafState::Spent(spent) => spent,
@@ -303,20 +304,19 @@ impl LeafState {
 /// A leaf's first step, from before the first event.
 #[inline(never)]
 pub(crate) fn begin(
-    alloc: Global,
+    walk: &Walk<'_>,
     leaf: &Leaf,
     next: &mut LeafState,
-    tick: &Tick,
-    input: &Val,
     output: &mut Val,
     decision: &mut Decision,
 ) -> Result<(), NoMemory>
     requires { IsTrue (leaf_in_range leaf.now) }
-    ensures next { IfOk result (λ _. next.new ≡ leaf_next leaf.now (leaf_state leaf.now []) (event_of tick.entry.now input.now)) }
-    ensures answer { IfOk result
-        (λ _. answered output.new decision.new ≡ leaf_answers leaf.now (leaf_state leaf.now []) (event_of tick.entry.now input.now)) }
+    ensures next { IfOk result (λ _.
+        next.new ≡ leaf_next leaf.now (leaf_state leaf.now []) (event_of walk.now.tick walk.now.input.now)) }
+    ensures answer { IfOk result (λ _. answered output.new decision.new ≡
+        leaf_answers leaf.now (leaf_state leaf.now []) (event_of walk.now.tick walk.now.input.now)) }
 {
-    LeafState::initial(*leaf).step(alloc, leaf, next, tick, input, output, decision)
+    LeafState::initial(*leaf).step(walk, leaf, next, output, decision)
 }
 
 // The count after one more event.

@@ -16,6 +16,7 @@ mod tests;
 mod times;
 mod trees;
 mod turns;
+mod walks;
 
 pub use sched_plan::{Answer, Event};
 pub use states::{State, initial};

@@ -3,7 +3,8 @@ ghost use Rattle.sched_plan.specs.Datum.{list, items_of};
 ghost use Rattle.sched_plan.specs.Outputs.{goes_on};
 ghost use Rattle.sched_step.specs.Listed.{items_next};
 
-use sched_plan::Val;
+use crate::walks::Walk;
+use sched_plan::{Val, copy_items};
 use sched_time::{Decision, NoMemory};
 use std::alloc::Global;
 use std::marker::Model;
@@ -45,22 +46,22 @@ impl Listed {
         }
     }
 
-    /// The same outputs. Refused only for want of memory.
+    /// The same outputs. Fails only with `NoMemory`.
     pub(crate) fn copy(&self, alloc: Global) -> Result<Listed, NoMemory>
         ensures { IfOk result (λ listed. listed.present ≡ self.now.present) }
     {
         Ok(Listed {
-            items: copy_all(alloc, &self.items)?,
+            items: copy_items(alloc, &self.items)?,
             anew: false,
             more: None,
         })
     }
 
-    /// The outputs as a value. Refused only for want of memory.
+    /// The outputs as a value. Fails only with `NoMemory`.
     pub(crate) fn view(&self, alloc: Global) -> Result<Val, NoMemory>
         ensures { IfOk result (λ v. v ≡ list (items_of self.now.present)) }
     {
-        Ok(Val::list(copy_all(alloc, &self.items)?))
+        Ok(Val::list(copy_items(alloc, &self.items)?))
     }
 
     /// The step under way makes them none.
@@ -86,32 +87,32 @@ impl Listed {
         }
     }
 
-    /// Notes the output where the plan under the node goes on, and puts the outputs so far in its place. A fresh step begins from none.
+    /// Notes the output where the plan under the node goes on, and puts the outputs so far in its place. A fresh step
+    /// begins from none.
     #[inline(never)]
     pub(crate) fn step(
         &mut self,
-        alloc: Global,
-        fresh: bool,
+        walk: &Walk<'_>,
         output: &mut Val,
         decision: Decision,
     ) -> Result<(), NoMemory>
         ensures present { self.new.present ≡ self.old.present }
-        ensures next { let before = (if fresh then [] else self.old.present) in IfOk result (λ _. self.new.next ≡
+        ensures next { let before = (if walk.now.fresh then [] else self.old.present) in IfOk result (λ _. self.new.next ≡
             (if goes_on decision then before ++ output.old ∷ [] else before)) }
-        ensures output { let before = (if fresh then [] else self.old.present) in
+        ensures output { let before = (if walk.now.fresh then [] else self.old.present) in
             IfOk result (λ _. output.new ≡ list (items_of before)) }
     {
-        let shown = if fresh {
-            Vec::new(alloc)
+        let shown = if walk.fresh {
+            Vec::new(walk.alloc)
         } else {
-            copy_all(alloc, &self.items)?
+            copy_items(walk.alloc, &self.items)?
         };
         let last = mem::replace(output, Val::list(shown));
         let more = match decision {
             Decision::Go(_) => Some(last),
             Decision::Done => None,
         };
-        self.note(fresh, more)
+        self.note(walk.fresh, more)
     }
 
     // The step under way begins from none where it is anew, and adds this output.
@@ -127,15 +128,4 @@ impl Listed {
         self.more = more;
         Ok(())
     }
-}
-
-// Equal values in the same order.
-fn copy_all(alloc: Global, items: &Vec<Val>) -> Result<Vec<Val>, NoMemory>
-    ensures { IfOk result (λ copies. copies.items ≡ items.now.items) }
-{
-    let mut copies = Vec::with_capacity(alloc, items.len())?;
-    for item in items {
-        copies.push(item.copy(alloc)?)?;
-    }
-    Ok(copies)
 }

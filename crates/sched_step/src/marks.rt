@@ -1,13 +1,14 @@
-ghost use Rattle.std.specs.Prelude.{◌≡◌, ◌≢◌, [], max, IfOk, IsTrue, MatchOption};
+ghost use Rattle.std.specs.Prelude.{◌≡◌, max, IfOk, IsTrue};
 ghost use Rattle.sched_plan.specs.Outputs.{number_of};
-ghost use Rattle.sched_step.specs.Kept.{kept_mark};
-ghost use Rattle.sched_step.specs.Progress.{listed, total as number_total, one_view, one_keeps, one_began};
-ghost use Rattle.sched_step.specs.StateOf.{event_of, first_kept};
-ghost use Rattle.sched_step.specs.Step.{answered, begins, fold_next, is_over, kept_from, one_next, round_next, since_of, total_of};
+ghost use Rattle.sched_step.specs.Kept.{kept_mark, mark_anew};
+ghost use Rattle.sched_step.specs.Progress.{one_view, one_keeps, one_began};
+ghost use Rattle.sched_step.specs.StateOf.{event_of};
+ghost use Rattle.sched_step.specs.Step.{answered, begins, fold_total, is_over, kept_origin, one_next, round_next, since_of, total_of};
 
 use crate::times::{time_between, view_moment};
+use crate::walks::Walk;
 use sched_plan::{Fold, One, Val, ValShape};
-use sched_time::{Decision, Millis, Moment, NoMemory, Tick};
+use sched_time::{Decision, Millis, Moment, NoMemory};
 use std::alloc::Global;
 
 /// What a node over one plan keeps, where that is no list.
@@ -26,41 +27,26 @@ pub(crate) enum Mark {
 }
 
 impl Mark {
-    /// Before the first event; `None` of a node that keeps a list.
-    pub(crate) fn initial(node: One) -> Option<Mark>
-        ensures { MatchOption result (first_kept node ≡ listed []) (λ mark. kept_mark mark ≡ first_kept node) }
-    {
-        match node {
-            One::Gather(Fold::List) => None,
-            One::Gather(Fold::Sum | Fold::Count | Fold::Max) => Some(Mark::Total(Millis::from(0))),
-            One::Within(_) => Some(Mark::Since(None)),
-            One::Renew(_) => Some(Mark::RoundSince(None)),
-            One::RenewIdle(_) => Some(Mark::LastAt(None)),
-            One::Gate { .. }
-            | One::Add(_)
-            | One::Set(_)
-            | One::Cap(_)
-            | One::AddOut
-            | One::Jitter { .. }
-            | One::First
-            | One::Second
-            | One::Nothing => Some(Mark::Bare),
-        }
-    }
-
     /// Where a step is made that may begin anew.
-    #[tactic(auto, using(crate::proofs::KeepsList::marked_first, crate::proofs::KeepsList::first_keeps))]
-    pub(crate) fn from(self, fresh: bool, node: One) -> Mark
+    #[tactic(auto, using(crate::proofs::Marked::anew_first, crate::proofs::Marked::anew_keeps))]
+    pub(crate) fn origin(self, fresh: bool, node: One) -> Mark
         requires { IsTrue (one_keeps node (kept_mark self)) }
-        ensures value { kept_mark result ≡ kept_from fresh node (kept_mark self) }
+        ensures value { kept_mark result ≡ kept_origin fresh node (kept_mark self) }
         ensures keeps { IsTrue (one_keeps node (kept_mark result)) }
     {
-        if !fresh {
-            return self;
-        }
-        match Mark::initial(node) {
-            Some(mark) => mark,
-            None => unreachable!(),
+        if fresh { self.anew() } else { self }
+    }
+
+    // The mark of its kind before the first event.
+    fn anew(self) -> Mark
+        ensures { result ≡ mark_anew self }
+    {
+        match self {
+            Mark::Bare => Mark::Bare,
+            Mark::Since(_) => Mark::Since(None),
+            Mark::RoundSince(_) => Mark::RoundSince(None),
+            Mark::LastAt(_) => Mark::LastAt(None),
+            Mark::Total(_) => Mark::Total(Millis::from(0)),
         }
     }
 
@@ -143,19 +129,19 @@ impl Mark {
     }
 
     /// After one more event, to which the plan under the node gave this output and decision.
+    #[tactic(auto, using(crate::proofs::Marked::totalled))]
     pub(crate) fn next(
         &self,
+        walk: &Walk<'_>,
         node: &One,
-        tick: &Tick,
-        input: &Val,
         output: &Val,
         decision: &Decision,
     ) -> Mark
         requires { IsTrue (one_keeps node.now (kept_mark self.now)) }
-        ensures { kept_mark result ≡ one_next node.now (kept_mark self.now) (event_of tick.entry.now input.now)
-            (answered output.now decision.now) }
+        ensures { kept_mark result ≡ one_next node.now (kept_mark self.now)
+            (event_of walk.now.tick walk.now.input.now) (answered output.now decision.now) }
     {
-        let now = tick.now;
+        let now = walk.tick.now;
         match *node {
             One::Gather(fold) => Mark::Total(folded(fold, self.total(), output, decision)),
             One::Within(_) => Mark::Since(Some(self.since().unwrap_or(now))),
@@ -194,10 +180,9 @@ fn round(length: Millis, since: Option<Moment>, now: Moment) -> Moment
     }
 }
 
-// What a fold makes of the outputs so far and of this one.
+// What a fold makes of its number so far and of this output; a list is kept as no number.
 fn folded(fold: Fold, total: Millis, output: &Val, decision: &Decision) -> Millis
-    requires { fold ≢ Fold.List }
-    ensures { number_total result ≡ fold_next fold (number_total total) (answered output.now decision.now) }
+    ensures { result ≡ fold_total fold total (answered output.now decision.now) }
 {
     if let Decision::Done = *decision {
         return total;
@@ -206,7 +191,7 @@ fn folded(fold: Fold, total: Millis, output: &Val, decision: &Decision) -> Milli
         Fold::Sum => total.plus(number(output)),
         Fold::Count => total.plus(Millis::from(1)),
         Fold::Max => greater(total, number(output)),
-        Fold::List => unreachable!(),
+        Fold::List => total,
     }
 }
 

@@ -22,7 +22,7 @@ pub(crate) fn put_number(output: &mut Val, number: Millis)
     *output = Val::from(number);
 }
 
-/// Makes the output a copy of this value. Refused only for want of memory.
+/// Makes the output a copy of this value. Fails only with `NoMemory`.
 #[inline(never)]
 pub(crate) fn put_copy(alloc: Global, output: &mut Val, value: &Val) -> Result<(), NoMemory>
     ensures { IfOk result (λ _. output.new ≡ value.now) }

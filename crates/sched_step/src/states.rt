@@ -27,7 +27,7 @@ impl Model for State {
 }
 
 impl State {
-    /// The value that shows how far the plan has come. Refused only for want of memory.
+    /// The value that shows how far the plan has come. Fails only with `NoMemory`.
     pub fn view(&self, alloc: Global) -> Result<Val, NoMemory>
         ensures { IfOk result (λ v. v ≡ view_of self.now) }
     {
@@ -51,7 +51,7 @@ impl State {
         self.tree.commit();
     }
 
-    /// An equal state. Refused only for want of memory.
+    /// An equal state. Fails only with `NoMemory`.
     pub(crate) fn copy(&self, alloc: Global) -> Result<State, NoMemory>
         ensures { IfOk result (λ state. state ≡ self.now) }
     {
@@ -60,7 +60,7 @@ impl State {
     }
 }
 
-/// The state of the plan before its first event. Refused only for want of memory.
+/// The state of the plan before its first event. Fails only with `NoMemory`.
 pub fn initial(alloc: Global, plan: &Plan) -> Result<State, NoMemory>
     ensures value { IfOk result (λ state. state ≡ state_of plan.now []) }
     ensures fits { IfOk result (λ state. (now : ℕ) → IsTrue (fits plan.now state now)) }

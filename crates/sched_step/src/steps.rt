@@ -7,6 +7,7 @@ ghost use Rattle.sched_step.specs.Starts.{StartsBy};
 
 use crate::advance::advance;
 use crate::states::State;
+use crate::walks::Walk;
 use sched_plan::{Answer, Plan, Val};
 use sched_time::{Decision, NoMemory, Tick};
 use std::alloc::Global;
@@ -15,7 +16,7 @@ impl State {
     /// Steps the plan with one more event, in place, and gives what it answers. It takes memory for the output alone.
     ///
     /// The state must fit the plan at the tick's moment, as that of `initial`, `renew` and every earlier step does where
-    /// moments don't fall. Refused only for want of memory; the state is then unchanged.
+    /// moments don't fall. Fails only with `NoMemory`; the state is then unchanged.
     pub fn advance(
         &mut self,
         alloc: Global,
@@ -41,16 +42,13 @@ impl State {
         let _shape = plan.shape();
         let mut output = Val::unit();
         let mut decision = Decision::Done;
-        advance(
+        let walk = Walk {
             alloc,
-            plan,
-            &mut self.tree,
-            false,
-            tick,
+            tick: *tick,
             input,
-            &mut output,
-            &mut decision,
-        )?;
+            fresh: false,
+        };
+        advance(&walk, plan, &mut self.tree, &mut output, &mut decision)?;
         self.tree.commit();
         Ok(Answer { output, decision })
     }
@@ -59,7 +57,7 @@ impl State {
 /// The state after one more event, beside the old one, and what the plan answers.
 ///
 /// The state must fit the plan at the tick's moment, as that of `initial`, `renew` and every earlier step does where
-/// moments don't fall. Refused only for want of memory.
+/// moments don't fall. Fails only with `NoMemory`.
 pub fn step(
     alloc: Global,
     plan: &Plan,

@@ -54,7 +54,7 @@ impl Model for Tree {
 }
 
 impl Tree {
-    /// Before the first event. Refused only for want of memory.
+    /// Before the first event. Fails only with `NoMemory`.
     pub(crate) fn initial(alloc: Global, plan: &Plan) -> Result<Tree, NoMemory>
         ensures { IfOk result (λ tree. tree.present ≡ state_of plan.now []) }
     {
@@ -82,7 +82,7 @@ impl Tree {
         Ok(Tree { shape })
     }
 
-    /// A tree that is what this one is. Refused only for want of memory.
+    /// A tree that is what this one is. Fails only with `NoMemory`.
     pub(crate) fn copy(&self, alloc: Global) -> Result<Tree, NoMemory>
         ensures { IfOk result (λ tree. tree.present ≡ self.now.present) }
     {
@@ -104,7 +104,7 @@ impl Tree {
         Ok(Tree { shape })
     }
 
-    /// The value that shows how far the plan has come. Refused only for want of memory.
+    /// The value that shows how far the plan has come. Fails only with `NoMemory`.
     pub(crate) fn view(&self, alloc: Global) -> Result<Val, NoMemory>
         ensures { IfOk result (λ v. v ≡ view_of self.now.present) }
     {

@@ -2,7 +2,7 @@ ghost use Rattle.std.specs.Prelude.{◌≡◌, IfOk};
 ghost use Rattle.sched_plan.specs.Datum.{num};
 ghost use Rattle.sched_step.specs.Progress.{two_view, two_keeps};
 ghost use Rattle.sched_step.specs.StateOf.{first_turn};
-ghost use Rattle.sched_step.specs.Step.{turn_from};
+ghost use Rattle.sched_step.specs.Step.{turn_origin};
 
 use sched_plan::{Two, Val};
 use sched_time::{Millis, NoMemory};
@@ -47,8 +47,8 @@ impl Turn {
     }
 
     /// Where a step is made that may begin anew.
-    pub(crate) fn from(self, fresh: bool, node: Two) -> Turn
-        ensures { result ≡ turn_from fresh node self }
+    pub(crate) fn origin(self, fresh: bool, node: Two) -> Turn
+        ensures { result ≡ turn_origin fresh node self }
     {
         if fresh { Turn::initial(node) } else { self }
     }

@@ -1,3 +1,4 @@
 pub mod Course
 pub mod Polls
+pub mod System
 pub mod Words

@@ -4,6 +4,7 @@
 
 mod clocks;
 mod endings;
+mod system;
 mod tasks;
 #[cfg(test)]
 mod tests;
@@ -12,6 +13,7 @@ mod words;
 
 pub use clocks::{Clock, VirtualClock};
 pub use endings::{How, RunFault};
+pub use system::{SystemClock, TimeSource};
 pub use tasks::Task;
 pub use timed::Timed;
-pub use words::{MidWords, four_words};
+pub use words::{MidWords, SystemWords, four_words};

@@ -14,6 +14,8 @@ use std::random::RandomSource;
 use std::sync::Wait;
 use std::test::Fail;
 
+mod system;
+
 fn moment(rt: &impl Abort, at: u64) -> Moment {
     Moment::new(at).expect(rt, "the moment is in range")
 }

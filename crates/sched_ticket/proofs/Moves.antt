@@ -9,7 +9,7 @@ use Rattle.atomic_table.specs.Table.{Step, Act, keeps, Valid, carried_after, ste
 use Rattle.atomic_table.proofs.Lists.{at_set, at_snoc, set_else}
 use Rattle.sched_ticket.specs.Lists.{total, below, Each}
 use Rattle.sched_ticket.specs.View.{with_ticket, with_refusal, with_floor, with_raise, with_mark, with_refused_split, with_part, without_part, part_of, both, blank_view}
-use Rattle.sched_ticket.specs.Rule.{number_weight, weights, splits, refused_splits, IsMarked, IsRefusal, Fits, IsOrderly, IsKept}
+use Rattle.sched_ticket.specs.Rule.{drawn_at, made_at, limit_at, laid, number_weight, weights, splits, refused_splits, IsMarked, IsRefusal, Fits, IsOrderly, IsKept}
 use Rattle.sched_ticket.specs.Steps.{Sat, draws, counts, learns, looks, reads_limit, raises}
 use Rattle.sched_ticket.specs.declared.view.Terms.{Terms}
 use Rattle.sched_ticket.specs.declared.view.Refusal.{Refusal}
@@ -42,13 +42,14 @@ module _ (k : Terms) where
   refusals-on : (limit limit' : ℕ) (xs : List Refusal) → limit ≤ limit' → Each (IsRefusal k limit) xs → Each (IsRefusal k limit') xs
   refusals-on limit limit' xs up h = Each-map (IsRefusal k limit) (IsRefusal k limit') (λ r t. (t.0, t.1, omega (arith, t.2))) xs h
 
+  -- and so do its tickets while its floor rises
   tickets-on : (limit limit' : ℕ) (xs : List ℕ) → limit ≤ limit' → Each (λ t. t < limit) xs → Each (λ t. t < limit') xs
   tickets-on limit limit' xs up h = Each-map (λ t. t < limit) (λ t. t < limit') (λ x t. omega arith) xs h
 
   -- another pass's view still fits
   Fits-on : (made made' limit limit' all all' other : ℕ) (u : View) → Fits k made limit all u → made ≤ made' → limit ≤ limit' → all ≤ all' → 0 < other → u.weight + other ≤ all → Fits k made' limit' all' u
   Fits-on made made' limit limit' all all' other u f more up wide live room = record {
-    tickets = tickets-on limit limit' u.tickets up f.tickets;
+    tickets = f.tickets;
     refusals = refusals-on limit limit' u.refusals up f.refusals;
     floor = omega (arith, f.floor);
     live = f.live;
@@ -93,25 +94,25 @@ module _ (k : Terms) where
   -- a step is allowed if it is at each three words
   allows : (n id : ℕ) (m : Sat) (i : ℕ) (f : ℕ → ℕ) (then : ℕ → Sat → Type 0)
       → ((d made l : ℕ) (views : List View) → IsOrderly k d made l views → get_elem? views id ≡ some m.0
-      → (w : View) × ((homes : List (Option ℕ)) → IsKept k (record { words = set (d ∷ made ∷ l ∷ []) i (f (slice_index (d ∷ made ∷ l ∷ []) i)); homes = homes; views = set views id w })) × then (slice_index (d ∷ made ∷ l ∷ []) i) (w, m.1))
+      → (w : View) × ((homes : List (Option ℕ)) → IsKept k (record { words = set (laid d made l) i (f (slice_index (laid d made l) i)); homes = homes; views = set views id w })) × then (slice_index (laid d made l) i) (w, m.1))
       → Allows (IsKept k) n id m i f then
   allows n id m i f then go s kept wide at fits =
       let there = go kept.drawn kept.made kept.limit s.views kept.orderly at in
       let G : List ℕ → Type 0 = λ ws. (w : View) × (a : Act ℕ) × Valid s.homes m.1 a × IsKept k (stepped (record { words = ws; homes = s.homes; views = s.views }) i (f (slice_index ws i)) id m.1 w a) × then (slice_index ws i) (w, carried_after m.1 a) in
       subst G (sym kept.words) (there.0, keeps, tt, there.1 s.homes, there.2)
 
-  kept : (d m l : ℕ) (views : List View) (homes : List (Option ℕ)) (ws : List ℕ) → ws ≡ d ∷ m ∷ l ∷ [] → IsOrderly k d m l views → IsKept k (record { words = ws; homes = homes; views = views })
+  kept : (d m l : ℕ) (views : List View) (homes : List (Option ℕ)) (ws : List ℕ) → ws ≡ laid d m l → IsOrderly k d m l views → IsKept k (record { words = ws; homes = homes; views = views })
   kept d m l views homes ws e o = record { drawn = d; made = m; limit = l; words = e; orderly = o }
 
-  pub draws_ok : (n id : ℕ) (m : Sat) (st : Step ℕ) → 0 < m.0.weight → m.0.refusals ≡ [] → Allows (IsKept k) n id m 0 (λ x. (x + 1) % 2 ^ 64) (draws st m)
-  draws_ok n id m st live unrefused = allows n id m 0 (λ x. (x + 1) % 2 ^ 64) (draws st m) (λ d made l views o at.
+  pub draws_ok : (n id : ℕ) (m : Sat) (st : Step ℕ) → 0 < m.0.weight → m.0.refusals ≡ [] → Allows (IsKept k) n id m drawn_at (λ x. (x + 1) % 2 ^ 64) (draws st m)
+  draws_ok n id m st live unrefused = allows n id m drawn_at (λ x. (x + 1) % 2 ^ 64) (draws st m) (λ d made l views o at.
       let v : View = m.0 in
       let f : Fits k made l (weights views) v = o.each id v at in
       let few = drawn_le k d made l views o in
-      let word : (d + 1) % 2 ^ 64 ∷ made ∷ l ∷ [] ≡ (d + 1) ∷ made ∷ l ∷ [] = ap (λ (x : ℕ). x ∷ made ∷ l ∷ []) (mod-eq_of_lt (omega (arith, o.small))) in
+      let word : laid ((d + 1) % 2 ^ 64) made l ≡ laid (d + 1) made l = ap (λ (x : ℕ). laid x made l) (mod-eq_of_lt (omega (arith, o.small))) in
       let next : (w : View) → v.weight ≡ w.weight → v.refused_splits ≡ w.refused_splits → v.splits ≡ w.splits → v.raised_to ≡ w.raised_to → ((h : ℕ → ℕ) → number_weight h w ≡ number_weight h v + h d) → (weights (set views id w) ≡ weights views → Fits k made l (weights (set views id w)) w)
-      → (homes : List (Option ℕ)) → IsKept k (record { words = (d + 1) % 2 ^ 64 ∷ made ∷ l ∷ []; homes = homes; views = set views id w }) =
-      λ w same refused split raised more fits homes. kept (d + 1) made l (set views id w) homes ((d + 1) % 2 ^ 64 ∷ made ∷ l ∷ []) word
+      → (homes : List (Option ℕ)) → IsKept k (record { words = laid ((d + 1) % 2 ^ 64) made l; homes = homes; views = set views id w }) =
+      λ w same refused split raised more fits homes. kept (d + 1) made l (set views id w) homes (laid ((d + 1) % 2 ^ 64) made l) word
       (moved d made l views id v w (d + 1) made l o at live (omega arith) (omega (arith, o.few_passes)) (λ h. omega (arith, more h, below_more h d)) (omega arith) (omega arith) (omega arith) o.fixed o.small (omega arith) 0 (omega arith) (omega arith)
       (λ wide. fits (omega arith))) in
       let later = is_later k d made l views o id v at in
@@ -134,7 +135,7 @@ module _ (k : Terms) where
       (λ not. let low : d < v.floor = lt_of_not-le not in (
         with_ticket v d,
         next (with_ticket v d) refl refl refl refl (λ h. omega arith) (λ wide. record {
-          tickets = (omega (arith, f.floor), f.tickets);
+          tickets = (low, f.tickets);
           refusals = f.refusals;
           floor = f.floor;
           live = f.live;
@@ -147,16 +148,16 @@ module _ (k : Terms) where
         (later, (λ _. refl), λ high. absurd (omega arith)),
       )))
 
-  pub counts_ok : (n id : ℕ) (m : Sat) (st : Step ℕ) → 0 < m.0.weight → m.0.refused_splits ≡ 0 → Allows (IsKept k) n id m 1 (λ x. (x + 1) % 2 ^ 64) (counts st m)
-  counts_ok n id m st live none = allows n id m 1 (λ x. (x + 1) % 2 ^ 64) (counts st m) (λ d made l views o at.
+  pub counts_ok : (n id : ℕ) (m : Sat) (st : Step ℕ) → 0 < m.0.weight → m.0.refused_splits ≡ 0 → Allows (IsKept k) n id m made_at (λ x. (x + 1) % 2 ^ 64) (counts st m)
+  counts_ok n id m st live none = allows n id m made_at (λ x. (x + 1) % 2 ^ 64) (counts st m) (λ d made l views o at.
       let v : View = m.0 in
       let f : Fits k made l (weights views) v = o.each id v at in
       let few = made_le k d made l views o in
-      let word : d ∷ (made + 1) % 2 ^ 64 ∷ l ∷ [] ≡ d ∷ (made + 1) ∷ l ∷ [] = ap (λ (x : ℕ). d ∷ x ∷ l ∷ []) (mod-eq_of_lt (omega arith)) in
+      let word : laid d ((made + 1) % 2 ^ 64) l ≡ laid d (made + 1) l = ap (λ (x : ℕ). laid d x l) (mod-eq_of_lt (omega arith)) in
       dite (dec_le 65536 made)
       (λ many. let w : View = with_refused_split v in (
         w,
-        (λ homes. kept d (made + 1) l (set views id w) homes (d ∷ (made + 1) % 2 ^ 64 ∷ l ∷ []) word
+        (λ homes. kept d (made + 1) l (set views id w) homes (laid d ((made + 1) % 2 ^ 64) l) word
             (moved d made l views id v w d (made + 1) l o at live (omega arith) (omega (arith, o.few_passes)) (λ h. omega arith) (omega arith) (omega arith) (omega arith) o.fixed o.small (omega arith) 0 (omega arith) (omega arith) (λ wide. record {
               tickets = f.tickets;
               refusals = f.refusals;
@@ -172,7 +173,7 @@ module _ (k : Terms) where
       ))
       (λ not. let few-made : made < 65536 = lt_of_not-le not in let w : View = with_part v in (
         w,
-        (λ homes. kept d (made + 1) l (set views id w) homes (d ∷ (made + 1) % 2 ^ 64 ∷ l ∷ []) word
+        (λ homes. kept d (made + 1) l (set views id w) homes (laid d ((made + 1) % 2 ^ 64) l) word
             (moved d made l views id v w d (made + 1) l o at live (omega arith) (omega (arith, o.counted)) (λ h. omega arith) (omega arith) (omega arith) (omega arith) o.fixed o.small (omega arith) 0 (omega arith) (omega arith) (λ wide. record {
               tickets = f.tickets;
               refusals = f.refusals;
@@ -196,7 +197,7 @@ module _ (k : Terms) where
       let w : View = record v { floor = floor; mark = mark; readings = readings; raised_to = raised } in
       let f : Fits k made l (weights views) v = o.each id v at in
       moved d made l views id v w d made l' o at live (omega arith) (omega (arith, o.few_passes)) (λ h. omega arith) (omega arith) (omega arith) up fixed small (omega arith) to raises reached (λ wide. record {
-        tickets = tickets-on l l' v.tickets up f.tickets;
+        tickets = tickets-on v.floor floor v.tickets rises f.tickets;
         refusals = refusals-on l l' v.refusals up f.refusals;
         floor = most;
         live = λ h. let t = f.live h in (t.0, omega (arith, t.1));
@@ -207,40 +208,40 @@ module _ (k : Terms) where
         mark = let same : weights (set views id w) ≡ weights views = omega arith in subst (λ (all : ℕ). IsMarked all mark v.weight) (sym same) marked;
       })
 
-  pub learns_ok : (n id : ℕ) (m : Sat) (st : Step ℕ) → 0 < m.0.weight → Allows (IsKept k) n id m 0 (λ x. x) (learns st m)
-  learns_ok n id m st live = allows n id m 0 (λ x. x) (learns st m) (λ d made l views o at.
+  pub learns_ok : (n id : ℕ) (m : Sat) (st : Step ℕ) → 0 < m.0.weight → Allows (IsKept k) n id m drawn_at (λ x. x) (learns st m)
+  learns_ok n id m st live = allows n id m drawn_at (λ x. x) (learns st m) (λ d made l views o at.
       let v : View = m.0 in
       let f : Fits k made l (weights views) v = o.each id v at in (
         v,
-        (λ homes. kept d made l (set views id v) homes (d ∷ made ∷ l ∷ []) refl (told d made l views id v v.floor v.mark v.readings v.raised_to l 0 o at live (omega arith) f.floor (omega arith) o.fixed o.small (omega arith) (omega arith) f.mark)),
-        (refl, is_sound k d made l views o id v at),
+        (λ homes. kept d made l (set views id v) homes (laid d made l) refl (told d made l views id v v.floor v.mark v.readings v.raised_to l 0 o at live (omega arith) f.floor (omega arith) o.fixed o.small (omega arith) (omega arith) f.mark)),
+        (refl, is_sound k d made l views o id v at live),
       ))
 
-  pub looks_ok : (n id : ℕ) (m : Sat) (st : Step ℕ) → 0 < m.0.weight → Allows (IsKept k) n id m 1 (λ x. x) (looks st m)
-  looks_ok n id m st live = allows n id m 1 (λ x. x) (looks st m) (λ d made l views o at.
+  pub looks_ok : (n id : ℕ) (m : Sat) (st : Step ℕ) → 0 < m.0.weight → Allows (IsKept k) n id m made_at (λ x. x) (looks st m)
+  looks_ok n id m st live = allows n id m made_at (λ x. x) (looks st m) (λ d made l views o at.
       let v : View = m.0 in
       let f : Fits k made l (weights views) v = o.each id v at in
       let weight = term_le (λ (u : View). u.weight) views id v at in
       let splits = term_le (λ (u : View). u.refused_splits) views id v at in
       let rest = rest_le (λ (u : View). u.refused_splits) (λ (u : View). u.weight) views id v (λ i u there. (o.each i u there).few_refused_splits) at in
       let counted : made ≡ weights views + refused_splits views = o.counted in
-      let marks : (mark : Mark) → IsMarked (weights views) mark v.weight → (homes : List (Option ℕ)) → IsKept k (record { words = d ∷ made ∷ l ∷ []; homes = homes; views = set views id (with_mark v mark) }) =
-      λ mark marked homes. kept d made l (set views id (with_mark v mark)) homes (d ∷ made ∷ l ∷ []) refl (told d made l views id v v.floor mark v.readings v.raised_to l 0 o at live (omega arith) f.floor (omega arith) o.fixed o.small (omega arith) (omega arith) marked) in
+      let marks : (mark : Mark) → IsMarked (weights views) mark v.weight → (homes : List (Option ℕ)) → IsKept k (record { words = laid d made l; homes = homes; views = set views id (with_mark v mark) }) =
+      λ mark marked homes. kept d made l (set views id (with_mark v mark)) homes (laid d made l) refl (told d made l views id v v.floor mark v.readings v.raised_to l 0 o at live (omega arith) f.floor (omega arith) o.fixed o.small (omega arith) (omega arith) marked) in
       dite (ℕ_discrete made (v.weight + v.refused_splits))
       (λ e. (with_mark v Sole, marks Sole (omega arith), ((λ _. refl), λ ne. absurd (ne e))))
       (λ ne. (with_mark v Shared, marks Shared (lt_of_not-le (λ le. ne (omega arith))), ((λ e. absurd (ne e)), λ _. refl))))
 
-  pub reads_limit_ok : (n id : ℕ) (m : Sat) (st : Step ℕ) → 0 < m.0.weight → m.0.terms ≡ k → Allows (IsKept k) n id m 2 (λ x. x) (reads_limit st m)
-  reads_limit_ok n id m st live of = allows n id m 2 (λ x. x) (reads_limit st m) (λ d made l views o at.
+  pub reads_limit_ok : (n id : ℕ) (m : Sat) (st : Step ℕ) → 0 < m.0.weight → m.0.terms ≡ k → Allows (IsKept k) n id m limit_at (λ x. x) (reads_limit st m)
+  reads_limit_ok n id m st live of = allows n id m limit_at (λ x. x) (reads_limit st m) (λ d made l views o at.
       let v : View = m.0 in
       let f : Fits k made l (weights views) v = o.each id v at in (
         with_floor v l,
-        (λ homes. kept d made l (set views id (with_floor v l)) homes (d ∷ made ∷ l ∷ []) refl (told d made l views id v l v.mark (v.readings + 1) v.raised_to l 0 o at live f.floor (omega arith) (omega arith) o.fixed o.small (omega arith) (omega arith) f.mark)),
+        (λ homes. kept d made l (set views id (with_floor v l)) homes (laid d made l) refl (told d made l views id v l v.mark (v.readings + 1) v.raised_to l 0 o at live f.floor (omega arith) (omega arith) o.fixed o.small (omega arith) (omega arith) f.mark)),
         (record { rises = f.floor; fixed = λ e. o.fixed (ap (λ (x : Terms). x.rises) (sym of) ∙ e) ∙ ap (λ (x : Terms). x.limit) (sym of); small = o.small }, refl),
       ))
 
-  pub raises_ok : (n id : ℕ) (m : Sat) (st : Step ℕ) → 0 < m.0.weight → m.0.terms ≡ k → k.rises ≡ true → st.first ≤ 4294967296 → Allows (IsKept k) n id m 2 (λ x. max x st.first) (raises st m)
-  raises_ok n id m st live of rises small = allows n id m 2 (λ x. max x st.first) (raises st m) (λ d made l views o at.
+  pub raises_ok : (n id : ℕ) (m : Sat) (st : Step ℕ) → 0 < m.0.weight → m.0.terms ≡ k → k.rises ≡ true → st.first ≤ 4294967296 → Allows (IsKept k) n id m limit_at (λ x. max x st.first) (raises st m)
+  raises_ok n id m st live of rises small = allows n id m limit_at (λ x. max x st.first) (raises st m) (λ d made l views o at.
       let v : View = m.0 in
       let f : Fits k made l (weights views) v = o.each id v at in
       let l' : ℕ = max l st.first in
@@ -248,7 +249,7 @@ module _ (k : Terms) where
       let least : l' ≤ 4294967296 = omega (arith, o.small) in
       let never : k.rises ≡ false → ⊥ = λ e. let no : true ≡ false = sym rises ∙ e in cc in (
         with_raise v st.first l',
-        (λ homes. kept d made l' (set views id (with_raise v st.first l')) homes (d ∷ made ∷ l' ∷ []) refl
+        (λ homes. kept d made l' (set views id (with_raise v st.first l')) homes (laid d made l') refl
             (told d made l views id v l' v.mark (v.readings + 1) (max v.raised_to st.first) l' st.first o at live (omega (arith, f.floor)) (omega arith) up (λ e. absurd (never e)) least refl refl f.mark)),
         (record { rises = omega (arith, f.floor); fixed = λ e. absurd (never (ap (λ (x : Terms). x.rises) (sym of) ∙ e)); small = least }, refl),
       ))
@@ -341,7 +342,9 @@ module _ (k : Terms) where
       let same : weights after ≡ weights views = omega (arith, sums (λ (u : View). u.weight)) in
       let F : View → Type 0 = Fits k kept.made kept.limit (weights after) in
       let fits-joined : F joined = record {
-        tickets = Each-append (λ t. t < kept.limit) v.tickets w.tickets f.tickets g.tickets;
+        tickets = Each-append (λ t. t < max v.floor w.floor) v.tickets w.tickets
+            (tickets-on v.floor (max v.floor w.floor) v.tickets (le-max_left v.floor w.floor) f.tickets)
+            (tickets-on w.floor (max v.floor w.floor) w.tickets (omega arith) g.tickets);
         refusals = Each-append (IsRefusal k kept.limit) v.refusals w.refusals f.refusals g.refusals;
         floor = omega (arith, f.floor, g.floor);
         live = λ _. let t = f.live live in (t.0, omega (arith, t.1, le-max_left v.floor w.floor));

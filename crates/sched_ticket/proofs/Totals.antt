@@ -1,10 +1,10 @@
 -- What the rule says of all views together.
-use Rattle.std.proofs.Common.{◌≡◌, ℕ, ◌+◌, ◌<◌, ◌≤◌, List, length, arith}
+use Rattle.std.proofs.Common.{◌≡◌, ℕ, ◌+◌, ◌<◌, ◌≤◌, List, length, sym, ap, ◌∙◌, arith}
 use mathlib.Core.Option.{some}
 use lib.ListN.{get_elem?}
-use Rattle.sched_ticket.specs.Lists.{total, is, once_below}
-use Rattle.sched_ticket.specs.Rule.{number_weight, weights, refused_splits, IsOrderly}
-use Rattle.sched_ticket.specs.Steps.{IsLater, IsSound}
+use Rattle.sched_ticket.specs.Lists.{total, Each, is, once_below}
+use Rattle.sched_ticket.specs.Rule.{number_weight, weights, refused_splits, Fits, IsOrderly}
+use Rattle.sched_ticket.specs.Steps.{IsLater, IsWithin, IsSound}
 use Rattle.sched_ticket.specs.declared.view.Terms.{Terms}
 use Rattle.sched_ticket.specs.declared.view.View.{View}
 use Rattle.sched_ticket.proofs.Sums.{term_le, total-le, total-plus, total-one, below-one, below-once_below, below-is, once_below-le, total-once_below, from, below-from, none_from, Each-map}
@@ -13,12 +13,16 @@ use Rattle.sched_ticket.proofs.Sums.{term_le, total-le, total-plus, total-one, b
 pub number_weight-one : (v : View) → number_weight (λ _. 1) v ≡ length v.tickets + length v.refusals
 number_weight-one v = omega (arith, total-one v.tickets, total-one v.refusals)
 
+-- a view's tickets are below the limit
+pub tickets_below : (k : Terms) (made limit all : ℕ) (v : View) → Fits k made limit all v → Each (λ t. t < limit) v.tickets
+tickets_below k made limit all v f = Each-map (λ t. t < v.floor) (λ t. t < limit) (λ t lt. omega (arith, f.floor)) v.tickets f.tickets
+
 module _ (k : Terms) (drawn made limit : ℕ) (views : List View) (o : IsOrderly k drawn made limit views) where
   -- the tickets of all views are no more than the limit
   pub tickets_le : total (λ (v : View). length v.tickets) views ≤ limit
   tickets_le =
       let each : total (λ (v : View). length v.tickets) views ≤ total (number_weight (λ x. once_below x limit)) views =
-      total-le (λ (v : View). length v.tickets) (number_weight (λ x. once_below x limit)) views (λ i u at. omega (arith, total-once_below limit u.tickets (o.each i u at).tickets)) in
+      total-le (λ (v : View). length v.tickets) (number_weight (λ x. once_below x limit)) views (λ i u at. omega (arith, total-once_below limit u.tickets (tickets_below k made limit (weights views) u (o.each i u at)))) in
       omega (arith, o.numbers (λ x. once_below x limit), below-once_below limit drawn)
 
   pub drawn_le : drawn ≤ limit + 65536
@@ -40,10 +44,20 @@ module _ (k : Terms) (drawn made limit : ℕ) (views : List View) (o : IsOrderly
         let none : total (from drawn) v.tickets ≡ 0 = omega (arith, term_le (number_weight (from drawn)) views by v at, o.numbers (from drawn), below-from drawn drawn (omega arith)) in
         (none_from drawn v.tickets none, omega (arith, term_le (number_weight (λ _. 1)) views by v at, o.numbers (λ _. 1), below-one drawn, number_weight-one v))
 
-    pub is_sound : IsSound v
-    is_sound = record {
+    -- of the numbers below its floor, of which each stands once, a pass has its tickets
+    is_within : 0 < v.weight → IsWithin v
+    is_within live =
+        let f = o.each by v at in
+        let of = f.live live in record {
+          few = omega (arith, term_le (number_weight (λ x. once_below x v.floor)) views by v at, o.numbers (λ x. once_below x v.floor), below-once_below v.floor drawn, total-once_below v.floor v.tickets f.tickets);
+          fixed = λ keeps. omega (arith, f.floor, of.1, o.fixed (ap (λ (t : Terms). t.rises) (sym of.0) ∙ keeps), ap (λ (t : Terms). t.limit) of.0);
+        }
+
+    pub is_sound : 0 < v.weight → IsSound v
+    is_sound live = record {
       once = λ x. omega (arith, term_le (number_weight (is x)) views by v at, o.numbers (is x), below-is x drawn, once_below-le x drawn);
-      small = Each-map (λ t. t < limit) (λ t. t < 4294967296) (λ t lt. omega (arith, o.small)) v.tickets (o.each by v at).tickets;
+      small = Each-map (λ t. t < limit) (λ t. t < 4294967296) (λ t lt. omega (arith, o.small)) v.tickets (tickets_below k made limit (weights views) v (o.each by v at));
       few_tickets = omega (arith, term_le (λ (u : View). length u.tickets) views by v at, tickets_le, o.small);
       few_passes = omega (arith, term_le (λ (u : View). u.weight) views by v at, o.few_passes);
+      within = is_within live;
     }

@@ -12,7 +12,7 @@ use Rattle.sched_ticket.specs.declared.view.Refusal.{Refusal}
 use Rattle.sched_ticket.specs.declared.view.Mark.{Mark}
 use Rattle.sched_ticket.specs.declared.view.View.{View}
 use Rattle.sched_ticket.proofs.Sums.{term_le, terms_le, total-plus, below-one, below-is, once_below-yes, once_below-no, times-none, from, from-yes, below-from}
-use Rattle.sched_ticket.proofs.Totals.{number_weight-one, tickets_le, drawn_le, made_le}
+use Rattle.sched_ticket.proofs.Totals.{number_weight-one, tickets_below, tickets_le, drawn_le, made_le}
 use Rattle.sched_ticket.proofs.Whole.{is_spent, other_refusals}
 
 -- what is equal at each element has equal sums
@@ -53,7 +53,7 @@ tickets_stand_once k s kept keeps x =
     let all : total drawn s.views + total refused s.views ≡ once_below x kept.drawn = sym (total-plus drawn refused s.views) ∙ (o.numbers (is x) ∙ below-is x kept.drawn) in
     dite (dec_le L x)
     (λ high.
-    let none : total drawn s.views ≡ total (λ (v : View). 0) s.views = total-same drawn (λ (v : View). 0) s.views (λ i u at. times-none x L u.tickets high (o.each i u at).tickets) in
+    let none : total drawn s.views ≡ total (λ (v : View). 0) s.views = total-same drawn (λ (v : View). 0) s.views (λ i u at. times-none x L u.tickets high (tickets_below k kept.made L (weights s.views) u (o.each i u at))) in
     none ∙ zeros s.views ∙ sym (once_below-no x (min kept.drawn k.limit) (omega arith)))
     (λ not.
     let low : x < L = lt_of_not-le not in
@@ -82,7 +82,7 @@ pub tickets_stay_below : TicketsStayBelow
 tickets_stay_below k s kept = tickets_le k kept.drawn kept.made kept.limit s.views kept.orderly
 
 pub each_ticket_is_below : EachTicketIsBelow
-each_ticket_is_below k s kept by v at = (kept.orderly.each by v at).tickets
+each_ticket_is_below k s kept by v at = tickets_below k kept.made kept.limit (weights s.views) v (kept.orderly.each by v at)
 
 pub words_stay_small : WordsStaySmall
 words_stay_small k s kept = (drawn_le k kept.drawn kept.made kept.limit s.views kept.orderly, made_le k kept.drawn kept.made kept.limit s.views kept.orderly, kept.orderly.small)

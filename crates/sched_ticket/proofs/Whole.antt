@@ -14,7 +14,7 @@ use Rattle.sched_ticket.specs.declared.view.Mark.{Mark}
 use Rattle.sched_ticket.specs.declared.view.Mark.TheVariants.{Sole}
 use Rattle.sched_ticket.specs.declared.view.View.{View}
 use Rattle.sched_ticket.proofs.Sums.{term_le, alone, total-one, below-one, below-is, below-once_below, is-other, once_below-yes, once_below-no, total-once_below, times-none}
-use Rattle.sched_ticket.proofs.Totals.{tickets_le}
+use Rattle.sched_ticket.proofs.Totals.{tickets_below, tickets_le}
 use Rattle.sched_ticket.proofs.Greatest.{greatest-alone}
 
 pub no_refusal : (xs : List Refusal) → length xs ≤ 0 → xs ≡ []
@@ -47,6 +47,9 @@ module _ (k : Terms) (s : State ℕ View) (kept : IsKept k s) (id : ℕ) (v : Vi
   fits : Fits k kept.made kept.limit (weights s.views) v
   fits = kept.orderly.each id v at
 
+  below_limit : Each (λ t. t < kept.limit) v.tickets
+  below_limit = tickets_below k kept.made kept.limit (weights s.views) v fits
+
   all_here : weights s.views ≡ v.weight
   all_here = subst (λ (m : Mark). IsMarked (weights s.views) m v.weight) sole fits.mark
 
@@ -66,7 +69,7 @@ module _ (k : Terms) (s : State ℕ View) (kept : IsKept k s) (id : ℕ) (v : Vi
     count_is : length v.tickets ≡ min (length v.tickets + length v.refusals) kept.limit
     count_is =
         let low : length v.tickets ≡ min kept.drawn kept.limit =
-        omega (arith, numbers (λ x. once_below x kept.limit), total-once_below kept.limit v.tickets fits.tickets, high_refusals k kept.limit first v.refusals fits.refusals, below-once_below kept.limit kept.drawn) in
+        omega (arith, numbers (λ x. once_below x kept.limit), total-once_below kept.limit v.tickets below_limit, high_refusals k kept.limit first v.refusals fits.refusals, below-once_below kept.limit kept.drawn) in
         low ∙ ap (λ (d : ℕ). min d kept.limit) drawn_is
 
     once_each : AreBelow v.tickets (length v.tickets)
@@ -75,7 +78,7 @@ module _ (k : Terms) (s : State ℕ View) (kept : IsKept k s) (id : ℕ) (v : Vi
         let n : ℕ = length v.tickets in
         let least : n ≡ min kept.drawn kept.limit = count_is ∙ ap (λ (d : ℕ). min d kept.limit) (sym drawn_is) in
         dite (dec_le kept.limit x)
-        (λ high. omega (arith, times-none x kept.limit v.tickets high fits.tickets, once_below-no x n (omega arith)))
+        (λ high. omega (arith, times-none x kept.limit v.tickets high below_limit, once_below-no x n (omega arith)))
         (λ not. let low : x < kept.limit = lt_of_not-le not in dite (dec_le kept.drawn x)
         (λ past. omega (arith, once_below-no x kept.drawn past, once_below-no x n (omega arith)))
         (λ near. let early : x < kept.drawn = lt_of_not-le near in
@@ -90,7 +93,7 @@ module _ (k : Terms) (s : State ℕ View) (kept : IsKept k s) (id : ℕ) (v : Vi
     floor = fits.floor;
     fixed = kept.orderly.fixed;
     small = kept.orderly.small;
-    below_limit = fits.tickets;
+    below_limit = below_limit;
     high = fits.refusals;
     few = omega (arith, term_le (λ (u : View). length u.tickets) s.views id v at, tickets_le k kept.drawn kept.made kept.limit s.views kept.orderly);
     count = count_is;

@@ -20,9 +20,9 @@ pub record Held : Type 0 where
 abbrev pub IsOf : Name → Held → Type 0
 IsOf b p = (p.table ≡ b.table) × (p.has.terms ≡ b.terms)
 
--- a budget's table has three words and no slot, and is under the rule for its terms
+-- a budget's table has its words and no slot, and is under the rule for its terms
 pub record IsLaidOut (table : TableId) (key about : Terms) : Type 0 where
-  pub words : table.words ≡ 3
+  pub words : table.words ≡ 33
   pub slots : table.slots ≡ 0
   pub about_is : key ≡ about
   pub small : about.limit ≤ 4294967296
@@ -38,6 +38,7 @@ pub record IsCounted (m : Sat) (n w o : ℕ) (r : Bool) : Type 0 where
   pub live : 0 < w
   pub few_passes : w ≤ 65536
   pub few_tickets : n ≤ 4294967296
+  pub within_limit : n ≤ m.0.floor
   pub few_refusals : length m.0.refusals ≤ w
   pub few_refused_splits : o ≤ w
   pub unsole : m.0.mark ≢ Sole

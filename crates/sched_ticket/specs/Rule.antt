@@ -10,6 +10,24 @@ use Rattle.sched_ticket.specs.declared.view.Mark.{Mark}
 use Rattle.sched_ticket.specs.declared.view.Mark.TheVariants.{Unseen, Sole, Shared}
 use Rattle.sched_ticket.specs.declared.view.View.{View}
 
+-- where the words of a budget's table stand
+abbrev pub drawn_at : ℕ
+drawn_at = 0
+
+abbrev pub made_at : ℕ
+made_at = 16
+
+abbrev pub limit_at : ℕ
+limit_at = 32
+
+-- the words between two of them, which nobody steps on
+abbrev gap : List ℕ → List ℕ
+gap words = 0 ∷ 0 ∷ 0 ∷ 0 ∷ 0 ∷ 0 ∷ 0 ∷ 0 ∷ 0 ∷ 0 ∷ 0 ∷ 0 ∷ 0 ∷ 0 ∷ 0 ∷ words
+
+-- a budget's table: how many numbers were drawn, how many passes were made, and the limit, 128 bytes apart
+abbrev pub laid : ℕ → ℕ → ℕ → List ℕ
+laid drawn made limit = drawn ∷ gap (made ∷ gap (limit ∷ []))
+
 -- what the numbers weigh that a pass's draws found: its tickets and its refused numbers
 abbrev pub number_weight : (ℕ → ℕ) → View → ℕ
 number_weight h v = total h v.tickets + total (λ (r : Refusal). h r.number) v.refusals
@@ -51,7 +69,8 @@ pub record IsSpent (v : View) : Type 0 where
 
 -- one view fits the words and the weight of all views
 pub record Fits (k : Terms) (made limit all : ℕ) (v : View) : Type 0 where
-  pub tickets : Each (λ t. t < limit) v.tickets
+  -- each ticket is below the greatest limit that the pass has found
+  pub tickets : Each (λ t. t < v.floor) v.tickets
   pub refusals : Each (IsRefusal k limit) v.refusals
   pub floor : v.floor ≤ limit
   -- a pass that stands for some is of this budget, and knows its first limit
@@ -84,5 +103,5 @@ pub record IsKept (k : Terms) (s : State ℕ View) : Type 0 where
   pub drawn : ℕ
   pub made : ℕ
   pub limit : ℕ
-  pub words : s.words ≡ drawn ∷ made ∷ limit ∷ []
+  pub words : s.words ≡ laid drawn made limit
   pub orderly : IsOrderly k drawn made limit s.views

@@ -29,12 +29,18 @@ abbrev pub counts : Then
 counts s m made n =
     (made < 65536 → Sees m n (with_part m.0)) × (65536 ≤ made → Sees m n (with_refused_split m.0))
 
+-- a pass's tickets never pass the limit: that of a budget that keeps its limit, else the greatest that the pass has found
+pub record IsWithin (v : View) : Type 0 where
+  pub few : length v.tickets ≤ v.floor
+  pub fixed : v.terms.rises ≡ false → v.floor ≡ v.terms.limit
+
 -- what holds of a pass's tickets and weight, whatever was joined into it
 pub record IsSound (v : View) : Type 0 where
   pub once : (x : ℕ) → times x v.tickets ≤ 1
   pub small : Each (λ t. t < 4294967296) v.tickets
   pub few_tickets : length v.tickets ≤ 4294967296
   pub few_passes : v.weight ≤ 65536
+  pub within : IsWithin v
 
 abbrev pub learns : Then
 learns s m found n = (n ≡ m) × IsSound m.0

@@ -8,7 +8,7 @@ ghost use Rattle.sched_ticket.specs.declared.view.Mark.{Mark};
 
 use crate::fault::{PassesOut, TicketFault};
 use crate::pass::{Pass, Seat};
-use crate::rule::{Look, Rule};
+use crate::rule::{LIMIT, Look, MADE, Rule};
 use crate::view::{Terms, View};
 use atomic_table::Table;
 use std::alloc::Global;
@@ -71,7 +71,10 @@ impl Budget {
         if about.limit > MAX_LIMIT {
             return Err(TicketFault::LimitTooLarge);
         }
-        match Table::of_words(alloc, &[0, 1, about.limit], &about) {
+        let mut words = [0; LIMIT + 1];
+        words[MADE] = 1;
+        words[LIMIT] = about.limit;
+        match Table::of_words(alloc, &words, &about) {
             Ok((table, seat)) => Ok((
                 Budget {
                     table,
@@ -125,7 +128,7 @@ impl Budget {
         ensures mark { MatchBool result
             (seat.new.me.0 ≡ with_mark seat.old.me.0 Mark.Sole) (seat.new.me.0 ≡ with_mark seat.old.me.0 Mark.Shared) }
     {
-        self.table.shared.load::<Look>(seat, 1) == known
+        self.table.shared.load::<Look>(seat, MADE) == known
     }
 
     /// Frees the table. Only a look gives the mark that it asks for.

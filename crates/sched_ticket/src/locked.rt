@@ -1,4 +1,5 @@
 //! The smallest use of a named budget: jobs under locks, whose passes are of one budget by their type.
+//! An example of the theorem, which tests alone call.
 ghost use Rattle.std.specs.Prelude.{◌≡◌, ◌+◌, ◌≤◌, false, length, IfOk, IfErr, IfSome, IfNone};
 ghost use Rattle.sched_ticket.specs.Held.{IsOf};
 ghost use Rattle.sched_ticket.specs.Calls.{Drew, DrewNone, RefusesLimit};

@@ -1,13 +1,13 @@
 //! The pass: the right to draw tickets of a budget, and what was drawn with it.
 ghost use Rattle.std.specs.Prelude.{◌≡◌, ◌+◌, ◌<◌, ◌≤◌, true, false, [], ◌∷◌, length, None, IfOk, IfErr, OnOk, IfSome, IfNone, MatchOption};
 ghost use Rattle.sched_ticket.specs.View.{fresh_view, part_of, with_split, both};
-ghost use Rattle.sched_ticket.specs.Steps.{IsSound};
+ghost use Rattle.sched_ticket.specs.Steps.{IsSound, IsWithin};
 ghost use Rattle.sched_ticket.specs.Held.{IsOf};
 ghost use Rattle.sched_ticket.specs.Calls.{Asked, Drew, DrewNone, SplitRefused, Raised, RefusesRaise};
 
 use crate::budget::{Budget, MAX_LIMIT};
 use crate::fault::TicketFault;
-use crate::rule::{Count, Draw, Learn, Merge, Part, Raise, ReadLimit};
+use crate::rule::{Count, DRAWN, Draw, LIMIT, Learn, MADE, Merge, Part, Raise, ReadLimit};
 use crate::view::View;
 use std::marker::Model;
 
@@ -58,7 +58,8 @@ impl Pass {
 
     /// How many tickets were drawn with this pass, and with those joined into it.
     pub fn count(&self) -> u64
-        ensures { result ≡ length self.now.has.tickets }
+        ensures count { result ≡ length self.now.has.tickets }
+        ensures within { IsWithin self.now.has }
     {
         self.tickets
     }
@@ -78,7 +79,10 @@ impl Pass {
             return None;
         }
         let limit = limit_now(budget, &mut self.seat);
-        let number = budget.table.shared.fetch_add::<Draw>(&mut self.seat, 0, 1);
+        let number = budget
+            .table
+            .shared
+            .fetch_add::<Draw>(&mut self.seat, DRAWN, 1);
         if number < limit {
             self.tickets += 1;
             Some(number)
@@ -102,7 +106,10 @@ impl Pass {
         if self.refused_splits > 0 {
             return Err(TicketFault::TooManyPasses);
         }
-        let made = budget.table.shared.fetch_add::<Count>(&mut self.seat, 1, 1);
+        let made = budget
+            .table
+            .shared
+            .fetch_add::<Count>(&mut self.seat, MADE, 1);
         if made >= MAX_PASSES {
             self.refused_splits = 1;
             return Err(TicketFault::TooManyPasses);
@@ -127,7 +134,7 @@ impl Pass {
             refused,
         } = other;
         budget.table.shared.join_seat::<Merge>(&mut self.seat, seat);
-        budget.table.shared.load::<Learn>(&mut self.seat, 0);
+        budget.table.shared.load::<Learn>(&mut self.seat, DRAWN);
         self.tickets += tickets;
         self.weight += weight;
         self.refused_splits += refused_splits;
@@ -151,7 +158,7 @@ impl Pass {
         let before = budget
             .table
             .shared
-            .fetch_max::<Raise>(&mut self.seat, 2, to);
+            .fetch_max::<Raise>(&mut self.seat, LIMIT, to);
         Ok(before.max(to))
     }
 }
@@ -166,7 +173,7 @@ fn limit_now(budget: &Budget, seat: &mut Seat) -> u64
     ensures asked { Asked seat.old.me.0 seat.new.me.0 }
 {
     if budget.terms.rises {
-        budget.table.shared.load::<ReadLimit>(seat, 2)
+        budget.table.shared.load::<ReadLimit>(seat, LIMIT)
     } else {
         budget.terms.limit
     }

@@ -17,6 +17,15 @@ ghost use Rattle.sched_ticket.specs.Steps.{draws, counts, learns, looks, reads_l
 use crate::view::{Terms, View};
 use atomic_table::{Join, Play, Split, TableRule};
 
+/// The word that counts the numbers drawn. Each word has cache lines of its own: steps on one slow down none on another.
+pub(crate) const DRAWN: usize = 0;
+
+/// The word that counts the passes made.
+pub(crate) const MADE: usize = 16;
+
+/// The word that is the limit.
+pub(crate) const LIMIT: usize = 32;
+
 /// The rule of the table behind every budget.
 pub(crate) struct Rule;
 

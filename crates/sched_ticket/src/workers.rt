@@ -1,4 +1,5 @@
 //! Many threads on one budget: each draws until it is refused, and their passes are joined.
+//! The theorem's example over any number of threads, which tests alone call.
 ghost use Rattle.std.specs.Prelude.{◌≡◌, ℕ, ◌+◌, ◌<◌, ◌≤◌, [], length, vec_len, All, IfOk, IfErr};
 ghost use Rattle.sched_ticket.specs.Lists.{total, times, once_below, IsSame};
 ghost use Rattle.sched_ticket.specs.Held.{IsOf};
@@ -9,6 +10,7 @@ use crate::fault::TicketFault;
 use crate::pass::Pass;
 use std::alloc::{AllocError, Global};
 use std::thread::{Threads, map_vec};
+use thiserror::Error;
 
 /// What all workers drew of one budget.
 #[derive(Drop)]
@@ -20,11 +22,13 @@ pub struct Drained {
 }
 
 /// Why a budget was not drained.
-#[derive(Clone, Copy, Debug, PartialEq, Eq, Drop)]
+#[derive(Clone, Copy, Debug, PartialEq, Eq, Drop, Error)]
 pub enum DrainFault {
     /// A budget was not made or a pass not split, or memory was refused.
+    #[error(transparent)]
     Refused(TicketFault),
     /// A pass is missing. No clause rules it out, and no run meets it.
+    #[error("a pass of the budget is missing")]
     PassesOut,
 }
 

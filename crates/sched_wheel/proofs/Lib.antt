@@ -1,1 +1,1 @@
-mod Polls
+pub mod Polls

@@ -1,6 +1,6 @@
 //! The loop.
 ghost use Rattle.std.specs.Prelude.{◌≡◌, ◌≤◌, ◌<◌, true, false, All, Any, HoldsAt, length, IfOk, IfErr, IfSome, OnOk, OnErr, OnSome, is_some};
-ghost use Rattle.sched_wheel.specs.Polled.{EachPolled, IsGiven, IsLeft, IsOpen, IsTold};
+ghost use Rattle.sched_wheel.specs.Polled.{IsAsked, IsCourse, IsOpen, standing};
 
 use crate::agenda::Agenda;
 use futures::task::{Context, Doorbell, Poll, Queue};
@@ -10,13 +10,16 @@ use sched_time::{Moment, NoMemory, Tick};
 use std::alloc::{AllocGlobal, Global};
 use std::random::RandomSource;
 use std::sync::Wait;
+use thiserror::Error;
 
 /// Why a loop stopped before every task was over.
-#[derive(Clone, Copy, Debug, PartialEq, Eq)]
+#[derive(Clone, Copy, Debug, PartialEq, Eq, Error)]
 pub enum LoopStop {
     /// A growth was refused, or the system gave no random bytes for the name of the queue of this call.
+    #[error("no memory")]
     NoMemory,
     /// All turns were taken.
+    #[error("all turns were taken")]
     TurnsSpent,
 }
 
@@ -43,7 +46,7 @@ impl WheelLoop {
     ///
     /// Refused as `NoMemory` and, where all turns were taken and a task is not over, as `TurnsSpent`; the tasks then
     /// stand as their polls left them, and a further call goes on.
-    #[tactic(auto, using(crate::proofs::Polls::each_same))]
+    #[tactic(auto, using(crate::proofs::Polls::asked_none, crate::proofs::Polls::course_of_none))]
     pub fn run<R, T: Task, C: Clock, G: Rng>(
         rt: &R,
         tasks: &mut [T],
@@ -55,8 +58,12 @@ impl WheelLoop {
         R: Wait + RandomSource + AllocGlobal,
         ensures turns { IfOk result (λ used. used ≤ turns) }
         ensures over { IfOk result (λ _. All (λ task. is_some (T.ended task) ≡ true) tasks.new) }
-        ensures spent { IfErr result (λ stop. stop ≡ LoopStop.TurnsSpent → Any (λ task. is_some (T.ended task) ≡ false) tasks.new) }
-        ensures polled { EachPolled T.ended T.waits_for T.one_poll (IsGiven C.tells (G.stream rng.old)) tasks.old tasks.new }
+        ensures spent { IfErr result
+            (λ stop. stop ≡ LoopStop.TurnsSpent → Any (λ task. is_some (T.ended task) ≡ false) tasks.new) }
+        ensures polled { IsCourse T.ended T.waits_for T.one_poll C.tells C.waits turns
+            (standing tasks.old (G.stream rng.old) clock.old) (standing tasks.new (G.stream rng.new) clock.new) }
+        ensures used { IfOk result (λ used. IsCourse T.ended T.waits_for T.one_poll C.tells C.waits used
+            (standing tasks.old (G.stream rng.old) clock.old) (standing tasks.new (G.stream rng.new) clock.new)) }
     {
         let Ok(queue) = Queue::new(rt, Doorbell::spinning()) else {
             return Err(LoopStop::NoMemory);
@@ -74,7 +81,6 @@ impl WheelLoop {
     }
 }
 
-#[tactic(auto, using(crate::proofs::Polls::each_same, crate::proofs::Polls::left_same))]
 fn drive<T: Task, C: Clock, G: Rng>(
     alloc: Global,
     tasks: &mut [T],
@@ -85,8 +91,12 @@ fn drive<T: Task, C: Clock, G: Rng>(
 ) -> Result<u64, LoopStop>
     ensures turns { IfOk result (λ used. used ≤ turns) }
     ensures over { IfOk result (λ _. All (λ task. is_some (T.ended task) ≡ true) tasks.new) }
-    ensures spent { IfErr result (λ stop. stop ≡ LoopStop.TurnsSpent → Any (λ task. is_some (T.ended task) ≡ false) tasks.new) }
-    ensures polled { EachPolled T.ended T.waits_for T.one_poll (IsGiven C.tells (G.stream rng.old)) tasks.old tasks.new }
+    ensures spent { IfErr result
+        (λ stop. stop ≡ LoopStop.TurnsSpent → Any (λ task. is_some (T.ended task) ≡ false) tasks.new) }
+    ensures polled { IsCourse T.ended T.waits_for T.one_poll C.tells C.waits turns
+        (standing tasks.old (G.stream rng.old) clock.old) (standing tasks.new (G.stream rng.new) clock.new) }
+    ensures used { IfOk result (λ used. IsCourse T.ended T.waits_for T.one_poll C.tells C.waits used
+        (standing tasks.old (G.stream rng.old) clock.old) (standing tasks.new (G.stream rng.new) clock.new)) }
 {
     let mut agenda = begin(alloc, tasks, clock)?;
     for used in 0..turns {
@@ -112,7 +122,8 @@ fn finished<T: Task>(tasks: &[T], used: u64) -> Result<u64, LoopStop>
 
 // The tasks that are not over, from the clock's first answer on.
 fn begin<T: Task, C: Clock>(alloc: Global, tasks: &[T], clock: &mut C) -> Result<Agenda, NoMemory>
-    ensures { IfOk result (λ agenda. agenda.count ≡ length tasks.now) }
+    ensures count { IfOk result (λ agenda. agenda.count ≡ length tasks.now) }
+    ensures asked { IsAsked C.tells C.waits clock.old clock.new }
 {
     let mut agenda = Agenda::new(alloc, tasks.len(), clock.now())?;
     for (number, task) in tasks.iter().enumerate() {
@@ -123,8 +134,7 @@ fn begin<T: Task, C: Clock>(alloc: Global, tasks: &[T], clock: &mut C) -> Result
     Ok(agenda)
 }
 
-// One poll or one wait. `false`, and nothing done, where no task is left.
-#[tactic(auto, using(crate::proofs::Polls::each_same, crate::proofs::Polls::left_same))]
+// One poll or one wait. `false`, and no task polled, where none is left.
 fn take_turn<T: Task, C: Clock, G: Rng>(
     alloc: Global,
     agenda: &mut Agenda,
@@ -135,42 +145,26 @@ fn take_turn<T: Task, C: Clock, G: Rng>(
 ) -> Result<bool, NoMemory>
     requires { agenda.old.count ≡ length tasks.old }
     ensures count { agenda.new.count ≡ length tasks.new }
-    ensures left { IsLeft (G.stream rng.old) (G.stream rng.new) }
-    ensures polled { EachPolled T.ended T.waits_for T.one_poll (IsGiven C.tells (G.stream rng.old)) tasks.old tasks.new }
+    ensures polled { IsCourse T.ended T.waits_for T.one_poll C.tells C.waits 1
+        (standing tasks.old (G.stream rng.old) clock.old) (standing tasks.new (G.stream rng.new) clock.new) }
+    ensures none { IfOk result (λ some. some ≡ false → IsCourse T.ended T.waits_for T.one_poll C.tells C.waits 0
+        (standing tasks.old (G.stream rng.old) clock.old) (standing tasks.new (G.stream rng.new) clock.new)) }
 {
     let Some(number) = next_due(agenda, tasks, clock)? else {
         return wait_for_least(agenda, clock);
     };
-    let moment = agenda.moment();
-    if let Poll::Pending = poll_task::<T, C, G>(alloc, tasks, number, moment, rng, cx) {
+    let now = agenda.moment();
+    let words = four_words(rng);
+    if let Poll::Pending = tasks[number].poll_at(alloc, &Tick { now, words }, cx) {
         agenda.put(number, tasks[number].due())?;
     }
     Ok(true)
 }
 
-// Polls the task with this number at the moment, with the next four words.
-fn poll_task<T: Task, C: Clock, G: Rng>(
-    alloc: Global,
-    tasks: &mut [T],
-    number: usize,
-    moment: Moment,
-    rng: &mut G,
-    cx: &mut Context<'_>,
-) -> Poll<()>
-    requires inside { number < length tasks.old }
-    requires told { IsTold C.tells moment }
-    requires was_open { HoldsAt (IsOpen T.ended T.waits_for moment) tasks.old number }
-    ensures count { length tasks.new ≡ length tasks.old }
-    ensures left { IsLeft (G.stream rng.old) (G.stream rng.new) }
-    ensures polled { EachPolled T.ended T.waits_for T.one_poll (IsGiven C.tells (G.stream rng.old)) tasks.old tasks.new }
-{
-    let words = four_words(rng);
-    tasks[number].poll_at(alloc, &Tick { now: moment, words }, cx)
-}
-
 // Waits for the least moment that a task waits for. `false` where none waits.
 fn wait_for_least<C: Clock>(agenda: &mut Agenda, clock: &mut C) -> Result<bool, NoMemory>
-    ensures { agenda.new.count ≡ agenda.old.count }
+    ensures count { agenda.new.count ≡ agenda.old.count }
+    ensures asked { IsAsked C.tells C.waits clock.old clock.new }
 {
     let Some(due) = agenda.least() else {
         return Ok(false);
@@ -188,14 +182,15 @@ fn next_due<T: Task, C: Clock>(
 ) -> Result<Option<usize>, NoMemory>
     requires { agenda.old.count ≡ length tasks.now }
     ensures count { agenda.new.count ≡ agenda.old.count }
-    ensures told { IfOk result (λ found. OnSome found (IsTold C.tells agenda.new.moment)) }
+    ensures asked { IsAsked C.tells C.waits clock.old clock.new }
+    ensures told { IfOk result (λ found. OnSome found (C.tells clock.old agenda.new.moment clock.new)) }
     ensures was_open { IfOk result (λ found. IfSome found (λ number. (number < length tasks.now)
         × HoldsAt (IsOpen T.ended T.waits_for agenda.new.moment) tasks.now number)) }
 {
     if !agenda.has_ready() {
         return Ok(None);
     }
-    agenda.reach(ask(clock))?;
+    agenda.reach(clock.now())?;
     while let Some(number) = agenda.next() {
         let Some(task) = tasks.get(number) else {
             continue;
@@ -209,11 +204,4 @@ fn next_due<T: Task, C: Clock>(
         }
     }
     Ok(None)
-}
-
-// A fresh answer of the clock.
-fn ask<C: Clock>(clock: &mut C) -> Moment
-    ensures { IsTold C.tells result }
-{
-    clock.now()
 }

@@ -3,7 +3,7 @@
 
 ghost use Rattle.std.specs.Prelude.{◌≡◌, MatchResult};
 ghost use Rattle.std.specs.Process.{exit_status};
-ghost use Rattle.sched_cli.specs.Status.{print_status};
+ghost use Rattle.sched_plan_text.specs.PrintStatus.{print_status};
 
 use sched_cli::{
     Asked, Counted, PlanOptions, PrintFault, WordsFault, print_plan, print_pool, read_words,

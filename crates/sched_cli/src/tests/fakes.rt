@@ -1,52 +1,51 @@
+use std::alloc::Global;
 use std::io;
 use std::io::{Read, Write};
 
-/// A reader or a writer that moves at most `step` bytes a call, and may fail at one call.
+/// A reader of these bytes that fails after the last one.
 #[derive(Drop)]
-pub(crate) struct Halting<T> {
-    pub(crate) inner: T,
-    pub(crate) calls: u64,
-    step: usize,
-    works: u64,
+pub(crate) struct Torn<'a>(pub(crate) &'a [u8]);
+
+impl Read for Torn<'_> {
+    fn read(&mut self, buf: &mut [u8]) -> io::Result<usize> {
+        let (Some((first, rest)), Some(place)) = (self.0.split_first(), buf.first_mut()) else {
+            return Err(io::Error::from(io::ErrorKind::WouldBlock));
+        };
+        *place = *first;
+        self.0 = rest;
+        Ok(1)
+    }
 }
 
-impl<T> Halting<T> {
-    /// Every call works.
-    pub(crate) fn steady(inner: T, step: usize) -> Self {
-        Halting::failing_after(inner, step, u64::MAX)
-    }
+/// A writer that takes one byte a call, and fails where it has no room for another.
+#[derive(Drop)]
+pub(crate) struct Short {
+    pub(crate) taken: Vec<u8>,
+    room: usize,
+}
 
-    /// The first `works` calls work, the next one fails, and all later ones work again.
-    pub(crate) fn failing_after(inner: T, step: usize, works: u64) -> Self {
-        Halting {
-            inner,
-            calls: 0,
-            step,
-            works,
+impl Short {
+    pub(crate) fn new(alloc: Global, room: usize) -> Self {
+        Short {
+            taken: Vec::new(alloc),
+            room,
         }
     }
+}
 
-    fn turn(&mut self, room: usize) -> io::Result<usize> {
-        let call = self.calls;
-        self.calls = call.saturating_add(1);
-        if call == self.works {
+impl Write for Short {
+    fn write(&mut self, buf: &[u8]) -> io::Result<usize> {
+        let Some(byte) = buf.first() else {
+            return Ok(0);
+        };
+        if self.room == 0 {
             return Err(io::Error::from(io::ErrorKind::WouldBlock));
         }
-        Ok(room.min(self.step))
-    }
-}
-
-impl<T: Read> Read for Halting<T> {
-    fn read(&mut self, buf: &mut [u8]) -> io::Result<usize> {
-        let len = self.turn(buf.len())?.min(buf.len());
-        self.inner.read(&mut buf[..len])
-    }
-}
-
-impl<T: Write> Write for Halting<T> {
-    fn write(&mut self, buf: &[u8]) -> io::Result<usize> {
-        let len = self.turn(buf.len())?.min(buf.len());
-        self.inner.write(&buf[..len])
+        self.room -= 1;
+        if self.taken.push(*byte).is_err() {
+            return Err(io::Error::from(io::ErrorKind::OutOfMemory));
+        }
+        Ok(1)
     }
 
     fn flush(&mut self) -> io::Result<()> {

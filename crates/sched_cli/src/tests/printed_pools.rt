@@ -1,5 +1,4 @@
-use super::fakes::Halting;
-use super::printings::Printed;
+use super::fakes::{Short, Torn};
 use crate::{Counted, PoolOptions, PrintFault, print_pool};
 use std::alloc::{AllocGlobal, Global};
 use std::io::{Read, Write};
@@ -20,6 +19,9 @@ const THIRD_TEXT: &str = "job 0: won 1, granted 2\ngranted 2 of 100\n";
 
 // A job that is always run again.
 const FOREVER: &str = r#"[{"plan":"forever","runs":[{"lost":7}]}]"#;
+
+// What a printing answered, and how many of its reads and of its writes failed.
+type Printed = (Result<(), PrintFault>, u64, u64);
 
 // Options of so many workers, with this budget and so many turns.
 fn pool(workers: u64, budget: u64, turns: u64) -> Option<PoolOptions> {
@@ -159,19 +161,16 @@ fn a_pool_s_writer_that_fails_after_k_bytes_has_the_first_k(rt: HostRuntime) -> 
     let alloc = rt.alloc();
     let options = pool(1, 100, 1000000).ok_or("out of range")?;
     let failed = Err(PrintFault::WriteFailed);
-    for works in 0..THIRD_TEXT.len() {
-        let taken: Vec<u8> = Vec::new(alloc);
-        let writer = Halting::failing_after(taken, 1, works as u64);
+    for room in 0..THIRD_TEXT.len() {
+        let writer = Short::new(alloc, room);
         let (printed, writer) = running(&rt, alloc, THIRD.as_bytes(), writer, &options);
-        assert_eq!(rt; printed, (failed, 0, 1), "at write {works}");
-        assert_eq!(rt; writer.inner.as_slice(), &THIRD_TEXT.as_bytes()[..works]);
-        assert_eq!(rt; writer.calls, works as u64 + 1);
+        assert_eq!(rt; printed, (failed, 0, 1), "after {room}");
+        assert_eq!(rt; writer.taken.as_slice(), &THIRD_TEXT.as_bytes()[..room]);
     }
-    let taken: Vec<u8> = Vec::new(alloc);
-    let writer = Halting::steady(taken, 1);
+    let writer = Short::new(alloc, THIRD_TEXT.len());
     let (printed, writer) = running(&rt, alloc, THIRD.as_bytes(), writer, &options);
     assert_eq!(rt; printed, (Ok(()), 0, 0));
-    assert_eq!(rt; writer.inner.as_slice(), THIRD_TEXT.as_bytes());
+    assert_eq!(rt; writer.taken.as_slice(), THIRD_TEXT.as_bytes());
     Ok(())
 }
 
@@ -180,10 +179,10 @@ fn a_pool_s_reader_that_fails_leaves_nothing_written(rt: HostRuntime) -> Result<
     let alloc = rt.alloc();
     let options = pool(1, 100, 1000000).ok_or("out of range")?;
     let failed = Err(PrintFault::ReadFailed);
-    for works in 0..=THIRD.len() as u64 {
-        let reader = Halting::failing_after(THIRD.as_bytes(), 1, works);
+    for left in 0..=THIRD.len() {
+        let reader = Torn(&THIRD.as_bytes()[..left]);
         let (printed, taken) = running(&rt, alloc, reader, Vec::new(alloc), &options);
-        assert_eq!(rt; printed, (failed, 1, 0), "at read {works}");
+        assert_eq!(rt; printed, (failed, 1, 0), "after {left}");
         assert!(rt; taken.is_empty());
     }
     Ok(())

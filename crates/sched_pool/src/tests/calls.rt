@@ -1,12 +1,10 @@
 //! A board of effects of the test's own: pending for some polls, with items and faults that are no codes.
 ghost use Rattle.std.specs.Prelude.{◌≡◌, []};
 ghost use Rattle.sched_ticket.specs.Held.{IsOf};
-ghost use Rattle.sched_law.specs.Past.{nothing_yet};
+ghost use Rattle.sched_task_law.specs.Past.{nothing_yet};
 
 use super::*;
 use futures::task::{Context, Poll};
-use sched_effect::Coded;
-use sched_time::NoMemory;
 use std::thread::Threads;
 
 // What a call is answered with.

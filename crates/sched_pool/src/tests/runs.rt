@@ -2,7 +2,6 @@ ghost use Rattle.std.specs.Prelude.{◌≡◌};
 ghost use Rattle.sched_ticket.specs.Held.{IsOf};
 
 use super::*;
-use sched_work::Gate;
 use std::sync::atomic::{AtomicBool, Ordering};
 use std::thread::Threads;
 

@@ -4,9 +4,6 @@ ghost use Rattle.sched_claim.specs.Portion.{IsShareOf};
 
 use super::*;
 use futures::task::{Context, Poll};
-use sched_effect::Code;
-use sched_time::NoMemory;
-use sched_work::Gate;
 use std::sync::atomic::{AtomicBool, Ordering};
 use std::thread::{Threads, join};
 

@@ -3,7 +3,6 @@ ghost use Rattle.sched_ticket.specs.Held.{IsOf};
 ghost use Rattle.sched_claim.specs.Portion.{IsShareOf};
 
 use super::*;
-use sched_effect::Code;
 
 // Two shares of a board.
 fn two_shares<N: Naming>(

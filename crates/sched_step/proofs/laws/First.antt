@@ -13,7 +13,7 @@ use Rattle.sched_step.specs.declared.leaves.LeafState.{LeafState}
 use Rattle.sched_step.specs.declared.turns.Turn.{Turn}
 use Rattle.sched_step.specs.Progress.{Kept, Progress, at_leaf, at_one, at_two}
 use Rattle.sched_step.specs.StateOf.{kept_of, seen, turn_of, first_seen, second_seen, first_kept, first_turn, state_of}
-use Rattle.sched_step.specs.Step.{leaf_next, leaf_answers, begins, one_next, one_answers, two_step, leaf_from, kept_from, turn_from, from, step_of}
+use Rattle.sched_step.specs.Step.{leaf_next, leaf_answers, begins, one_next, one_answers, two_step, leaf_origin, kept_origin, turn_origin, origin, step_of}
 
 seen-nil : (k : One) → seen k [] ≡ []
 seen-nil Nothing = refl
@@ -47,8 +47,8 @@ first_two k a b =
 -- A step that may begin anew is made of those of the parts.
 
 pub leaf_anew : (fresh : Bool) (l : Leaf) (s : LeafState) (e : Event) →
-    step_of (leaf l) (from fresh (leaf l) (at_leaf s)) e ≡
-    (at_leaf (leaf_next l (leaf_from fresh l s) e), leaf_answers l (leaf_from fresh l s) e)
+    step_of (leaf l) (origin fresh (leaf l) (at_leaf s)) e ≡
+    (at_leaf (leaf_next l (leaf_origin fresh l s) e), leaf_answers l (leaf_origin fresh l s) e)
 leaf_anew true l s e = refl
 leaf_anew false l s e = refl
 
@@ -62,15 +62,15 @@ abbrev pub over_one : One → Kept → Event → Progress × Answer → Progress
 over_one k s e r = (at_one (one_next k s e r.1) r.0, one_answers k s e r.1)
 
 pub one_anew : (fresh : Bool) (k : One) (a : Schedule) (s : Kept) (p : Progress) (e : Event) →
-    step_of (one k a) (from fresh (one k a) (at_one s p)) e ≡
-    over_one k (kept_from fresh k s) e (step_of a (from (fresh || begins k s e.now) a p) e)
+    step_of (one k a) (origin fresh (one k a) (at_one s p)) e ≡
+    over_one k (kept_origin fresh k s) e (step_of a (origin (fresh || begins k s e.now) a p) e)
 one_anew true k a s p e =
     ap (λ q. step_of (one k a) q e) (first_one k a)
     ∙ ap (λ q. over_one k (first_kept k) e (step_of a q e)) (either_anew (begins k (first_kept k) e.now) (state_of a []))
 one_anew false k a s p e = refl
 
 pub two_anew : (fresh : Bool) (k : Two) (a b : Schedule) (t : Turn) (p q : Progress) (e : Event) →
-    step_of (two k a b) (from fresh (two k a b) (at_two t p q)) e ≡
-    two_step k (step_of a) (step_of b) (turn_from fresh k t) (from fresh a p) (from fresh b q) e
+    step_of (two k a b) (origin fresh (two k a b) (at_two t p q)) e ≡
+    two_step k (step_of a) (step_of b) (turn_origin fresh k t) (origin fresh a p) (origin fresh b q) e
 two_anew true k a b t p q e = ap (λ r. step_of (two k a b) r e) (first_two k a b)
 two_anew false k a b t p q e = refl

@@ -19,8 +19,7 @@ Steps state f step = (h : List Event) (e : Event) → step (state h) e ≡ (stat
 pub step_law : (s : Schedule) → IsTrue (is_valid s) → Steps (state_of s) (answer s) (step_of s)
 step_law (leaf l) valid = λ h e i. (at_leaf (leaf_next-push l h e i), leaf_answers-push l h e valid i)
 step_law (one k a) valid =
-    let parts = and_parts (one_in_range k) (is_valid a) valid in
-    λ h e. one_law (state_of a) (answer a) (step_of a) (step_law a parts.1) k h e parts.0
+    one_law (state_of a) (answer a) (step_of a) (step_law a (and_parts (one_in_range k) (is_valid a) valid).1) k
 step_law (two k a b) valid =
     let parts = and_parts (is_valid a) (is_valid b) valid in
     two_law (state_of a) (answer a) (step_of a) (step_law a parts.0) (state_of b) (answer b) (step_of b) (step_law b parts.1) k

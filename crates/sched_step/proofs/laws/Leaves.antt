@@ -6,9 +6,9 @@ use Rattle.sched_time.specs.Capped.{capped}
 use Rattle.sched_time.specs.declared.numbers.TheConstants.{FAR}
 use Rattle.sched_time.specs.declared.starts.Decision.TheVariants.{Go, Done}
 use Rattle.sched_plan.specs.Datum.{num}
-use Rattle.sched_plan.specs.HistoryLaws.{last_moment-push, last_input-push}
+use Rattle.sched_plan.proofs.HistoryLaws.{last_moment-push, last_input-push}
 use Rattle.sched_plan.specs.Sequences.{linear_at, exponential_at, milli_at, fibonacci_at, unfold_at}
-use Rattle.sched_plan.specs.SequenceLaws.{linear_at-capped, exponential_at-next, milli_at-next, fibonacci_at-next, unfold_at-next}
+use Rattle.sched_plan.proofs.SequenceLaws.{linear_at-capped, exponential_at-next, milli_at-next, fibonacci_at-next, unfold_at-next}
 use Rattle.sched_plan.specs.Schedule.{leaf_in_range}
 use Rattle.sched_plan.specs.Answer.{leaf_answer, leaf_output, leaf_decision, next_boundary}
 use Rattle.sched_plan.specs.declared.leaves.Leaf.{Leaf}

@@ -3,15 +3,15 @@ use Rattle.std.proofs.Common.{ℕ, ◌+◌, ◌≤◌, if◌then◌else◌, Opti
 use Rattle.std.proofs.lemmas.Bool.{cond_both}
 use Rattle.sched_time.specs.Capped.{capped}
 use Rattle.sched_time.specs.declared.numbers.TheConstants.{FAR}
-use Rattle.sched_time.specs.declared.starts.Decision.{Decision}
 use Rattle.sched_time.specs.declared.starts.Decision.TheVariants.{Go, Done}
 use Rattle.sched_plan.specs.Schedule.{Schedule, leaf, one, two}
 use Rattle.sched_plan.specs.Datum.{Datum}
 use Rattle.sched_plan.specs.Outputs.{with_input}
 use Rattle.sched_plan.specs.Gates.{passes, tested, is_wanted}
 use Rattle.sched_plan.specs.Delays.{added, added_out, jittered}
-use Rattle.sched_plan.specs.DelayLaws.{moved-later}
-use Rattle.sched_plan.specs.Answer.{is_done, later, earlier, moved_decision, next_boundary}
+use Rattle.sched_plan.specs.Answer.{is_done, next_boundary}
+use Rattle.sched_plan.specs.Starts.{StartsBy}
+use Rattle.sched_plan.proofs.Starts.{moved_starts, meet_starts, join_starts, ended_starts, passed_starts}
 use Rattle.sched_plan.specs.declared.leaves.Leaf.{Leaf}
 use Rattle.sched_plan.specs.declared.leaves.Leaf.TheVariants.{Forever, Recurs, Spaced, Fixed, Windowed, Linear, Exponential, ExponentialMilli, Fibonacci, Elapsed, Identity, Unfold, Lone}
 use Rattle.sched_plan.specs.declared.nodes.One.{One}
@@ -24,9 +24,8 @@ use Rattle.sched_step.specs.declared.leaves.LeafState.{LeafState}
 use Rattle.sched_step.specs.declared.turns.Turn.{Turn}
 use Rattle.sched_step.specs.declared.turns.Turn.TheVariants.{Together, Uncrossed, Crossed}
 use Rattle.sched_step.specs.Progress.{Kept, Progress, at_two}
-use Rattle.sched_step.specs.Starts.{StartsBy}
 use Rattle.sched_step.specs.StateOf.{state_of}
-use Rattle.sched_step.specs.Step.{count_of, planned_of, is_spent, next_fixed, leaf_decides, leaf_of, kept_or_now, since_of, begins, one_answers, past_crossing, at_crossing, follow_step, two_step, kept_in, turn_in, first_of, second_of, step_of}
+use Rattle.sched_step.specs.Step.{count_of, planned_of, lone_is_past, next_fixed, leaf_decides, leaf_of, kept_or_now, since_of, begins, one_answers, past_crossing, at_crossing, follow_step, two_step, kept_in, turn_in, first_of, second_of, step_of}
 
 next_fixed_starts : (d : ℕ) (planned : Option (ℕ × ℕ)) (now : ℕ) → now ≤ FAR → now ≤ next_fixed d planned now
 next_fixed_starts d None now far = omega arith
@@ -49,23 +48,15 @@ leaf_starts Elapsed s e far = le_refl e.now
 leaf_starts Identity s e far = le_refl e.now
 leaf_starts (Unfold seed factor more) s e far = le_refl e.now
 leaf_starts (Lone delay) s e far =
-    cond_both (is_spent s) Done (Go (capped (e.now + delay))) (StartsBy e.now) (λ spent. tt) (λ first. omega arith)
+    cond_both (lone_is_past s) Done (Go (capped (e.now + delay))) (StartsBy e.now) (λ spent. tt) (λ first. omega arith)
 
 -- Nodes over one schedule.
 
--- a changed delay goes on from the event
-moved_starts : (delay : ℕ → ℕ) (now : ℕ) (d : Decision) → now ≤ FAR → StartsBy now (moved_decision delay now d)
-moved_starts delay now (Go start) far = moved-later delay now start far
-moved_starts delay now Done far = tt
-
 one_starts : (k : One) (s : Kept) (e : Event) (a : Answer) → e.now ≤ FAR → StartsBy e.now a.decision →
     StartsBy e.now (one_answers k s e a).decision
-one_starts (Within d) s e a far starts =
-    cond_both (nat_le d (e.now - kept_or_now (since_of s) e.now)) (record { output = a.output; decision = Done }) a
-    (λ (b : Answer). StartsBy e.now b.decision) (λ over. tt) (λ goes_on. starts)
+one_starts (Within d) s e a far starts = ended_starts e.now (nat_le d (e.now - kept_or_now (since_of s) e.now)) a starts
 one_starts (Gate side want test bound) s e a far starts =
-    cond_both (is_wanted want (passes test bound (tested side e.input a))) a (record { output = a.output; decision = Done })
-    (λ (b : Answer). StartsBy e.now b.decision) (λ passes. starts) (λ fails. tt)
+    passed_starts e.now (is_wanted want (passes test bound (tested side e.input a))) a starts
 one_starts (Add d) s e a far starts = moved_starts (added d) e.now a.decision far
 one_starts (Set d) s e a far starts = moved_starts (λ _. d) e.now a.decision far
 one_starts (Cap d) s e a far starts = moved_starts (λ delay. min delay d) e.now a.decision far
@@ -75,16 +66,6 @@ one_starts (Jitter lane least most) s e a far starts =
 one_starts k s e a far starts = starts
 
 -- Nodes over two schedules.
-
-later_starts : (now : ℕ) (a b : Decision) → StartsBy now a → StartsBy now b → StartsBy now (later a b)
-later_starts now (Go s) (Go t) first second = omega arith
-later_starts now (Go s) Done first second = tt
-later_starts now Done b first second = tt
-
-earlier_starts : (now : ℕ) (a b : Decision) → StartsBy now a → StartsBy now b → StartsBy now (earlier a b)
-earlier_starts now (Go s) (Go t) first second = omega arith
-earlier_starts now (Go s) Done first second = first
-earlier_starts now Done b first second = second
 
 module _
     (front rest : Progress → Event → Progress × Answer) (e : Event)
@@ -102,9 +83,9 @@ module _
   follow_starts Crossed p q = rest_starts q e.input
 
   two_starts : (k : Two) (t : Turn) (p q : Progress) → StartsBy e.now (two_step k front rest t p q e).1.decision
-  two_starts Meet t p q = later_starts e.now _ _ (front_starts p) (rest_starts q e.input)
-  two_starts Join t p q = earlier_starts e.now _ _ (front_starts p) (rest_starts q e.input)
-  two_starts Feed t p q = later_starts e.now _ _ (front_starts p) (rest_starts q (front p e).1.output)
+  two_starts Meet t p q = meet_starts e.now _ _ (front_starts p) (rest_starts q e.input)
+  two_starts Join t p q = join_starts e.now _ _ (front_starts p) (rest_starts q e.input)
+  two_starts Feed t p q = meet_starts e.now _ _ (front_starts p) (rest_starts q (front p e).1.output)
   two_starts Follow t p q = follow_starts t p q
 
 pub starts_law : (s : Schedule) (p : Progress) (e : Event) → e.now ≤ FAR → StartsBy e.now (step_of s p e).1.decision

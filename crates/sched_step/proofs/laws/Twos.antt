@@ -1,8 +1,8 @@
 -- The step of a node over two schedules: a lemma for each node, and the law that they make together.
 use Rattle.std.proofs.Common.{◌≡◌, List, [], ◌∷◌, ◌++◌, Bool, true, false, cond, Option, Some, None, refl, sym, ap, ◌∙◌}
 use Rattle.sched_plan.specs.Outputs.{with_input, fed}
-use Rattle.sched_plan.specs.OutputLaws.{fed-push}
-use Rattle.sched_plan.specs.Answer.{both, either, through, combined, follow_answer, crossing, is_done}
+use Rattle.sched_plan.proofs.OutputLaws.{fed-push}
+use Rattle.sched_plan.specs.Answer.{meet_answer, join_answer, feed_answer, combined, follow_answer, crossing, is_done}
 use Rattle.sched_plan.specs.declared.nodes.Two.{Two}
 use Rattle.sched_plan.specs.declared.nodes.Two.TheVariants.{Meet, Join, Follow, Feed}
 use Rattle.sched_plan.specs.declared.history.Event.{Event}
@@ -12,7 +12,7 @@ use Rattle.sched_step.specs.Progress.{Progress, at_two}
 use Rattle.sched_step.specs.StateOf.{turn_at, up_to_crossing, from_crossing, turn_of, first_seen, second_seen}
 use Rattle.sched_step.specs.Step.{side_by_side, past_crossing, at_crossing, follow_step, two_step}
 use Rattle.sched_step.proofs.History.{from_end_of-itself, from_end_of-push}
-use Rattle.sched_step.proofs.Prefixes.{crossing-short, crossing-kept, crossing-push}
+use Rattle.sched_plan.proofs.PrefixLaws.{crossing-short, crossing-kept, crossing-push}
 
 module _
     (front : List Event → Progress) (f : List Event → Answer) (front_step : Progress → Event → Progress × Answer)
@@ -49,13 +49,13 @@ module _
 
   feed_law : (h : List Event) (e : Event) →
       two_step Feed front_step rest_step Together (front h) (rest (fed f h)) e ≡
-      (at_two Together (front (h ++ e ∷ [])) (rest (fed f (h ++ e ∷ []))), through (f (h ++ e ∷ [])) (g (fed f (h ++ e ∷ []))))
+      (at_two Together (front (h ++ e ∷ [])) (rest (fed f (h ++ e ∷ []))), feed_answer (f (h ++ e ∷ [])) (g (fed f (h ++ e ∷ []))))
   feed_law h e =
       let a : Progress × Answer = (front (h ++ e ∷ []), f (h ++ e ∷ [])) in
       ap (λ (r : Progress × Answer). side_by_side r (rest_step (rest (fed f h)) (with_input r.1.output e))
-      (through r.1 (rest_step (rest (fed f h)) (with_input r.1.output e)).1)) (front_law h e)
-      ∙ ap (λ (r : Progress × Answer). side_by_side a r (through a.1 r.1)) (rest_law (fed f h) (with_input a.1.output e))
-      ∙ ap (λ d. side_by_side a (rest d, g d) (through a.1 (g d))) (sym (fed-push f h e))
+      (feed_answer r.1 (rest_step (rest (fed f h)) (with_input r.1.output e)).1)) (front_law h e)
+      ∙ ap (λ (r : Progress × Answer). side_by_side a r (feed_answer a.1 r.1)) (rest_law (fed f h) (with_input a.1.output e))
+      ∙ ap (λ d. side_by_side a (rest d, g d) (feed_answer a.1 (g d))) (sym (fed-push f h e))
 
   -- All nodes over two schedules.
 
@@ -64,7 +64,7 @@ module _
         at_two (turn_of k f (h ++ e ∷ [])) (front (first_seen k f (h ++ e ∷ []))) (rest (second_seen k f (h ++ e ∷ []))),
         combined k f g (h ++ e ∷ []),
       )
-  two_law Meet h e = λ i. side_by_side (front_law h e i) (rest_law h e i) (both (front_law h e i).1 (rest_law h e i).1)
-  two_law Join h e = λ i. side_by_side (front_law h e i) (rest_law h e i) (either (front_law h e i).1 (rest_law h e i).1)
+  two_law Meet h e = λ i. side_by_side (front_law h e i) (rest_law h e i) (meet_answer (front_law h e i).1 (rest_law h e i).1)
+  two_law Join h e = λ i. side_by_side (front_law h e i) (rest_law h e i) (join_answer (front_law h e i).1 (rest_law h e i).1)
   two_law Feed h e = feed_law h e
   two_law Follow h e = follow_law h e (crossing f h) refl

@@ -1,6 +1,6 @@
 use Rattle.std.proofs.Common.{ℕ, List, subst}
-use Rattle.sched_jobs.specs.Job.{Job}
-use Rattle.sched_batch.specs.Batch.{AreRun}
+use Rattle.sched_jobs_json.specs.Job.{Job}
+use Rattle.sched_scripted_pool.specs.Batch.{AreRun}
 use Rattle.sched_cli.specs.PoolPrinting.{SpellsJobs}
 use Rattle.sched_cli.proofs.PoolFaults.{pool_written}
 use Rattle.sched_cli.proofs.pools.print_pool.Goals as goal

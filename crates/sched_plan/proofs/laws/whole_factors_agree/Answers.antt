@@ -1,7 +1,7 @@
 use Rattle.std.proofs.Common.{ap, length}
 use Rattle.sched_plan.specs.Answer.{go_after}
 use Rattle.sched_plan.specs.Datum.{num}
-use Rattle.sched_plan.specs.SequenceLaws.{milli_at-exponential}
+use Rattle.sched_plan.proofs.SequenceLaws.{milli_at-exponential}
 use Rattle.sched_plan.proofs.laws.whole_factors_agree.Goals as goal
 
 pub returns : goal.returns

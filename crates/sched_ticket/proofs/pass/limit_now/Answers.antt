@@ -11,5 +11,5 @@ load-requires c =
     let of = c.requires.of in (
       of.0 ∙ sym (ap (λ (b : Name). b.table) c.budget.view_is),
       omega arith,
-      reads_limit_ok _ _ _ _ (step 0 2 0 0 none) c.requires.live (of.1 ∙ sym (ap (λ (b : Name). b.terms) c.budget.view_is) ∙ sym known.about_is),
+      reads_limit_ok _ _ _ _ (step 0 32 0 0 none) c.requires.live (of.1 ∙ sym (ap (λ (b : Name). b.terms) c.budget.view_is) ∙ sym known.about_is),
     )

@@ -1,5 +1,5 @@
 use Rattle.std.proofs.Common.{is_some, sym, ap, ◌∙◌, subst}
-use Rattle.sched_law.proofs.Fields.{none_of}
+use Rattle.sched_task_law.proofs.Fields.{none_of}
 use Rattle.sched_repeat.specs.Repeating.{Repeating, RepeatLaw}
 use Rattle.sched_repeat.proofs.Polls.{can_run, rests_over, rests_waiting}
 use Rattle.sched_repeat.proofs.repeat.Repeat.poll_at.Goals as goal

@@ -1,6 +1,6 @@
 use Rattle.std.proofs.Common.{is_some, sym, ap, ◌∙◌, subst}
-use Rattle.sched_law.specs.Kind.{retry}
-use Rattle.sched_law.proofs.Fields.{none_of}
+use Rattle.sched_task_law.specs.Kind.{retry}
+use Rattle.sched_task_law.proofs.Fields.{none_of}
 use Rattle.sched_retry.specs.Retrying.{Retrying, RetryLaw}
 use Rattle.sched_retry.proofs.Polls.{can_run, rests_over, rests_waiting}
 use Rattle.sched_retry.proofs.retry.Retry.poll_at.Goals as goal

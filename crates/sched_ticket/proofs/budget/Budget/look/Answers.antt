@@ -10,5 +10,5 @@ load-requires c =
     let known = c.self.invariant in (
       c.requires.of ∙ sym (ap (λ (b : Name). b.table) c.self.view_is),
       omega arith,
-      looks_ok _ _ _ _ (step 0 1 0 0 none) c.requires.live,
+      looks_ok _ _ _ _ (step 0 16 0 0 none) c.requires.live,
     )

@@ -13,7 +13,7 @@ fetch_add-made-requires c =
     let counted = c.self.invariant in (
       ap (λ (p : Held). p.table) c.self.view_is ∙ c.requires.0 ∙ sym (ap (λ (b : Name). b.table) c.budget.view_is),
       omega arith,
-      counts_ok _ _ _ _ (step 0 1 1 0 none) (omega arith) (omega arith),
+      counts_ok _ _ _ _ (step 0 16 1 0 none) (omega arith) (omega arith),
     )
 
 pub split_seat-seat-requires : goal.split_seat-seat-requires

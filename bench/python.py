@@ -1,0 +1,139 @@
+#!/usr/bin/env python3
+"""What an attempt costs by the Python package, beside tenacity's: processor time, the least of several runs each.
+
+Started by hand at the top of the repository, with the engine's library and an interpreter that has tenacity:
+
+    HIKEBOX_LIBRARY=dist/libhikebox.so PYTHONPATH=python/src /usr/bin/python3 bench/python.py
+
+It wants a machine with nothing else to do. Ten attempts fail and the eleventh succeeds, within what policies and stops
+allow; no wait is slept.
+"""
+
+from __future__ import annotations
+
+import asyncio
+import gc
+import sys
+import time
+from typing import Any, Callable, List
+
+import tenacity
+
+import hikebox
+from hikebox import Budget, exponential, recurs
+
+ATTEMPTS = 11
+RUNS = 100
+
+
+class Fails:
+    """A call that fails ten times and then succeeds, again and again."""
+
+    def __init__(self) -> None:
+        self.left = ATTEMPTS
+
+    def __call__(self) -> None:
+        self.left -= 1
+        if self.left:
+            raise ValueError
+        self.left = ATTEMPTS
+
+    async def later(self) -> None:
+        self()
+
+
+def least(count: int, *runs: Callable[[int], Any]) -> List[float]:
+    """The least nanoseconds of processor time for each of so many calls, of runs that take turns."""
+    best = [float("inf")] * len(runs)
+    for turn in range(RUNS):
+        for index, run in enumerate(runs):
+            gc.collect()
+            gc.disable()
+            start = time.process_time_ns()
+            run(count)
+            took = (time.process_time_ns() - start) / count
+            gc.enable()
+            if turn:
+                best[index] = min(best[index], took)
+    return best
+
+
+def nothing(*_: Any) -> None:
+    pass
+
+
+async def nothing_later(*_: Any) -> None:
+    pass
+
+
+def calls(wrapped: Callable[[], Any]) -> Callable[[int], None]:
+    def run(count: int) -> None:
+        for _ in range(count):
+            wrapped()
+
+    return run
+
+
+def calls_later(wrapped: Callable[[], Any]) -> Callable[[int], None]:
+    async def main(count: int) -> None:
+        for _ in range(count):
+            await wrapped()
+
+    return lambda count: asyncio.run(main(count))
+
+
+def loops(retrying: Any, fails: Fails) -> Callable[[int], None]:
+    def run(count: int) -> None:
+        for _ in range(count):
+            for attempt in retrying:
+                with attempt:
+                    fails()
+
+    return run
+
+
+def tell(what: str, ours: Callable[[int], Any], theirs: Callable[[int], Any], attempts: int) -> None:
+    own, other = (each / attempts for each in least(1000 // attempts, ours, theirs))
+    print(f"{what}: an attempt {own / 1000:.2f} us, of tenacity {other / 1000:.2f} us, ratio {own / other:.2f}")
+
+
+def main() -> None:
+    with open("/proc/cpuinfo") as file:
+        model = next(line.split(":")[1].strip() for line in file if line.startswith("model name"))
+    print(f"{model}, Python {sys.version.split()[0]}, tenacity of {tenacity.__file__}")
+    policy = recurs(20) & exponential(1, 2).cap(30)
+    their = {"stop": tenacity.stop_after_attempt(21), "wait": tenacity.wait_exponential(max=30)}
+
+    ours = hikebox.Retrying(policy).wraps(nothing)
+    theirs = tenacity.Retrying(**their).wraps(nothing)
+    tell("a call that succeeds", calls(ours), calls(theirs), 1)
+
+    ours = hikebox.Retrying(policy, sleep=nothing).wraps(Fails())
+    theirs = tenacity.Retrying(sleep=nothing, **their).wraps(Fails())
+    tell("ten failures", calls(ours), calls(theirs), ATTEMPTS)
+
+    with Budget(2**32) as budget:
+        ours = hikebox.Retrying(policy, sleep=nothing, budget=budget).wraps(Fails())
+        tell("ten failures under a budget", calls(ours), calls(theirs), ATTEMPTS)
+
+    ours = hikebox.Retrying(policy.jittered(), sleep=nothing).wraps(Fails())
+    jittered = {**their, "wait": tenacity.wait_random_exponential(max=30)}
+    theirs = tenacity.Retrying(sleep=nothing, **jittered).wraps(Fails())
+    tell("ten failures with jitter", calls(ours), calls(theirs), ATTEMPTS)
+
+    ours_loop = loops(hikebox.Retrying(policy, sleep=nothing), Fails())
+    theirs_loop = loops(tenacity.Retrying(sleep=nothing, **their), Fails())
+    tell("ten failures in a loop", ours_loop, theirs_loop, ATTEMPTS)
+
+    ours = hikebox.AsyncRetrying(policy, sleep=nothing_later).wraps(Fails().later)
+    theirs = tenacity.AsyncRetrying(sleep=nothing_later, **their).wraps(Fails().later)
+    tell("ten failures of a coroutine", calls_later(ours), calls_later(theirs), ATTEMPTS)
+
+    with Budget(2**32) as budget:
+        print(f"a draw: {least(1000, calls(budget.draw))[0] / 1000:.2f} us")
+    built = least(100, calls(lambda: recurs(5) & exponential(1, 2).cap(1)))[0]
+    print(f"a policy of four nodes built: {built / 1000:.1f} us")
+
+
+if __name__ == "__main__":
+    main()

@@ -1,0 +1,113 @@
+//! Budgets and their passes.
+ghost use Rattle.sched_handle.specs.Passes.{AreOfOneBudget};
+
+use sched_handle::{Handle, Held, Kind, Status, tell};
+use std::alloc::Global;
+
+#[unsafe(no_mangle)]
+pub extern "C" fn hikebox_budget_fixed(alloc: Global, limit: u64, pass: &mut Handle) -> u32 {
+    if pass.is_full(alloc) {
+        return Status::Full.code();
+    }
+    let made = Held::fixed(alloc, limit);
+    pass.fill(made)
+}
+
+#[unsafe(no_mangle)]
+pub extern "C" fn hikebox_budget_rising(alloc: Global, limit: u64, pass: &mut Handle) -> u32 {
+    if pass.is_full(alloc) {
+        return Status::Full.code();
+    }
+    let made = Held::rising(alloc, limit);
+    pass.fill(made)
+}
+
+#[unsafe(no_mangle)]
+pub extern "C" fn hikebox_pass_draw(alloc: Global, pass: &mut Handle, ticket: &mut u64) -> u32 {
+    let Some(mut held) = pass.take(alloc) else {
+        return Status::Empty.code();
+    };
+    let answer = held.draw();
+    pass.put(held);
+    tell(answer, ticket)
+}
+
+#[unsafe(no_mangle)]
+pub extern "C" fn hikebox_pass_split(alloc: Global, pass: &mut Handle, part: &mut Handle) -> u32 {
+    if part.is_full(alloc) {
+        return Status::Full.code();
+    }
+    let Some(mut held) = pass.take(alloc) else {
+        return Status::Empty.code();
+    };
+    let made = held.split(alloc);
+    pass.put(held);
+    part.fill(made)
+}
+
+#[unsafe(no_mangle)]
+pub extern "C" fn hikebox_pass_join(alloc: Global, pass: &mut Handle, other: &mut Handle) -> u32
+    requires { AreOfOneBudget pass.old.held other.old.held }
+{
+    let Some(mut held) = pass.take(alloc) else {
+        return Status::Empty.code();
+    };
+    if held.kind() != Kind::Pass {
+        pass.put(held);
+        return Status::WrongKind.code();
+    }
+    let Some(with) = other.take(alloc) else {
+        pass.put(held);
+        return Status::Empty.code();
+    };
+    if with.kind() != Kind::Pass {
+        pass.put(held);
+        other.put(with);
+        return Status::WrongKind.code();
+    }
+    held.join(Box::into_inner(with));
+    pass.put(held);
+    0
+}
+
+#[unsafe(no_mangle)]
+pub extern "C" fn hikebox_pass_raise(
+    alloc: Global,
+    pass: &mut Handle,
+    to: u64,
+    limit: &mut u64,
+) -> u32 {
+    let Some(mut held) = pass.take(alloc) else {
+        return Status::Empty.code();
+    };
+    let answer = held.raise(to);
+    pass.put(held);
+    tell(answer, limit)
+}
+
+#[unsafe(no_mangle)]
+pub extern "C" fn hikebox_pass_count(alloc: Global, pass: &mut Handle, tickets: &mut u64) -> u32 {
+    let Some(held) = pass.take(alloc) else {
+        return Status::Empty.code();
+    };
+    let answer = held.count();
+    pass.put(held);
+    tell(answer, tickets)
+}
+
+#[unsafe(no_mangle)]
+pub extern "C" fn hikebox_pass_close(alloc: Global, pass: &mut Handle, tickets: &mut u64) -> u32 {
+    let Some(mut held) = pass.take(alloc) else {
+        return Status::Empty.code();
+    };
+    let answer = held.close(alloc);
+    if held.kind() != Kind::Room {
+        pass.put(held);
+    }
+    tell(answer, tickets)
+}
+
+#[unsafe(no_mangle)]
+pub extern "C" fn hikebox_pass_free(alloc: Global, pass: &mut Handle) -> u32 {
+    pass.free(alloc, Kind::Pass)
+}

@@ -1,0 +1,126 @@
+//! Drivers.
+
+use sched_handle::{Decided, Handle, Held, Kind, Status, put_text, tell, tick_at};
+use sched_time::Millis;
+use std::alloc::Global;
+
+#[unsafe(no_mangle)]
+pub extern "C" fn hikebox_driver_new(
+    alloc: Global,
+    policy: &mut Handle,
+    driver: &mut Handle,
+) -> u32 {
+    if driver.is_full(alloc) {
+        return Status::Full.code();
+    }
+    let Some(held) = policy.take(alloc) else {
+        return Status::Empty.code();
+    };
+    let made = held.driver(alloc);
+    policy.put(held);
+    driver.fill(made)
+}
+
+#[unsafe(no_mangle)]
+pub extern "C" fn hikebox_driver_next(
+    alloc: Global,
+    driver: &mut Handle,
+    now: u64,
+    words: &[u32; 4],
+    input: u64,
+    decision: &mut Decided,
+) -> u32 {
+    let Ok(tick) = tick_at(now, words) else {
+        return Status::TooLarge.code();
+    };
+    let Some(input) = Millis::new(input) else {
+        return Status::TooLarge.code();
+    };
+    let Some(mut held) = driver.take(alloc) else {
+        return Status::Empty.code();
+    };
+    let answer = held.next(alloc, tick, input);
+    driver.put(held);
+    tell(answer, decision)
+}
+
+#[unsafe(no_mangle)]
+pub extern "C" fn hikebox_driver_next_start(
+    alloc: Global,
+    driver: &mut Handle,
+    decision: &mut Decided,
+) -> u32 {
+    let Some(held) = driver.take(alloc) else {
+        return Status::Empty.code();
+    };
+    let answer = held.planned();
+    driver.put(held);
+    tell(answer, decision)
+}
+
+#[unsafe(no_mangle)]
+pub extern "C" fn hikebox_driver_last_number(
+    alloc: Global,
+    driver: &mut Handle,
+    number: &mut u64,
+) -> u32 {
+    let Some(held) = driver.take(alloc) else {
+        return Status::Empty.code();
+    };
+    let answer = held.last_number();
+    driver.put(held);
+    tell(answer, number)
+}
+
+#[unsafe(no_mangle)]
+pub extern "C" fn hikebox_driver_last_text(
+    alloc: Global,
+    driver: &mut Handle,
+    text: &mut [u8],
+    length: &mut usize,
+) -> u32 {
+    let Some(held) = driver.take(alloc) else {
+        return Status::Empty.code();
+    };
+    let answer = held.last_text(alloc);
+    driver.put(held);
+    match answer {
+        Ok(output) => match put_text(output.as_str(), text, length) {
+            Ok(()) => 0,
+            Err(status) => status.code(),
+        },
+        Err(status) => status.code(),
+    }
+}
+
+#[unsafe(no_mangle)]
+pub extern "C" fn hikebox_driver_events(
+    alloc: Global,
+    driver: &mut Handle,
+    events: &mut u64,
+) -> u32 {
+    let Some(held) = driver.take(alloc) else {
+        return Status::Empty.code();
+    };
+    let answer = held.events();
+    driver.put(held);
+    tell(answer, events)
+}
+
+#[unsafe(no_mangle)]
+pub extern "C" fn hikebox_driver_reset(alloc: Global, driver: &mut Handle) -> u32 {
+    let Some(mut held) = driver.take(alloc) else {
+        return Status::Empty.code();
+    };
+    let answer = held.reset();
+    driver.put(held);
+    match answer {
+        Ok(()) => 0,
+        Err(status) => status.code(),
+    }
+}
+
+#[unsafe(no_mangle)]
+pub extern "C" fn hikebox_driver_free(alloc: Global, driver: &mut Handle) -> u32 {
+    driver.free(alloc, Kind::Driver)
+}

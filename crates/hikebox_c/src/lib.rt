@@ -1,0 +1,7 @@
+//! What include/hikebox.h declares: calls for programs in C, or in any language that calls C.
+#![tactic(auto)]
+
+mod budgets;
+mod drivers;
+mod policies;
+mod retries;

@@ -1,0 +1,126 @@
+//! Retries.
+ghost use Rattle.sched_handle.specs.Retries.{IsOfItsBudget};
+
+use sched_effect::Ran;
+use sched_handle::{Handle, Held, Kind, Reply, Status, tell, tick_at};
+use sched_time::Millis;
+use std::alloc::Global;
+
+#[unsafe(no_mangle)]
+pub extern "C" fn hikebox_retry_new(
+    alloc: Global,
+    policy: &mut Handle,
+    pass: &mut Handle,
+    retry: &mut Handle,
+) -> u32 {
+    if retry.is_full(alloc) {
+        return Status::Full.code();
+    }
+    let Some(plan) = policy.take(alloc) else {
+        return Status::Empty.code();
+    };
+    let Some(mut held) = pass.take(alloc) else {
+        policy.put(plan);
+        return Status::Empty.code();
+    };
+    let made = Held::retry(alloc, &plan, &mut held);
+    policy.put(plan);
+    pass.put(held);
+    retry.fill(made)
+}
+
+#[unsafe(no_mangle)]
+pub extern "C" fn hikebox_retry_poll(
+    alloc: Global,
+    retry: &mut Handle,
+    now: u64,
+    words: &[u32; 4],
+    report: u32,
+    code: u64,
+    next: &mut Reply,
+) -> u32 {
+    let Ok(tick) = tick_at(now, words) else {
+        return Status::TooLarge.code();
+    };
+    let report = match reported(report, code) {
+        Ok(report) => report,
+        Err(status) => return status.code(),
+    };
+    let Some(mut held) = retry.take(alloc) else {
+        return Status::Empty.code();
+    };
+    let answer = held.poll(alloc, &tick, report);
+    retry.put(held);
+    tell(answer, next)
+}
+
+// The run that is reported, if any.
+fn reported(report: u32, code: u64) -> Result<Option<Ran>, Status> {
+    if report == 0 {
+        return Ok(None);
+    }
+    if report > 2 {
+        return Err(Status::NoSuchReport);
+    }
+    match Millis::new(code) {
+        None => Err(Status::TooLarge),
+        Some(code) => Ok(Some(if report == 1 {
+            Ran::Won(code)
+        } else {
+            Ran::Lost(code)
+        })),
+    }
+}
+
+#[unsafe(no_mangle)]
+pub extern "C" fn hikebox_retry_see(alloc: Global, retry: &mut Handle, next: &mut Reply) -> u32 {
+    let Some(held) = retry.take(alloc) else {
+        return Status::Empty.code();
+    };
+    let answer = held.see();
+    retry.put(held);
+    tell(answer, next)
+}
+
+#[unsafe(no_mangle)]
+pub extern "C" fn hikebox_retry_cancel(alloc: Global, retry: &mut Handle) -> u32 {
+    let Some(mut held) = retry.take(alloc) else {
+        return Status::Empty.code();
+    };
+    let answer = held.cancel();
+    retry.put(held);
+    match answer {
+        Ok(()) => 0,
+        Err(status) => status.code(),
+    }
+}
+
+#[unsafe(no_mangle)]
+pub extern "C" fn hikebox_retry_end(alloc: Global, retry: &mut Handle, pass: &mut Handle) -> u32
+    requires { IsOfItsBudget retry.old.held pass.old.held }
+{
+    let Some(held) = retry.take(alloc) else {
+        return Status::Empty.code();
+    };
+    if held.kind() != Kind::Retry {
+        retry.put(held);
+        return Status::WrongKind.code();
+    }
+    let Some(mut to) = pass.take(alloc) else {
+        retry.put(held);
+        return Status::Empty.code();
+    };
+    if to.kind() != Kind::Pass {
+        retry.put(held);
+        pass.put(to);
+        return Status::WrongKind.code();
+    }
+    to.join(Box::into_inner(held).into_pass());
+    pass.put(to);
+    0
+}
+
+#[unsafe(no_mangle)]
+pub extern "C" fn hikebox_retry_free(alloc: Global, retry: &mut Handle) -> u32 {
+    retry.free(alloc, Kind::Retry)
+}

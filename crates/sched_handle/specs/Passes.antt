@@ -1,0 +1,81 @@
+-- What the calls on a pass do.
+use Rattle.std.specs.Prelude.{◌≡◌, ◌≢◌, ◌⊎◌, ℕ, ◌<◌, ◌≤◌, false, length, Option, Some, None, Result, Ok, Err}
+use Rattle.std.specs.Global.{Global}
+use Rattle.std_alloc.specs.declared.boxed.Box.{Box}
+use Rattle.sched_ticket.specs.View.{part_of, with_split, both}
+use Rattle.sched_ticket.specs.Calls.{Drew, DrewNone, SplitRefused, Raised, IsWhole}
+use Rattle.sched_host.specs.Share.{Share}
+use Rattle.sched_host.specs.Worker.{CloseFails}
+use Rattle.sched_host.specs.declared.worker.CloseFault.TheVariants as close
+use Rattle.sched_handle.specs.Held.{kind_of}
+use Rattle.sched_handle.specs.declared.held.Held.{Held}
+use Rattle.sched_handle.specs.declared.held.Held.TheVariants.{Room, Pass}
+use Rattle.sched_handle.specs.declared.held.Kind.TheVariants as kind
+use Rattle.sched_handle.specs.declared.status.Status.{Status}
+use Rattle.sched_handle.specs.declared.status.Status.TheVariants.{WrongKind, NoMemory, LimitTooLarge, Fixed, NoTicket, TooManyPasses, PassesOut}
+
+-- a budget of this limit is not made for this reason
+abbrev pub NotMade : ℕ → Status → Type 0
+NotMade limit LimitTooLarge = 4294967296 < limit
+NotMade limit NoMemory = limit ≤ 4294967296
+NotMade limit _ = ⊥
+
+-- a pass of the same budget, of which this is true
+abbrev pub IsPassOf : Share → Held → (Share → Type 0) → Type 0
+IsPassOf s v P = (t : Share) × (v ≡ Pass t) × (t.budget ≡ s.budget) × P t
+
+-- of what is no pass nothing changes
+abbrev pub OtherKind : {A : Type 0} → Held → Result A Status → Held → Type 0
+OtherKind u r v = (r ≡ Err WrongKind) × (v ≡ u)
+
+abbrev pub PassDraws : Share → Result ℕ Status → Held → Type 0
+PassDraws s (Ok k) v = IsPassOf s v (λ t. Drew s.pass.has k t.pass.has)
+PassDraws s (Err NoTicket) v = IsPassOf s v (λ t. DrewNone s.pass.has t.pass.has)
+PassDraws s (Err _) v = ⊥
+
+abbrev pub Draws : Held → Result ℕ Status → Held → Type 0
+Draws (Pass s) r v = PassDraws s r v
+Draws u r v = OtherKind u r v
+
+abbrev pub PassSplits : Share → Result (Box Held Global) Status → Held → Type 0
+PassSplits s (Ok b) v = IsPassOf s v (λ t. t.pass.has ≡ with_split s.pass.has) × IsPassOf s b.value (λ t. t.pass.has ≡ part_of s.pass.has)
+PassSplits s (Err TooManyPasses) v = IsPassOf s v (λ t. SplitRefused s.pass.has t.pass.has)
+PassSplits s (Err NoMemory) v = IsPassOf s v (λ t. t.pass.has ≡ s.pass.has)
+PassSplits s (Err _) v = ⊥
+
+abbrev pub Splits : Held → Result (Box Held Global) Status → Held → Type 0
+Splits (Pass s) r v = PassSplits s r v
+Splits u r v = OtherKind u r v
+
+abbrev pub PassRaises : ℕ → Share → Result ℕ Status → Held → Type 0
+PassRaises to s (Ok n) v = IsPassOf s v (λ t. Raised s.pass.has to n t.pass.has)
+PassRaises to s (Err LimitTooLarge) v = (4294967296 < to) × (v ≡ Pass s)
+PassRaises to s (Err Fixed) v = (s.budget.terms.rises ≡ false) × (to ≤ 4294967296) × (v ≡ Pass s)
+PassRaises to s (Err _) v = ⊥
+
+abbrev pub Raises : ℕ → Held → Result ℕ Status → Held → Type 0
+Raises to (Pass s) r v = PassRaises to s r v
+Raises to u r v = OtherKind u r v
+
+-- passes of one budget
+abbrev pub IsShareOf : Held → Held → Type 0
+IsShareOf u v = (s t : Share) → u ≡ Pass s → v ≡ Pass t → t.budget ≡ s.budget
+
+-- handles of passes of one budget
+abbrev pub AreOfOneBudget : Option Held → Option Held → Type 0
+AreOfOneBudget u v = (s t : Share) → u ≡ Some (Pass s) → v ≡ Some (Pass t) → t.budget ≡ s.budget
+
+-- one pass has what both had
+abbrev pub Joins : Held → Held → Held → Type 0
+Joins u v w = (s t : Share) → u ≡ Pass s → v ≡ Pass t → IsPassOf s w (λ x. x.pass.has ≡ both s.pass.has t.pass.has)
+
+-- the budget of a pass is closed, or not: what comes back is as it was, but that the pass may be marked as one of several
+abbrev pub PassCloses : Share → Result ℕ Status → Held → Type 0
+PassCloses s (Ok n) v = (v ≡ Room) × (n ≡ length s.pass.has.tickets) × IsWhole s.budget.terms s.pass.has
+PassCloses s (Err PassesOut) v = (t : Share) × (v ≡ Pass t) × CloseFails s (close.PassesOut t)
+PassCloses s (Err NoMemory) v = v ≡ Room
+PassCloses s (Err _) v = ⊥
+
+abbrev pub Closes : Held → Result ℕ Status → Held → Type 0
+Closes (Pass s) r v = PassCloses s r v
+Closes u r v = OtherKind u r v

@@ -1,0 +1,122 @@
+//! Calls on drivers.
+ghost use Rattle.std.specs.Prelude.{◌≡◌, ◌≢◌, ◌<◌, ◌≤◌, [], None, Some, length, string_bytes, IfOk, IfErr, IfSome};
+ghost use Rattle.sched_plan.specs.Datum.{Datum, as_number, num};
+ghost use Rattle.sched_plan.specs.DatumText.{text_of};
+ghost use Rattle.sched_step.specs.StateOf.{event_of};
+ghost use Rattle.sched_driver.specs.Driven.{Driven, last_output, next_start_of};
+ghost use Rattle.sched_handle.specs.Held.{kind_of, Wants};
+ghost use Rattle.sched_handle.specs.Drivers.{Nexts, NumberFails};
+ghost use Rattle.sched_handle.specs.Replies.{decided_of};
+ghost use Rattle.sched_handle.specs.declared.held.Held.TheVariants as what;
+ghost use Rattle.sched_handle.specs.declared.held.Kind.TheVariants as kind;
+ghost use Rattle.sched_handle.specs.declared.status.Status.TheVariants as status;
+
+use crate::held::Held;
+use crate::replies::Decided;
+use crate::status::Status;
+use sched_driver::{DriveFault, Driver};
+use sched_plan::Val;
+use sched_time::{Millis, Tick};
+use std::alloc::Global;
+
+impl Held {
+    /// Gives the driver one more event; answers what its policy decides.
+    pub fn next(&mut self, alloc: Global, tick: Tick, input: Millis) -> Result<Decided, Status>
+        ensures { Nexts self.old tick input result self.new }
+    {
+        match self {
+            Held::Driver(driver) => match driver.next(alloc, tick, Val::from(input)) {
+                Ok(decision) => Ok(Decided::of(decision.start())),
+                Err(DriveFault::Backwards { floor: _ }) => Err(Status::Backwards),
+                Err(DriveFault::JournalFull) => Err(Status::JournalFull),
+                Err(DriveFault::NoMemory) => Err(Status::NoMemory),
+            },
+            Held::Room => Err(Status::WrongKind),
+            Held::Policy(_) => Err(Status::WrongKind),
+            Held::Pass(_) => Err(Status::WrongKind),
+            Held::Retry(_) => Err(Status::WrongKind),
+        }
+    }
+
+    /// Back to before the first event.
+    pub fn reset(&mut self) -> Result<(), Status>
+        ensures ok { IfOk result (λ _. (d : Driven) × (self.old ≡ what.Driver d)
+            × (self.new ≡ what.Driver (record { plan = d.plan; journal = [] }))) }
+        ensures err { IfErr result (λ s. (s ≡ status.WrongKind) × (kind_of self.old ≢ kind.Driver) × (self.new ≡ self.old)) }
+    {
+        match self {
+            Held::Driver(driver) => {
+                driver.reset();
+                Ok(())
+            }
+            Held::Room => Err(Status::WrongKind),
+            Held::Policy(_) => Err(Status::WrongKind),
+            Held::Pass(_) => Err(Status::WrongKind),
+            Held::Retry(_) => Err(Status::WrongKind),
+        }
+    }
+
+    /// The driver, where it is one.
+    fn driven(&self) -> Result<&Driver, Status>
+        ensures ok { IfOk result (λ driver. self.now ≡ what.Driver driver.now) }
+        ensures err { IfErr result (λ s. (s ≡ status.WrongKind) × (kind_of self.now ≢ kind.Driver)) }
+    {
+        match self {
+            Held::Driver(driver) => Ok(driver),
+            Held::Room => Err(Status::WrongKind),
+            Held::Policy(_) => Err(Status::WrongKind),
+            Held::Pass(_) => Err(Status::WrongKind),
+            Held::Retry(_) => Err(Status::WrongKind),
+        }
+    }
+
+    /// What was decided at the last event.
+    pub fn planned(&self) -> Result<Decided, Status>
+        ensures ok { IfOk result (λ x. (d : Driven) × (self.now ≡ what.Driver d) × (x ≡ decided_of (next_start_of d))) }
+        ensures err { IfErr result (λ s. (s ≡ status.WrongKind) × (kind_of self.now ≢ kind.Driver)) }
+    {
+        let driver = self.driven()?;
+        Ok(Decided::of(driver.next_start()))
+    }
+
+    /// How many events the journal has.
+    pub fn events(&self) -> Result<u64, Status>
+        ensures ok { IfOk result (λ n. (d : Driven) × (self.now ≡ what.Driver d) × (n ≡ length d.journal)) }
+        ensures err { IfErr result (λ s. (s ≡ status.WrongKind) × (kind_of self.now ≢ kind.Driver)) }
+    {
+        let driver = self.driven()?;
+        Ok(driver.journal().len() as u64)
+    }
+
+    /// The output last given, where it is a number.
+    pub fn last_number(&self) -> Result<u64, Status>
+        ensures ok { IfOk result (λ n. (d : Driven) × (self.now ≡ what.Driver d)
+            × (o : Datum) × (last_output d ≡ Some o) × (as_number o ≡ Some n)) }
+        ensures err { IfErr result (NumberFails self.now) }
+    {
+        let driver = self.driven()?;
+        let Some(output) = driver.last() else {
+            return Err(Status::NoOutput);
+        };
+        match output.as_num() {
+            Some(number) => Ok(number.get()),
+            None => Err(Status::NotANumber),
+        }
+    }
+
+    /// The output last given, as text.
+    pub fn last_text(&self, alloc: Global) -> Result<String, Status>
+        ensures ok { IfOk result (λ text. (d : Driven) × (self.now ≡ what.Driver d)
+            × (o : Datum) × (last_output d ≡ Some o) × (string_bytes text ≡ text_of o)) }
+        ensures err { IfErr result (NumberFails self.now) }
+    {
+        let driver = self.driven()?;
+        let Some(output) = driver.last() else {
+            return Err(Status::NoOutput);
+        };
+        match output.text(alloc) {
+            Ok(text) => Ok(text),
+            Err(_) => Err(Status::NoMemory),
+        }
+    }
+}

@@ -1,0 +1,188 @@
+//! Calls on passes.
+ghost use Rattle.std.specs.Prelude.{◌≡◌, ◌≢◌, ◌<◌, ◌≤◌, true, false, length, IfOk, IfErr, IfSome, IfNone};
+ghost use Rattle.sched_ticket.specs.View.{terms, first_view};
+ghost use Rattle.sched_ticket.specs.Calls.{IsWhole};
+ghost use Rattle.sched_host.specs.Share.{Share};
+ghost use Rattle.sched_handle.specs.Held.{kind_of};
+ghost use Rattle.sched_handle.specs.Passes.{NotMade, Draws, Splits, Raises, IsShareOf, Joins, Closes};
+ghost use Rattle.sched_handle.specs.declared.held.Held.TheVariants as what;
+ghost use Rattle.sched_handle.specs.declared.held.Kind.TheVariants as kind;
+ghost use Rattle.sched_handle.specs.declared.status.Status.TheVariants as status;
+
+use crate::held::{Held, Kind};
+use crate::status::Status;
+use sched_host::{CloseFault, Worker};
+use sched_ticket::TicketFault;
+use std::alloc::Global;
+use std::mem;
+
+impl Held {
+    /// A budget of `limit` tickets, and its first pass.
+    pub fn fixed(alloc: Global, limit: u64) -> Result<Box<Held>, Status>
+        ensures ok { IfOk result (λ b. (s : Share) × (b.value ≡ what.Pass s)
+            × (s.budget.terms ≡ terms limit false) × (s.pass.has ≡ first_view (terms limit false))) }
+        ensures err { IfErr result (NotMade limit) }
+    {
+        match Worker::fixed(alloc, limit) {
+            Ok(worker) => boxed(alloc, worker),
+            Err(TicketFault::LimitTooLarge) => Err(Status::LimitTooLarge),
+            Err(TicketFault::NoMemory) => Err(Status::NoMemory),
+            Err(TicketFault::TooManyPasses) => Err(Status::TooManyPasses),
+            Err(TicketFault::Fixed) => Err(Status::Fixed),
+        }
+    }
+
+    /// A budget whose limit is `limit` and may rise, and its first pass.
+    pub fn rising(alloc: Global, limit: u64) -> Result<Box<Held>, Status>
+        ensures ok { IfOk result (λ b. (s : Share) × (b.value ≡ what.Pass s)
+            × (s.budget.terms ≡ terms limit true) × (s.pass.has ≡ first_view (terms limit true))) }
+        ensures err { IfErr result (NotMade limit) }
+    {
+        match Worker::rising(alloc, limit) {
+            Ok(worker) => boxed(alloc, worker),
+            Err(TicketFault::LimitTooLarge) => Err(Status::LimitTooLarge),
+            Err(TicketFault::NoMemory) => Err(Status::NoMemory),
+            Err(TicketFault::TooManyPasses) => Err(Status::TooManyPasses),
+            Err(TicketFault::Fixed) => Err(Status::Fixed),
+        }
+    }
+
+    /// Draws a ticket.
+    pub fn draw(&mut self) -> Result<u64, Status>
+        ensures { Draws self.old result self.new }
+    {
+        match self {
+            Held::Pass(worker) => match worker.draw() {
+                Some(ticket) => Ok(ticket),
+                None => Err(Status::NoTicket),
+            },
+            Held::Room => Err(Status::WrongKind),
+            Held::Policy(_) => Err(Status::WrongKind),
+            Held::Driver(_) => Err(Status::WrongKind),
+            Held::Retry(_) => Err(Status::WrongKind),
+        }
+    }
+
+    /// Splits a pass off, for which there is no memory wanted once it is split.
+    pub fn split(&mut self, alloc: Global) -> Result<Box<Held>, Status>
+        ensures { Splits self.old result self.new }
+    {
+        match self {
+            Held::Pass(worker) => {
+                let Ok(mut room) = Box::new(alloc, Held::Room) else {
+                    return Err(Status::NoMemory);
+                };
+                match worker.split() {
+                    Ok(part) => {
+                        let _ = mem::replace(&mut *room, Held::Pass(part));
+                        Ok(room)
+                    }
+                    Err(TicketFault::LimitTooLarge) => Err(Status::LimitTooLarge),
+                    Err(TicketFault::NoMemory) => Err(Status::NoMemory),
+                    Err(TicketFault::TooManyPasses) => Err(Status::TooManyPasses),
+                    Err(TicketFault::Fixed) => Err(Status::Fixed),
+                }
+            }
+            Held::Room => Err(Status::WrongKind),
+            Held::Policy(_) => Err(Status::WrongKind),
+            Held::Driver(_) => Err(Status::WrongKind),
+            Held::Retry(_) => Err(Status::WrongKind),
+        }
+    }
+
+    /// Makes the limit of a rising budget the greater of itself and `to`, and answers it.
+    pub fn raise(&mut self, to: u64) -> Result<u64, Status>
+        ensures { Raises to self.old result self.new }
+    {
+        match self {
+            Held::Pass(worker) => match worker.raise(to) {
+                Ok(limit) => Ok(limit),
+                Err(TicketFault::LimitTooLarge) => Err(Status::LimitTooLarge),
+                Err(TicketFault::NoMemory) => Err(Status::NoMemory),
+                Err(TicketFault::TooManyPasses) => Err(Status::TooManyPasses),
+                Err(TicketFault::Fixed) => Err(Status::Fixed),
+            },
+            Held::Room => Err(Status::WrongKind),
+            Held::Policy(_) => Err(Status::WrongKind),
+            Held::Driver(_) => Err(Status::WrongKind),
+            Held::Retry(_) => Err(Status::WrongKind),
+        }
+    }
+
+    /// How many tickets were drawn with this pass, and with those joined into it.
+    pub fn count(&self) -> Result<u64, Status>
+        ensures ok { IfOk result (λ n. (s : Share) × (self.now ≡ what.Pass s) × (n ≡ length s.pass.has.tickets)) }
+        ensures err { IfErr result (λ s. (s ≡ status.WrongKind) × (kind_of self.now ≢ kind.Pass)) }
+    {
+        match self {
+            Held::Pass(worker) => Ok(worker.count()),
+            Held::Room => Err(Status::WrongKind),
+            Held::Policy(_) => Err(Status::WrongKind),
+            Held::Driver(_) => Err(Status::WrongKind),
+            Held::Retry(_) => Err(Status::WrongKind),
+        }
+    }
+
+    /// Joins another pass of the same budget into this one.
+    pub fn join(&mut self, other: Held)
+        requires this { kind_of self.old ≡ kind.Pass }
+        requires that { kind_of other ≡ kind.Pass }
+        requires same { IsShareOf self.old other }
+        ensures { Joins self.old other self.new }
+    {
+        let this = mem::replace(self, Held::Room);
+        let Some(this) = this.into_worker() else {
+            return;
+        };
+        let Some(other) = other.into_worker() else {
+            return;
+        };
+        let _ = mem::replace(self, Held::Pass(this.join(other)));
+    }
+
+    /// Closes the budget where this pass stands for all its passes. Where nothing is left of the pass, room is.
+    pub fn close(&mut self, alloc: Global) -> Result<u64, Status>
+        ensures { Closes self.old result self.new }
+    {
+        if self.kind() != Kind::Pass {
+            return Err(Status::WrongKind);
+        }
+        let this = mem::replace(self, Held::Room);
+        let Some(this) = this.into_worker() else {
+            return Err(Status::WrongKind);
+        };
+        match this.close(alloc) {
+            Ok(tickets) => Ok(tickets),
+            Err(CloseFault::PassesOut(worker)) => {
+                let _ = mem::replace(self, Held::Pass(worker));
+                Err(Status::PassesOut)
+            }
+            Err(CloseFault::NoMemory) => Err(Status::NoMemory),
+        }
+    }
+
+    // The worker, where it is a pass.
+    fn into_worker(self) -> Option<Worker>
+        ensures some { IfSome result (λ worker. self ≡ what.Pass worker) }
+        ensures none { IfNone result (kind_of self ≢ kind.Pass) }
+    {
+        match self {
+            Held::Pass(worker) => Some(worker),
+            Held::Room => None,
+            Held::Policy(_) => None,
+            Held::Driver(_) => None,
+            Held::Retry(_) => None,
+        }
+    }
+}
+
+// A pass in a block of its own.
+fn boxed(alloc: Global, worker: Worker) -> Result<Box<Held>, Status>
+    ensures ok { IfOk result (λ b. b.value ≡ what.Pass worker) }
+    ensures err { IfErr result (λ s. s ≡ status.NoMemory) }
+{
+    match Box::new(alloc, Held::Pass(worker)) {
+        Ok(held) => Ok(held),
+        Err(_) => Err(Status::NoMemory),
+    }
+}

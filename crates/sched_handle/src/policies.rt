@@ -1,0 +1,113 @@
+//! Calls on policies.
+ghost use Rattle.std.specs.Prelude.{◌≡◌, ◌≢◌, [], IfOk, IfErr};
+ghost use Rattle.sched_plan.specs.Schedule.{Schedule, nodes_of, depth_of};
+ghost use Rattle.sched_handle.specs.Held.{kind_of, Wants};
+ghost use Rattle.sched_handle.specs.Policies.{ReadsPolicy};
+ghost use Rattle.sched_handle.specs.declared.held.Held.TheVariants as what;
+ghost use Rattle.sched_handle.specs.declared.held.Kind.TheVariants as kind;
+
+use crate::held::Held;
+use crate::replies::{Place, Size};
+use crate::status::Status;
+use sched_driver::Driver;
+use sched_json::{TextFault, read_text};
+use sched_plan::Plan;
+use std::alloc::Global;
+
+impl Held {
+    /// The policy that the bytes spell as JSON. `place` is where they stop being JSON, where they do.
+    pub fn read(alloc: Global, json: &[u8], place: &mut Place) -> Result<Box<Held>, Status>
+        ensures { ReadsPolicy json.now result }
+    {
+        *place = Place { line: 0, column: 0 };
+        let plan = match read_text(alloc, json) {
+            Ok(plan) => plan,
+            Err(TextFault::NotJson { line, column }) => {
+                *place = Place {
+                    line: line as u64,
+                    column: column as u64,
+                };
+                return Err(Status::NotJson);
+            }
+            Err(TextFault::NotAPlan) => return Err(Status::NotAPolicy),
+            Err(TextFault::OutOfRange) => return Err(Status::OutOfRange),
+            Err(TextFault::TooDeep) => return Err(Status::TooDeep),
+            Err(TextFault::TooMany) => return Err(Status::TooMany),
+            Err(TextFault::NoMemory) => return Err(Status::NoMemory),
+        };
+        match Box::new(alloc, Held::Policy(plan)) {
+            Ok(held) => Ok(held),
+            Err(_) => Err(Status::NoMemory),
+        }
+    }
+
+    /// The policy, where it is one.
+    fn policy(&self) -> Result<&Plan, Status>
+        ensures ok { IfOk result (λ plan. self.now ≡ what.Policy plan.now) }
+        ensures err { IfErr result (λ s. Wants kind.Policy self.now s × (kind_of self.now ≢ kind.Policy)) }
+    {
+        match self {
+            Held::Policy(plan) => Ok(plan),
+            Held::Room => Err(Status::WrongKind),
+            Held::Driver(_) => Err(Status::WrongKind),
+            Held::Pass(_) => Err(Status::WrongKind),
+            Held::Retry(_) => Err(Status::WrongKind),
+        }
+    }
+
+    /// An equal policy.
+    pub fn copied(&self, alloc: Global) -> Result<Box<Held>, Status>
+        ensures ok { IfOk result (λ b. (b.value ≡ self.now) × (kind_of self.now ≡ kind.Policy)) }
+        ensures err { IfErr result (Wants kind.Policy self.now) }
+    {
+        let plan = self.policy()?;
+        let Ok(plan) = plan.copy(alloc) else {
+            return Err(Status::NoMemory);
+        };
+        match Box::new(alloc, Held::Policy(plan)) {
+            Ok(held) => Ok(held),
+            Err(_) => Err(Status::NoMemory),
+        }
+    }
+
+    /// How many nodes the policy has, and how deep it is.
+    pub fn size(&self) -> Result<Size, Status>
+        ensures ok { IfOk result (λ size. (s : Schedule) × (self.now ≡ what.Policy s)
+            × (size.nodes ≡ nodes_of s) × (size.depth ≡ depth_of s)) }
+        ensures err { IfErr result (λ s. Wants kind.Policy self.now s × (kind_of self.now ≢ kind.Policy)) }
+    {
+        let plan = self.policy()?;
+        Ok(Size {
+            nodes: plan.nodes() as u64,
+            depth: plan.depth() as u64,
+        })
+    }
+
+    /// A driver of the policy, before its first event.
+    pub fn driver(&self, alloc: Global) -> Result<Box<Held>, Status>
+        ensures ok { IfOk result (λ b. (s : Schedule) × (self.now ≡ what.Policy s)
+            × (b.value ≡ what.Driver (record { plan = s; journal = [] }))) }
+        ensures err { IfErr result (Wants kind.Policy self.now) }
+    {
+        let driver = self.fresh_driver(alloc)?;
+        match Box::new(alloc, Held::Driver(driver)) {
+            Ok(held) => Ok(held),
+            Err(_) => Err(Status::NoMemory),
+        }
+    }
+
+    /// The same, not yet in a box.
+    pub(crate) fn fresh_driver(&self, alloc: Global) -> Result<Driver, Status>
+        ensures ok { IfOk result (λ driver. (self.now ≡ what.Policy driver.plan) × (driver.journal ≡ [])) }
+        ensures err { IfErr result (Wants kind.Policy self.now) }
+    {
+        let plan = self.policy()?;
+        let Ok(plan) = plan.copy(alloc) else {
+            return Err(Status::NoMemory);
+        };
+        match Driver::new(alloc, plan) {
+            Ok(driver) => Ok(driver),
+            Err(_) => Err(Status::NoMemory),
+        }
+    }
+}

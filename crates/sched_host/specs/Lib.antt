@@ -1,0 +1,3 @@
+pub mod Share
+pub mod Host
+pub mod Worker

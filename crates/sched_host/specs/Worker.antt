@@ -1,0 +1,24 @@
+-- When the calls of a worker are refused.
+use Rattle.std.specs.Prelude.{◌≡◌, ◌⊎◌}
+use Rattle.sched_ticket.specs.View.{with_mark}
+use Rattle.sched_ticket.specs.Calls.{SplitRefused}
+use Rattle.sched_ticket.specs.declared.view.Mark.TheVariants.{Shared}
+use Rattle.sched_ticket.specs.declared.view.View.{View}
+use Rattle.sched_ticket.specs.declared.fault.TicketFault.{TicketFault}
+use Rattle.sched_ticket.specs.declared.fault.TicketFault.TheVariants.{LimitTooLarge, NoMemory, TooManyPasses, Fixed}
+use Rattle.sched_host.specs.Share.{Share}
+use Rattle.sched_host.specs.declared.worker.CloseFault.{CloseFault}
+use Rattle.sched_host.specs.declared.worker.CloseFault.TheVariants as close
+
+-- a worker is not split for this reason; where its budget counted too many passes, its pass may have noted so
+abbrev pub SplitFails : View → View → TicketFault → Type 0
+SplitFails v w TooManyPasses = SplitRefused v w
+SplitFails v w NoMemory = w ≡ v
+SplitFails v w LimitTooLarge = ⊥
+SplitFails v w Fixed = ⊥
+
+-- a budget is not closed for this reason: the worker comes back as it was, or with its pass marked as one of several
+abbrev pub CloseFails : Share → CloseFault → Type 0
+CloseFails s (close.PassesOut t) =
+    (t.budget ≡ s.budget) × (t.pass.table ≡ s.pass.table) × ((t.pass.has ≡ s.pass.has) ⊎ (t.pass.has ≡ with_mark s.pass.has Shared))
+CloseFails s close.NoMemory = Unit {0}

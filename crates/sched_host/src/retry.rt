@@ -1,0 +1,232 @@
+//! Retries whose runs the host makes.
+ghost use Rattle.std.specs.Prelude.{◌≡◌, ◌<◌, ◌≤◌, [], ◌∷◌, ◌++◌, true, false, None, is_some, IfSome, IsSomeAnd, MatchBool, length};
+ghost use Rattle.sched_ticket.specs.Held.{IsOf};
+ghost use Rattle.sched_task_law.specs.Kind.{retry};
+ghost use Rattle.sched_task_law.specs.Past.{nothing_yet, is_under_way, waits_for};
+ghost use Rattle.sched_retry.specs.Comes.{Comes};
+ghost use Rattle.sched_retry.specs.Retrying.{RetryLaw, gives_up};
+ghost use Rattle.sched_host.specs.Host.{HostPoll, hears, next_of, by_code};
+
+use crate::runs::HostRuns;
+use sched_driver::Driver;
+use sched_effect::Ran;
+use sched_retry::Ending;
+use sched_task::{How, RunFault};
+use sched_ticket::{Budget, Pass};
+use sched_time::{Millis, Moment, Tick};
+use std::alloc::Global;
+use std::marker::Model;
+use std::sync::Arc;
+
+/// What a host is to do for a retry.
+#[derive(Clone, Copy, Debug, PartialEq, Eq)]
+pub enum Next {
+    /// Poll: no run was begun.
+    Poll,
+    /// Run the call, and report how it went: a run is under way.
+    Run,
+    /// Wait until this moment, and poll.
+    Wait(Moment),
+    /// Nothing: the retry is over.
+    Over(How),
+}
+
+/// A call that a host runs until it succeeds, again after each failure as the driver's schedule says, with a ticket of the
+/// budget for each retry. The retry only says when to run it and when to wait, and is told how each run went.
+#[derive(Drop)]
+pub struct HostRetry {
+    runs: HostRuns,
+    over: Option<How>,
+    pass: Pass,
+    budget: Arc<Budget>,
+}
+
+impl Model for HostRetry {
+    ghost use Rattle.std.specs.Prelude.{is_some};
+    ghost use Rattle.sched_task_law.specs.Kind.{retry};
+    ghost use Rattle.sched_task_law.specs.Law.{is_refused};
+    ghost use Rattle.sched_retry.specs.Retrying.{Retrying, coded_retrying, retrying, RetryLaw};
+
+    ghost Value = { Retrying };
+
+    ghost coded = { coded_retrying };
+
+    ghost view = { λ r. retrying r.runs r.over (is_refused r.over) r.pass r.budget.value (is_some r.over) };
+
+    ghost invariant = { λ r. RetryLaw retry (retrying r.runs r.over (is_refused r.over) r.pass r.budget.value (is_some r.over)) };
+}
+
+impl HostRetry {
+    /// A retry that has not begun. It takes no memory.
+    pub fn new(alloc: Global, driver: Driver, pass: Pass, budget: Arc<Budget>) -> HostRetry
+        requires journal { driver.journal ≡ [] }
+        requires pass { pass.has.tickets ≡ [] }
+        requires of { IsOf budget.value pass }
+        ensures past { result.past ≡ nothing_yet driver.plan }
+        ensures pass { result.pass ≡ pass }
+        ensures budget { result.budget ≡ budget.value }
+        ensures untaken { result.untaken ≡ false }
+    {
+        HostRetry {
+            runs: HostRuns::new(alloc, driver),
+            over: None,
+            pass,
+            budget,
+        }
+    }
+
+    /// Begins a run at the tick, where none is under way, the retry is not over and waits for no later moment. Where
+    /// there is no memory to note it, the retry ends as `Broken`.
+    pub fn poll(&mut self, tick: &Tick)
+        ensures { HostPoll self.old tick.entry.now [] self.new }
+    {
+        if self.over.is_some() {
+            return;
+        }
+        if self.rests(tick.now) {
+            return;
+        }
+        match self.runs.begin(tick) {
+            Ok(()) => {}
+            Err(_) => self.over = Some(How::Broken(RunFault::NoMemory)),
+        }
+    }
+
+    /// Ends the run under way as it went, and answers whether there was one: of a retry that is over, or has no run under
+    /// way, nothing changes.
+    ///
+    /// A success ends the retry. A failure steps the schedule; where that goes on, a ticket is drawn, and with one the
+    /// retry waits for the start planned. A refused step ends it as `Broken`.
+    pub fn report(&mut self, alloc: Global, tick: &Tick, ran: Ran) -> bool
+        ensures heard { result ≡ hears self.old.past }
+        ensures told { MatchBool result (HostPoll self.old tick.entry.now (ran ∷ []) self.new) (self.new ≡ self.old) }
+    {
+        if self.over.is_some() {
+            return false;
+        }
+        if !self.runs.is_under_way() {
+            return false;
+        }
+        let runs = &mut self.runs;
+        let pass = &mut self.pass;
+        match end_run(alloc, runs, pass, &self.budget, tick, ran) {
+            None => {}
+            Some(ending) => self.over = Some(ending.how()),
+        }
+        true
+    }
+
+    /// What the host is to do. Whenever it is asked, the law of a retry holds.
+    pub fn next(&self) -> Next
+        ensures next { result ≡ next_of self.now.past }
+        ensures law { RetryLaw retry self.now }
+    {
+        if let Some(how) = self.over {
+            return Next::Over(how);
+        }
+        if self.runs.is_under_way() {
+            return Next::Run;
+        }
+        match self.runs.due() {
+            Some(start) => Next::Wait(start),
+            None => Next::Poll,
+        }
+    }
+
+    /// Ends a retry that is not over as `Cancelled`; one that is over stays as it is.
+    pub fn cancel(&mut self)
+        ensures { self.new ≡ gives_up self.old }
+    {
+        if self.over.is_none() {
+            self.over = Some(How::Cancelled);
+        }
+    }
+
+    /// How the reported runs went, oldest first.
+    pub fn runs(&self) -> &[Ran]
+        ensures { result.now ≡ self.now.past.runs }
+    {
+        self.runs.runs()
+    }
+
+    /// The moments at which runs were begun.
+    pub fn begun(&self) -> &[Moment]
+        ensures { result.now ≡ self.now.past.begun }
+    {
+        self.runs.begun()
+    }
+
+    /// The driver, with the journal of the failures.
+    pub fn driver(&self) -> &Driver
+        ensures { result.now ≡ self.now.past.driver }
+    {
+        self.runs.driver()
+    }
+
+    /// How many tickets it was granted: those of its pass.
+    pub fn granted(&self) -> u64
+        ensures granted { result ≡ self.now.past.granted }
+        ensures tickets { result ≡ length self.now.pass.has.tickets }
+    {
+        self.pass.count()
+    }
+
+    /// The driver, how the runs went, the pass and the budget.
+    pub fn into_parts(self) -> (Driver, Vec<Ran>, Pass, Arc<Budget>)
+        ensures driver { result.0 ≡ self.past.driver }
+        ensures runs { result.1.items ≡ self.past.runs }
+        ensures pass { result.2 ≡ self.pass }
+        ensures budget { result.3.value ≡ self.budget }
+        ensures of { IsOf result.3.value result.2 }
+    {
+        let HostRetry {
+            runs,
+            over: _,
+            pass,
+            budget,
+        } = self;
+        let (driver, runs) = runs.into_parts();
+        (driver, runs, pass, budget)
+    }
+
+    // Whether it waits for a moment after this one.
+    fn rests(&self, now: Moment) -> bool
+        requires { self.now.past.over ≡ None }
+        ensures { MatchBool result (IsSomeAnd (waits_for self.now.past) (λ m. now < m)) (IfSome (waits_for self.now.past) (λ m. m ≤ now)) }
+    {
+        match self.runs.due() {
+            Some(start) => now.get() < start.get(),
+            None => false,
+        }
+    }
+}
+
+// Ends the run under way as it went. A failure steps the schedule, and draws a ticket where it goes on. Answers the ending
+// that this comes to, by codes, or `None` where the retry goes on.
+fn end_run(
+    alloc: Global,
+    runs: &mut HostRuns,
+    pass: &mut Pass,
+    budget: &Budget,
+    tick: &Tick,
+    ran: Ran,
+) -> Option<Ending<Millis, Millis>>
+    requires under_way { is_under_way runs.old.runs runs.old.begun ≡ true }
+    requires of { IsOf budget.now pass.old }
+    ensures of { IsOf budget.now pass.new }
+    ensures told { runs.new.runs ≡ runs.old.runs ++ ran ∷ [] }
+    ensures comes { Comes by_code by_code runs.old pass.old tick.entry.now result runs.new pass.new }
+{
+    runs.finish(ran);
+    match &ran {
+        Ran::Won(code) => Some(Ending::Won(*code)),
+        Ran::Lost(code) => match runs.step(alloc, tick, *code) {
+            Err(cause) => Some(Ending::Broken(cause)),
+            Ok(None) => Some(Ending::ScheduleDone(*code)),
+            Ok(Some(_)) => match pass.draw(budget) {
+                Some(_) => None,
+                None => Some(Ending::BudgetRefused(*code)),
+            },
+        },
+    }
+}

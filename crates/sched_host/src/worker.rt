@@ -1,0 +1,168 @@
+//! A budget as one worker holds it.
+ghost use Rattle.std.specs.Prelude.{◌≡◌, ◌+◌, ◌<◌, ◌≤◌, true, false, length, min, None, IfOk, IfErr, OnOk, IfSome, IfNone};
+ghost use Rattle.sched_ticket.specs.View.{terms, first_view, part_of, with_split, both};
+ghost use Rattle.sched_ticket.specs.Steps.{IsSound};
+ghost use Rattle.sched_ticket.specs.Held.{IsOf};
+ghost use Rattle.sched_ticket.specs.Lists.{AreBelow};
+ghost use Rattle.sched_ticket.specs.Calls.{Drew, DrewNone, Raised, RefusesLimit, RefusesRaise, IsWhole};
+ghost use Rattle.sched_host.specs.Worker.{SplitFails, CloseFails};
+
+use sched_ticket::{Budget, Pass, TicketFault};
+use std::alloc::Global;
+use std::marker::Model;
+use std::sync::Arc;
+
+/// A pass with its budget, which the passes of other workers share. The budget lives as long as one of them.
+#[derive(Drop)]
+pub struct Worker {
+    pass: Pass,
+    budget: Arc<Budget>,
+}
+
+impl Model for Worker {
+    ghost use Rattle.sched_host.specs.Share.{Share, coded_share};
+
+    ghost Value = { Share };
+
+    ghost coded = { coded_share };
+
+    ghost use Rattle.sched_ticket.specs.Held.{IsOf};
+
+    ghost view = { λ w. record { budget = w.budget.value; pass = w.pass } };
+
+    ghost invariant = { λ w. IsOf w.budget.value w.pass };
+}
+
+/// Why a worker did not close its budget.
+#[derive(Drop)]
+pub enum CloseFault {
+    /// Another pass of the budget is alive or was dropped. The worker is as before.
+    PassesOut(Worker),
+    /// Another pass was dropped, and there was no memory to share the budget again. The worker was dropped.
+    NoMemory,
+}
+
+impl Worker {
+    /// A budget of `limit` tickets, and its first worker.
+    pub fn fixed(alloc: Global, limit: u64) -> Result<Worker, TicketFault>
+        ensures ok { IfOk result
+            (λ w. (w.budget.terms ≡ terms limit false) × (w.pass.has ≡ first_view (terms limit false))) }
+        ensures limit { OnOk result (limit ≤ 4294967296) }
+        ensures err { IfErr result (RefusesLimit limit) }
+    {
+        let (budget, pass) = Budget::new(alloc, limit)?;
+        match Arc::new(alloc, budget) {
+            Ok(budget) => Ok(Worker { pass, budget }),
+            Err(_) => Err(TicketFault::NoMemory),
+        }
+    }
+
+    /// A budget whose limit is `limit` and may rise, and its first worker.
+    pub fn rising(alloc: Global, limit: u64) -> Result<Worker, TicketFault>
+        ensures ok { IfOk result
+            (λ w. (w.budget.terms ≡ terms limit true) × (w.pass.has ≡ first_view (terms limit true))) }
+        ensures limit { OnOk result (limit ≤ 4294967296) }
+        ensures err { IfErr result (RefusesLimit limit) }
+    {
+        let (budget, pass) = Budget::rising(alloc, limit)?;
+        match Arc::new(alloc, budget) {
+            Ok(budget) => Ok(Worker { pass, budget }),
+            Err(_) => Err(TicketFault::NoMemory),
+        }
+    }
+
+    /// The worker of this pass.
+    pub fn of_parts(pass: Pass, budget: Arc<Budget>) -> Worker
+        requires { IsOf budget.value pass }
+        ensures pass { result.pass ≡ pass }
+        ensures budget { result.budget ≡ budget.value }
+    {
+        Worker { pass, budget }
+    }
+
+    /// The pass and the budget.
+    pub fn into_parts(self) -> (Pass, Arc<Budget>)
+        ensures pass { result.0 ≡ self.pass }
+        ensures budget { result.1.value ≡ self.budget }
+        ensures of { IsOf result.1.value result.0 }
+    {
+        let Worker { pass, budget } = self;
+        (pass, budget)
+    }
+
+    /// A ticket below the limit, or None, and then None for good.
+    pub fn draw(&mut self) -> Option<u64>
+        ensures budget { self.new.budget ≡ self.old.budget }
+        ensures some { IfSome result (λ k. Drew self.old.pass.has k self.new.pass.has) }
+        ensures none { IfNone result (DrewNone self.old.pass.has self.new.pass.has) }
+        ensures again { 0 < length self.old.pass.has.refusals → (result ≡ None) × (self.new ≡ self.old) }
+    {
+        self.pass.draw(&self.budget)
+    }
+
+    /// A worker of the same budget, which has no ticket. `TooManyPasses` where 65,536 passes were counted of this budget,
+    /// and `NoMemory` where it has as many workers as can be counted. The tickets of this one stay.
+    pub fn split(&mut self) -> Result<Worker, TicketFault>
+        ensures budget { self.new.budget ≡ self.old.budget }
+        ensures ok { IfOk result (λ w. (w.budget ≡ self.old.budget) × (w.pass.has ≡ part_of self.old.pass.has)) }
+        ensures kept { OnOk result (self.new.pass.has ≡ with_split self.old.pass.has) }
+        ensures err { IfErr result (SplitFails self.old.pass.has self.new.pass.has) }
+    {
+        let Ok(budget) = Arc::try_clone(&self.budget) else {
+            return Err(TicketFault::NoMemory);
+        };
+        let pass = self.pass.split(&self.budget)?;
+        Ok(Worker { pass, budget })
+    }
+
+    /// One worker with what both have. It is refused a ticket where either was.
+    pub fn join(self, other: Worker) -> Worker
+        requires { other.budget ≡ self.budget }
+        ensures budget { result.budget ≡ self.budget }
+        ensures both { result.pass.has ≡ both self.pass.has other.pass.has }
+        ensures sound { IsSound result.pass.has }
+    {
+        let Worker { pass, budget } = self;
+        let pass = pass.join(other.pass, &budget);
+        Worker { pass, budget }
+    }
+
+    /// Makes the limit of a rising budget the greater of itself and `to`, and answers it.
+    pub fn raise(&mut self, to: u64) -> Result<u64, TicketFault>
+        ensures budget { self.new.budget ≡ self.old.budget }
+        ensures ok { IfOk result (λ n. Raised self.old.pass.has to n self.new.pass.has) }
+        ensures err { IfErr result (RefusesRaise self.old.budget.terms.rises to) }
+        ensures unchanged { IfErr result (λ _. self.new ≡ self.old) }
+    {
+        self.pass.raise(&self.budget, to)
+    }
+
+    /// How many tickets were drawn by this worker, and by those joined into it.
+    pub fn count(&self) -> u64
+        ensures { result ≡ length self.now.pass.has.tickets }
+    {
+        self.pass.count()
+    }
+
+    /// The number of tickets drawn, where this worker's pass stands for all passes of the budget.
+    pub fn close(self, alloc: Global) -> Result<u64, CloseFault>
+        ensures count { IfOk result (λ n. n ≡ length self.pass.has.tickets) }
+        ensures whole { OnOk result (IsWhole self.budget.terms self.pass.has) }
+        ensures fixed { IfOk result (λ n. self.budget.terms.rises ≡ false →
+            (n ≡ min (n + length self.pass.has.refusals) self.budget.terms.limit) × AreBelow self.pass.has.tickets n) }
+        ensures err { IfErr result (CloseFails self) }
+    {
+        let Worker { pass, budget } = self;
+        let budget = match Arc::try_unwrap(budget) {
+            Ok(budget) => budget,
+            Err(budget) => return Err(CloseFault::PassesOut(Worker { pass, budget })),
+        };
+        match budget.close(pass) {
+            Ok(tickets) => Ok(tickets),
+            Err((budget, pass, _)) => match Arc::new(alloc, budget) {
+                Ok(budget) => Err(CloseFault::PassesOut(Worker { pass, budget })),
+                Err(_) => Err(CloseFault::NoMemory),
+            },
+        }
+    }
+}

@@ -1,0 +1,10 @@
+//! Jobs from JSON: which plans with which scripts of runs a JSON value spells, or the first fault found in it.
+#![tactic(auto)]
+
+mod jobs;
+mod runs;
+#[cfg(test)]
+mod tests;
+
+pub use jobs::{JobRead, MOST_JOBS, plan_and_runs, read_job, read_jobs};
+pub use runs::{MOST_RUNS, read_run};

@@ -1,8 +1,0 @@
-pub mod Lists
-pub mod Kind
-pub mod Past
-pub mod Poll
-pub mod Law
-pub mod Runner
-pub mod Polled
-pub mod Codes

@@ -1,0 +1,4 @@
+pub mod PrintFaults
+pub mod Printed
+pub mod PrintSteps
+pub mod Written

@@ -1,0 +1,18 @@
+//! The text of a plan: it is read as JSON from a stream, stepped, and printed to another, a line for each event.
+#![tactic(auto)]
+
+mod counts;
+mod faults;
+mod options;
+mod printing;
+mod streams;
+#[cfg(test)]
+mod tests;
+mod whole;
+
+pub use counts::Counted;
+pub use faults::PrintFault;
+pub use options::{MOST_STEPS, PlanCourse, PlanOptions};
+pub use printing::{print_course, print_plan, read_value};
+pub use streams::{Sink, Source};
+pub use whole::{LONGEST_INPUT, put_all, put_long, read_all};

@@ -1,0 +1,81 @@
+-- A job keeps its ending through polls and cancels, and what it shows is so.
+use Rattle.std.proofs.Common.{◌≡◌, ◌<◌, ◌||◌, Bool, true, List, [], ◌∷◌, length, Option, Some, None, is_some, IfSome, refl, sym, ap, ◌∙◌, arith}
+use Rattle.sched_time.specs.declared.numbers.Tick.{Tick}
+use Rattle.sched_plan.specs.Schedule.{Schedule}
+use Rattle.sched_plan.specs.declared.history.Event.{Event}
+use Rattle.sched_driver.specs.Driven.{next_start_of}
+use Rattle.sched_task.specs.declared.endings.How.{How}
+use Rattle.sched_task.specs.declared.endings.How.TheVariants.{Won, ScheduleDone, BudgetRefused, Failed, Cancelled, Broken}
+use Rattle.sched_ticket.specs.Held.{Name}
+use Rattle.sched_task_law.specs.Kind.{Kind, retry}
+use Rattle.sched_task_law.specs.Past.{Past, schedule_is_done, is_under_way, waits_for}
+use Rattle.sched_task_law.specs.Poll.{Happened, stays, cannot_begin, runs_on, cannot_run, ends, breaks, stops_done, stops_denied, recurs, asks, cannot_ask, falls, May, after}
+use Rattle.sched_task_law.specs.Law.{Ended}
+use Rattle.sched_task_law.proofs.Law.{or_false}
+use Rattle.sched_task_law.proofs.Lists.{by_test}
+use Rattle.sched_task_law.proofs.Fields.{none_of}
+use Rattle.sched_retry.specs.Retrying.{Retrying, RetryLaw, RetryPoll, gives_up}
+use Rattle.sched_pool_job.specs.Jobs.{IsJob}
+use Rattle.sched_pool_job.specs.Ends.{is_refused, ended}
+
+none_is : (o : Option How) → o ≡ None → is_some o ≡ true → ⊥
+none_is o none some = let bad = rw none at some in cc
+
+-- what is over stays as it is
+stays_over : (kind : Kind) (v : Past) (t : Tick) (h : Happened) → May kind v t h → is_some v.over ≡ true → after kind v t h ≡ v
+stays_over kind v t stays may over = refl
+stays_over kind v t cannot_begin may over = absurd (none_is v.over may.0.unended over)
+stays_over kind v t runs_on may over = absurd (none_is v.over may.unended over)
+stays_over kind v t cannot_run may over = absurd (none_is v.over may.unended over)
+stays_over kind v t (ends r) may over = absurd (none_is v.over may.0.unended over)
+stays_over kind v t (breaks r fault) may over = absurd (none_is v.over may.0.unended over)
+stays_over kind v t (stops_done r) may over = absurd (none_is v.over may.0.can.unended over)
+stays_over kind v t (stops_denied r) may over = absurd (none_is v.over may.0.can.unended over)
+stays_over kind v t (recurs r) may over = absurd (none_is v.over may.0.can.unended over)
+stays_over kind v t asks may over = absurd (none_is v.over may.unended over)
+stays_over kind v t cannot_ask may over = absurd (none_is v.over may.unended over)
+stays_over kind v t falls may over = absurd (none_is v.over may.unended over)
+
+pub polled : (b : Name) (v u : Retrying) (t : Tick) (ready : Bool) → IsJob b v → RetryPoll retry v t ready u → IsJob b u
+polled b v u t ready job poll = record {
+  of = poll.budget ∙ job.of;
+  untaken = by_test (is_some v.past.over)
+      (λ yes. poll.untaken ∙ rw yes (job.untaken ∙ ap (λ (w : Past). is_some w.over) (sym (poll.poll.leaves ∙ stays_over retry v.past t poll.poll.happened poll.poll.may yes))))
+      (λ no. poll.untaken ∙ rw no poll.poll.ready_is);
+}
+
+pub cancels : (b : Name) (v : Retrying) → IsJob b v → IsJob b (gives_up v)
+cancels b v job = record {
+  of = job.of;
+  untaken = by_test (is_some v.past.over) (λ yes. rw yes (job.untaken ∙ yes ∙ sym yes)) (λ no. rw no refl);
+}
+
+-- a start was planned only where the schedule was stepped
+some_of : {A : Type 0} (o : Option A) (P : Type 0) → P → IfSome o (λ _. P)
+some_of None P p = tt
+some_of (Some x) P p = p
+
+planned : (plan : Schedule) (journal : List Event) (P : Type 0) → (0 < length journal → P) →
+    IfSome (next_start_of (record { plan = plan; journal = journal })) (λ _. P)
+planned plan [] P f = tt
+planned plan (e ∷ h) P f = some_of _ P (f (omega arith))
+
+pub waits_unended : (v : Past) → IfSome (waits_for v) (λ _. (v.over ≡ None) × (0 < length v.driver.journal))
+waits_unended v = by_test (is_some v.over || (is_under_way v.runs v.begun || v.denied)) (λ yes. rw yes tt)
+    (λ no. rw no (planned v.driver.plan v.driver.journal _ (λ some. (none_of v.over (or_false (is_some v.over) _ no).0, some))))
+
+pub denied_by : (v : Past) (over : Option How) → Ended retry v over → v.denied ≡ is_refused over
+denied_by v None ended = (or_false v.denied (schedule_is_done v.driver) (ended refl)).0
+denied_by v (Some Won) ended = (or_false v.denied (schedule_is_done v.driver) ended.1).0
+denied_by v (Some ScheduleDone) ended = ended.1
+denied_by v (Some BudgetRefused) ended = ended
+denied_by v (Some Failed) ended = absurd (let bad = ended.0 in cc)
+denied_by v (Some Cancelled) ended = (or_false v.denied (schedule_is_done v.driver) (ended refl)).0
+denied_by v (Some (Broken fault)) ended = (or_false v.denied (schedule_is_done v.driver) (ended.0 refl)).0
+
+-- what is left of a retry says what it has done
+pub end_is : (v : Retrying) → RetryLaw retry v →
+    ended v.past.driver v.past.runs v.past.begun v.past.over (length v.pass.has.tickets) ≡ v.past
+end_is v law =
+    ap (λ n. ended v.past.driver v.past.runs v.past.begun v.past.over n) (sym law.granted)
+    ∙ ap (λ b. record v.past { denied = b }) (sym (denied_by v.past v.past.over law.law.ended))

@@ -1,0 +1,115 @@
+//! Jobs: retries whose budget is named by their type.
+ghost use Rattle.std.specs.Prelude.{◌≡◌, length, is_some};
+ghost use Rattle.sched_ticket.specs.Held.{IsOf};
+ghost use Rattle.sched_task_law.specs.Kind.{retry};
+ghost use Rattle.sched_task_law.specs.Past.{waits_for};
+ghost use Rattle.sched_task_law.specs.Law.{Law};
+ghost use Rattle.sched_pool_job.specs.Jobs.{IsSeen};
+ghost use Rattle.sched_pool_job.specs.Ends.{IsRefusedBy};
+
+use crate::ends::JobEnd;
+use crate::sights::Seen;
+use futures::task::{Context, Poll};
+use sched_effect::Effect;
+use sched_retry::Retry;
+use sched_task::{How, Task};
+use sched_ticket::{Naming, Pass};
+use sched_time::{Moment, Tick};
+use std::alloc::Global;
+use std::marker::{Model, PhantomData};
+
+/// A retry that draws on the budget `N`, and whose ending is taken with the job alone.
+#[derive(Drop)]
+pub struct Job<'a, X: Effect, N: Naming> {
+    retry: Retry<'a, X>,
+    name: PhantomData<N>,
+}
+
+impl<'a, X: Effect, N: Naming> Model for Job<'a, X, N> {
+    ghost use Rattle.sched_retry.specs.Retrying.{Retrying, coded_retrying};
+    ghost use Rattle.sched_pool_job.specs.Jobs.{IsJob};
+
+    ghost Value = { Retrying };
+
+    ghost coded = { coded_retrying };
+
+    ghost view = { λ j. j.retry };
+
+    ghost invariant = { λ j. IsJob N.budget j.retry };
+}
+
+impl<'a, X: Effect, N: Naming> Job<'a, X, N> {
+    /// A job of this retry. It takes no memory.
+    pub fn new(retry: Retry<'a, X>) -> Job<'a, X, N>
+        requires of { retry.budget ≡ N.budget }
+        requires untaken { retry.untaken ≡ is_some retry.past.over }
+        ensures { result ≡ retry.entry }
+    {
+        Job {
+            retry,
+            name: PhantomData,
+        }
+    }
+
+    /// What it shows now.
+    pub fn seen(&self) -> Seen
+        ensures over { result.over ≡ self.now.past.over }
+        ensures due { result.due ≡ waits_for self.now.past }
+        ensures events { result.events ≡ length self.now.past.driver.journal }
+        ensures granted { result.granted ≡ self.now.past.granted }
+        ensures law { IsSeen result }
+    {
+        Seen {
+            over: self.retry.over(),
+            due: self.retry.due(),
+            events: self.retry.driver().journal().len(),
+            granted: self.retry.granted(),
+        }
+    }
+
+    /// Its end, and the pass with the tickets that it was granted.
+    pub fn into_end(self) -> (JobEnd<X>, Pass)
+        ensures end { result.0 ≡ self.entry.past }
+        ensures pass { result.1 ≡ self.entry.pass }
+        ensures of { IsOf N.budget result.1 }
+        ensures granted { result.0.granted ≡ length result.1.has.tickets }
+        ensures refused { IsRefusedBy result.1 result.0 }
+        ensures law { Law retry result.0 }
+    {
+        let Job { retry, name: _ } = self;
+        JobEnd::of_retry(retry)
+    }
+}
+
+impl<'a, X: Effect, N: Naming> Task for Job<'a, X, N> {
+    ghost use Rattle.std.specs.Prelude.{◌≡◌};
+    ghost use Rattle.sched_task_law.specs.Kind.{retry};
+    ghost use Rattle.sched_task_law.specs.Past.{waits_for as start_of, waits_for-over};
+    ghost use Rattle.sched_retry.specs.Retrying.{RetryPoll, gives_up as given_up};
+
+    ghost ended = { λ v. v.past.over };
+
+    ghost waits_for = { λ v. start_of v.past };
+
+    ghost one_poll = { RetryPoll retry };
+
+    ghost gives_up = { λ v u. u ≡ given_up v };
+
+    ghost rests = { λ v over. waits_for-over v.past over };
+
+    fn poll_at(&mut self, alloc: Global, tick: &Tick, cx: &mut Context<'_>) -> Poll<()> {
+        self.retry.poll_at(alloc, tick, cx)
+    }
+
+    fn due(&self) -> Option<Moment> {
+        self.retry.due()
+    }
+
+    fn over(&self) -> Option<How> {
+        self.retry.over()
+    }
+
+    fn cancel(&mut self) {
+        self.retry.cancel();
+    }
+}

@@ -1,0 +1,5 @@
+pub mod Numbers
+pub mod Counts
+pub mod Moves
+pub mod Parts
+pub mod Views

@@ -1,0 +1,22 @@
+//! A retry quota that refills with traffic: in each window of time the tickets given never pass a reserve plus a share
+//! of the requests counted in it, for any number of threads.
+//!
+//! A `Quota` is a table of two words under one rule: the tickets drawn and the requests counted, each numbered within
+//! its window. A `Pass` is the right to step on them: a thread counts requests and draws tickets with its pass for as
+//! long as it lives, splits a pass for another thread, and joins the passes of threads that have ended. There is no lock,
+//! no call waits, each call makes a bounded number of atomic steps, and no memory is taken after the quota is made.
+#![tactic(auto)]
+
+mod fault;
+pub mod laws;
+mod pass;
+mod quota;
+mod rule;
+#[cfg(test)]
+mod tests;
+mod view;
+
+pub use fault::{PassesOut, QuotaFault};
+pub use pass::{MAX_LEAP, MAX_TRIES, Pass, Usage};
+pub use quota::{LAST_WINDOW, MAX_RESERVE, MAX_SHARE, Quota};
+pub use view::{Terms, View};

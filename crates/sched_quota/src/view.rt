@@ -1,0 +1,40 @@
+//! What a pass knows of its quota. The rule of the table speaks of these views, and of no other thread's memory.
+
+use sched_time::Millis;
+use std::collections::LinkedList;
+
+/// How many tickets a quota gives out in a window of time.
+#[derive(Clone, Copy, Debug, PartialEq, Eq, Drop)]
+pub struct Terms {
+    /// The tickets of each window that ask for no request, at most 4294967296.
+    pub reserve: u64,
+    /// The thousandths of a ticket that each request adds to its window, at most 1,000,000.
+    pub share: u64,
+    /// How long a window is, from 1 ms on. Windows are counted from moment 0.
+    pub period: Millis,
+}
+
+/// What a pass has of its quota. No value of it is made: it stands in proofs alone.
+/// A ticket or a request numbered `n` is of the window `n / 4294967296`.
+pub struct View {
+    /// What the quota was made with.
+    pub terms: Terms,
+    /// Its tickets, the latest first, and then those of passes joined into it.
+    pub tickets: LinkedList<u64>,
+    /// The requests that it counted, in the same order.
+    pub requests: LinkedList<u64>,
+    /// The first numbers of the windows that it opened.
+    pub opened: LinkedList<u64>,
+    /// The word of requests as it last saw it. The word is never below it.
+    pub seen: u64,
+    /// The word of requests after the last one that it counted.
+    pub told: u64,
+    /// The word of draws as it last found it. The word is never below it.
+    pub found: u64,
+    /// The parts that it stands for. A view of weight 0 is spent.
+    pub weight: u64,
+    /// How often it read the word of requests.
+    pub readings: u64,
+    /// How often another draw came between its look and its own.
+    pub losses: u64,
+}

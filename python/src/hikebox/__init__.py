@@ -1,0 +1,105 @@
+"""Retries that a service can trust: ZIO's schedules as plain policies, and budgets that can't be overdrawn.
+
+>>> from hikebox import exponential, recurs, retry
+>>> @retry(recurs(5) & exponential(0.1, 2).cap(1), on=(TimeoutError, ConnectionError))
+... def fetch():
+...     return "fetched"
+>>> fetch()
+'fetched'
+
+What a policy answers, that a retry follows its policy and its budget, and that no budget is overdrawn is proved of the
+engine in `libhikebox.so`, which this package calls.
+"""
+
+from ._time import FAR, Duration, Milliseconds, milliseconds
+from .budget import Budget
+from .errors import (
+    BudgetClosed,
+    BudgetError,
+    BudgetInUse,
+    EngineError,
+    Fault,
+    HikeboxError,
+    PolicyError,
+    ResultRefused,
+    StoreError,
+    StoreLost,
+    TryAgain,
+)
+from .log import after_log, before_log, before_sleep_log
+from .policy import (
+    Policy,
+    Step,
+    elapsed,
+    exponential,
+    exponential_milli,
+    fibonacci,
+    fixed,
+    forever,
+    from_duration,
+    identity,
+    linear,
+    lone,
+    once,
+    recurs,
+    spaced,
+    stop,
+    unfold,
+    windowed,
+)
+from .retrying import AsyncRetrying, Attempt, Retrying, Tickets, retry
+from .state import Ending, Outcome, RetryState, Statistics, code_of, state_of
+from .version import VERSION
+
+__version__ = VERSION
+
+__all__ = [
+    "FAR",
+    "AsyncRetrying",
+    "Attempt",
+    "Budget",
+    "BudgetClosed",
+    "BudgetError",
+    "BudgetInUse",
+    "Duration",
+    "Ending",
+    "EngineError",
+    "Fault",
+    "HikeboxError",
+    "Milliseconds",
+    "Outcome",
+    "Policy",
+    "PolicyError",
+    "ResultRefused",
+    "RetryState",
+    "Retrying",
+    "Statistics",
+    "Step",
+    "StoreError",
+    "StoreLost",
+    "Tickets",
+    "TryAgain",
+    "after_log",
+    "before_log",
+    "before_sleep_log",
+    "code_of",
+    "elapsed",
+    "exponential",
+    "exponential_milli",
+    "fibonacci",
+    "fixed",
+    "forever",
+    "from_duration",
+    "identity",
+    "linear",
+    "lone",
+    "milliseconds",
+    "once",
+    "recurs",
+    "retry",
+    "spaced",
+    "state_of",
+    "stop",
+    "unfold",
+    "windowed",
+]

@@ -1,0 +1,7 @@
+"""`python -m hikebox` is the program `hikebox`."""
+
+import sys
+
+from ._cli import main
+
+sys.exit(main())

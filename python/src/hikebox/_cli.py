@@ -1,0 +1,217 @@
+"""The program `hikebox`: `run`, `plan` and `check`."""
+
+from __future__ import annotations
+
+import argparse
+import os
+import sys
+from typing import Any, List, NoReturn, Optional, Union
+
+from ._run import RunOptions, run_command, statuses
+from ._time import FAR, milliseconds
+from .budget import Budget
+from .errors import BudgetError, PolicyError
+from .leased import FileStore, Leased
+from .policy import Policy
+from .version import VERSION
+
+__all__ = ["main"]
+
+#: What `run` does where no policy is named.
+DEFAULT = "recurs(4) & exponential(1, 2).cap(30).jittered()"
+
+BAD_COMMAND_LINE, BAD_INPUT, BAD_STREAM, NO_MEMORY = 2, 3, 4, 5
+MOST_BYTES = 1 << 20
+
+_RUN = f"""\
+Runs the command until it succeeds, and ends with its status, or the last one. A command that can't be run ends it with
+127 or 126, a timeout counts as status 124, and death by signal N as 128 + N. SIGINT, SIGTERM, SIGHUP and SIGQUIT go to
+the command, and no attempt follows; between two attempts they end the run.
+
+A policy is the name of a JSON file, JSON, or an expression. Without one it is
+  {DEFAULT}
+
+examples:
+  hikebox run -- curl --fail https://example.org
+  hikebox run --policy 'recurs(9) & spaced(2)' --on 1-3 --timeout 30 -- ./job
+  hikebox run --budget 100@/run/lock/nightly -- ./job   # at most 100 retries over all runs with that file
+"""
+
+
+def main(words: Optional[List[str]] = None) -> int:
+    """The program: its exit status."""
+    try:
+        given = _parser().parse_args(words)
+        return int(given.does(given))
+    except PolicyError as error:
+        return _fails(str(error), BAD_INPUT)
+    except BudgetError as error:
+        return _fails(str(error), BAD_COMMAND_LINE)
+    except MemoryError:
+        return _fails("no memory", NO_MEMORY)
+    except KeyboardInterrupt:
+        return 130
+
+
+def _fails(line: str, status: int) -> int:
+    print(f"hikebox: {line}", file=sys.stderr)
+    return status
+
+
+def _parser() -> argparse.ArgumentParser:
+    parser = argparse.ArgumentParser(prog="hikebox", description="Retries by policies, under budgets.")
+    parser.add_argument("--version", action="version", version=f"hikebox {VERSION}")
+    commands = parser.add_subparsers(required=True, metavar="COMMAND")
+
+    run = commands.add_parser(
+        "run",
+        help="run a command until it succeeds",
+        usage="hikebox run [OPTION..] -- COMMAND [WORD..]",
+        epilog=_RUN,
+        formatter_class=argparse.RawDescriptionHelpFormatter,
+    )
+    run.add_argument("--policy", metavar="POLICY", default=DEFAULT, help="when to run it again")
+    run.add_argument("--budget", metavar="N[@FILE]", help="at most N retries; with FILE over all runs that name it")
+    run.add_argument("--on", metavar="CODES", type=_statuses, help="retry these statuses alone, as 1,3-5")
+    run.add_argument("--timeout", metavar="SECONDS", type=_duration, help="how long an attempt may take")
+    grace = "SIGKILL so long after SIGTERM (5)"
+    run.add_argument("--kill-after", metavar="SECONDS", type=_duration, default=5.0, help=grace)
+    run.add_argument("--replay-input", action="store_true", help="give each attempt the whole standard input")
+    run.add_argument("--last-output", action="store_true", help="let out the last attempt's standard output alone")
+    run.add_argument("--verbose", "-v", action="store_true", help="say on standard error what is done")
+    run.add_argument("command", nargs=argparse.REMAINDER, metavar="COMMAND")
+    run.set_defaults(does=_run)
+
+    plan = commands.add_parser("plan", help="play a policy and print what it does, in milliseconds")
+    plan.add_argument("file", nargs="?", default="-", metavar="POLICY", help="as for run; - or nothing: standard input")
+    plan.add_argument("--steps", type=_number(4096), default=10, metavar="N", help="how many events at most (10)")
+    plan.add_argument("--from", type=_number(FAR), default=0, metavar="M", dest="start", help="the first moment (0)")
+    plan.add_argument("--took", type=_number(FAR), default=0, metavar="M", help="how long each further call takes (0)")
+    plan.add_argument("--input", type=_number(FAR), default=0, metavar="N", help="the code of each failure (0)")
+    plan.add_argument("--word", type=_number(2**32 - 1), default=2**31, metavar="W", help="each random word (middle)")
+    plan.set_defaults(does=_plan)
+
+    check = commands.add_parser("check", help="say what a policy is, or where it is wrong")
+    check.add_argument("file", nargs="?", default="-", metavar="POLICY", help="as for plan")
+    check.set_defaults(does=_check)
+    return parser
+
+
+def _run(given: Any) -> int:
+    command = given.command[1:] if given.command[:1] == ["--"] else given.command
+    if not command:
+        return _fails("run: a command is wanted", BAD_COMMAND_LINE)
+    options = RunOptions(
+        policy=_policy(given.policy),
+        budget=_budget(given.budget),
+        on=given.on,
+        timeout=given.timeout,
+        grace=given.kill_after,
+        verbose=given.verbose,
+        replay_input=given.replay_input,
+        last_output=given.last_output,
+    )
+    try:
+        return run_command(command, options)
+    except OSError as error:
+        return _fails(f"a stream failed: {error.strerror}", BAD_STREAM)
+
+
+def _plan(given: Any) -> int:
+    policy = _policy(given.file)
+    steps = policy.preview(
+        given.steps,
+        start=milliseconds(given.start),
+        took=milliseconds(given.took),
+        input=given.input,
+        random=lambda: float(given.word / 2**32),
+    )
+    return _prints("".join(f"{step}\n" for step in steps))
+
+
+def _check(given: Any) -> int:
+    try:
+        policy = _policy(given.file)
+    except PolicyError as error:
+        place = error.place if error.hint and error.place else "top" if error.hint else error.fault.value
+        _prints(f"{place}: {error.hint or error.place}\n")
+        return _fails(error.fault.value, BAD_INPUT)
+    nodes = "1 node" if policy.nodes == 1 else f"{policy.nodes} nodes"
+    most = policy.most_retries
+    bound = "" if most is None else f", goes on at most {most} {'time' if most == 1 else 'times'}"
+    return _prints(f"plan: {nodes}, depth {policy.depth}{bound}\n")
+
+
+def _prints(text: str) -> int:
+    try:
+        sys.stdout.write(text)
+        sys.stdout.flush()
+        return 0
+    except OSError:
+        os.dup2(os.open(os.devnull, os.O_WRONLY), sys.stdout.fileno())
+        return _fails("write failed", BAD_STREAM)
+
+
+def _policy(word: str) -> Policy:
+    """The policy that a word of the command line names: standard input, JSON, an expression or a file."""
+    if word == "-":
+        return Policy.from_json(_read(0))
+    if word.lstrip()[:1] in ("{", '"'):
+        return Policy.from_json(word)
+    if "(" in word and not os.path.exists(word):
+        return Policy.parse(word)
+    return Policy.from_json(_read(word))
+
+
+def _read(source: Union[int, str]) -> bytes:
+    """The bytes of a file, or of standard input."""
+    try:
+        with open(source, "rb", closefd=source != 0) as file:
+            text = file.read(MOST_BYTES + 1)
+    except OSError as error:
+        _stop(f"read failed: {source if source else 'standard input'}: {error.strerror}", BAD_STREAM)
+    if len(text) > MOST_BYTES:
+        _stop("input too long", BAD_INPUT)
+    return text
+
+
+def _stop(line: str, status: int) -> NoReturn:
+    raise SystemExit(_fails(line, status))
+
+
+def _budget(text: Optional[str]) -> Union[Budget, Leased, None]:
+    """A budget of this run, or one that all runs with the same file share."""
+    if text is None:
+        return None
+    number, at, path = text.partition("@")
+    if not number.isdigit():
+        raise BudgetError(f"{text!r} is not N or N@FILE")
+    return Leased(FileStore(path), "run", int(number), lease=1) if at else Budget(int(number))
+
+
+def _number(most: int) -> Any:
+    def number(text: str) -> int:
+        if not (text.isascii() and text.isdigit()) or int(text) > most:
+            raise argparse.ArgumentTypeError(f"{text!r} is not a number from 0 to {most}")
+        return int(text)
+
+    return number
+
+
+def _duration(text: str) -> float:
+    try:
+        count: float = float(text)
+    except ValueError:
+        count = -1.0
+    if 0 < count < 1e9:
+        return count
+    raise argparse.ArgumentTypeError(f"{text!r} is no number of seconds")
+
+
+def _statuses(text: str) -> Any:
+    try:
+        return statuses(text)
+    except ValueError as error:
+        raise argparse.ArgumentTypeError(str(error)) from None
+
+

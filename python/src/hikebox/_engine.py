@@ -1,0 +1,354 @@
+"""The calls of `hikebox.h`, by ctypes, and small classes that keep one handle each.
+
+Every handle is used by one thread at a time: the classes above this one hand a handle out to one user, and take it
+back. The library is loaded so that a call keeps the interpreter's lock, since no call waits and each is over in less
+than a microsecond or two.
+"""
+
+from __future__ import annotations
+
+import ctypes
+import os
+from ctypes import POINTER, Structure, byref, c_bool, c_char_p, c_size_t, c_uint8, c_uint32, c_uint64, c_void_p
+from typing import Any, Dict, List, NamedTuple, Optional, Tuple
+
+from .errors import EngineError
+
+__all__ = ["Driver", "Handle", "Machine", "Pass", "PolicyHandle", "SIGNATURES", "library_path"]
+
+OK = 0
+NO_MEMORY = 4
+TOO_LARGE = 5
+NOT_JSON = 10
+NOT_A_POLICY = 11
+OUT_OF_RANGE = 12
+TOO_DEEP = 13
+TOO_MANY = 14
+BACKWARDS = 20
+JOURNAL_FULL = 21
+LIMIT_TOO_LARGE = 30
+FIXED = 31
+NO_TICKET = 32
+TOO_MANY_PASSES = 33
+PASSES_OUT = 34
+
+#: The most tickets of a budget.
+MOST_TICKETS = 2**32
+#: The most events of a driver, and of a retry.
+MOST_EVENTS = 65536
+
+NO_REPORT, WON, LOST = 0, 1, 2
+POLL, RUN, WAIT, OVER = 0, 1, 2, 3
+
+
+class Handle(Structure):
+    """What the library keeps: one pointer, none where it holds nothing."""
+
+    _fields_ = [("held", c_void_p)]
+
+
+class Place(Structure):
+    _fields_ = [("line", c_uint64), ("column", c_uint64)]
+
+
+class Decision(Structure):
+    _fields_ = [("start", c_uint64), ("goes_on", c_bool)]
+
+
+class Next(Structure):
+    _fields_ = [
+        ("what", c_uint32),
+        ("how", c_uint32),
+        ("until", c_uint64),
+        ("granted", c_uint64),
+        ("runs", c_uint64),
+    ]
+
+
+Words = c_uint32 * 4
+
+_HANDLE = POINTER(Handle)
+_NUMBER = POINTER(c_uint64)
+_WORDS = POINTER(c_uint32)
+
+#: Each function of the header that is used here, with the types of its parameters.
+SIGNATURES: Dict[str, Tuple[Any, ...]] = {
+    "hikebox_policy_read": (c_char_p, c_size_t, _HANDLE, POINTER(Place)),
+    "hikebox_policy_size": (_HANDLE, _NUMBER, _NUMBER),
+    "hikebox_policy_free": (_HANDLE,),
+    "hikebox_driver_new": (_HANDLE, _HANDLE),
+    "hikebox_driver_next": (_HANDLE, c_uint64, _WORDS, c_uint64, POINTER(Decision)),
+    "hikebox_driver_last_text": (_HANDLE, POINTER(c_uint8), c_size_t, POINTER(c_size_t)),
+    "hikebox_driver_reset": (_HANDLE,),
+    "hikebox_driver_free": (_HANDLE,),
+    "hikebox_budget_fixed": (c_uint64, _HANDLE),
+    "hikebox_budget_rising": (c_uint64, _HANDLE),
+    "hikebox_pass_draw": (_HANDLE, _NUMBER),
+    "hikebox_pass_split": (_HANDLE, _HANDLE),
+    "hikebox_pass_join": (_HANDLE, _HANDLE),
+    "hikebox_pass_raise": (_HANDLE, c_uint64, _NUMBER),
+    "hikebox_pass_count": (_HANDLE, _NUMBER),
+    "hikebox_pass_close": (_HANDLE, _NUMBER),
+    "hikebox_pass_free": (_HANDLE,),
+    "hikebox_retry_new": (_HANDLE, _HANDLE, _HANDLE),
+    "hikebox_retry_poll": (_HANDLE, c_uint64, _WORDS, c_uint32, c_uint64, POINTER(Next)),
+    "hikebox_retry_cancel": (_HANDLE,),
+    "hikebox_retry_end": (_HANDLE, _HANDLE),
+    "hikebox_retry_free": (_HANDLE,),
+}
+
+
+def library_path() -> str:
+    """Where the engine is: the file that HIKEBOX_LIBRARY names, or the one beside this module."""
+    named = os.environ.get("HIKEBOX_LIBRARY")
+    return named if named else os.path.join(os.path.dirname(__file__), "libhikebox.so")
+
+
+def _load() -> Any:
+    try:
+        library = ctypes.PyDLL(library_path())
+    except OSError as error:
+        raise ImportError(f"the engine of hikebox can't be loaded: {error}") from None
+    for name, parameters in SIGNATURES.items():
+        function = getattr(library, name)
+        function.argtypes = parameters
+        function.restype = c_uint32
+    return library
+
+
+_library = _load()
+_retry_new = _library.hikebox_retry_new
+#: The calls that are made at each step of a retry and at each draw, with no check of the arguments' types, which would
+#: double their time. They are only made below, with an argument of the right size in each place.
+_retry_poll = _library["hikebox_retry_poll"]
+_retry_poll.restype = c_uint32
+_pass_draw = _library["hikebox_pass_draw"]
+_pass_draw.restype = c_uint32
+_retry_end = _library.hikebox_retry_end
+_retry_free = _library.hikebox_retry_free
+_pass_free = _library.hikebox_pass_free
+
+
+def refused(call: str, status: int) -> Exception:
+    """The exception for a status of a call that has no better one."""
+    if status == NO_MEMORY:
+        return MemoryError(f"{call}: the engine found no memory")
+    return EngineError(call, status)
+
+
+class Refusal(NamedTuple):
+    """Why a text is no policy: the status, and the line and column from 1, or 0 where they are not known."""
+
+    status: int
+    line: int
+    column: int
+
+
+class PolicyHandle:
+    """A policy that the engine read."""
+
+    __slots__ = ("handle", "at", "_free")
+
+    def __init__(self) -> None:
+        self.handle = Handle()
+        self.at = byref(self.handle)
+        self._free = _library.hikebox_policy_free
+
+    def read(self, text: bytes) -> Optional[Refusal]:
+        """Reads the text, or says why not."""
+        place = Place()
+        status = _library.hikebox_policy_read(text, len(text), self.at, byref(place))
+        if status == OK:
+            return None
+        if NOT_JSON <= status <= TOO_MANY:
+            return Refusal(status, place.line, place.column)
+        raise refused("hikebox_policy_read", status)
+
+    def size(self) -> Tuple[int, int]:
+        """How many nodes the policy has, and how deep it is."""
+        nodes, depth = c_uint64(), c_uint64()
+        status = _library.hikebox_policy_size(self.at, byref(nodes), byref(depth))
+        if status != OK:
+            raise refused("hikebox_policy_size", status)
+        return nodes.value, depth.value
+
+    def __del__(self) -> None:
+        if self.handle.held:
+            self._free(self.at)
+
+
+class Driver:
+    """A policy that is stepped event by event."""
+
+    __slots__ = ("handle", "at", "_free", "_decision", "_words")
+
+    def __init__(self, policy: PolicyHandle) -> None:
+        self.handle = Handle()
+        self.at = byref(self.handle)
+        self._free = _library.hikebox_driver_free
+        self._decision = Decision()
+        self._words = Words()
+        status = _library.hikebox_driver_new(policy.at, self.at)
+        if status != OK:
+            raise refused("hikebox_driver_new", status)
+
+    def next(self, now: int, words: Tuple[int, int, int, int], code: int) -> Optional[int]:
+        """One more event: the start that is planned, or None where the policy does not go on."""
+        self._words[:] = list(words)
+        status = _library.hikebox_driver_next(self.at, now, self._words, code, byref(self._decision))
+        if status != OK:
+            raise refused("hikebox_driver_next", status)
+        return self._decision.start if self._decision.goes_on else None
+
+    def last_text(self) -> str:
+        """The output of the last event, as `zsched plan` prints it."""
+        room = 256
+        while True:
+            text = (c_uint8 * room)()
+            length = c_size_t()
+            status = _library.hikebox_driver_last_text(self.at, text, room, byref(length))
+            if status == OK:
+                return bytes(text[: length.value]).decode("ascii")
+            if length.value <= room:
+                raise refused("hikebox_driver_last_text", status)
+            room = length.value
+
+    def __del__(self) -> None:
+        if self.handle.held:
+            self._free(self.at)
+
+
+class Pass:
+    """A pass of a budget. Who holds it joins it into another, closes the budget with it or frees it."""
+
+    __slots__ = ("handle", "at", "_ticket", "_at_ticket")
+
+    def __init__(self) -> None:
+        self.handle = Handle()
+        self.at = byref(self.handle)
+        self._ticket = c_uint64()
+        self._at_ticket = byref(self._ticket)
+
+    @classmethod
+    def of_budget(cls, limit: int, rising: bool) -> Pass:
+        """The first pass of a new budget."""
+        made = cls()
+        call = "hikebox_budget_rising" if rising else "hikebox_budget_fixed"
+        status = getattr(_library, call)(limit, made.at)
+        if status != OK:
+            raise refused(call, status)
+        return made
+
+    def draw(self) -> Optional[int]:
+        """A ticket, or None where the budget has none for this pass."""
+        status = _pass_draw(self.at, self._at_ticket)
+        if status == OK:
+            return self._ticket.value
+        if status == NO_TICKET:
+            return None
+        raise refused("hikebox_pass_draw", status)
+
+    def split(self) -> Optional[Pass]:
+        """A new pass of the same budget, or None where too many are out."""
+        part = Pass()
+        status = _library.hikebox_pass_split(self.at, part.at)
+        if status == OK:
+            return part
+        if status == TOO_MANY_PASSES:
+            return None
+        raise refused("hikebox_pass_split", status)
+
+    def join(self, other: Pass) -> None:
+        """Takes in another pass of the same budget."""
+        status = _library.hikebox_pass_join(self.at, other.at)
+        if status != OK:
+            raise refused("hikebox_pass_join", status)
+
+    def raise_to(self, limit: int) -> Optional[int]:
+        """The limit after it was raised to this one at least, or None where the budget keeps its limit."""
+        status = _library.hikebox_pass_raise(self.at, limit, self._at_ticket)
+        if status == OK:
+            return self._ticket.value
+        if status == FIXED:
+            return None
+        raise refused("hikebox_pass_raise", status)
+
+    def count(self) -> int:
+        """How many tickets were drawn with it and with those joined into it."""
+        status = _library.hikebox_pass_count(self.at, self._at_ticket)
+        if status != OK:
+            raise refused("hikebox_pass_count", status)
+        return self._ticket.value
+
+    def close(self) -> Optional[int]:
+        """Closes the budget: how many tickets were drawn of it, or None where another pass is out."""
+        status = _library.hikebox_pass_close(self.at, self._at_ticket)
+        if status == OK:
+            return self._ticket.value
+        if status == PASSES_OUT:
+            return None
+        raise refused("hikebox_pass_close", status)
+
+    def free(self) -> None:
+        """Frees it with its tickets, where it holds a pass: the budget can't be closed then."""
+        if self.handle.held:
+            _pass_free(self.at)
+
+
+class Machine:
+    """A retry that is stepped. One object serves many retries, one after the other."""
+
+    __slots__ = ("handle", "at", "words", "next", "drawn", "uses", "_at_next", "_at_words", "_now", "_code")
+
+    def __init__(self) -> None:
+        self.handle = Handle()
+        self.at = byref(self.handle)
+        #: Of a retry without a budget: the pass that it was begun with, and how often that was used.
+        self.drawn: Optional[Pass] = None
+        self.uses = 0
+        self.words = Words(1 << 31, 1 << 31, 1 << 31, 1 << 31)
+        self.next = Next()
+        self._at_next = byref(self.next)
+        self._at_words = byref(self.words)
+        self._now = c_uint64()
+        self._code = c_uint64()
+
+    def begin(self, policy: PolicyHandle, drawn: Pass) -> bool:
+        """Begins a retry with a pass split off this one; False where too many are out."""
+        status = _retry_new(policy.at, drawn.at, self.at)
+        if status == OK:
+            return True
+        if status == TOO_MANY_PASSES:
+            return False
+        raise refused("hikebox_retry_new", status)
+
+    def poll(self, now: int, report: int, code: int) -> int:
+        """One step: what is to be done, with the rest in `next`."""
+        self._now.value = now
+        self._code.value = code
+        status = _retry_poll(self.at, self._now, self._at_words, report, self._code, self._at_next)
+        if status != OK:
+            raise refused("hikebox_retry_poll", status)
+        what: int = self.next.what
+        return what
+
+    def cancel(self) -> None:
+        """Ends the retry as cancelled, where it is not over."""
+        status = _library.hikebox_retry_cancel(self.at)
+        if status != OK:
+            raise refused("hikebox_retry_cancel", status)
+
+    def end(self, drawn: Pass) -> None:
+        """Frees the retry, over or not, and joins its pass into this one."""
+        status = _retry_end(self.at, drawn.at)
+        if status != OK:
+            raise refused("hikebox_retry_end", status)
+
+    def free(self) -> None:
+        """Frees the retry and its pass, where there is one: the budget can't be closed then."""
+        if self.handle.held:
+            _retry_free(self.at)
+
+
+#: Machines that hold no retry, for the next ones. Who holds a machine with a retry ends or frees it.
+machines: List[Machine] = []

@@ -1,0 +1,87 @@
+"""Durations: seconds as people write them, whole milliseconds as the engine counts them."""
+
+from __future__ import annotations
+
+import math
+from datetime import timedelta
+from typing import Union
+
+from .errors import Fault, PolicyError
+
+__all__ = ["FAR", "Duration", "Milliseconds", "milliseconds", "seconds", "seconds_text"]
+
+#: The longest duration, in milliseconds; also the last moment and the greatest number of a policy.
+FAR = 2**62 - 1
+
+
+class Milliseconds(int):
+    """A whole number of milliseconds, where a number alone would be taken for seconds."""
+
+    __slots__ = ()
+
+    def __repr__(self) -> str:
+        return f"milliseconds({int(self)})"
+
+
+#: What a builder takes for a duration: seconds as a number, a `timedelta`, or `milliseconds(..)`.
+Duration = Union[int, float, timedelta, Milliseconds]
+
+
+def milliseconds(count: int) -> Milliseconds:
+    """A duration of exactly so many milliseconds.
+
+    >>> from hikebox import spaced
+    >>> spaced(milliseconds(250)) == spaced(0.25)
+    True
+    """
+    if isinstance(count, bool) or not isinstance(count, int):
+        raise TypeError(f"a whole number of milliseconds is wanted, not {count!r}")
+    return Milliseconds(count)
+
+
+def seconds(duration: Duration) -> int:
+    """The duration in whole milliseconds, rounded; refused below 0 and past the range.
+
+    >>> seconds(0.1), seconds(2), seconds(timedelta(minutes=1))
+    (100, 2000, 60000)
+    """
+    if isinstance(duration, Milliseconds):
+        count = int(duration)
+    elif isinstance(duration, timedelta):
+        micros = (duration.days * 86400 + duration.seconds) * 1000000 + duration.microseconds
+        count = _rounded(micros, 1000)
+    elif isinstance(duration, bool) or not isinstance(duration, (int, float)):
+        raise TypeError(f"seconds or a timedelta are wanted, not {duration!r}")
+    elif not math.isfinite(duration):
+        raise PolicyError(Fault.OUT_OF_RANGE, hint=f"a duration of {duration!r} seconds")
+    elif isinstance(duration, int):
+        count = duration * 1000
+    elif duration < 0:
+        count = -1
+    else:
+        count = round(duration * 1000)
+    if not 0 <= count <= FAR:
+        raise PolicyError(Fault.OUT_OF_RANGE, hint=f"{duration!r} is not from 0 to {FAR} milliseconds")
+    return count
+
+
+def _rounded(count: int, unit: int) -> int:
+    """The quotient of whole numbers, rounded to the nearest, and to the even one of two."""
+    if count < 0:
+        return -1
+    whole, rest = divmod(count, unit)
+    return whole + (1 if 2 * rest > unit or (2 * rest == unit and whole % 2) else 0)
+
+
+def seconds_text(count: int) -> str:
+    """What a person writes for so many milliseconds: seconds, where that is read back as the same number.
+
+    >>> seconds_text(100), seconds_text(2000), seconds_text(FAR)
+    ('0.1', '2', 'milliseconds(4611686018427387903)')
+    """
+    if count % 1000 == 0:
+        return repr(count // 1000)
+    text = repr(count / 1000)
+    if "e" not in text and round(float(text) * 1000) == count:
+        return text
+    return f"milliseconds({count})"

@@ -1,0 +1,97 @@
+"""A policy as tenacity's `stop` and `wait`, where its `@retry` is to stay.
+
+>>> import tenacity
+>>> from hikebox import exponential, recurs
+>>> stop, wait = stop_and_wait(recurs(2) & exponential(0.001))
+>>> @tenacity.retry(stop=stop, wait=wait, reraise=True)
+... def fetch():
+...     raise ConnectionError("nobody there")
+>>> try:
+...     fetch()
+... except ConnectionError as error:
+...     print(error, fetch.retry.statistics["attempt_number"])
+nobody there 3
+"""
+
+from __future__ import annotations
+
+from typing import Any, Dict, Tuple, Union
+
+from tenacity.stop import stop_base
+from tenacity.wait import wait_base
+
+from .._course import Course
+from ..policy import Policy
+from ..retrying import Retrying
+from ..state import Outcome
+
+__all__ = ["stop_and_wait"]
+
+
+def stop_and_wait(policy: Union[Policy, str, bytes, Dict[str, Any]], **how: Any) -> Tuple[stop_base, wait_base]:
+    """The `stop` and the `wait` of a policy, for one `tenacity.retry` or `Retrying`; both are to be given to it.
+
+    `how` is what `hikebox.Retrying` takes: `budget`, `code`, `at_least`, `clock`, `random`. The policy is asked once
+    for each attempt that tenacity finds failed, whichever of the two tenacity asks first. Other stops and waits may
+    be joined by tenacity's `|` and `+`.
+    """
+    shared = _Shared(Retrying(policy, **how))
+    return _Stop(shared), _Wait(shared)
+
+
+class _Answer:
+    """What the policy said of one attempt."""
+
+    __slots__ = ("course", "attempt", "goes_on", "delay")
+
+    def __init__(self, course: Course) -> None:
+        self.course = course
+        self.attempt = 0
+        self.goes_on = True
+        self.delay = 0.0
+
+
+class _Shared:
+    """What a stop and a wait know together."""
+
+    def __init__(self, retrying: Retrying) -> None:
+        self.retrying = retrying
+
+    def answer(self, state: Any) -> _Answer:
+        """What the policy says of the attempt that this state of tenacity's is at."""
+        answers: Dict[_Shared, _Answer] = state.__dict__.setdefault("_hikebox", {})
+        answer = answers.get(self)
+        if answer is None:
+            answer = answers[self] = _Answer(Course(self.retrying))
+        if answer.attempt == state.attempt_number or not answer.goes_on:
+            return answer
+        course = answer.course
+        if answer.attempt:
+            course.waited()
+        answer.attempt = state.attempt_number
+        answer.goes_on = course.lost(_outcome(state.outcome)) and course.draw()
+        answer.delay = course.wait() if answer.goes_on else 0.0
+        if not answer.goes_on:
+            course.close()
+        return answer
+
+
+def _outcome(future: Any) -> Outcome:
+    error = future.exception()
+    return Outcome(future.result()) if error is None else Outcome(error=error)
+
+
+class _Stop(stop_base):
+    def __init__(self, shared: _Shared) -> None:
+        self.shared = shared
+
+    def __call__(self, retry_state: Any) -> bool:
+        return not self.shared.answer(retry_state).goes_on
+
+
+class _Wait(wait_base):
+    def __init__(self, shared: _Shared) -> None:
+        self.shared = shared
+
+    def __call__(self, retry_state: Any) -> float:
+        return self.shared.answer(retry_state).delay

@@ -1,0 +1,104 @@
+"""What this package raises of its own. A retry that fails raises the call's last exception itself, none of these."""
+
+from __future__ import annotations
+
+import enum
+from typing import Any, Optional
+
+__all__ = [
+    "BudgetClosed",
+    "BudgetError",
+    "BudgetInUse",
+    "EngineError",
+    "Fault",
+    "HikeboxError",
+    "PolicyError",
+    "ResultRefused",
+    "StoreError",
+    "StoreLost",
+    "TryAgain",
+]
+
+
+class HikeboxError(Exception):
+    """The base of all errors of this package."""
+
+
+class Fault(enum.Enum):
+    """What is wrong with a policy, in the words of `zsched plan`."""
+
+    NOT_JSON = "not JSON"
+    NOT_A_PLAN = "not a plan"
+    OUT_OF_RANGE = "number out of range"
+    TOO_DEEP = "too deep"
+    TOO_MANY = "too many nodes"
+
+
+class PolicyError(HikeboxError, ValueError):
+    """A policy was refused.
+
+    `fault` says what is wrong, `place` at which node of the policy (`meet[1].cap[1]`, or `line 2, column 7` of a text
+    that is no JSON; empty where it is the whole policy) and `hint` what is wanted there, as `zsched check` does.
+
+    >>> from hikebox import Policy
+    >>> Policy.from_dict({"meet": ["forever", {"recur": 3}]})
+    Traceback (most recent call last):
+    ...
+    hikebox.errors.PolicyError: not a plan: meet[1]: no node is called "recur"; did you mean "recurs"?
+    """
+
+    def __init__(self, fault: Fault, place: str = "", hint: str = "") -> None:
+        super().__init__(": ".join(part for part in (fault.value, place, hint) if part))
+        self.fault = fault
+        self.place = place
+        self.hint = hint
+
+    def __reduce__(self) -> Any:
+        return (type(self), (self.fault, self.place, self.hint))
+
+
+class BudgetError(HikeboxError):
+    """A budget can't do what was asked of it."""
+
+
+class BudgetClosed(BudgetError):
+    """The budget was closed."""
+
+
+class BudgetInUse(BudgetError):
+    """The budget can't be closed: a retry under it is still under way."""
+
+
+class StoreError(HikeboxError):
+    """A store of leases could not be reached, or could not answer."""
+
+
+class StoreLost(StoreError):
+    """A store of leases has lost its count, or may have: it grants nothing until it is begun anew."""
+
+
+class EngineError(HikeboxError, RuntimeError):
+    """The engine answered a status that no right use of it meets. `status` is its number in `hikebox.h`."""
+
+    def __init__(self, call: str, status: int) -> None:
+        super().__init__(f"{call} answered status {status}")
+        self.call = call
+        self.status = status
+
+    def __reduce__(self) -> Any:
+        return (type(self), (self.call, self.status))
+
+
+class TryAgain(HikeboxError):
+    """Raise it in a call to have it retried, whatever `on` says."""
+
+
+class ResultRefused(HikeboxError):
+    """The last call gave a result that `on_result` does not accept. `result` is that result."""
+
+    def __init__(self, result: Optional[Any] = None) -> None:
+        super().__init__(f"the last result was not accepted: {result!r}")
+        self.result = result
+
+    def __reduce__(self) -> Any:
+        return (type(self), (self.result,))

@@ -1,0 +1,47 @@
+"""What HTTP says about when to call again."""
+
+from __future__ import annotations
+
+import email.utils
+import time
+from datetime import timezone
+from typing import Any, Callable, Optional
+
+__all__ = ["parse_retry_after", "retry_after"]
+
+
+def parse_retry_after(text: Optional[str], now: Callable[[], float] = time.time) -> Optional[float]:
+    """The seconds that a `Retry-After` header asks for, as a number or as a date; None where it says nothing.
+
+    >>> parse_retry_after("120"), parse_retry_after("soon")
+    (120.0, None)
+    >>> parse_retry_after("Thu, 01 Jan 1970 00:01:40 GMT", now=lambda: 90.0)
+    10.0
+    """
+    if text is None:
+        return None
+    text = text.strip()
+    if text.isascii() and text.isdigit():
+        return float(text[:12])
+    try:
+        moment = email.utils.parsedate_to_datetime(text)
+    except (TypeError, ValueError):
+        return None
+    if moment.tzinfo is None:
+        moment = moment.replace(tzinfo=timezone.utc)
+    return max(0.0, moment.timestamp() - now())
+
+
+def retry_after(error: BaseException) -> Optional[float]:
+    """For `at_least`: the seconds that the response of an HTTP error asks to wait, where it has a `Retry-After`.
+
+    It reads the headers of the exception (as of `urllib.error.HTTPError`), or those of its `response` (as of
+    `requests` and `httpx`).
+    """
+    for holder in (error, getattr(error, "response", None)):
+        headers: Any = getattr(holder, "headers", None)
+        if headers is not None and hasattr(headers, "get"):
+            found = parse_retry_after(headers.get("Retry-After"))
+            if found is not None:
+                return found
+    return None

@@ -1,0 +1,239 @@
+"""What a retry is at, how it ended, and counts over many of them."""
+
+from __future__ import annotations
+
+import enum
+import threading
+from dataclasses import dataclass
+from typing import TYPE_CHECKING, Any, Callable, Dict, Mapping, Optional, Tuple
+
+from ._time import FAR
+
+if TYPE_CHECKING:
+    from .retrying import BaseRetrying
+
+__all__ = ["Ending", "Outcome", "RetryState", "Statistics", "code_of", "state_of"]
+
+
+class Ending(enum.Enum):
+    """How a retry ended."""
+
+    #: The last call succeeded.
+    WON = "won"
+    #: The last call failed, and the policy did not go on.
+    SCHEDULE_DONE = "the policy was done"
+    #: The last call failed, the policy went on, and the budget had no ticket.
+    BUDGET_REFUSED = "the budget had no ticket"
+    #: The last call failed in a way that `on` does not name.
+    NOT_RETRIED = "the error is not one that is retried"
+    #: It was left before it was over: a coroutine was cancelled, or a loop was left.
+    CANCELLED = "it was cancelled"
+    #: The engine found no memory.
+    NO_MEMORY = "the engine found no memory"
+    #: It had 65,536 failures, the most that the engine keeps of one retry.
+    JOURNAL_FULL = "it had 65,536 failures"
+    #: The clock went back. The clocks here are kept from it, so it does not come.
+    CLOCK_WENT_BACK = "the clock went back"
+
+
+#: The endings by their numbers in the engine's header.
+ENDINGS: Tuple[Optional[Ending], ...] = (
+    None,
+    Ending.WON,
+    Ending.SCHEDULE_DONE,
+    Ending.BUDGET_REFUSED,
+    Ending.CANCELLED,
+    Ending.NO_MEMORY,
+    Ending.JOURNAL_FULL,
+    Ending.CLOCK_WENT_BACK,
+)
+
+
+class Outcome:
+    """How a call went: its result, or the exception that it raised."""
+
+    __slots__ = ("_result", "_error")
+
+    def __init__(self, result: Any = None, error: Optional[BaseException] = None) -> None:
+        self._result = result
+        self._error = error
+
+    @property
+    def failed(self) -> bool:
+        """Whether it raised."""
+        return self._error is not None
+
+    def exception(self) -> Optional[BaseException]:
+        """The exception, or None where it gave a result."""
+        return self._error
+
+    def result(self) -> Any:
+        """The result; raises the exception where there is one."""
+        if self._error is not None:
+            raise self._error
+        return self._result
+
+    def __repr__(self) -> str:
+        return f"raised {self._error!r}" if self._error is not None else f"returned {self._result!r}"
+
+
+class RetryState:
+    """What a retry is at. Hooks get it, and the exception that a retry raises in the end has it as `retry_state`.
+
+    The names are those of tenacity's `RetryCallState`.
+    """
+
+    __slots__ = (
+        "retry_object",
+        "fn",
+        "args",
+        "kwargs",
+        "attempt_number",
+        "outcome",
+        "seconds_since_start",
+        "idle_for",
+        "upcoming_sleep",
+        "granted",
+        "ending",
+    )
+
+    def __init__(
+        self,
+        retry_object: Optional[BaseRetrying],
+        fn: Optional[Callable[..., Any]],
+        args: Tuple[Any, ...],
+        kwargs: Mapping[str, Any],
+    ) -> None:
+        #: The `Retrying` that made it; None of a state that was pickled, as is what was called.
+        self.retry_object = retry_object
+        #: What is called, and with what; None where the attempts are made in a loop.
+        self.fn = fn
+        self.args = args
+        self.kwargs = kwargs
+        #: The number of the present attempt, from 1.
+        self.attempt_number = 1
+        #: How the present attempt went, where it is over. None again once the last exception was raised.
+        self.outcome: Optional[Outcome] = None
+        #: From the start of the first attempt to the end of the last one that is over.
+        self.seconds_since_start: Optional[float] = None
+        #: How many seconds were waited between attempts.
+        self.idle_for = 0.0
+        #: How many seconds are waited before the next attempt, where one follows.
+        self.upcoming_sleep = 0.0
+        #: How many retries were granted: tickets drawn.
+        self.granted = 0
+        #: How it ended, or None where it is not over.
+        self.ending: Optional[Ending] = None
+
+    @property
+    def code(self) -> int:
+        """The code of the present outcome, which the policy is given."""
+        return 0 if self.retry_object is None else self.retry_object._code_for(self.outcome)
+
+    def set_result(self, value: Any) -> None:
+        """Says, in a loop of attempts, what this one gave: for `on_result`."""
+        self.outcome = Outcome(value)
+
+    def __reduce__(self) -> Any:
+        kept = (self.attempt_number, self.seconds_since_start, self.idle_for, self.granted, self.ending)
+        return (_unpickled, kept)
+
+    def __repr__(self) -> str:
+        ending = f"; {self.ending.value}" if self.ending is not None else ""
+        return (
+            f"<RetryState: attempt {self.attempt_number}; waited {self.idle_for:.3f} s; granted {self.granted}; "
+            f"last: {self.outcome}{ending}>"
+        )
+
+
+def _unpickled(
+    attempt_number: int, seconds: Optional[float], idle_for: float, granted: int, ending: Optional[Ending]
+) -> RetryState:
+    state = RetryState(None, None, (), {})
+    state.attempt_number = attempt_number
+    state.seconds_since_start = seconds
+    state.idle_for = idle_for
+    state.granted = granted
+    state.ending = ending
+    return state
+
+
+def state_of(error: BaseException) -> Optional[RetryState]:
+    """The state of the retry that raised this exception in the end, or None where none did."""
+    state = getattr(error, "retry_state", None)
+    return state if isinstance(state, RetryState) else None
+
+
+_CODES = ("status", "status_code", "code", "errno", "returncode")
+
+
+def code_of(error: BaseException) -> int:
+    """The number by which a policy knows an exception, where no `code` says otherwise.
+
+    It is the first that is a whole number of its attributes `status`, `status_code`, `code`, `errno` and
+    `returncode`, and of its response's `status_code`; and 0 where there is none.
+
+    >>> code_of(ConnectionRefusedError(111, "refused")), code_of(ValueError())
+    (111, 0)
+    """
+    for name in _CODES:
+        value = getattr(error, name, None)
+        if type(value) is int and 0 <= value <= FAR:
+            return value
+    value = getattr(getattr(error, "response", None), "status_code", None)
+    return value if type(value) is int and 0 <= value <= FAR else 0
+
+
+@dataclass(frozen=True)
+class Statistics:
+    """Counts over all calls of one `Retrying`, from all threads, as of the moment at which they were asked for."""
+
+    #: Calls that are over, each with all its attempts.
+    calls: int = 0
+    #: Attempts made by them.
+    attempts: int = 0
+    #: Seconds that they waited between attempts.
+    idle_for: float = 0.0
+    #: Calls that ended so.
+    won: int = 0
+    schedule_done: int = 0
+    budget_refused: int = 0
+    not_retried: int = 0
+    cancelled: int = 0
+    broken: int = 0
+
+    @property
+    def retries(self) -> int:
+        """Attempts but the first of each call."""
+        return self.attempts - self.calls
+
+
+_BROKEN = (Ending.NO_MEMORY, Ending.JOURNAL_FULL, Ending.CLOCK_WENT_BACK)
+
+
+class Counts:
+    """The counts behind `Statistics`, shared by threads."""
+
+    __slots__ = ("_lock", "_calls", "_attempts", "_idle_for", "_endings")
+
+    def __init__(self) -> None:
+        self._lock = threading.RLock()
+        self._calls = 0
+        self._attempts = 0
+        self._idle_for = 0.0
+        self._endings: Dict[Ending, int] = dict.fromkeys(Ending, 0)
+
+    def add(self, attempts: int, idle_for: float, ending: Ending) -> None:
+        """Counts a call that is over."""
+        with self._lock:
+            self._calls += 1
+            self._attempts += attempts
+            self._idle_for += idle_for
+            self._endings[ending] += 1
+
+    def seen(self) -> Statistics:
+        """The counts as of now."""
+        with self._lock:
+            named = {ending.name.lower(): count for ending, count in self._endings.items() if ending not in _BROKEN}
+            broken = sum(self._endings[ending] for ending in _BROKEN)
+            return Statistics(self._calls, self._attempts, self._idle_for, broken=broken, **named)

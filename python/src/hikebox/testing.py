@@ -1,0 +1,43 @@
+"""For tests of code that retries: a clock that goes on by sleeping."""
+
+from __future__ import annotations
+
+from typing import List
+
+__all__ = ["VirtualClock"]
+
+
+class VirtualClock:
+    """A clock of its own. It stands still but for its sleeps, which take no time, and notes them.
+
+    >>> from hikebox import Retrying, exponential, recurs
+    >>> clock = VirtualClock()
+    >>> retrying = Retrying(recurs(3) & exponential(10), clock=clock, sleep=clock.sleep)
+    >>> try:
+    ...     retrying(int, "no number")
+    ... except ValueError:
+    ...     print(clock.slept, clock())
+    [10.0, 20.0, 40.0] 70.0
+    """
+
+    def __init__(self, start: float = 0.0) -> None:
+        #: The seconds of each sleep.
+        self.slept: List[float] = []
+        self._now = start
+
+    def __call__(self) -> float:
+        """The moment, in seconds."""
+        return self._now
+
+    def sleep(self, seconds: float) -> None:
+        """Goes on by so many seconds."""
+        self.slept.append(seconds)
+        self._now += seconds
+
+    async def sleep_async(self, seconds: float) -> None:
+        """The same, for `AsyncRetrying`."""
+        self.sleep(seconds)
+
+    def advance(self, seconds: float) -> None:
+        """Goes on by so many seconds, as while a call runs."""
+        self._now += seconds

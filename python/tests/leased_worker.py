@@ -1,0 +1,89 @@
+"""A process that draws tickets of a leased budget and writes each down at once: leased_worker.py JSON OUTPUT.
+
+`kill` names a point at which it ends itself by SIGKILL: "asked", before its store is asked for the lease of that
+number; "granted", when the store has granted it and nobody drew of it; "drawn", after so many tickets.
+"""
+
+from __future__ import annotations
+
+import json
+import os
+import signal
+import sys
+import threading
+import time
+from typing import Any
+
+from hikebox.leased import FileStore, Leased, RedisStore
+
+
+class Dying:
+    """A store that ends its process at a point of the lease of a number."""
+
+    def __init__(self, store: Any, point: str, number: int) -> None:
+        self.store = store
+        self.point = point
+        self.left = number
+
+    def take(self, *words: Any) -> Any:
+        self.left -= 1
+        if self.left == 0 and self.point == "asked":
+            os.kill(os.getpid(), signal.SIGKILL)
+        granted = self.store.take(*words)
+        if self.left == 0 and self.point == "granted":
+            os.kill(os.getpid(), signal.SIGKILL)
+        return granted
+
+
+def store_of(how: Any) -> Any:
+    if "file" in how:
+        store: Any = FileStore(how["file"])
+    else:
+        import redis
+
+        client = redis.Redis(port=how["port"], socket_timeout=1, socket_connect_timeout=1)
+        store = RedisStore(client, durable=how.get("durable", False))
+    if how.get("kill", "drawn") != "drawn":
+        return Dying(store, how["kill"], how["number"])
+    return store
+
+
+def main() -> None:
+    how = json.loads(sys.argv[1])
+    output = os.open(sys.argv[2], os.O_WRONLY | os.O_CREAT | os.O_APPEND)
+    off = float(how.get("clock_off", 0))
+    named = {name: how[name] for name in ("limit", "period", "lease", "reserve", "again_after") if name in how}
+    if off:
+        named["clock"] = lambda: time.clock_gettime(time.CLOCK_BOOTTIME) + off
+        wall = time.time
+        time.time = lambda: float(wall() + off)
+    leased = Leased(store_of(how), how["name"], **named)
+    until = time.monotonic() + how.get("seconds", 60)
+    stop = how.get("stop", "/no/such/file")
+    most = how["number"] if how.get("kill") == "drawn" else -1
+
+    def work() -> None:
+        mine = 0
+        while time.monotonic() < until and not os.path.exists(stop):
+            ticket = leased.draw()
+            if ticket is None:
+                if how.get("patient"):
+                    time.sleep(0.002)
+                    continue
+                return
+            now = int(time.clock_gettime(time.CLOCK_BOOTTIME) * 1000)
+            os.write(output, f"{ticket} {now}\n".encode())
+            mine += 1
+            if mine == most:
+                os.kill(os.getpid(), signal.SIGKILL)
+
+    threads = [threading.Thread(target=work) for _ in range(how.get("threads", 1))]
+    for thread in threads:
+        thread.start()
+    for thread in threads:
+        thread.join()
+    print(leased.granted)
+
+
+if __name__ == "__main__":
+    main()

@@ -1,0 +1,67 @@
+"""What an installed hikebox is tried with, by any Python with nothing else installed: its examples, and one of each.
+
+    python smoke.py FOLDER    the folder that hikebox has to be installed in
+"""
+
+import asyncio
+import doctest
+import importlib
+import os
+import pkgutil
+import sys
+import threading
+from typing import List
+
+
+def main() -> None:
+    import hikebox
+    from hikebox import _engine
+
+    folder = os.path.realpath(sys.argv[1])
+    for path in (hikebox.__file__, _engine.library_path()):
+        assert os.path.realpath(path).startswith(folder + os.sep), path
+    failed = tried = 0
+    names = ["hikebox", *(module.name for module in pkgutil.walk_packages(hikebox.__path__, "hikebox."))]
+    names = [name for name in names if name not in ("hikebox.__main__", "hikebox.libhikebox")]
+    for name in names:
+        try:
+            loaded = importlib.import_module(name)
+        except ImportError as error:
+            assert name.startswith("hikebox.adapters."), error
+            continue
+        result = doctest.testmod(loaded, optionflags=doctest.IGNORE_EXCEPTION_DETAIL)
+        failed += result.failed
+        tried += result.attempted
+    assert not failed and tried > 50, (failed, tried)
+    assert os.path.exists(os.path.join(os.path.dirname(hikebox.__file__), "py.typed"))
+
+    budget = hikebox.Budget(1000)
+    retrying = hikebox.Retrying(hikebox.recurs(100), budget=budget, fallback=lambda state: state.granted)
+    granted = []
+    threads = [threading.Thread(target=lambda: granted.append(retrying(int, "x"))) for _ in range(16)]
+    for thread in threads:
+        thread.start()
+    for thread in threads:
+        thread.join()
+    assert sum(granted) == 1000 == budget.close(), granted
+
+    @hikebox.retry(hikebox.recurs(3) & hikebox.spaced(0.001), on=KeyError)
+    async def later(left: List[int] = [2]) -> str:
+        left[0] -= 1
+        if left[0] >= 0:
+            raise KeyError()
+        return "won"
+
+    assert asyncio.run(later()) == "won"
+    try:
+        hikebox.retry(hikebox.recurs(1))(int)("x")
+    except ValueError as error:
+        assert hikebox.state_of(error).attempt_number == 2  # type: ignore[union-attr]
+        assert "gave up after 2 attempts" in getattr(error, "__notes__")[0]
+    else:
+        raise AssertionError("int('x') succeeded")
+    print(f"smoke.py: Python {sys.version.split()[0]}: {tried} examples, and one of each")
+
+
+if __name__ == "__main__":
+    main()

@@ -1,0 +1,228 @@
+"""Budgets: tickets, threads, closing."""
+
+from __future__ import annotations
+
+import gc
+import os
+import pickle
+import threading
+from typing import Any, List, Tuple
+
+import pytest
+
+from hikebox import Budget, BudgetClosed, BudgetError, BudgetInUse, RetryState, Retrying, recurs
+
+
+def granted_and_ending(state: RetryState) -> Tuple[int, str]:
+    assert state.ending is not None
+    return state.granted, state.ending.name
+
+
+def test_worked_budgets() -> None:
+    budget = Budget(2)
+    assert [budget.draw() for _ in range(4)] == [0, 1, None, None]
+    assert budget.count == 2 and not budget.closed
+    assert budget.close() == 2 == budget.close() == budget.count
+    assert budget.closed
+    with pytest.raises(BudgetClosed):
+        budget.draw()
+    empty = Budget(0)
+    assert empty.draw() is None
+    assert empty.close() == 0
+    for bad in (-1, 2**32 + 1):
+        with pytest.raises(BudgetError):
+            Budget(bad)
+    wrongs: List[Any] = [1.5, "3", None, True]
+    for wrong in wrongs:
+        with pytest.raises(TypeError):
+            Budget(wrong)
+    assert Budget(2**32).close() == 0
+
+
+def test_a_rising_budget() -> None:
+    budget = Budget.rising(1)
+    assert [budget.draw() for _ in range(3)] == [0, None, None]
+    assert budget.raise_to(4) == 4 == budget.limit
+    assert [budget.draw() for _ in range(5)] == [1, 2, 3, None, None]
+    assert budget.raise_to(2) == 4
+    assert budget.raise_to(5) == 5
+    assert budget.draw() == 4
+    assert budget.close() == 5
+    with pytest.raises(BudgetClosed):
+        budget.raise_to(9)
+    with pytest.raises(BudgetClosed):
+        budget.draw()
+    with pytest.raises(BudgetError):
+        Budget(3).raise_to(5)
+    for bad in (-1, 2**32 + 1):
+        with pytest.raises(BudgetError):
+            Budget.rising(1).raise_to(bad)
+
+
+def test_retries_go_on_after_a_raise() -> None:
+    budget = Budget.rising(2)
+    retrying = Retrying(recurs(5), budget=budget, fallback=granted_and_ending)
+
+    def fails() -> Any:
+        raise KeyError()
+
+    assert retrying(fails) == (2, "BUDGET_REFUSED")
+    assert retrying(fails) == (0, "BUDGET_REFUSED")
+    budget.raise_to(11)
+    assert retrying(fails) == (5, "SCHEDULE_DONE")
+    assert retrying(fails) == (4, "BUDGET_REFUSED")
+    assert budget.close() == 11
+
+
+def test_retries_past_those_with_a_pass_of_their_own(monkeypatch: Any) -> None:
+    monkeypatch.setattr("hikebox.budget.MOST_RETRIES", 3)
+    budget = Budget(16)
+    retrying = Retrying(recurs(3), budget=budget, fallback=granted_and_ending)
+
+    def fails() -> Any:
+        raise KeyError()
+
+    ended = [retrying(fails) for _ in range(7)]
+    assert ended == [(3, "SCHEDULE_DONE")] * 5 + [(1, "BUDGET_REFUSED"), (0, "BUDGET_REFUSED")]
+    assert budget._retries == 3
+    assert budget.close() == 16
+
+
+def test_as_a_context() -> None:
+    with Budget(3) as budget:
+        budget.draw()
+    assert budget.closed and budget.count == 1
+
+    with pytest.raises(BudgetInUse):
+        with Budget(3) as budget:
+            attempts = iter(Retrying(recurs(3), budget=budget))
+            with next(attempts):
+                raise KeyError()
+    assert not budget.closed
+    del attempts
+    gc.collect()
+    assert budget.close() == 1
+
+    with pytest.raises(ZeroDivisionError):
+        with Budget(3) as budget:
+            attempts = iter(Retrying(recurs(3), budget=budget))
+            with next(attempts):
+                raise KeyError()
+            1 / 0
+
+
+def test_16_threads_draw_each_ticket_once() -> None:
+    limit = 200_000
+    budget = Budget(limit)
+    drawn: List[List[int]] = [[] for _ in range(16)]
+
+    def work(mine: List[int]) -> None:
+        while True:
+            ticket = budget.draw()
+            if ticket is None:
+                return
+            mine.append(ticket)
+
+    threads = [threading.Thread(target=work, args=(mine,)) for mine in drawn]
+    for thread in threads:
+        thread.start()
+    for thread in threads:
+        thread.join()
+    assert sorted(ticket for mine in drawn for ticket in mine) == list(range(limit))
+    assert budget.close() == limit
+    for mine in drawn:
+        assert mine == sorted(mine)
+
+
+def test_a_budget_that_rises_while_threads_draw() -> None:
+    budget = Budget.rising(0)
+    stop = threading.Event()
+    drawn: List[List[int]] = [[] for _ in range(4)]
+
+    def work(mine: List[int]) -> None:
+        while not stop.is_set():
+            ticket = budget.draw()
+            if ticket is not None:
+                mine.append(ticket)
+
+    threads = [threading.Thread(target=work, args=(mine,)) for mine in drawn]
+    for thread in threads:
+        thread.start()
+    for limit in range(0, 2000, 10):
+        budget.raise_to(limit)
+        assert budget.count <= limit
+    stop.set()
+    for thread in threads:
+        thread.join()
+    tickets = [ticket for mine in drawn for ticket in mine]
+    assert sorted(tickets) == list(range(budget.close()))
+    assert budget.count <= 1990
+
+
+def test_counts_while_others_draw() -> None:
+    budget = Budget(50_000)
+
+    def work() -> None:
+        while budget.draw() is not None:
+            pass
+
+    threads = [threading.Thread(target=work) for _ in range(4)]
+    for thread in threads:
+        thread.start()
+    before = 0
+    while any(thread.is_alive() for thread in threads):
+        now = budget.count
+        assert now <= 50_000
+        before = now
+    for thread in threads:
+        thread.join()
+    assert before <= budget.close() == 50_000
+
+
+def test_a_budget_belongs_to_its_process() -> None:
+    budget = Budget(5)
+    budget.draw()
+    child = os.fork()
+    if child == 0:
+        status = 1
+        try:
+            budget.draw()
+        except BudgetError:
+            try:
+                Retrying(recurs(1), budget=budget)(int, "x")
+            except BudgetError:
+                status = 0
+        finally:
+            os._exit(status)
+    assert os.waitstatus_to_exitcode(os.waitpid(child, 0)[1]) == 0
+    assert budget.draw() == 1
+    with pytest.raises(TypeError):
+        pickle.dumps(budget)
+
+
+def test_policies_and_retries_go_on_in_a_forked_child() -> None:
+    retrying = Retrying(recurs(2))
+
+    def fails() -> Any:
+        raise KeyError()
+
+    with pytest.raises(KeyError):
+        retrying(fails)
+    child = os.fork()
+    if child == 0:
+        status = 1
+        try:
+            retrying(fails)
+        except KeyError as error:
+            status = 0 if error.retry_state.attempt_number == 3 else 2  # type: ignore[attr-defined]
+        finally:
+            os._exit(status)
+    assert os.waitstatus_to_exitcode(os.waitpid(child, 0)[1]) == 0
+
+
+def test_it_is_shown() -> None:
+    budget = Budget(5)
+    assert repr(budget) == "<Budget(5)>"
+    budget.close()
+    assert repr(budget) == "<Budget(5), closed at 0>"
+    assert repr(Budget.rising(7)) == "<Budget.rising(7)>"

@@ -1,0 +1,277 @@
+"""The program hikebox."""
+
+from __future__ import annotations
+
+import json
+import os
+import random
+import signal
+import subprocess
+import sys
+import time
+from pathlib import Path
+from typing import Any, List, Optional, Tuple
+
+import pytest
+import reference
+from conftest import TOP, python_environment
+from test_policy import spoilt
+
+from hikebox._run import statuses
+
+
+def hikebox(*words: str, text: Optional[str] = None, **how: Any) -> Tuple[int, str, str]:
+    """Its status, its output and its errors."""
+    command = [sys.executable, "-m", "hikebox", *words]
+    given: Any = {"input": text} if text is not None else {"stdin": subprocess.DEVNULL}
+    done = subprocess.run(command, capture_output=True, text=True, env=python_environment(), timeout=30, **given, **how)
+    return done.returncode, done.stdout, done.stderr
+
+
+def start(*words: str) -> Any:
+    command = [sys.executable, "-m", "hikebox", *words]
+    return subprocess.Popen(
+        command, stdout=subprocess.PIPE, stderr=subprocess.PIPE, text=True, env=python_environment()
+    )
+
+
+def counting(tmp_path: Path, *ends: str) -> List[str]:
+    """A command that counts its runs in a file and ends by these shell words in turn, the last one repeated."""
+    cases = "".join(f"{number}) {end};; " for number, end in enumerate(ends[:-1], start=1))
+    script = f'n=$(($(cat "{tmp_path}/n" 2>/dev/null || echo 0) + 1)); echo $n > "{tmp_path}/n"; '
+    return ["sh", "-c", script + f"case $n in {cases}*) {ends[-1]};; esac"]
+
+
+def runs(tmp_path: Path) -> int:
+    return int((tmp_path / "n").read_text())
+
+
+def test_it_runs_until_the_command_succeeds(tmp_path: Path) -> None:
+    command = counting(tmp_path, "echo a; exit 7", "exit 8", "echo b; exit 0")
+    assert hikebox("run", "--policy", "recurs(5)", "--", *command) == (0, "a\nb\n", "")
+    assert runs(tmp_path) == 3
+
+
+def test_it_ends_with_the_last_status(tmp_path: Path) -> None:
+    command = counting(tmp_path, "exit 7", "exit 9")
+    assert hikebox("run", "--policy", '{"recurs":2}', *command) == (9, "", "")
+    assert runs(tmp_path) == 3
+    assert hikebox("run", "--policy", "recurs(0)", "--", "sh", "-c", "kill -9 $$") == (128 + 9, "", "")
+
+
+def test_what_it_does_is_told_on_request(tmp_path: Path) -> None:
+    path = tmp_path / "policy.json"
+    path.write_text('{"meet":[{"recurs":2},{"spaced":20}]}')
+    status, output, errors = hikebox("run", "--verbose", "--policy", str(path), "--", "sh", "-c", "exit 3")
+    lines = errors.splitlines()
+    assert (status, output, len(lines)) == (3, "", 3)
+    assert lines[0].startswith("hikebox: attempt 1: status 3; next in 0.0")
+    assert lines[2] == "hikebox: attempt 3: status 3; the policy was done"
+
+
+def test_which_statuses_are_retried(tmp_path: Path) -> None:
+    command = counting(tmp_path, "exit 7", "exit 9")
+    assert hikebox("run", "--policy", "recurs(5)", "--on", "1,5-8", "--", *command)[0] == 9
+    assert runs(tmp_path) == 2
+    status, _, errors = hikebox("run", "-v", "--on", "2", "--", "false")
+    assert (status, errors) == (1, "hikebox: status 1, which is not retried\n")
+    for bad in ("0", "256", "5-3", "a", "", "1-", "-1"):
+        with pytest.raises(ValueError):
+            statuses(bad)
+
+
+def test_the_policy_is_given_the_status(tmp_path: Path) -> None:
+    command = counting(tmp_path, "exit 7", "exit 7", "exit 9")
+    assert hikebox("run", "--policy", "recurs(9).while_input(equal=7)", "--", *command)[0] == 9
+    assert runs(tmp_path) == 3
+
+
+def test_an_attempt_that_takes_too_long(tmp_path: Path) -> None:
+    command = counting(tmp_path, "exec sleep 60", "exit 0")
+    began = time.monotonic()
+    assert hikebox("run", "--timeout", "0.3", "--policy", "recurs(1)", "--", *command)[0] == 0
+    assert hikebox("run", "--timeout", "0.2", "--policy", "recurs(1)", "--", "sleep", "60")[0] == 124
+    stubborn = "trap '' TERM; while :; do sleep 0.05; done"
+    words = ["--timeout", "0.2", "--kill-after", "0.2", "--policy", "recurs(0)", "--", "sh", "-c", stubborn]
+    assert hikebox("run", *words)[0] == 124
+    assert time.monotonic() - began < 10
+
+
+def test_a_command_that_can_not_be_run(tmp_path: Path) -> None:
+    assert hikebox("run", "--", "no-such-command")[::2] == (127, "hikebox: no-such-command: command not found\n")
+    status, _, errors = hikebox("run", "--", str(tmp_path))
+    assert status == 126 and "ermission denied" in errors
+    status, _, errors = hikebox("run", "--on", "127", "--policy", "recurs(2)", "--", "no-such-command")
+    assert status == 127 and errors.count("not found") == 3
+
+
+def test_a_budget(tmp_path: Path) -> None:
+    command = counting(tmp_path, "exit 7")
+    assert hikebox("run", "--budget", "2", "--policy", "recurs(9)", "--", *command)[0] == 7
+    assert runs(tmp_path) == 3
+    shared = f"4@{tmp_path}/budget"
+    for _ in range(3):
+        assert hikebox("run", "--budget", shared, "--policy", "recurs(3)", "--", *command)[0] == 7
+    assert runs(tmp_path) == 3 + 3 + 4
+    assert "the budget had no ticket" in hikebox("run", "-v", "--budget", "0", "--", "false")[2]
+    assert hikebox("run", "--budget", "x", "--", "false")[0] == 2
+
+
+def test_input_and_output(tmp_path: Path) -> None:
+    command = counting(tmp_path, "cat; exit 1", "cat; exit 0")
+    assert hikebox("run", "--policy", "recurs(1)", "--", *command, text="a\nb\n")[1] == "a\nb\n"
+    (tmp_path / "n").unlink()
+    assert hikebox("run", "--replay-input", "--policy", "recurs(1)", "--", *command, text="a\n")[1] == "a\na\n"
+    (tmp_path / "n").unlink()
+    once = ["--last-output", "--policy", "recurs(1)", "--"]
+    held = hikebox("run", "--replay-input", *once, *command, text="a\n" * 99999)
+    assert held == (0, "a\n" * 99999, "")
+    assert hikebox("run", *once, "sh", "-c", "echo x; exit 4")[:2] == (4, "x\n")
+
+
+TOLD = "trap 'echo told; exit 5' {0}; echo up; while :; do sleep 0.01; done"
+
+
+@pytest.mark.parametrize("name", ["TERM", "INT", "HUP", "QUIT"])
+def test_a_signal_goes_to_the_command_and_ends_the_run(name: str) -> None:
+    process = start("run", "--policy", "recurs(9)", "--", "sh", "-c", TOLD.format(name))
+    assert process.stdout.readline() == "up\n"
+    process.send_signal(getattr(signal, f"SIG{name}"))
+    assert process.communicate(timeout=10)[0] == "told\n"
+    assert process.returncode == 5
+
+
+def test_a_signal_that_kills_the_command() -> None:
+    process = start("run", "--policy", "recurs(9)", "--", "sh", "-c", "echo up; exec sleep 60")
+    assert process.stdout.readline() == "up\n"
+    process.terminate()
+    process.communicate(timeout=10)
+    assert process.returncode == 128 + signal.SIGTERM
+
+
+def test_a_signal_that_ends_nothing_is_passed_on_too() -> None:
+    process = start("run", "--policy", "recurs(9)", "--", "sh", "-c", TOLD.format("USR1").replace("exit 5", "exit 0"))
+    assert process.stdout.readline() == "up\n"
+    process.send_signal(signal.SIGUSR1)
+    assert process.communicate(timeout=10)[0] == "told\n"
+    assert process.returncode == 0
+
+
+def test_a_signal_between_two_attempts_ends_the_run() -> None:
+    process = start("run", "-v", "--policy", "spaced(60)", "--", "sh", "-c", "exit 7")
+    assert "next in" in process.stderr.readline()
+    process.send_signal(signal.SIGUSR1)
+    time.sleep(0.1)
+    assert process.poll() is None
+    process.terminate()
+    process.communicate(timeout=10)
+    assert process.returncode == 128 + signal.SIGTERM
+
+
+def test_an_ignored_signal_stays_ignored() -> None:
+    script = "trap '' HUP; exec \"$@\""
+    ignores = "kill -HUP $PPID; kill -HUP $$; sleep 0.1; exit 0"
+    words = [sys.executable, "-m", "hikebox", "run", "--", "sh", "-c", ignores]
+    done = subprocess.run(["sh", "-c", script, "sh", *words], env=python_environment(), timeout=20)
+    assert done.returncode == 0
+
+
+def test_the_command_has_the_signals_that_it_would_have() -> None:
+    masks = "awk '/^Sig(Blk|Ign)/ {print $2}' /proc/self/status"
+    plain = subprocess.run(["sh", "-c", masks], capture_output=True, text=True).stdout
+    own = hikebox("run", "--", "sh", "-c", masks)[1]
+    # those from 32 on are the C library's own
+    assert [int(mask, 16) % 2**31 for mask in own.split()] == [int(mask, 16) % 2**31 for mask in plain.split()]
+
+
+def test_plan_prints_as_zsched_does(tmp_path: Path) -> None:
+    lines = "0: (0, 0) next 100\n100: (1, 1) next 200\n200: (2, 2) next 300\n300: (3, 3) done\n"
+    path = str(TOP / "plans" / "three-times.json")
+    text = Path(path).read_text()
+    assert hikebox("plan", path) == (0, lines, "")
+    assert hikebox("plan", text=text) == (0, lines, "") == hikebox("plan", "-", text=text)
+    assert hikebox("plan", "recurs(3) & spaced(0.1)") == (0, lines, "")
+    assert hikebox("plan", "--steps", "0", path) == (0, "", "")
+    how = ["--from", "20", "--took", "30", "--steps", "2", "--word", "0", "--input", "7"]
+    policy = '{"feed":["identity",{"jitter":[0,500,1000,{"linear":100}]}]}'
+    assert hikebox("plan", *how, policy) == (0, "20: 100 next 70\n100: 200 next 200\n", "")
+
+
+def test_plan_beside_zsched() -> None:
+    program = os.environ.get("HIKEBOX_ZSCHED")
+    if program is None:
+        pytest.skip("HIKEBOX_ZSCHED names no zsched")
+    for path in sorted((TOP / "plans").glob("*.json")):
+        hows: List[List[str]] = [[], ["--took", "2500", "--steps", "4"], ["--word", "0", "--input", "202"]]
+        for how in hows:
+            with open(path) as file:
+                theirs = subprocess.run([program, "plan", *how], stdin=file, capture_output=True, text=True)
+            assert hikebox("plan", *how, str(path)) == (theirs.returncode, theirs.stdout, theirs.stderr)
+
+
+def test_faults(tmp_path: Path) -> None:
+    recurs = '"recurs" is spelt {"recurs":N}, N from 0 to 4611686018427387903'
+    for text, fault, place, hint in (
+        ('{"recurs":-1}', "not a plan", "top", recurs),
+        ('{"first":{"recurs":-1}}', "not a plan", "first", recurs),
+        ('{"nothing":' * 32 + '"forever"' + "}" * 32, "too deep", "top", "a plan is at most 32 deep"),
+    ):
+        where = "" if place == "top" else f"{place}: "
+        assert hikebox("plan", text=text) == (3, "", f"hikebox: {fault}: {where}{hint}\n")
+        assert hikebox("check", text=text) == (3, f"{place}: {hint}\n", f"hikebox: {fault}\n")
+    for text in ('{"recurs":3', ""):
+        status, output, errors = hikebox("check", text=text)
+        assert (status, errors) == (3, "hikebox: not JSON\n") and output.startswith("not JSON: line 1, column ")
+        assert hikebox("plan", text=text)[0] == 3
+    assert hikebox("plan", text=" " * (2**20 + 1))[::2] == (3, "hikebox: input too long\n")
+    assert hikebox("plan", str(tmp_path))[0] == 4
+    assert hikebox("plan", "/no/such/file")[0] == 4
+    with open("/dev/full", "w") as full:
+        command = [sys.executable, "-m", "hikebox", "plan", "recurs(1)"]
+        done = subprocess.run(command, stdout=full, env=python_environment())
+    assert done.returncode == 4
+    lines: List[List[str]] = [["plan", "--steps", "4097"], ["plan", "--none"], ["run"], ["run", "--"], [], ["nope"]]
+    for words in lines:
+        assert hikebox(*words)[0] == 2
+    assert hikebox("run", "--policy", "recurs(", "--", "true")[0] == 3
+    assert hikebox("run", "--timeout", "0", "--", "true")[0] == 2
+
+
+def test_check_says_what_a_policy_is() -> None:
+    line = "plan: 4 nodes, depth 3, goes on at most 5 times\n"
+    assert hikebox("check", "recurs(5) & exponential(0.1).cap(1)") == (0, line, "")
+    assert hikebox("check", text='"forever"') == (0, "plan: 1 node, depth 1\n", "")
+    assert hikebox("check", "lone(1)")[1] == "plan: 1 node, depth 1, goes on at most 1 time\n"
+    bad = json.dumps({"meet": [{"recurs": 1}, {"cap": [1, {"exponental": [100, 2]}]}]})
+    said = 'meet[1].cap[1]: no node is called "exponental"; did you mean "exponential"?\n'
+    assert hikebox("check", bad) == (3, said, "hikebox: not a plan\n")
+
+
+def test_check_beside_zsched() -> None:
+    program = os.environ.get("HIKEBOX_ZSCHED")
+    if program is None or subprocess.run([program, "check", "--help"], capture_output=True).returncode != 0:
+        pytest.skip("HIKEBOX_ZSCHED names no zsched with check")
+    rng = random.Random(4)
+    for number in range(100):
+        tree = reference.some_plan(rng, rng.randrange(1, 8))
+        text = json.dumps(tree if number % 4 == 0 else spoilt(rng, tree))
+        if text.startswith("["):
+            continue  # jobs, of which hikebox knows nothing
+        theirs = subprocess.run([program, "check"], input=text, capture_output=True, text=True)
+        wanted = (theirs.returncode, theirs.stdout, theirs.stderr.replace("zsched: ", "hikebox: "))
+        assert hikebox("check", text=text) == wanted, text
+
+
+def test_help_and_version() -> None:
+    for words in (["--help"], ["run", "--help"], ["plan", "--help"], ["check", "--help"]):
+        status, output, _ = hikebox(*words)
+        assert status == 0 and "usage: hikebox" in output
+    assert hikebox("--version")[1].startswith("hikebox ")
+
+
+def test_streams_that_fail() -> None:
+    words = ["run", "--last-output", "--policy", "recurs(0)", "--", "echo", "x"]
+    command = [sys.executable, "-m", "hikebox", *words]
+    with open("/dev/full", "w") as full:
+        done = subprocess.run(command, stdout=full, stderr=subprocess.PIPE, text=True, env=python_environment())
+    assert done.returncode == 4 and done.stderr.startswith("hikebox: a stream failed")

@@ -1,0 +1,73 @@
+"""The pages on Python: each block is run, and the text after a block is what it prints."""
+
+from __future__ import annotations
+
+import contextlib
+import io
+import os
+import re
+import subprocess
+import sys
+from pathlib import Path
+from typing import Any, Dict, List, Tuple
+
+import pytest
+from conftest import TOP, python_environment
+
+PAGES = ["docs/PYTHON.md", "docs/FROM-TENACITY.md", "docs/MACHINES.md", "python/README.md"]
+
+
+def blocks(page: str) -> List[Tuple[str, str, int]]:
+    """The kind, the text and the line of each block."""
+    text = (TOP / page).read_text()
+    found = re.finditer(r"^```(\w*)\n(.*?)^```$", text, flags=re.M | re.S)
+    return [(match[1], match[2], text.count("\n", 0, match.start()) + 2) for match in found]
+
+
+def run_shell(text: str, folder: Path) -> str:
+    """What a block of shell prints, with `hikebox` on the path."""
+    program = folder / "hikebox"
+    program.write_text(f'#!/bin/sh\nexec "{sys.executable}" -m hikebox "$@"\n')
+    program.chmod(0o755)
+    environment = {**python_environment(), "PATH": f"{folder}:{os.environ['PATH']}"}
+    command = ["sh", "-c", text]
+    return subprocess.run(command, cwd=TOP, env=environment, capture_output=True, text=True, check=True).stdout
+
+
+@pytest.mark.parametrize("page", PAGES)
+def test_each_block_does_what_the_page_says(page: str, tmp_path: Path, monkeypatch: Any, request: Any) -> None:
+    monkeypatch.chdir(TOP)
+    names: Dict[str, Any] = {"folder": str(tmp_path)}
+    if "import redis" in (TOP / page).read_text():
+        names["redis_port"] = request.getfixturevalue("redis_server")().port
+    printed = ""
+    ran = 0
+    for kind, text, line in blocks(page):
+        if kind == "text":
+            assert printed == text, f"{page}:{line}"
+        elif kind == "python":
+            for library in ("tenacity", "requests"):
+                if f"import {library}" in text:
+                    pytest.importorskip(library)
+            output = io.StringIO()
+            with contextlib.redirect_stdout(output):
+                exec(compile("\n" * (line - 1) + text, page, "exec"), names)
+            printed = output.getvalue()
+            ran += 1
+        elif text.startswith("pip install "):
+            pass  # tests/python.sh installs the wheel into a fresh environment
+        else:
+            assert kind == "sh", f"{page}:{line}: a block of {kind}"
+            printed = run_shell(text, tmp_path)
+            ran += 1
+    assert ran
+
+
+def test_every_public_name_is_on_a_page() -> None:
+    import hikebox
+
+    pages = "".join((TOP / page).read_text() for page in PAGES)
+    left_out = {"Duration", "Milliseconds", "Outcome", "Statistics", "Step", "Tickets", "Attempt", "FAR", "Fault"}
+    left_out |= {"EngineError", "HikeboxError", "Ending", "BudgetClosed", "BudgetInUse", "StoreError", "state_of"}
+    left_out |= {"from_duration", "exponential_milli"}
+    assert [name for name in hikebox.__all__ if name not in left_out and name not in pages] == []

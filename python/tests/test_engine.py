@@ -1,0 +1,160 @@
+"""The calls of the engine: that they are those of the header, and what they refuse."""
+
+from __future__ import annotations
+
+import ctypes
+import re
+from ctypes import byref, c_size_t, c_uint8, c_uint64
+from typing import Any, Dict, List, Tuple
+
+import pytest
+from conftest import TOP
+
+from hikebox import _engine
+from hikebox._engine import Handle, Machine, Pass, PolicyHandle
+from hikebox.errors import EngineError
+
+HEADER = TOP / "include" / "hikebox.h"
+
+TYPES: Dict[str, Any] = {
+    "const uint8_t *": (ctypes.c_char_p,),
+    "uint8_t *": (ctypes.POINTER(c_uint8),),
+    "size_t": (c_size_t,),
+    "size_t *": (ctypes.POINTER(c_size_t),),
+    "uint64_t": (c_uint64,),
+    "uint64_t *": (ctypes.POINTER(c_uint64),),
+    "uint32_t": (ctypes.c_uint32,),
+    "const uint32_t [4]": (ctypes.POINTER(ctypes.c_uint32),),
+    "hikebox_place *": (ctypes.POINTER(_engine.Place),),
+    "hikebox_decision *": (ctypes.POINTER(_engine.Decision),),
+    "hikebox_next *": (ctypes.POINTER(_engine.Next),),
+    **{f"hikebox_{kind} *": (ctypes.POINTER(Handle),) for kind in ("policy", "driver", "pass", "retry")},
+}
+
+CTYPES: Dict[str, Any] = {"uint64_t": c_uint64, "uint32_t": ctypes.c_uint32, "bool": ctypes.c_bool}
+
+
+def header() -> str:
+    if not HEADER.exists():
+        pytest.skip("the header is not there")
+    return re.sub(r"/\*.*?\*/", "", HEADER.read_text(), flags=re.S)
+
+
+def test_the_signatures_are_those_of_the_header() -> None:
+    declared: Dict[str, Tuple[Any, ...]] = {}
+    for name, parameters in re.findall(r"hikebox_status (hikebox_\w+)\((.*?)\);", header(), flags=re.S):
+        found: List[Any] = []
+        for parameter in parameters.split(","):
+            words = " ".join(parameter.split())
+            kind = re.sub(r"\w+(\[4\])?$", r"\1", words).replace("*", " *").replace("  ", " ").strip()
+            found.append(TYPES[kind][0])
+        declared[name] = tuple(found)
+    assert declared
+    for name, kinds in _engine.SIGNATURES.items():
+        assert declared[name] == kinds, name
+
+
+def test_the_structures_are_those_of_the_header() -> None:
+    found = dict(
+        (name, re.findall(r"(uint64_t|uint32_t|bool) (\w+);", body))
+        for body, name in re.findall(r"typedef struct \{(.*?)\} (hikebox_\w+);", header(), flags=re.S)
+    )
+    for name, kind in (("place", _engine.Place), ("decision", _engine.Decision), ("next", _engine.Next)):
+        assert [(field, CTYPES[word]) for word, field in found[f"hikebox_{name}"]] == list(kind._fields_)
+
+
+def test_the_numbers_are_those_of_the_header() -> None:
+    numbers = dict(re.findall(r"HIKEBOX_(\w+) = (\d+)", header()))
+    for name in (
+        ["OK", "NO_MEMORY", "TOO_LARGE", "NOT_JSON", "NOT_A_POLICY", "OUT_OF_RANGE", "TOO_DEEP", "TOO_MANY"]
+        + ["BACKWARDS", "JOURNAL_FULL", "LIMIT_TOO_LARGE", "FIXED", "NO_TICKET", "TOO_MANY_PASSES", "PASSES_OUT"]
+        + ["NO_REPORT", "WON", "LOST", "POLL", "RUN", "WAIT", "OVER"]
+    ):
+        assert int(numbers[name]) == getattr(_engine, name), name
+    from hikebox.state import ENDINGS, Ending
+
+    endings = {name: int(number) for name, number in numbers.items() if name.startswith("ENDED_")}
+    assert {number: ENDINGS[number] for number in endings.values()} == {
+        endings["ENDED_WON"]: Ending.WON,
+        endings["ENDED_DONE"]: Ending.SCHEDULE_DONE,
+        endings["ENDED_REFUSED"]: Ending.BUDGET_REFUSED,
+        endings["ENDED_CANCELLED"]: Ending.CANCELLED,
+        endings["ENDED_NO_MEMORY"]: Ending.NO_MEMORY,
+        endings["ENDED_JOURNAL_FULL"]: Ending.JOURNAL_FULL,
+        endings["ENDED_BACKWARDS"]: Ending.CLOCK_WENT_BACK,
+    }
+
+
+def read(text: bytes) -> PolicyHandle:
+    handle = PolicyHandle()
+    assert handle.read(text) is None
+    return handle
+
+
+def test_wrong_handles_are_refused_and_nothing_is_lost() -> None:
+    policy = read(b'{"recurs":2}')
+    drawn = Pass.of_budget(3, False)
+    library = _engine._library
+    empty = Handle()
+    number, words = c_uint64(), _engine.Words()
+    assert library.hikebox_pass_draw(byref(empty), byref(number)) == 1
+    assert library.hikebox_pass_draw(policy.at, byref(number)) == 2
+    assert library.hikebox_policy_free(byref(empty)) == 1
+    assert library.hikebox_policy_free(drawn.at) == 2
+    assert library.hikebox_budget_fixed(1, drawn.at) == 3
+    assert library.hikebox_retry_poll(policy.at, 0, words, 0, 0, byref(_engine.Next())) == 2
+    assert policy.size() == (1, 1) and drawn.draw() == 0
+    machine = Machine()
+    assert machine.begin(policy, drawn)
+    with pytest.raises(EngineError) as caught:
+        machine.begin(policy, drawn)
+    assert caught.value.status == 3
+    machine.end(drawn)
+    assert drawn.close() == 1
+
+
+def test_a_retry_as_a_machine() -> None:
+    machine, policy, drawn = Machine(), read(b'{"meet":[{"recurs":5},{"spaced":100}]}'), Pass.of_budget(100, False)
+    assert machine.begin(policy, drawn)
+    assert machine.poll(0, _engine.NO_REPORT, 0) == _engine.RUN
+    assert machine.poll(10, _engine.LOST, 7) == _engine.WAIT and machine.next.until == 110
+    assert machine.poll(109, _engine.NO_REPORT, 0) == _engine.WAIT
+    with pytest.raises(EngineError) as caught:
+        machine.poll(109, _engine.LOST, 7)
+    assert caught.value.status == 41
+    assert machine.poll(110, _engine.NO_REPORT, 0) == _engine.RUN
+    assert machine.poll(120, _engine.WON, 1) == _engine.OVER
+    assert (machine.next.how, machine.next.granted, machine.next.runs) == (1, 1, 2)
+    assert drawn.close() is None
+    machine.end(drawn)
+    assert drawn.close() == 1
+
+
+def test_a_pass_that_was_freed_keeps_the_budget_open() -> None:
+    drawn = Pass.of_budget(5, False)
+    part = drawn.split()
+    assert part is not None and part.draw() == 0
+    part.free()
+    part.free()
+    assert drawn.draw() == 1
+    assert drawn.close() is None
+    drawn.free()
+
+
+def test_many_handles_made_and_freed() -> None:
+    for _ in range(20000):
+        machine, policy, drawn = Machine(), read(b'"forever"'), Pass.of_budget(1, False)
+        machine.begin(policy, drawn)
+        machine.poll(0, 0, 0)
+        machine.free()
+        drawn.free()
+
+
+def test_a_status_without_a_name_is_an_error() -> None:
+    with pytest.raises(EngineError):
+        Pass().draw()
+    with pytest.raises(EngineError):
+        PolicyHandle().size()
+    error: Any = EngineError("hikebox_pass_draw", 1)
+    assert "status 1" in str(error)
+    assert isinstance(_engine.refused("a call", _engine.NO_MEMORY), MemoryError)

@@ -1,0 +1,259 @@
+"""Policies for urllib3 and requests, against a server on loopback, with the libraries that are installed."""
+
+from __future__ import annotations
+
+import email.utils
+import socket
+import threading
+import time
+import urllib.error
+from http.server import BaseHTTPRequestHandler, ThreadingHTTPServer
+from typing import Any, Dict, Iterator, List, Tuple
+
+import pytest
+
+from hikebox import Budget, Retrying, exponential, recurs, spaced, stop
+from hikebox.http import parse_retry_after, retry_after
+from hikebox.testing import VirtualClock
+
+urllib3 = pytest.importorskip("urllib3")
+requests = pytest.importorskip("requests")
+
+from hikebox.adapters.requests import PolicyAdapter  # noqa: E402
+from hikebox.adapters.urllib3 import PolicyRetry  # noqa: E402
+
+#: What the server answers: a status and headers; status 0 is a connection that is broken with no answer.
+Answer = Tuple[int, Dict[str, str]]
+
+
+class Server(ThreadingHTTPServer):
+    daemon_threads = True
+
+    def __init__(self) -> None:
+        super().__init__(("127.0.0.1", 0), Handler)
+        self.answers: List[Answer] = []
+        self.requests: List[Tuple[str, str, bytes]] = []
+
+    @property
+    def url(self) -> str:
+        return f"http://127.0.0.1:{self.server_port}"
+
+    def says(self, *answers: Any) -> None:
+        self.answers = []
+        for answer in answers:
+            self.answers.append((answer, {}) if isinstance(answer, int) else answer)
+        self.requests = []
+
+
+class Handler(BaseHTTPRequestHandler):
+    protocol_version = "HTTP/1.1"
+    server: Server
+
+    def answer(self) -> None:
+        body = self.rfile.read(int(self.headers.get("Content-Length", 0)))
+        self.server.requests.append((self.command, self.path, body))
+        answers = self.server.answers
+        status, headers = answers.pop(0) if len(answers) > 1 else answers[0]
+        if status == 0:
+            self.close_connection = True
+            self.connection.shutdown(socket.SHUT_RDWR)
+            return
+        text = f"answer {len(self.server.requests)}".encode()
+        self.send_response(status)
+        for name, value in headers.items():
+            self.send_header(name, value)
+        self.send_header("Content-Length", str(len(text)))
+        self.end_headers()
+        self.wfile.write(text)
+
+    do_GET = do_POST = do_PUT = answer
+
+    def log_message(self, *_: Any) -> None:
+        pass
+
+
+@pytest.fixture(scope="module")
+def running() -> Iterator[Server]:
+    server = Server()
+    thread = threading.Thread(target=server.serve_forever, kwargs={"poll_interval": 0.01})
+    thread.start()
+    yield server
+    server.shutdown()
+    server.server_close()
+    thread.join()
+
+
+@pytest.fixture
+def server(running: Server) -> Server:
+    running.says(200)
+    return running
+
+
+def pool(clock: VirtualClock, policy: Any, **how: Any) -> Any:
+    return urllib3.PoolManager(retries=PolicyRetry(policy, clock=clock, sleep=clock.sleep, **how))
+
+
+def session(clock: VirtualClock, policy: Any, **how: Any) -> Any:
+    made = requests.Session()
+    made.trust_env = False
+    made.mount("http://", PolicyAdapter(policy, clock=clock, sleep=clock.sleep, **how))
+    return made
+
+
+def test_bad_statuses_are_retried(server: Server, clock: VirtualClock) -> None:
+    server.says(503, 502, 200)
+    answer = pool(clock, recurs(5) & exponential(0.5)).request("GET", server.url)
+    assert (answer.status, answer.data) == (200, b"answer 3")
+    assert clock.slept == pytest.approx([0.5, 1.0], abs=0.01)
+    server.says(429, 504, 200)
+    reply = session(clock, recurs(5)).get(server.url)
+    assert (reply.status_code, reply.text, len(server.requests)) == (200, "answer 3", 3)
+
+
+def test_the_last_response_is_given(server: Server, clock: VirtualClock) -> None:
+    server.says(503)
+    assert pool(clock, recurs(2)).request("GET", server.url).status == 503
+    assert len(server.requests) == 3
+    reply = session(clock, recurs(2)).get(server.url)
+    assert reply.status_code == 503 and reply.text == "answer 6"
+    with pytest.raises(requests.exceptions.RetryError):
+        session(clock, recurs(2), raise_on_status=True).get(server.url)
+    with pytest.raises(urllib3.exceptions.MaxRetryError):
+        pool(clock, stop(), raise_on_status=True).request("GET", server.url)
+
+
+def test_other_statuses_are_not_retried(server: Server, clock: VirtualClock) -> None:
+    for status in (404, 500, 200):
+        server.says(status)
+        assert session(clock, recurs(2)).get(server.url).status_code == status
+        assert len(server.requests) == 1
+    server.says(500, 200)
+    assert session(clock, recurs(2), on_status={500}).get(server.url).status_code == 200
+
+
+def test_the_policy_is_given_the_status(server: Server, clock: VirtualClock) -> None:
+    server.says(503, 503, 502, 503)
+    policy = recurs(9).while_input(equal=503)
+    assert session(clock, policy).get(server.url).status_code == 502
+    assert len(server.requests) == 3
+
+
+def test_retry_after_is_a_lower_bound(server: Server, clock: VirtualClock) -> None:
+    in_a_minute = email.utils.formatdate(time.time() + 60, usegmt=True)
+    server.says(
+        (503, {"Retry-After": "7"}),
+        (503, {"Retry-After": "1"}),
+        (503, {"Retry-After": "soon"}),
+        (503, {"Retry-After": in_a_minute}),
+        (429, {"Retry-After": "999999999"}),
+        200,
+    )
+    assert session(clock, recurs(9) & spaced(2), longest_retry_after=100).get(server.url).status_code == 200
+    assert clock.slept[:3] == pytest.approx([7, 2, 2], abs=0.01)
+    assert 57 < clock.slept[3] <= 60 and clock.slept[4] == 100
+    server.says((413, {"Retry-After": "3"}), 200)
+    assert session(clock, recurs(9)).get(server.url).status_code == 200
+
+
+def test_connections_that_break(server: Server, clock: VirtualClock) -> None:
+    server.says(0, 0, 200)
+    assert session(clock, recurs(5) & spaced(1)).get(server.url).status_code == 200
+    assert clock.slept == pytest.approx([1, 1], abs=0.01)
+    server.says(0)
+    with pytest.raises(requests.exceptions.ConnectionError):
+        session(clock, recurs(2)).get(server.url)
+    assert len(server.requests) == 3
+    server.says(0)
+    with pytest.raises(urllib3.exceptions.MaxRetryError):
+        pool(clock, recurs(2)).request("GET", server.url)
+
+
+def test_connections_that_are_not_made(clock: VirtualClock) -> None:
+    with socket.socket() as taken:
+        taken.bind(("127.0.0.1", 0))
+        url = f"http://127.0.0.1:{taken.getsockname()[1]}"
+        with pytest.raises(requests.exceptions.ConnectionError):
+            session(clock, recurs(3) & spaced(1)).post(url)
+    assert clock.slept == pytest.approx([1, 1, 1], abs=0.01)
+
+
+def test_methods_that_must_not_be_repeated(server: Server, clock: VirtualClock) -> None:
+    server.says(503, 200)
+    assert session(clock, recurs(5)).post(server.url, data="a").status_code == 503
+    server.says(0, 200)
+    with pytest.raises(requests.exceptions.ConnectionError):
+        session(clock, recurs(5)).post(server.url, data="a")
+    assert len(server.requests) == 1
+    server.says(503, 200)
+    allowed = session(clock, recurs(5), allowed_methods=frozenset({"POST"}))
+    assert allowed.post(server.url, data="a").status_code == 200
+    assert server.requests == [("POST", "/", b"a")] * 2
+
+
+def test_redirects_draw_no_ticket(server: Server, clock: VirtualClock) -> None:
+    with Budget(10) as budget:
+        server.says((302, {"Location": "/b"}), 503, (302, {"Location": "/c"}), 200)
+        answer = pool(clock, recurs(5), budget=budget).request("GET", server.url + "/a")
+        assert answer.status == 200
+        assert [path for _, path, _ in server.requests] == ["/a", "/b", "/b", "/c"]
+        server.says((302, {"Location": "/b"}), 503, 200)
+        assert session(clock, recurs(5), budget=budget).get(server.url + "/a").status_code == 200
+    assert budget.count == 2
+
+
+def test_a_budget_over_all_requests(server: Server, clock: VirtualClock) -> None:
+    with Budget(4) as budget:
+        one = session(clock, recurs(3), budget=budget)
+        server.says(503)
+        assert [one.get(server.url).status_code for _ in range(3)] == [503] * 3
+        assert len(server.requests) == 3 + 4
+    assert budget.count == 4
+
+
+def test_threads_share_an_adapter(server: Server, clock: VirtualClock) -> None:
+    with Budget(60) as budget:
+        one = session(clock, recurs(10), budget=budget)
+        server.says(503)
+        threads = [threading.Thread(target=one.get, args=(server.url,)) for _ in range(8)]
+        for thread in threads:
+            thread.start()
+        for thread in threads:
+            thread.join()
+        assert len(server.requests) == 8 + 60
+    assert budget.count == 60
+
+
+def test_a_retry_without_a_policy_is_urllib3s_own(server: Server) -> None:
+    retries = PolicyRetry(total=1, status_forcelist={503})
+    server.says(503, 200)
+    assert urllib3.PoolManager(retries=retries).request("GET", server.url).status == 200
+
+
+def test_what_headers_ask_for() -> None:
+    assert parse_retry_after(None) is None
+    assert parse_retry_after(" 7 ") == 7
+    assert parse_retry_after("-7") is None and parse_retry_after("1.5") is None and parse_retry_after("²") is None
+    assert parse_retry_after("Thu, 01 Jan 1970 00:01:40 GMT", now=lambda: 200) == 0
+    assert parse_retry_after("Thu, 01 Jan 1970 00:01:40", now=lambda: 40) == 60
+    error = urllib.error.HTTPError("http://x", 503, "busy", {"Retry-After": "7"}, None)  # type: ignore[arg-type]
+    assert retry_after(error) == 7
+    response = requests.Response()
+    response.status_code = 503
+    response.headers["Retry-After"] = "8"
+    assert retry_after(requests.HTTPError(response=response)) == 8
+    assert retry_after(ValueError()) is None
+
+
+def test_retry_after_for_calls_of_ones_own(server: Server, clock: VirtualClock) -> None:
+    def ask() -> Any:
+        reply = requests.get(server.url)
+        reply.raise_for_status()
+        return reply
+
+    server.says((503, {"Retry-After": "7"}), (404, {}), 200)
+    policy = (recurs(5) & spaced(1)).while_input(at_least=500)
+    retrying = Retrying(policy, on=requests.RequestException, at_least=retry_after, clock=clock, sleep=clock.sleep)
+    with pytest.raises(requests.HTTPError) as caught:
+        retrying(ask)
+    assert caught.value.response.status_code == 404
+    assert clock.slept == pytest.approx([7], abs=0.01)

@@ -1,0 +1,512 @@
+"""Budgets that processes share: by a file, and by a Redis server of the test's own."""
+
+from __future__ import annotations
+
+import asyncio
+import json
+import os
+import pickle
+import subprocess
+import sys
+import threading
+import time
+from pathlib import Path
+from typing import Any, Dict, List, Tuple
+
+import pytest
+from conftest import HERE, python_environment
+
+from hikebox import AsyncRetrying, BudgetError, Ending, Retrying, StoreError, StoreLost, recurs, spaced, state_of
+from hikebox.leased import FileStore, Leased, Range, RedisStore
+
+
+class Workers:
+    """Processes that draw tickets, and what they wrote down."""
+
+    def __init__(self, folder: Path) -> None:
+        self.folder = folder
+        self.processes: List[Any] = []
+
+    def start(self, how: Any) -> Any:
+        output = self.folder / f"tickets-{len(self.processes)}"
+        words = [sys.executable, str(HERE / "leased_worker.py"), json.dumps(how), str(output)]
+        process = subprocess.Popen(
+            words, env=python_environment(), stdout=subprocess.PIPE, stderr=subprocess.PIPE, text=True
+        )
+        self.processes.append(process)
+        return process
+
+    def wait(self) -> List[int]:
+        """How they ended; each that was not killed said how many tickets it drew, and wrote as many down."""
+        for number, process in enumerate(self.processes):
+            output, errors = process.communicate(timeout=100)
+            assert process.returncode in (0, -9), errors
+            if process.returncode == 0:
+                assert int(output) == len(self.lines(number))
+        return [process.returncode for process in self.processes]
+
+    def lines(self, number: int) -> List[str]:
+        path = self.folder / f"tickets-{number}"
+        return path.read_text().splitlines() if path.exists() else []
+
+    def await_tickets(self, count: int) -> None:
+        """Waits until so many tickets were drawn."""
+        until = time.monotonic() + 30
+        while len(self.drawn()) < count:
+            assert time.monotonic() < until
+            time.sleep(0.02)
+
+    def drawn(self) -> List[Tuple[int, int]]:
+        """Each ticket with the moment after its draw, by the machine's uptime in milliseconds."""
+        lines = [line for number in range(len(self.processes)) for line in self.lines(number) if " " in line]
+        return [(int(ticket), int(moment)) for ticket, moment in map(str.split, lines)]
+
+    def tickets(self) -> List[int]:
+        return sorted(ticket for ticket, _ in self.drawn())
+
+
+@pytest.fixture
+def workers(tmp_path: Path) -> Any:
+    made = Workers(tmp_path)
+    yield made
+    for process in made.processes:
+        if process.poll() is None:
+            process.kill()
+            process.communicate()
+
+
+# One process
+
+
+def test_a_budget_in_a_file(tmp_path: Path) -> None:
+    store = FileStore(tmp_path / "counts")
+    first = Leased(store, "a", limit=10, lease=4)
+    second = Leased(FileStore(tmp_path / "counts"), "a", limit=10, lease=4)
+    assert [first.draw() for _ in range(5)] == [0, 1, 2, 3, 4]
+    assert [second.draw() for _ in range(4)] == [8, 9, None, None]
+    assert [first.draw() for _ in range(5)] == [5, 6, 7, None, None]
+    assert (first.granted, second.granted) == (8, 2)
+    assert Leased(store, "b", limit=1).draw() == 0
+    assert Leased(store, "a", limit=10).draw() is None
+    assert Leased(store, "a", limit=11).draw() == 10
+    assert Leased(store, "none", limit=0).draw() is None
+
+
+def test_parameters() -> None:
+    store = FileStore("/nowhere/counts")
+    assert [Leased(store, "a", limit).lease for limit in (0, 63, 640, 10**6)] == [1, 1, 10, 1000]
+    for bad in ({"limit": -1}, {"limit": 2**52}, {"limit": 1, "lease": 0}, {"limit": 1, "period": 0}):
+        with pytest.raises(BudgetError):
+            Leased(store, "a", **bad)  # type: ignore[arg-type]
+    leased = Leased(store, "a", 5, period=60)
+    assert repr(leased) == "Leased(FileStore('/nowhere/counts'), 'a', limit=5, period=60, lease=1)"
+    with pytest.raises(TypeError):
+        pickle.dumps(leased)
+
+
+def test_windows_of_a_file(tmp_path: Path) -> None:
+    store = FileStore(tmp_path / "counts")
+    leased = Leased(store, "a", limit=3, period=0.2)
+    other = Leased(store, "a", limit=3, period=0.2)
+    counted: Dict[int, List[int]] = {}
+    until = time.monotonic() + 1
+    while time.monotonic() < until:
+        before = int(time.clock_gettime(time.CLOCK_BOOTTIME) * 5)
+        tickets = [budget.draw() for budget in (leased, other)]
+        if before == int(time.clock_gettime(time.CLOCK_BOOTTIME) * 5):
+            counted.setdefault(before, []).extend(ticket for ticket in tickets if ticket is not None)
+    assert len(counted) >= 5
+    # a ticket that was drawn while a window ended is left out
+    assert all(len(set(tickets)) == len(tickets) and set(tickets) <= {0, 1, 2} for tickets in counted.values())
+    assert sum(len(tickets) for tickets in counted.values()) >= len(counted)
+
+
+class Stub:
+    """A store that answers what the test says."""
+
+    def __init__(self, *answers: Any) -> None:
+        self.answers = list(answers)
+        self.asked = 0
+
+    def take(self, name: str, count: int, limit: int, period: Any, clock: Any) -> Range:
+        self.asked += 1
+        answer = self.answers.pop(0) if len(self.answers) > 1 else self.answers[0]
+        if isinstance(answer, Exception):
+            raise answer
+        return Range(*answer)
+
+
+def test_a_lease_is_not_drawn_from_past_its_moment() -> None:
+    now = [0.0]
+    store = Stub((0, 5, 10.0), (0, 5, 20.0))
+    leased = Leased(store, "a", 5, period=10, clock=lambda: now[0])
+    assert [leased.draw(), leased.draw()] == [0, 1]
+    now[0] = 10.0
+    assert leased.draw() == 0 and store.asked == 2
+    assert leased.granted == 3
+
+
+def test_a_store_that_has_nothing_is_not_asked_again_before_its_moment() -> None:
+    now = [0.0]
+    store = Stub((0, 0, 10.0), (0, 5, 20.0))
+    leased = Leased(store, "a", 5, period=10, clock=lambda: now[0])
+    assert [leased.draw() for _ in range(5)] == [None] * 5 and store.asked == 1
+    now[0] = 10.0
+    assert leased.draw() == 0
+    spent = Stub((5, 0, None))
+    leased = Leased(spent, "a", 5)
+    assert [leased.draw() for _ in range(5)] == [None] * 5 and spent.asked == 1
+
+
+def test_leases_that_are_over_when_they_come() -> None:
+    store = Stub((0, 5, 1.0))
+    leased = Leased(store, "a", 5, period=1, clock=lambda: 2.0)
+    assert leased.draw() is None and store.asked == 3
+    assert leased.draw() is None and store.asked == 3
+
+
+def test_a_store_that_can_not_be_reached_grants_nothing_or_the_reserve(caplog: Any) -> None:
+    now = [0.0]
+    store = Stub((0, 2, None), StoreError("gone"), StoreError("gone"), (2, 1, None), StoreError("gone"))
+    leased = Leased(store, "a", 100, lease=2, reserve=2, clock=lambda: now[0])
+    assert [leased.draw() for _ in range(6)] == [0, 1, -1, -2, None, None]
+    assert store.asked == 2
+    now[0] = 1.0
+    assert leased.draw() is None and store.asked == 3
+    now[0] = 2.0
+    assert [leased.draw(), leased.draw()] == [2, None]
+    assert leased.granted == 5
+    assert [record.getMessage() for record in caplog.records] == [
+        "a: gone; it grants nothing until it can be reached"
+    ] * 2
+    nothing = Leased(Stub(StoreError("gone")), "a", 100)
+    assert nothing.draw() is None and nothing.granted == 0
+
+
+def test_the_reserve_of_a_period() -> None:
+    now = [0.0]
+    leased = Leased(Stub(StoreError("gone")), "a", 9, period=10, reserve=1, clock=lambda: now[0])
+    assert [leased.draw(), leased.draw()] == [-1, None]
+    now[0] = 10.0
+    assert [leased.draw(), leased.draw()] == [-1, None]
+    assert leased.granted == 2
+
+
+def test_retries_draw_on_it(tmp_path: Path) -> None:
+    leased = Leased(FileStore(tmp_path / "counts"), "a", limit=5, lease=2)
+    retrying = Retrying(recurs(3), budget=leased)
+    endings = []
+    for _ in range(2):
+        with pytest.raises(ValueError) as caught:
+            retrying(int, "no number")
+        state = state_of(caught.value)
+        assert state is not None
+        endings.append((state.ending, state.granted))
+    assert endings == [(Ending.SCHEDULE_DONE, 3), (Ending.BUDGET_REFUSED, 2)]
+
+
+def test_coroutines_draw_on_it_and_others_go_on_meanwhile(tmp_path: Path) -> None:
+    class Slow(FileStore):
+        def take(self, *words: Any) -> Range:
+            time.sleep(0.1)
+            return super().take(*words)
+
+    leased = Leased(Slow(tmp_path / "counts"), "a", limit=100, lease=4)
+    beats = []
+
+    async def beat() -> None:
+        while True:
+            beats.append(1)
+            await asyncio.sleep(0.005)
+
+    async def fails() -> None:
+        raise KeyError()
+
+    async def main() -> Any:
+        beating = asyncio.ensure_future(beat())
+        retrying = AsyncRetrying(recurs(3) & spaced(0.001), budget=leased)
+        ended = await asyncio.gather(*(retrying(fails) for _ in range(10)), return_exceptions=True)
+        with pytest.raises(KeyError) as caught:
+            async for attempt in AsyncRetrying(recurs(1), budget=leased):
+                with attempt:
+                    await fails()
+        assert state_of(caught.value).granted == 1  # type: ignore[union-attr]
+        beating.cancel()
+        return ended
+
+    ended = asyncio.run(main())
+    assert [state_of(error).granted for error in ended] == [3] * 10  # type: ignore[union-attr]
+    assert leased.granted == 31
+    assert len(beats) > 20
+
+
+def test_threads_draw_each_ticket_once(tmp_path: Path) -> None:
+    leased = Leased(FileStore(tmp_path / "counts"), "a", limit=20_000, lease=100)
+    drawn: List[List[int]] = [[] for _ in range(8)]
+
+    def work(mine: List[int]) -> None:
+        while True:
+            ticket = leased.draw()
+            if ticket is None:
+                return
+            mine.append(ticket)
+
+    threads = [threading.Thread(target=work, args=(mine,)) for mine in drawn]
+    for thread in threads:
+        thread.start()
+    for thread in threads:
+        thread.join()
+    assert sorted(ticket for mine in drawn for ticket in mine) == list(range(20_000))
+    assert leased.granted == 20_000
+
+
+def test_a_forked_child_has_leases_of_its_own(tmp_path: Path) -> None:
+    leased = Leased(FileStore(tmp_path / "counts"), "a", limit=100, lease=10)
+    assert leased.draw() == 0
+    child = os.fork()
+    if child == 0:
+        os._exit(0 if (leased.draw(), leased.granted) == (10, 1) else 1)
+    assert os.waitstatus_to_exitcode(os.waitpid(child, 0)[1]) == 0
+    assert leased.draw() == 1
+
+
+# Files that are not as they should be
+
+
+def test_a_damaged_file_grants_nothing(tmp_path: Path) -> None:
+    path = tmp_path / "counts"
+    store = FileStore(path)
+    assert store.take("a", 5, 100, None, time.monotonic) == Range(0, 5, None)
+    whole = path.read_bytes()
+    for text in (whole[:-1], whole.replace(b"5]", b"1]"), b"hello", b"\0" * 40, whole[:8]):
+        path.write_bytes(text)
+        with pytest.raises(StoreLost):
+            store.take("a", 5, 100, None, time.monotonic)
+        assert Leased(store, "a", 100).draw() is None
+    path.write_bytes(whole + b" more")
+    assert store.take("a", 5, 100, None, time.monotonic) == Range(5, 5, None)
+
+
+def test_a_file_that_can_not_be_opened(tmp_path: Path) -> None:
+    for path in (tmp_path, tmp_path / "none" / "counts"):
+        with pytest.raises(StoreError):
+            FileStore(path).take("a", 1, 1, None, time.monotonic)
+
+
+def test_a_lock_that_is_not_given_up(tmp_path: Path) -> None:
+    import fcntl
+
+    path = tmp_path / "counts"
+    with open(path, "w") as file:
+        fcntl.flock(file, fcntl.LOCK_EX)
+        with pytest.raises(StoreError, match="lock"):
+            FileStore(path, patience=0.05).take("a", 1, 1, None, time.monotonic)
+    assert FileStore(path).take("a", 1, 1, None, time.monotonic).tickets == 1
+
+
+def test_a_later_window_in_the_file_grants_nothing(tmp_path: Path) -> None:
+    from hikebox import leased as module
+
+    path = tmp_path / "counts"
+    store = FileStore(path)
+    assert store.take("a", 1, 9, 1000, time.monotonic).tickets == 1
+    file = os.open(path, os.O_RDWR)
+    counts = module._read_counts(file, str(path))
+    ((key, (window, _)),) = counts.items()
+    assert key == "windows of 1000 ms of a"
+    boot, number = window.split()
+    counts[key] = [f"{boot} {int(number) + 100}", 1]
+    module._write_counts(file, counts)
+    assert store.take("a", 1, 9, 1000, time.monotonic).tickets == 0
+    counts[key] = [f"another-boot {int(number) + 100}", 9]
+    module._write_counts(file, counts)
+    assert store.take("a", 1, 9, 1000, time.monotonic)[:2] == (0, 1)
+    os.close(file)
+
+
+# Many processes, a file
+
+
+def test_8_processes_draw_100000_tickets_of_a_file_each_once(workers: Workers, tmp_path: Path) -> None:
+    how = {"file": str(tmp_path / "counts"), "name": "a", "limit": 100_000, "lease": 500}
+    for _ in range(8):
+        workers.start(how)
+    assert workers.wait() == [0] * 8
+    assert workers.tickets() == list(range(100_000))
+
+
+KILLS = [("asked", 1), ("asked", 4), ("granted", 1), ("granted", 4), ("drawn", 1), ("drawn", 20), ("drawn", 33)]
+
+
+def kill_some(workers: Workers, how: Any) -> None:
+    """Processes that are killed at points of a lease, beside two that are not: each loses a range at most."""
+    lost = 0
+    for point, number in KILLS:
+        workers.start({**how, "kill": point, "number": number})
+        lost += how["lease"]
+    for _ in range(2):
+        workers.start(how)
+    ends = workers.wait()
+    assert ends[-2:] == [0, 0]
+    tickets = workers.tickets()
+    assert len(set(tickets)) == len(tickets)
+    assert set(tickets) <= set(range(how["limit"]))
+    assert len(tickets) >= how["limit"] - lost
+
+
+def test_processes_killed_at_points_of_a_lease_of_a_file(workers: Workers, tmp_path: Path) -> None:
+    kill_some(workers, {"file": str(tmp_path / "counts"), "name": "a", "limit": 5000, "lease": 10})
+
+
+def test_processes_killed_at_any_moment(workers: Workers, tmp_path: Path) -> None:
+    how = {"file": str(tmp_path / "counts"), "name": "a", "limit": 30_000, "lease": 20, "threads": 2}
+    for _ in range(6):
+        workers.start(how)
+    time.sleep(0.4)
+    for process in workers.processes[:4]:
+        process.kill()
+        time.sleep(0.05)
+    ends = workers.wait()
+    tickets = workers.tickets()
+    assert len(set(tickets)) == len(tickets) and set(tickets) <= set(range(30_000))
+    killed = sum(end != 0 for end in ends)
+    # a range each, and of each thread a ticket that was drawn and not written down
+    assert len(tickets) >= 30_000 - killed * (20 + 2)
+
+
+def in_windows(drawn: List[Tuple[int, int]], limit: int, period: int) -> None:
+    """No window has a ticket twice, or more than the limit."""
+    by_window: Any = {}
+    for ticket, moment in drawn:
+        by_window.setdefault(moment // period, []).append(ticket)
+    whole = sorted(by_window)[1:-1]
+    assert len(whole) >= 2
+    for tickets in by_window.values():
+        # a ticket may be noted just past the end of its window
+        assert len(tickets) <= limit + 2
+    assert sum(len(by_window[window]) for window in whole) >= 0.9 * limit * len(whole)
+
+
+def test_windows_of_many_processes_one_with_a_clock_an_hour_off(workers: Workers, tmp_path: Path) -> None:
+    how = {"file": str(tmp_path / "counts"), "name": "a", "limit": 50, "lease": 5, "period": 0.5}
+    for off in (0, 0, 3600, -3600):
+        workers.start({**how, "clock_off": off, "patient": True, "seconds": 2.5})
+    workers.wait()
+    in_windows(workers.drawn(), 50, 500)
+
+
+# Redis
+
+
+def test_a_budget_in_redis(redis_server: Any) -> None:
+    server = redis_server()
+    store = RedisStore(server.client())
+    leased = Leased(store, "a", limit=10, lease=4)
+    assert leased.draw() is None
+    with pytest.raises(StoreLost, match="begin"):
+        store.take("a", 4, 10, None, time.monotonic)
+    store.begin("a")
+    leased = Leased(store, "a", limit=10, lease=4)
+    other = Leased(RedisStore(server.client()), "a", limit=10, lease=4)
+    assert [leased.draw() for _ in range(5)] == [0, 1, 2, 3, 4]
+    assert [other.draw() for _ in range(3)] == [8, 9, None]
+    store.forget("a")
+    with pytest.raises(StoreLost):
+        store.take("a", 1, 100, None, time.monotonic)
+    store.begin("a")
+    assert Leased(store, "a", limit=10).draw() == 0
+    # a count that was evicted
+    server.client().delete("hikebox:{a}")
+    with pytest.raises(StoreLost):
+        store.take("a", 1, 100, None, time.monotonic)
+
+
+def test_a_client_that_decodes_answers(redis_server: Any) -> None:
+    import redis
+
+    server = redis_server()
+    store = RedisStore(redis.Redis(port=server.port, decode_responses=True))
+    store.begin("a")
+    assert Leased(store, "a", limit=10).draw() == 0
+
+
+def test_a_redis_that_was_started_anew_grants_nothing(redis_server: Any) -> None:
+    server = redis_server("--appendonly", "yes", "--appendfsync", "always")
+    store = RedisStore(server.client())
+    store.begin("a")
+    assert store.take("a", 3, 10, None, time.monotonic) == Range(0, 3, None)
+    server.stop()
+    with pytest.raises(StoreError):
+        store.take("a", 3, 10, None, time.monotonic)
+    with pytest.raises(StoreError):
+        store.begin("b")
+    server.start()
+    with pytest.raises(StoreLost, match="started anew"):
+        store.take("a", 3, 10, None, time.monotonic)
+    durable = RedisStore(server.client(), durable=True)
+    assert durable.take("a", 7, 20, None, time.monotonic)[:2] == (6, 7)
+
+
+def test_8_processes_draw_100000_tickets_of_redis_each_once(workers: Workers, redis_server: Any) -> None:
+    server = redis_server()
+    RedisStore(server.client()).begin("a")
+    for _ in range(8):
+        workers.start({"port": server.port, "name": "a", "limit": 100_000, "lease": 500})
+    assert workers.wait() == [0] * 8
+    assert workers.tickets() == list(range(100_000))
+
+
+def test_processes_killed_at_points_of_a_lease_of_redis(workers: Workers, redis_server: Any) -> None:
+    server = redis_server()
+    RedisStore(server.client()).begin("a")
+    kill_some(workers, {"port": server.port, "name": "a", "limit": 5000, "lease": 10})
+
+
+@pytest.mark.parametrize("durable", [True, False])
+def test_redis_stopped_and_started_under_load(durable: bool, workers: Workers, redis_server: Any) -> None:
+    options = ("--appendonly", "yes", "--appendfsync", "always") if durable else ()
+    server = redis_server(*options)
+    RedisStore(server.client()).begin("a")
+    how = {"port": server.port, "name": "a", "limit": 1_000_000, "lease": 50, "again_after": 0.05}
+    how.update({"durable": durable, "patient": True, "stop": str(workers.folder / "stop"), "reserve": 3})
+    for _ in range(8):
+        workers.start(how)
+    workers.await_tickets(3000)
+    server.stop()
+    time.sleep(0.3)
+    server.start()
+    time.sleep(0.3)
+    if durable:
+        workers.await_tickets(len(workers.tickets()) + 3000)
+    server.stop()
+    server.start()
+    time.sleep(0.5)
+    (workers.folder / "stop").touch()
+    assert workers.wait() == [0] * 8
+    drawn = workers.tickets()
+    tickets = [ticket for ticket in drawn if ticket >= 0]
+    assert len(set(tickets)) == len(tickets) > 1000
+    assert len(drawn) - len(tickets) <= 8 * 3
+    leased = 1_000_000 if not durable else int(server.client().get("hikebox:{a}")) - 2**52
+    assert max(tickets) < leased
+    if durable:
+        # each process loses a lease at each stop, at most, and what it had at its end
+        assert len(tickets) >= leased - 8 * 50 * 3
+
+
+def test_windows_of_redis_one_process_with_a_clock_an_hour_off(workers: Workers, redis_server: Any) -> None:
+    server = redis_server()
+    store = RedisStore(server.client())
+    # no ticket of a window that may have begun before the server did
+    assert store.take("a", 5, 50, 60_000, time.monotonic).tickets == 0
+    time.sleep(3.2)
+    for off in (0, 0, 3600, -3600):
+        how = {"port": server.port, "name": "a", "limit": 50, "lease": 5, "period": 0.5, "clock_off": off}
+        workers.start({**how, "patient": True, "seconds": 2.5})
+    workers.wait()
+    offset = int(time.time() * 1000) - int(time.clock_gettime(time.CLOCK_BOOTTIME) * 1000)
+    in_windows([(ticket, moment + offset) for ticket, moment in workers.drawn()], 50, 500)
+    keys = server.client().keys("hikebox:{a}:*")
+    assert all(0 < server.client().pttl(key) <= 1000 for key in keys)
+    time.sleep(1.1)
+    assert server.client().keys("hikebox:{a}:*") == []

@@ -1,0 +1,445 @@
+"""Policies: builders, JSON, expressions, faults, and what the engine answers."""
+
+from __future__ import annotations
+
+import copy
+import json
+import os
+import pickle
+import random
+import subprocess
+from datetime import timedelta
+from pathlib import Path
+from typing import Any, Callable, List
+
+import pytest
+import reference
+from conftest import TOP
+
+import hikebox
+from hikebox import (
+    FAR,
+    Fault,
+    Policy,
+    PolicyError,
+    elapsed,
+    exponential,
+    exponential_milli,
+    fibonacci,
+    fixed,
+    forever,
+    from_duration,
+    identity,
+    linear,
+    lone,
+    milliseconds,
+    once,
+    recurs,
+    spaced,
+    stop,
+    unfold,
+    windowed,
+)
+from hikebox._nodes import FORMS, NAMES, fault_of
+
+NAMESPACE = {name: getattr(hikebox, name) for name in hikebox.__all__}
+
+BUILT = [
+    (forever(), '"forever"', "forever()"),
+    (elapsed(), '"elapsed"', "elapsed()"),
+    (identity(), '"identity"', "identity()"),
+    (recurs(5), '{"recurs":5}', "recurs(5)"),
+    (spaced(0.25), '{"spaced":250}', "spaced(0.25)"),
+    (fixed(1), '{"fixed":1000}', "fixed(1)"),
+    (windowed(timedelta(seconds=90)), '{"windowed":90000}', "windowed(90)"),
+    (linear(0.01), '{"linear":10}', "linear(0.01)"),
+    (exponential(0.1), '{"exponential":[100,2]}', "exponential(0.1, 2)"),
+    (exponential(0.1, 3.0), '{"exponential":[100,3]}', "exponential(0.1, 3)"),
+    (exponential(0.1, 1.5), '{"exponential_milli":[100,1500]}', "exponential(0.1, 1.5)"),
+    (exponential_milli(0.1, 2000), '{"exponential_milli":[100,2000]}', "exponential_milli(0.1, 2000)"),
+    (fibonacci(0.01), '{"fibonacci":10}', "fibonacci(0.01)"),
+    (unfold(1, 2, 3), '{"unfold":[1,2,3]}', "unfold(1, 2, 3)"),
+    (lone(30), '{"lone":30000}', "lone(30)"),
+    (from_duration(30), '{"lone":30000}', "lone(30)"),
+    (once(), '{"nothing":{"recurs":1}}', "recurs(1).nothing()"),
+    (stop(), '{"nothing":{"recurs":0}}', "recurs(0).nothing()"),
+    (recurs(1) & spaced(1), '{"meet":[{"recurs":1},{"spaced":1000}]}', "recurs(1) & spaced(1)"),
+    (recurs(1) | spaced(1), '{"join":[{"recurs":1},{"spaced":1000}]}', "recurs(1) | spaced(1)"),
+    (recurs(1) >> spaced(1), '{"feed":[{"recurs":1},{"spaced":1000}]}', "recurs(1) >> spaced(1)"),
+    (recurs(1).then(spaced(1)), '{"follow":[{"recurs":1},{"spaced":1000}]}', "recurs(1).then(spaced(1))"),
+    (
+        forever() & (elapsed() & identity()),
+        '{"meet":["forever",{"meet":["elapsed","identity"]}]}',
+        "forever() & (elapsed() & identity())",
+    ),
+    (
+        (forever() & elapsed()) | identity(),
+        '{"join":[{"meet":["forever","elapsed"]},"identity"]}',
+        "(forever() & elapsed()) | identity()",
+    ),
+    (spaced(1).cap(0.5), '{"cap":[500,{"spaced":1000}]}', "spaced(1).cap(0.5)"),
+    (spaced(1).add_delay(0.5), '{"add":[500,{"spaced":1000}]}', "spaced(1).add_delay(0.5)"),
+    (spaced(1).set_delay(0.5), '{"set":[500,{"spaced":1000}]}', "spaced(1).set_delay(0.5)"),
+    (linear(1).add_output(), '{"add_out":{"linear":1000}}', "linear(1).add_output()"),
+    (spaced(1).jittered(), '{"jitter":[0,800,1200,{"spaced":1000}]}', "spaced(1).jittered(0.8, 1.2)"),
+    (
+        spaced(1).jittered(0, 1, lane=3),
+        '{"jitter":[3,0,1000,{"spaced":1000}]}',
+        "spaced(1).jittered(0, 1, lane=3)",
+    ),
+    (spaced(1).up_to(60), '{"within":[60000,{"spaced":1000}]}', "spaced(1).up_to(60)"),
+    (spaced(1).renew(60), '{"renew":[60000,{"spaced":1000}]}', "spaced(1).renew(60)"),
+    (spaced(1).renew_idle(60), '{"renew_idle":[60000,{"spaced":1000}]}', "spaced(1).renew_idle(60)"),
+    (recurs(2).gather("list"), '{"gather":["list",{"recurs":2}]}', 'recurs(2).gather("list")'),
+    (recurs(2).first(), '{"first":{"recurs":2}}', "recurs(2).first()"),
+    (recurs(2).second(), '{"second":{"recurs":2}}', "recurs(2).second()"),
+    (recurs(2).nothing(), '{"nothing":{"recurs":2}}', "recurs(2).nothing()"),
+    (
+        spaced(1).while_input(equal=503),
+        '{"gate":["input",true,"equal",503,{"spaced":1000}]}',
+        "spaced(1).while_input(equal=503)",
+    ),
+    (
+        spaced(1).until_input(below=500),
+        '{"gate":["input",false,"below",500,{"spaced":1000}]}',
+        "spaced(1).until_input(below=500)",
+    ),
+    (
+        spaced(1).while_output(at_least=0),
+        '{"gate":["output",true,"at_least",0,{"spaced":1000}]}',
+        "spaced(1).while_output(at_least=0)",
+    ),
+    (
+        spaced(1).until_output(equal=3),
+        '{"gate":["output",false,"equal",3,{"spaced":1000}]}',
+        "spaced(1).until_output(equal=3)",
+    ),
+    (spaced(milliseconds(FAR)), '{"spaced":4611686018427387903}', "spaced(milliseconds(4611686018427387903))"),
+]
+
+
+@pytest.mark.parametrize("policy, text, written", BUILT, ids=[written for _, _, written in BUILT])
+def test_a_builder_builds_the_node_of_its_name(policy: Policy, text: str, written: str) -> None:
+    assert policy.to_json() == text
+    assert repr(policy) == written
+    assert eval(written, NAMESPACE) == policy
+    assert Policy.parse(written) == policy
+    assert Policy.from_json(text) == policy
+    assert Policy.from_dict(json.loads(text)) == policy
+
+
+def test_every_node_has_a_builder() -> None:
+    built = {name for _, text, _ in BUILT for name, _ in hikebox._nodes.walk(json.loads(text))}
+    assert built == {*FORMS, *NAMES}
+
+
+def test_random_policies_are_written_and_read_as_they_are() -> None:
+    rng = random.Random(18)
+    for _ in range(300):
+        tree = reference.some_plan(rng, rng.randrange(1, 12))
+        policy = Policy.from_dict(tree)
+        assert json.loads(policy.to_json()) == tree == policy.to_dict()
+        assert eval(repr(policy), NAMESPACE) == policy
+        assert Policy.parse(repr(policy)) == policy
+        assert pickle.loads(pickle.dumps(policy)) == policy
+        nodes = list(hikebox._nodes.walk(tree))
+        assert policy.nodes == len(nodes)
+
+
+def some_words(rng: random.Random) -> Any:
+    return tuple(rng.choice([0, 2**31, 2**32 - 1, rng.randrange(2**32)]) for _ in range(4))
+
+
+def test_300_random_policies_answer_as_their_definitions_say() -> None:
+    rng = random.Random(2026)
+    for _ in range(300):
+        tree = reference.some_plan(rng, rng.randrange(1, 9))
+        words = [some_words(rng) for _ in range(7)]
+        code, took = rng.choice([0, 7, 503, FAR]), rng.choice([0, 1, 40, 5000])
+        numbers = iter([word / 2**32 for four in words for word in four])
+        policy = Policy.from_dict(tree)
+        steps = policy.preview(7, start=0.02, took=milliseconds(took), input=code, random=numbers.__next__)
+        history: List[reference.Event] = []
+        now = 20
+        for step, four in zip(steps, words):
+            history.append(reference.Event(now, four, code))
+            wanted = reference.answer(tree, history)
+            assert (step.at_ms, step.next_ms) == (now, wanted.start), tree
+            assert step.output == wanted.output, tree
+            if wanted.start is None:
+                break
+            now = min(FAR, wanted.start + took)
+        assert len(steps) == len(history)
+
+
+def test_300_random_policies_are_stepped_as_zsched_plan_does() -> None:
+    program = os.environ.get("HIKEBOX_ZSCHED")
+    if program is None:
+        pytest.skip("HIKEBOX_ZSCHED names no zsched")
+    rng = random.Random(300)
+    for _ in range(300):
+        tree = reference.some_plan(rng, rng.randrange(1, 14))
+        word, took, code = rng.randrange(2**32), rng.choice([0, 3, 70]), rng.randrange(1000)
+        words = [program, "plan", "--word", str(word), "--took", str(took), "--input", str(code)]
+        printed = subprocess.run(words, input=json.dumps(tree), capture_output=True, text=True, check=True).stdout
+        policy = Policy.from_dict(tree)
+        steps = policy.preview(took=milliseconds(took), input=code, random=lambda: word / 2**32)
+        assert "".join(f"{step.at_ms}: {reference.text(step.output)} " + goes(step) for step in steps) == printed
+
+
+def goes(step: Any) -> str:
+    return "done\n" if step.next_ms is None else f"next {step.next_ms}\n"
+
+
+ROWS = [
+    (
+        '{"meet":[{"recurs":3},{"spaced":100}]}',
+        {},
+        "0: (0, 0) next 100/100: (1, 1) next 200/200: (2, 2) next 300/300: (3, 3) done",
+    ),
+    ('{"recurs":0}', {}, "0: 0 done"),
+    ('{"fixed":100}', {"took": 0.03, "steps": 3}, "0: 0 next 100/130: 1 next 200/230: 2 next 300"),
+    ('{"fixed":100}', {"took": 0.25, "steps": 3}, "0: 0 next 100/350: 1 next 350/600: 2 next 600"),
+    ('{"windowed":100}', {"took": 0.25, "steps": 3}, "0: 0 next 100/350: 1 next 400/650: 2 next 700"),
+    ('{"follow":[{"recurs":2},{"spaced":50}]}', {"steps": 4}, "0: 0 next 0/0: 1 next 0/0: 0 next 50/50: 1 next 100"),
+    ('{"join":[{"recurs":1},{"lone":50}]}', {}, "0: (0, 50) next 0/0: (1, 0) done"),
+    ('{"gather":["list",{"recurs":2}]}', {}, "0: [] next 0/0: [0] next 0/0: [0, 1] done"),
+    ('{"within":[100,{"spaced":60}]}', {}, "0: 0 next 60/60: 1 next 120/120: 2 done"),
+    ('{"jitter":[0,800,1200,{"spaced":1000}]}', {"steps": 1, "random": lambda: 0.0}, "0: 0 next 800"),
+    ('{"jitter":[0,800,1200,{"spaced":1000}]}', {"steps": 1}, "0: 0 next 1000"),
+    ('{"jitter":[0,800,1200,{"spaced":1000}]}', {"steps": 1, "random": lambda: 1 - 2**-33}, "0: 0 next 1199"),
+    (
+        '{"feed":[{"spaced":10},{"gate":["input",false,"equal",2,"identity"]}]}',
+        {},
+        "0: 0 next 10/10: 1 next 20/20: 2 done",
+    ),
+    ('{"add_out":{"linear":5}}', {"steps": 3}, "0: 5 next 10/10: 10 next 30/30: 15 next 60"),
+    ('{"nothing":"forever"}', {"steps": 1}, "0: () next 0"),
+]
+
+
+@pytest.mark.parametrize("text, how, lines", ROWS)
+def test_worked_rows(text: str, how: Any, lines: str) -> None:
+    assert "/".join(str(step) for step in Policy.from_json(text).preview(**how)) == lines
+
+
+def test_the_files_of_plans_are_policies() -> None:
+    for path in sorted((TOP / "plans").glob("*.json")):
+        policy = Policy.from_file(path)
+        assert policy == Policy.from_json(path.read_bytes())
+        assert policy.preview()
+
+
+REFUSED = [
+    ('{"recurs":3', Fault.NOT_JSON, None),
+    ("", Fault.NOT_JSON, None),
+    ('{"recurs":-1}', Fault.NOT_A_PLAN, ""),
+    ('{"recurs":1.0}', Fault.NOT_A_PLAN, ""),
+    ('{"fixed":0}', Fault.OUT_OF_RANGE, ""),
+    ('{"spaced":4611686018427387904}', Fault.OUT_OF_RANGE, ""),
+    ('{"spaced":18446744073709551616}', Fault.NOT_A_PLAN, ""),
+    ('"recurs"', Fault.NOT_A_PLAN, ""),
+    ("[]", Fault.NOT_A_PLAN, ""),
+    ("{}", Fault.NOT_A_PLAN, ""),
+    ('{"recurs":1,"spaced":2}', Fault.NOT_A_PLAN, ""),
+    ('{"meet":["forever"]}', Fault.NOT_A_PLAN, ""),
+    ('{"meet":["forever",{"cap":[5,{"exponental":[1,2]}]}]}', Fault.NOT_A_PLAN, "meet[1].cap[1]"),
+    ('{"meet":[{"fixed":0},"nope"]}', Fault.OUT_OF_RANGE, "meet[0]"),
+    ('{"cap":[4611686018427387904,"nope"]}', Fault.NOT_A_PLAN, "cap[1]"),
+    ('{"first":{"gate":["input",true,"above",3,"forever"]}}', Fault.NOT_A_PLAN, "first"),
+    ('{"gate":["input",1,"below",3,"forever"]}', Fault.NOT_A_PLAN, ""),
+    ('{"gather":["mean","forever"]}', Fault.NOT_A_PLAN, ""),
+    ('{"jitter":[4,0,1,"forever"]}', Fault.OUT_OF_RANGE, ""),
+    ('{"jitter":[0,9,8,"forever"]}', Fault.OUT_OF_RANGE, ""),
+    ('{"jitter":[0,9,10001,"forever"]}', Fault.OUT_OF_RANGE, ""),
+    ('{"exponential":[1,0]}', Fault.OUT_OF_RANGE, ""),
+    ('{"exponential":[1,1001]}', Fault.OUT_OF_RANGE, ""),
+    ('{"exponential_milli":[1,1000001]}', Fault.OUT_OF_RANGE, ""),
+    ('{"nothing":' * 32 + '"forever"' + "}" * 32, Fault.TOO_DEEP, ""),
+    ('{"nothing":' * 33 + '"forever"' + "}" * 33, Fault.TOO_DEEP, "nothing"),
+]
+
+
+@pytest.mark.parametrize("text, fault, place", REFUSED)
+def test_a_bad_policy_is_refused_with_its_first_fault_and_place(text: str, fault: Fault, place: Any) -> None:
+    with pytest.raises(PolicyError) as caught:
+        Policy.from_json(text)
+    assert caught.value.fault is fault
+    if place is not None:
+        assert caught.value.place == place
+        assert caught.value.hint
+    again = pickle.loads(pickle.dumps(caught.value))
+    assert (again.fault, again.place, again.hint) == (fault, caught.value.place, caught.value.hint)
+    assert isinstance(caught.value, ValueError)
+
+
+HINTS = [
+    ('"Forever"', 'no node is called "Forever"; did you mean "forever"?'),
+    ('"never"', 'no node is called "never"'),
+    ('"recurs"', '"recurs" is spelt {"recurs":N}, N from 0 to 4611686018427387903'),
+    ('{"forever":1}', '"forever" is spelt "forever"'),
+    ('{"meet":[{"recurs":3}]}', '"meet" is spelt {"meet":[PLAN,PLAN]}'),
+    ("7", "a plan is a string or an object of one member"),
+    ("{}", "a plan is a string or an object of one member, and this has 0"),
+    ('{"renew":[0,"forever"]}', '"renew" is spelt {"renew":[D,PLAN]}, D from 1 to 4611686018427387903'),
+    ('{"unfold":1}', '"unfold" is spelt {"unfold":[S,M,A]}, each from 0 to 4611686018427387903'),
+    (
+        '{"gate":1}',
+        '"gate" is spelt {"gate":[SIDE,WANT,TEST,N,PLAN]}, SIDE "input" or "output", WANT true or false, '
+        'TEST "below", "at_least" or "equal", N from 0 to 4611686018427387903',
+    ),
+    ('{"gather":1}', '"gather" is spelt {"gather":[KIND,PLAN]}, KIND "sum", "count", "max" or "list"'),
+    (
+        '{"jitter":1}',
+        '"jitter" is spelt {"jitter":[LANE,LEAST,MOST,PLAN]}, LANE from 0 to 3, LEAST at most MOST, MOST at most 10000',
+    ),
+]
+
+
+@pytest.mark.parametrize("text, hint", HINTS)
+def test_a_hint_says_what_is_wanted(text: str, hint: str) -> None:
+    with pytest.raises(PolicyError) as caught:
+        Policy.from_json(text)
+    assert caught.value.hint == hint
+
+
+def test_the_limits_of_depth_and_nodes() -> None:
+    deep: Any = "forever"
+    for _ in range(31):
+        deep = {"nothing": deep}
+    assert Policy.from_dict(deep).depth == 32
+    full: Any = "forever"
+    wide = [full] * 128
+    while len(wide) > 1:
+        wide = [{"meet": [wide[index], wide[index + 1]]} for index in range(0, len(wide), 2)]
+    policy = Policy.from_dict({"nothing": wide[0]})
+    assert policy.nodes == 256
+    with pytest.raises(PolicyError) as caught:
+        policy & forever()
+    assert caught.value.fault is Fault.TOO_MANY
+
+
+def test_the_place_is_found_for_the_very_fault_of_the_engine() -> None:
+    rng = random.Random(7)
+    refused = 0
+    for _ in range(2000):
+        tree = spoilt(rng, reference.some_plan(rng, rng.randrange(1, 8)))
+        found = fault_of(tree)
+        if found is None:
+            Policy.from_dict(tree)
+            continue
+        refused += 1
+        with pytest.raises(PolicyError) as caught:
+            Policy.from_dict(tree)
+        assert caught.value.fault is found.fault, tree
+        assert caught.value.hint == found.hint and caught.value.place == found.place
+    assert refused > 1000
+
+
+def spoilt(rng: random.Random, tree: Any) -> Any:
+    """A policy with a part of it changed for something else, perhaps more than once."""
+    bad: List[Any] = [None, -1, 0, 1.5, FAR, FAR + 1, 2**64, True, "nope", "recurs", [], {}, [1, 2]]
+    bad.append({"recurs": 1, "lone": 2})
+    if rng.random() < 0.25 or isinstance(tree, (str, int)):
+        return rng.choice(bad)
+    if isinstance(tree, dict):
+        ((name, value),) = tree.items()
+        return {rng.choice([name, name, name, "recur", "cap"]): spoilt(rng, value)}
+    items = list(tree)
+    index = rng.randrange(len(items))
+    items[index] = spoilt(rng, items[index])
+    return items if rng.random() < 0.9 else items[1:]
+
+
+def test_durations() -> None:
+    assert spaced(0.0004) == spaced(0) and spaced(0.0016) == spaced(milliseconds(2))
+    assert spaced(timedelta(microseconds=1500)) == spaced(milliseconds(2))
+    assert spaced(timedelta(days=1)) == spaced(86400)
+    assert spaced(FAR // 1000).to_json() == '{"spaced":%d}' % (FAR // 1000 * 1000)
+    durations: List[Any] = [-1, -0.001, timedelta(seconds=-1), float("nan"), float("inf"), FAR // 1000 + 1]
+    durations.append(milliseconds(-1))
+    for bad in durations:
+        with pytest.raises(PolicyError) as caught:
+            spaced(bad)
+        assert caught.value.fault is Fault.OUT_OF_RANGE
+    for wrong in ("1", None, True):
+        with pytest.raises(TypeError):
+            spaced(wrong)  # type: ignore[arg-type]
+    calls: List[Callable[[], Policy]] = [
+        lambda: recurs(-1),
+        lambda: recurs(FAR + 1),
+        lambda: exponential(1, 1001),
+        lambda: fixed(0),
+    ]
+    for call in calls:
+        with pytest.raises(PolicyError):
+            call()
+    with pytest.raises(PolicyError):
+        exponential(1, 0.0001)
+    with pytest.raises(PolicyError):
+        spaced(1).jittered(1.2, 0.8)
+    with pytest.raises(TypeError):
+        spaced(1).while_input()
+    with pytest.raises(TypeError):
+        spaced(1) & 3  # type: ignore[operator]
+    with pytest.raises(TypeError):
+        spaced(1).then(3)  # type: ignore[arg-type]
+
+
+def test_a_policy_is_a_value(tmp_path: Path) -> None:
+    policy = recurs(5) & exponential(0.1).cap(1)
+    same = Policy.from_dict(policy.to_dict())
+    assert policy == same and hash(policy) == hash(same) and len({policy, same}) == 1
+    assert policy != recurs(5) and policy != "recurs(5)"
+    assert copy.copy(policy) is policy and copy.deepcopy([policy])[0] == policy
+    assert Policy.of(policy) is policy
+    assert Policy.of(policy.to_json()) == Policy.of(policy.to_dict()) == policy
+    path = tmp_path / "policy.json"
+    path.write_text(policy.to_json())
+    assert Policy.from_file(path) == policy == Policy.from_file(str(path))
+    with pytest.raises(TypeError):
+        Policy.of(3)  # type: ignore[arg-type]
+    with pytest.raises(TypeError):
+        Policy()
+    with pytest.raises(OSError):
+        Policy.from_file(tmp_path / "none.json")
+    with pytest.raises(PolicyError):
+        Policy.from_dict({"spaced": float("nan")})
+
+
+def test_at_how_many_events_a_policy_goes_on_at_most() -> None:
+    rng = random.Random(5)
+    for _ in range(300):
+        tree = reference.some_plan(rng, rng.randrange(1, 9))
+        most = Policy.from_dict(tree).most_retries
+        if most is None or most > 15:
+            continue
+        steps = Policy.from_dict(tree).preview(most + 1, took=milliseconds(rng.randrange(50)))
+        assert steps[-1].next_ms is None, tree
+    assert recurs(2).then(recurs(3)).most_retries == 5
+    assert (recurs(2) | recurs(3)).most_retries == 3
+    assert (recurs(2) | forever()).most_retries is None
+
+
+@pytest.mark.parametrize(
+    "text",
+    [
+        "open('/etc/passwd')",
+        "recurs(5).__class__",
+        "recurs(5).to_json()",
+        "recurs(*[1])",
+        "recurs(**{})",
+        "recurs",
+        "3",
+        "recurs(1) + recurs(2)",
+        "recurs(1) & 2",
+        "recurs('a')",
+        "(lambda: recurs(1))()",
+        "recurs(1)(",
+        "nope(3)",
+        "hikebox.recurs(1)",
+    ],
+)
+def test_an_expression_builds_policies_alone(text: str) -> None:
+    with pytest.raises(PolicyError):
+        Policy.parse(text)

@@ -1,0 +1,153 @@
+"""Retries of calls with scripted outcomes: by the definitions alone, and beside `zsched pool`."""
+
+from __future__ import annotations
+
+import json
+import os
+import random
+import subprocess
+import sys
+from typing import Any, List, Tuple
+
+import pytest
+import reference
+from conftest import python_environment
+
+from hikebox import Budget, Ending, Policy, Retrying, state_of
+from hikebox.testing import VirtualClock
+
+
+class Lost(Exception):
+    def __init__(self, code: int) -> None:
+        super().__init__(code)
+        self.code = code
+
+
+Run = Tuple[str, int]
+
+
+def some_job(rng: random.Random) -> Tuple[Any, List[Run]]:
+    """A random policy that goes on at most six times, and the outcomes of its runs."""
+    tree = {"meet": [{"recurs": rng.randrange(7)}, reference.some_plan(rng, rng.randrange(1, 8))]}
+    kinds = ["won", "lost", "lost", "lost"]
+    runs = [(rng.choice(kinds), rng.choice([0, 1, 7, 503])) for _ in range(rng.randrange(1, 8))]
+    return tree, runs
+
+
+def wanted(tree: Any, runs: List[Run], tickets: int) -> str:
+    """How the job ends, by the definitions of a retry."""
+    now, granted = 0, 0
+    history: List[reference.Event] = []
+    for number in range(100):
+        outcome, code = runs[min(number, len(runs) - 1)]
+        if outcome == "won":
+            return f"won {code}, granted {granted}"
+        history.append(reference.Event(now, (2**31,) * 4, code))
+        start = reference.answer(tree, history).start
+        if start is None:
+            return f"schedule done, failure {code}, granted {granted}"
+        if granted == tickets:
+            return f"budget refused, failure {code}, granted {granted}"
+        granted += 1
+        now = start
+    raise AssertionError("the policy goes on at most six times")
+
+
+def ended(tree: Any, runs: List[Run], tickets: int) -> str:
+    """How the job ends here."""
+    left = list(runs)
+
+    def call() -> int:
+        outcome, code = left.pop(0) if len(left) > 1 else left[0]
+        if outcome == "lost":
+            raise Lost(code)
+        return code
+
+    clock = VirtualClock()
+    with Budget(tickets) as budget:
+        retrying = Retrying(Policy.from_dict(tree), budget=budget, clock=clock, sleep=clock.sleep, random=lambda: 0.5)
+        try:
+            code = retrying(call)
+        except Lost as error:
+            state = state_of(error)
+            assert state is not None and state.ending is not None
+            names = {Ending.SCHEDULE_DONE: "schedule done", Ending.BUDGET_REFUSED: "budget refused"}
+            line = f"{names[state.ending]}, failure {error.code}, granted {state.granted}"
+        else:
+            line = f"won {code}, granted "
+    if line.endswith(" "):
+        return f"{line}{budget.count}"
+    assert line.endswith(f" {budget.count}")
+    return line
+
+
+def test_300_retries_end_as_the_definitions_say() -> None:
+    rng = random.Random(20)
+    endings = set()
+    for _ in range(300):
+        tree, runs = some_job(rng)
+        tickets = rng.choice([0, 1, 2, 5, 100])
+        line = ended(tree, runs, tickets)
+        assert line == wanted(tree, runs, tickets), (tree, runs, tickets)
+        endings.add(line.split(",")[0].split()[0])
+    assert endings == {"won", "schedule", "budget"}
+
+
+def test_300_retries_end_as_zsched_pool_says() -> None:
+    program = os.environ.get("HIKEBOX_ZSCHED")
+    if program is None:
+        pytest.skip("HIKEBOX_ZSCHED names no zsched")
+    rng = random.Random(23)
+    for _ in range(5):
+        # no more than a worker drives at once, so that all begin at the moment 0
+        compare_with_pool(program, [some_job(rng) for _ in range(60)])
+
+
+def compare_with_pool(program: str, jobs: List[Tuple[Any, List[Run]]]) -> None:
+    text = json.dumps([{"plan": tree, "runs": [{kind: code} for kind, code in runs]} for tree, runs in jobs])
+    words = [program, "pool", "--budget", "1000000"]
+    printed = subprocess.run(words, input=text, capture_output=True, text=True, check=True).stdout.splitlines()
+    lines = [ended(tree, runs, 2**32) for tree, runs in jobs]
+    assert printed[:-1] == [f"job {number}: {line}" for number, line in enumerate(lines)]
+    total = sum(int(line.split()[-1]) for line in lines)
+    assert printed[-1] == f"granted {total} of 1000000"
+
+
+GROWS = """
+import gc, resource
+from hikebox import Budget, Policy, Retrying, recurs, spaced
+
+def fails():
+    raise KeyError
+
+def work(count):
+    for number in range(count):
+        policy = Policy.from_json('{"meet":[{"recurs":3},{"gather":["list",{"spaced":%d}]}]}' % number)
+        policy.preview(3)
+        budget = Budget(2)
+        retrying = Retrying(policy, budget=budget, sleep=lambda seconds: None, fallback=lambda state: None)
+        retrying(fails)
+        Retrying(policy, sleep=lambda seconds: None, fallback=lambda state: None)(fails)
+        if number % 2:
+            budget.close()
+            continue
+        attempts = iter(retrying)
+        try:
+            with next(attempts):
+                raise KeyError
+        except KeyError:
+            pass
+    gc.collect()
+    return resource.getrusage(resource.RUSAGE_SELF).ru_maxrss
+
+print(work(1500), work(6000))
+"""
+
+
+def test_nothing_is_leaked() -> None:
+    done = subprocess.run(
+        [sys.executable, "-c", GROWS], env=python_environment(), capture_output=True, text=True, timeout=100, check=True
+    )
+    before, after = (int(word) for word in done.stdout.split())
+    # in kilobytes; one handle that is lost each time would be more
+    assert after - before < 1500, done.stdout

@@ -1,0 +1,122 @@
+"""A policy as tenacity's stop and wait, with the tenacity that is installed; and hooks that were written for it."""
+
+from __future__ import annotations
+
+import asyncio
+import threading
+from typing import Any, List
+
+import pytest
+
+import hikebox
+from hikebox import Budget, exponential, recurs, spaced
+
+tenacity = pytest.importorskip("tenacity")
+
+from hikebox.adapters.tenacity import stop_and_wait  # noqa: E402
+
+
+def made(policy: Any, slept: List[float], **how: Any) -> Any:
+    stop, wait = stop_and_wait(policy, **how)
+    return tenacity.Retrying(stop=stop, wait=wait, sleep=slept.append, reraise=True)
+
+
+def fails() -> None:
+    raise KeyError("no")
+
+
+def test_it_stops_and_waits_as_the_policy_says() -> None:
+    slept: List[float] = []
+    with pytest.raises(KeyError):
+        made(recurs(3) & exponential(0.1), slept)(fails)
+    assert slept == pytest.approx([0.1, 0.2, 0.4], abs=0.01)
+
+
+def test_one_stop_and_wait_serves_many_calls() -> None:
+    slept: List[float] = []
+    retrying = made(recurs(2) & spaced(1), slept)
+    for _ in range(3):
+        with pytest.raises(KeyError):
+            retrying(fails)
+    assert slept == pytest.approx([1] * 6, abs=0.01)
+
+
+def test_a_budget_over_all_calls() -> None:
+    runs = []
+
+    def counted() -> None:
+        runs.append(1)
+        raise KeyError()
+
+    with Budget(100) as budget:
+        retrying = made(recurs(30), [], budget=budget)
+
+        def work() -> None:
+            with pytest.raises(KeyError):
+                retrying(counted)
+
+        threads = [threading.Thread(target=work) for _ in range(8)]
+        for thread in threads:
+            thread.start()
+        for thread in threads:
+            thread.join()
+    assert budget.count == 100 and len(runs) == 108
+
+
+def test_with_tenacitys_own_stops_waits_and_results() -> None:
+    slept: List[float] = []
+    stop, wait = stop_and_wait(recurs(9) & spaced(1))
+    retrying = tenacity.Retrying(
+        stop=tenacity.stop_after_attempt(3) | stop,
+        wait=wait + tenacity.wait_fixed(2),
+        sleep=slept.append,
+        retry=tenacity.retry_if_result(lambda result: result is None),
+        retry_error_callback=lambda state: state.attempt_number,
+    )
+    assert retrying(lambda: None) == 3
+    assert slept == pytest.approx([3, 3], abs=0.01)
+
+
+def test_the_policy_is_given_the_code() -> None:
+    errors = iter([OSError(5, ""), OSError(5, ""), OSError(6, "")])
+
+    def ask() -> None:
+        raise next(errors)
+
+    with pytest.raises(OSError) as caught:
+        made(recurs(9).while_input(equal=5), [])(ask)
+    assert caught.value.errno == 6
+
+
+def test_coroutines() -> None:
+    stop, wait = stop_and_wait(recurs(2))
+    runs = []
+
+    async def ask() -> None:
+        runs.append(1)
+        raise KeyError()
+
+    with pytest.raises(KeyError):
+        asyncio.run(tenacity.retry(stop=stop, wait=wait, reraise=True)(ask)())
+    assert len(runs) == 3
+
+
+def test_hooks_written_for_tenacity_work() -> None:
+    seen: List[Any] = []
+
+    def hook(state: Any) -> None:
+        failed = state.outcome is not None and state.outcome.failed
+        seen.append((state.attempt_number, failed, state.fn is ask, state.args, state.idle_for >= 0))
+
+    def last(state: Any) -> Any:
+        return type(state.outcome.exception())
+
+    def ask(word: str) -> None:
+        raise KeyError(word)
+
+    tenacity.Retrying(
+        stop=tenacity.stop_after_attempt(2), before=hook, after=hook, before_sleep=hook, retry_error_callback=last
+    )(ask, "a")
+    theirs, seen = seen, []
+    hikebox.Retrying(recurs(1), before=hook, after=hook, before_sleep=hook, fallback=last)(ask, "a")
+    assert seen == theirs

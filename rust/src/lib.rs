@@ -1,0 +1,59 @@
+//! Retries by schedules and shared budgets.
+//!
+//! A [`Schedule`] says when to call again and when to stop; as a [`Policy`] it was read and found right by the engine. A
+//! [`Budget`] is a number of retries that all threads of a program share. [`retry()`] runs a call by both, and gives its
+//! first success, or its last error with the reason why it was the last:
+//!
+//! ```
+//! use hikebox::{retry, Budget, Policy, Schedule};
+//! use std::time::Duration;
+//!
+//! let back_off = Schedule::exponential(Duration::from_millis(100), 2).cap(Duration::from_secs(1));
+//! let policy = Policy::new(&(Schedule::recurs(5) & back_off.jittered(0.8..1.2)))?;
+//! let budget = Budget::new(1_000)?;
+//! let text = retry(&policy, &budget, || std::fs::read_to_string("Cargo.toml"))?;
+//! # assert!(text.contains("hikebox"));
+//! # Ok::<(), Box<dyn std::error::Error>>(())
+//! ```
+//!
+//! - [`Retrying`] adds which errors are retried, the numbers by which the schedule knows them, and who hears of a retry.
+//! - With the feature `tokio`, `retry_async` retries futures.
+//! - With the feature `tower`, `RetryPolicy` is a `tower::retry::Policy`.
+//! - With the feature `leased`, `Leased` is a budget that all processes of a machine share, by a file.
+//! - [`Machine`] is a retry that a host with a clock of its own steps.
+//!
+//! What the engine does is proved; this crate, which calls it, is tested. `docs/RUST.md` of the repository is the guide.
+
+mod budget;
+mod engine;
+#[cfg(feature = "leased")]
+mod leased;
+mod machine;
+mod policy;
+mod retrying;
+mod schedule;
+#[cfg(feature = "tokio")]
+mod tokio;
+#[cfg(feature = "tower")]
+mod tower;
+
+pub use budget::{Budget, BudgetError, Pass};
+#[cfg(feature = "leased")]
+pub use leased::{Leased, StoreError};
+pub use machine::{Cause, Ended, Machine, Report, Step};
+pub use policy::{Line, Policy, PolicyError};
+pub use retrying::{retry, RetryError, Retrying};
+pub use schedule::{Fold, Schedule, Test};
+#[cfg(feature = "tokio")]
+pub use tokio::retry_async;
+#[cfg(feature = "tower")]
+pub use tower::RetryPolicy;
+
+#[cfg(doctest)]
+mod pages {
+    #[doc = include_str!("../README.md")]
+    struct Readme;
+
+    #[doc = include_str!("../../docs/RUST.md")]
+    struct Guide;
+}

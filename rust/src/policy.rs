@@ -1,0 +1,252 @@
+//! Policies: schedules that were read and are right.
+
+use crate::engine::{self, DriverKind, Handle, Place, PolicyKind};
+use crate::schedule::Schedule;
+use std::error::Error;
+use std::fmt;
+use std::str::FromStr;
+use std::sync::{Arc, Mutex};
+
+/// The most events that a driver keeps.
+const MOST_EVENTS: usize = 65_536;
+
+/// A schedule that the engine has read, of at most 256 nodes and depth at most 32. It is cheap to clone, and threads may
+/// share it.
+///
+/// ```
+/// use hikebox::{Policy, Schedule};
+/// use std::time::Duration;
+///
+/// let schedule = Schedule::recurs(3) & Schedule::spaced(Duration::from_millis(100));
+/// let policy = Policy::new(&schedule)?;
+/// assert_eq!(policy, r#"{"meet":[{"recurs":3},{"spaced":100}]}"#.parse()?);
+/// assert_eq!(policy.nodes(), 3);
+/// # Ok::<(), hikebox::PolicyError>(())
+/// ```
+#[derive(Clone, Debug)]
+pub struct Policy {
+    json: Arc<str>,
+    handle: Arc<Mutex<Handle<PolicyKind>>>,
+    nodes: u64,
+    depth: u64,
+}
+
+/// Why a text or a [`Schedule`] is no policy.
+#[derive(Clone, Copy, Debug, PartialEq, Eq, Hash)]
+#[non_exhaustive]
+pub enum PolicyError {
+    /// The text is not JSON; where it stops being so, counted from 1, where that is known.
+    NotJson {
+        /// The line.
+        line: u64,
+        /// The column.
+        column: u64,
+    },
+    /// The JSON value has not the form of a policy.
+    NotAPolicy,
+    /// A parameter is outside its range.
+    OutOfRange,
+    /// It is deeper than 32.
+    TooDeep,
+    /// It has more than 256 nodes.
+    TooMany,
+    /// Memory is wanting.
+    NoMemory,
+}
+
+/// One line of what a policy would do: see [`Policy::preview`].
+#[derive(Clone, Debug, PartialEq, Eq)]
+pub struct Line {
+    /// The moment of the event, in milliseconds.
+    pub moment: u64,
+    /// The output, as text.
+    pub output: String,
+    /// The planned start, or `None` where the policy is done.
+    pub next: Option<u64>,
+}
+
+impl Policy {
+    /// The policy of a schedule, or its first fault.
+    pub fn new(schedule: &Schedule) -> Result<Self, PolicyError> {
+        Self::from_json(schedule.as_json())
+    }
+
+    /// The policy that a JSON text spells, or the text's first fault.
+    pub fn from_json(json: &str) -> Result<Self, PolicyError> {
+        let mut place = Place::default();
+        let mut handle = Handle::filled(|policy| {
+            // SAFETY: the text is valid for its length, and `policy` is an empty handle.
+            unsafe { engine::hikebox_policy_read(json.as_ptr(), json.len(), policy, &mut place) }
+        })
+        .map_err(|status| PolicyError::of(status, place))?;
+        let (mut nodes, mut depth) = (0, 0);
+        // SAFETY: the handle holds a policy.
+        let status = unsafe { engine::hikebox_policy_size(handle.raw(), &mut nodes, &mut depth) };
+        debug_assert_eq!(status, engine::OK);
+        Ok(Self { json: json.into(), handle: Arc::new(Mutex::new(handle)), nodes, depth })
+    }
+
+    /// The policy's JSON text, as it was read.
+    pub fn as_json(&self) -> &str {
+        &self.json
+    }
+
+    /// How many nodes it has.
+    pub fn nodes(&self) -> u64 {
+        self.nodes
+    }
+
+    /// How deep it is.
+    pub fn depth(&self) -> u64 {
+        self.depth
+    }
+
+    /// What the policy would do, event by event, as `zsched plan` prints it: the first event is at 0, each further one at
+    /// the start planned before it, with the input 0 and random words that pick the middle of each jitter. It ends after
+    /// `steps` events (at most 65,536), or with the one at which the policy is done.
+    ///
+    /// ```
+    /// use hikebox::Policy;
+    ///
+    /// let policy: Policy = r#"{"meet":[{"recurs":1},{"spaced":100}]}"#.parse()?;
+    /// let lines: Vec<String> = policy.preview(10)?.iter().map(ToString::to_string).collect();
+    /// assert_eq!(lines, ["0: (0, 0) next 100", "100: (1, 1) done"]);
+    /// # Ok::<(), hikebox::PolicyError>(())
+    /// ```
+    pub fn preview(&self, steps: usize) -> Result<Vec<Line>, PolicyError> {
+        let mut driver = Driver::new(self)?;
+        let mut lines = Vec::new();
+        let mut moment = Some(0);
+        while let (Some(now), true) = (moment, lines.len() < steps.min(MOST_EVENTS)) {
+            let line = driver.next(now, [1 << 31; 4], 0)?;
+            moment = line.next;
+            lines.push(line);
+        }
+        Ok(lines)
+    }
+
+    /// Lends the handle to one call.
+    pub(crate) fn with<T>(&self, call: impl FnOnce(*mut engine::Raw) -> T) -> T {
+        let mut handle = self.handle.lock().unwrap_or_else(|poisoned| poisoned.into_inner());
+        call(handle.raw())
+    }
+}
+
+/// A policy that is stepped by hand.
+struct Driver {
+    handle: Handle<DriverKind>,
+}
+
+impl Driver {
+    fn new(policy: &Policy) -> Result<Self, PolicyError> {
+        // SAFETY: the first handle holds a policy, and the second is empty.
+        let handle = Handle::filled(|driver| policy.with(|policy| unsafe { engine::hikebox_driver_new(policy, driver) }));
+        Ok(Self { handle: handle.map_err(|status| PolicyError::of(status, Place::default()))? })
+    }
+
+    /// One event.
+    fn next(&mut self, now: u64, words: [u32; 4], input: u64) -> Result<Line, PolicyError> {
+        let mut decision = engine::Decision::default();
+        // SAFETY: the handle holds a driver.
+        let status = unsafe { engine::hikebox_driver_next(self.handle.raw(), now, &words, input, &mut decision) };
+        match status {
+            engine::OK => Ok(Line {
+                moment: now,
+                output: self.output()?,
+                next: decision.goes_on.then_some(decision.start),
+            }),
+            status => Err(PolicyError::of(status, Place::default())),
+        }
+    }
+
+    /// The last output, as text.
+    fn output(&mut self) -> Result<String, PolicyError> {
+        let mut text = vec![0; 64];
+        loop {
+            let mut length = 0;
+            // SAFETY: the handle holds a driver, and the text has room for as many bytes as are told.
+            let status = unsafe {
+                engine::hikebox_driver_last_text(self.handle.raw(), text.as_mut_ptr(), text.len(), &mut length)
+            };
+            match status {
+                engine::OK => {
+                    text.truncate(length);
+                    return Ok(String::from_utf8_lossy(&text).into_owned());
+                }
+                engine::NO_ROOM => text.resize(length, 0),
+                status => return Err(PolicyError::of(status, Place::default())),
+            }
+        }
+    }
+}
+
+impl PolicyError {
+    fn of(status: u32, place: Place) -> Self {
+        match status {
+            engine::NOT_JSON => Self::NotJson { line: place.line, column: place.column },
+            engine::NOT_A_POLICY => Self::NotAPolicy,
+            engine::OUT_OF_RANGE => Self::OutOfRange,
+            engine::TOO_DEEP => Self::TooDeep,
+            engine::TOO_MANY => Self::TooMany,
+            engine::NO_MEMORY => Self::NoMemory,
+            status => unreachable!("the engine's status {status}"),
+        }
+    }
+}
+
+impl fmt::Display for PolicyError {
+    fn fmt(&self, f: &mut fmt::Formatter<'_>) -> fmt::Result {
+        match self {
+            Self::NotJson { line: 0, .. } => f.write_str("not JSON"),
+            Self::NotJson { line, column } => write!(f, "not JSON at line {line}, column {column}"),
+            Self::NotAPolicy => f.write_str("not a policy"),
+            Self::OutOfRange => f.write_str("number out of range"),
+            Self::TooDeep => f.write_str("too deep"),
+            Self::TooMany => f.write_str("too many nodes"),
+            Self::NoMemory => f.write_str("no memory"),
+        }
+    }
+}
+
+impl Error for PolicyError {}
+
+impl FromStr for Policy {
+    type Err = PolicyError;
+
+    fn from_str(json: &str) -> Result<Self, PolicyError> {
+        Self::from_json(json)
+    }
+}
+
+impl TryFrom<Schedule> for Policy {
+    type Error = PolicyError;
+
+    fn try_from(schedule: Schedule) -> Result<Self, PolicyError> {
+        Self::new(&schedule)
+    }
+}
+
+/// Policies are equal where their texts are.
+impl PartialEq for Policy {
+    fn eq(&self, other: &Self) -> bool {
+        self.json == other.json
+    }
+}
+
+impl Eq for Policy {}
+
+impl fmt::Display for Policy {
+    fn fmt(&self, f: &mut fmt::Formatter<'_>) -> fmt::Result {
+        f.write_str(&self.json)
+    }
+}
+
+/// As a line of `zsched plan`.
+impl fmt::Display for Line {
+    fn fmt(&self, f: &mut fmt::Formatter<'_>) -> fmt::Result {
+        match self.next {
+            Some(start) => write!(f, "{}: {} next {start}", self.moment, self.output),
+            None => write!(f, "{}: {} done", self.moment, self.output),
+        }
+    }
+}

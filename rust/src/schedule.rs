@@ -1,0 +1,331 @@
+//! Schedules as expressions.
+
+use std::fmt;
+use std::ops::{BitAnd, BitOr, Range, Shr};
+use std::time::Duration;
+
+/// A recurrence schedule as an expression: when to call again, and when to stop.
+///
+/// Leaves are functions of this type, nodes over schedules are methods; `&`, `|` and `>>` are [`meet`](Schedule::meet),
+/// [`join`](Schedule::join) and [`feed`](Schedule::feed), as `&&`, `||` and `>>>` of ZIO's `Schedule`. A `Schedule` is
+/// text, and nothing is checked before it becomes a [`Policy`](crate::Policy).
+///
+/// All times are whole milliseconds: a duration is rounded up.
+///
+/// ```
+/// use hikebox::Schedule;
+/// use std::time::Duration;
+///
+/// let back_off = Schedule::exponential(Duration::from_millis(100), 2).cap(Duration::from_secs(1));
+/// let schedule = Schedule::recurs(5) & back_off.jittered(0.8..1.2);
+/// assert_eq!(
+///     schedule.to_string(),
+///     r#"{"meet":[{"recurs":5},{"jitter":[0,800,1200,{"cap":[1000,{"exponential":[100,2]}]}]}]}"#
+/// );
+/// ```
+#[derive(Clone, Debug, PartialEq, Eq, Hash)]
+pub struct Schedule {
+    json: String,
+}
+
+/// What [`Schedule::while_input`] and its kin look for in a number. It is false of a value that is no number.
+#[derive(Clone, Copy, Debug, PartialEq, Eq, Hash)]
+pub enum Test {
+    /// The number is below this one.
+    Below(u64),
+    /// The number is this one or above.
+    AtLeast(u64),
+    /// The number is this one.
+    Equal(u64),
+}
+
+/// What [`Schedule::gather`] makes of the outputs so far.
+#[derive(Clone, Copy, Debug, PartialEq, Eq, Hash)]
+pub enum Fold {
+    /// Their sum.
+    Sum,
+    /// How many there were.
+    Count,
+    /// The greatest.
+    Max,
+    /// All of them.
+    List,
+}
+
+impl Schedule {
+    /// Goes on at once, for ever; the output counts from 0.
+    pub fn forever() -> Self {
+        Self::leaf("\"forever\"")
+    }
+
+    /// Goes on at once, `times` times: so `times + 1` calls in all.
+    pub fn recurs(times: u64) -> Self {
+        Self::node("recurs", times)
+    }
+
+    /// Goes on `delay` after each event, for ever.
+    pub fn spaced(delay: Duration) -> Self {
+        Self::node("spaced", millis(delay))
+    }
+
+    /// Goes on at fixed intervals from the first event on; where a call takes longer than one, at once.
+    pub fn fixed(interval: Duration) -> Self {
+        Self::node("fixed", millis(interval))
+    }
+
+    /// Goes on at the next boundary of windows of this length, from the first event on.
+    pub fn windowed(interval: Duration) -> Self {
+        Self::node("windowed", millis(interval))
+    }
+
+    /// Delays of `base`, twice `base`, three times `base` and so on.
+    pub fn linear(base: Duration) -> Self {
+        Self::node("linear", millis(base))
+    }
+
+    /// Delays of `base`, each `factor` (1 to 1000) times the one before.
+    pub fn exponential(base: Duration, factor: u64) -> Self {
+        Self::node("exponential", format_args!("[{},{factor}]", millis(base)))
+    }
+
+    /// Delays of `base`, each `thousandths` (1 to 1,000,000) thousandths of the one before: 1500 makes each half as long
+    /// again.
+    pub fn exponential_milli(base: Duration, thousandths: u64) -> Self {
+        Self::node("exponential_milli", format_args!("[{},{thousandths}]", millis(base)))
+    }
+
+    /// Delays of `first` times 1, 1, 2, 3, 5 and so on.
+    pub fn fibonacci(first: Duration) -> Self {
+        Self::node("fibonacci", millis(first))
+    }
+
+    /// Goes on at once; the output is the time since the first event.
+    pub fn elapsed() -> Self {
+        Self::leaf("\"elapsed\"")
+    }
+
+    /// Goes on at once; the output is the input, which of a retry is the failure's code.
+    pub fn identity() -> Self {
+        Self::leaf("\"identity\"")
+    }
+
+    /// Goes on at once; the output is `start`, and then `times * x + plus` of the output `x` before.
+    pub fn unfold(start: u64, times: u64, plus: u64) -> Self {
+        Self::node("unfold", format_args!("[{start},{times},{plus}]"))
+    }
+
+    /// Goes on once, after `delay`.
+    pub fn lone(delay: Duration) -> Self {
+        Self::node("lone", millis(delay))
+    }
+
+    /// Goes on while both do, at the later start.
+    #[must_use]
+    pub fn meet(self, other: Self) -> Self {
+        self.with("meet", other)
+    }
+
+    /// Goes on while one of both does, at the earlier start.
+    #[must_use]
+    pub fn join(self, other: Self) -> Self {
+        self.with("join", other)
+    }
+
+    /// This schedule until it is done, and from that event on the other one.
+    #[must_use]
+    pub fn then(self, other: Self) -> Self {
+        self.with("follow", other)
+    }
+
+    /// The other schedule with this one's outputs as its inputs; it goes on while both do, at the later start.
+    #[must_use]
+    pub fn feed(self, other: Self) -> Self {
+        self.with("feed", other)
+    }
+
+    /// Done at the first input of which the test is false. Of a retry the input is the failure's code.
+    #[must_use]
+    pub fn while_input(self, test: Test) -> Self {
+        self.gate("input", true, test)
+    }
+
+    /// Done at the first input of which the test is true.
+    #[must_use]
+    pub fn until_input(self, test: Test) -> Self {
+        self.gate("input", false, test)
+    }
+
+    /// Done at the first output of which the test is false.
+    #[must_use]
+    pub fn while_output(self, test: Test) -> Self {
+        self.gate("output", true, test)
+    }
+
+    /// Done at the first output of which the test is true.
+    #[must_use]
+    pub fn until_output(self, test: Test) -> Self {
+        self.gate("output", false, test)
+    }
+
+    /// The output is what `fold` makes of the outputs at the earlier events.
+    #[must_use]
+    pub fn gather(self, fold: Fold) -> Self {
+        let kind = match fold {
+            Fold::Sum => "sum",
+            Fold::Count => "count",
+            Fold::Max => "max",
+            Fold::List => "list",
+        };
+        Self::node("gather", format_args!("[\"{kind}\",{}]", self.json))
+    }
+
+    /// Each delay is longer by `delay`.
+    #[must_use]
+    pub fn delayed_by(self, delay: Duration) -> Self {
+        self.under("add", millis(delay))
+    }
+
+    /// Each delay is `delay`.
+    #[must_use]
+    pub fn with_delay(self, delay: Duration) -> Self {
+        self.under("set", millis(delay))
+    }
+
+    /// No delay is longer than `longest`.
+    #[must_use]
+    pub fn cap(self, longest: Duration) -> Self {
+        self.under("cap", millis(longest))
+    }
+
+    /// Each delay is longer by the output, in milliseconds.
+    #[must_use]
+    pub fn add_out(self) -> Self {
+        Self::node("add_out", self.json)
+    }
+
+    /// Each delay is multiplied by a random ratio out of `ratios`, in thousandths from 0 to 10: `0.8..1.2` is what
+    /// `jittered` of ZIO does. So that callers that failed together do not retry together.
+    ///
+    /// A ratio that is not a number, or is negative or past 10, is refused when the [`Policy`](crate::Policy) is made.
+    #[must_use]
+    pub fn jittered(self, ratios: Range<f64>) -> Self {
+        self.jitter(0, thousandths(ratios.start), thousandths(ratios.end))
+    }
+
+    /// Each delay is multiplied by a ratio from `least` to `most` thousandths (at most 10,000) that the random word of the
+    /// lane, 0 to 3, picks.
+    #[must_use]
+    pub fn jitter(self, lane: u8, least: u64, most: u64) -> Self {
+        Self::node("jitter", format_args!("[{lane},{least},{most},{}]", self.json))
+    }
+
+    /// Done at the first event that is `time` or more after the first one.
+    #[must_use]
+    pub fn up_to(self, time: Duration) -> Self {
+        self.under("within", millis(time))
+    }
+
+    /// Begins anew at the first event that comes `time` or more after the first one of the present round.
+    #[must_use]
+    pub fn renew(self, time: Duration) -> Self {
+        self.under("renew", millis(time))
+    }
+
+    /// Begins anew at each event that comes `time` or more after the one before it.
+    #[must_use]
+    pub fn renew_idle(self, time: Duration) -> Self {
+        self.under("renew_idle", millis(time))
+    }
+
+    /// The output is the first part of a pair.
+    #[must_use]
+    pub fn first(self) -> Self {
+        Self::node("first", self.json)
+    }
+
+    /// The output is the second part of a pair.
+    #[must_use]
+    pub fn second(self) -> Self {
+        Self::node("second", self.json)
+    }
+
+    /// The output is nothing.
+    #[must_use]
+    pub fn nothing(self) -> Self {
+        Self::node("nothing", self.json)
+    }
+
+    /// The schedule's JSON text, which `zsched plan` and all other ways into Hikebox read.
+    pub fn as_json(&self) -> &str {
+        &self.json
+    }
+
+    fn leaf(json: &str) -> Self {
+        Self { json: json.to_owned() }
+    }
+
+    fn node(name: &str, value: impl fmt::Display) -> Self {
+        Self { json: format!("{{\"{name}\":{value}}}") }
+    }
+
+    fn with(self, name: &str, other: Self) -> Self {
+        Self::node(name, format_args!("[{},{}]", self.json, other.json))
+    }
+
+    fn under(self, name: &str, number: u64) -> Self {
+        Self::node(name, format_args!("[{number},{}]", self.json))
+    }
+
+    fn gate(self, side: &str, want: bool, test: Test) -> Self {
+        let (test, number) = match test {
+            Test::Below(number) => ("below", number),
+            Test::AtLeast(number) => ("at_least", number),
+            Test::Equal(number) => ("equal", number),
+        };
+        Self::node("gate", format_args!("[\"{side}\",{want},\"{test}\",{number},{}]", self.json))
+    }
+}
+
+impl BitAnd for Schedule {
+    type Output = Self;
+
+    fn bitand(self, other: Self) -> Self {
+        self.meet(other)
+    }
+}
+
+impl BitOr for Schedule {
+    type Output = Self;
+
+    fn bitor(self, other: Self) -> Self {
+        self.join(other)
+    }
+}
+
+impl Shr for Schedule {
+    type Output = Self;
+
+    fn shr(self, other: Self) -> Self {
+        self.feed(other)
+    }
+}
+
+impl fmt::Display for Schedule {
+    fn fmt(&self, f: &mut fmt::Formatter<'_>) -> fmt::Result {
+        f.write_str(&self.json)
+    }
+}
+
+/// Whole milliseconds, rounded up.
+fn millis(duration: Duration) -> u64 {
+    u64::try_from(duration.as_nanos().div_ceil(1_000_000)).unwrap_or(u64::MAX)
+}
+
+/// Thousandths of a ratio; what is no ratio is a number that no policy takes.
+fn thousandths(ratio: f64) -> u64 {
+    if (0.0..=10.0).contains(&ratio) {
+        (ratio * 1000.0).round() as u64
+    } else {
+        u64::MAX
+    }
+}

@@ -1,0 +1,80 @@
+//! Budgets: worked examples, and threads that share one.
+
+use hikebox::{Budget, BudgetError};
+use std::sync::atomic::{AtomicU64, Ordering};
+use std::thread;
+
+#[test]
+fn two_passes_share_two_tickets() {
+    let budget = Budget::new(2).unwrap();
+    let mut first = budget.pass().unwrap();
+    assert_eq!(first.draw(), Some(0));
+    let mut second = budget.pass().unwrap();
+    assert_eq!(second.draw(), Some(1));
+    assert_eq!(second.count(), 1);
+    assert_eq!(first.draw(), None);
+    assert_eq!(first.draw(), None);
+    drop(first);
+    let budget = budget.close().unwrap_err();
+    drop(second);
+    assert_eq!(budget.granted(), 2);
+    assert_eq!(budget.close().unwrap(), 2);
+}
+
+#[test]
+fn an_empty_budget_has_no_ticket() {
+    let budget = Budget::new(0).unwrap();
+    assert_eq!(budget.pass().unwrap().draw(), None);
+    assert_eq!(budget.close().unwrap(), 0);
+}
+
+#[test]
+fn limits_end_at_two_to_the_thirty_second() {
+    assert!(Budget::new(4_294_967_296).is_ok());
+    assert_eq!(Budget::new(4_294_967_297).unwrap_err(), BudgetError::LimitTooLarge);
+    assert_eq!(Budget::rising(4_294_967_297).unwrap_err(), BudgetError::LimitTooLarge);
+}
+
+#[test]
+fn a_rising_budget_rises_and_a_fixed_one_does_not() {
+    let budget = Budget::rising(1).unwrap();
+    let mut pass = budget.pass().unwrap();
+    assert_eq!(pass.draw(), Some(0));
+    assert_eq!(budget.raise(3), Ok(3));
+    assert_eq!(budget.raise(2), Ok(3));
+    assert_eq!(pass.draw(), Some(1));
+    assert_eq!(budget.raise(4_294_967_297), Err(BudgetError::LimitTooLarge));
+    assert_eq!(Budget::new(1).unwrap().raise(2), Err(BudgetError::Fixed));
+}
+
+#[test]
+fn a_clone_keeps_a_budget_open() {
+    let budget = Budget::new(1).unwrap();
+    let clone = budget.clone();
+    let budget = budget.close().unwrap_err();
+    drop(clone);
+    assert_eq!(budget.close().unwrap(), 0);
+}
+
+#[test]
+fn sixteen_threads_draw_ten_million_tickets_each_once() {
+    const TICKETS: u64 = 10_000_000;
+    let budget = Budget::new(TICKETS).unwrap();
+    let drawn: Vec<AtomicU64> = (0..TICKETS.div_ceil(64)).map(|_| AtomicU64::new(0)).collect();
+    thread::scope(|scope| {
+        for _ in 0..16 {
+            let mut pass = budget.pass().unwrap();
+            let drawn = &drawn;
+            scope.spawn(move || {
+                while let Some(ticket) = pass.draw() {
+                    let bit = 1 << (ticket % 64);
+                    let before = drawn[usize::try_from(ticket / 64).unwrap()].fetch_or(bit, Ordering::Relaxed);
+                    assert_eq!(before & bit, 0, "ticket {ticket} was drawn twice");
+                }
+            });
+        }
+    });
+    let all: u64 = drawn.iter().map(|word| u64::from(word.load(Ordering::Relaxed).count_ones())).sum();
+    assert_eq!(all, TICKETS);
+    assert_eq!(budget.close().unwrap(), TICKETS);
+}

@@ -1,0 +1,141 @@
+//! Policies step as `zsched plan` says, on random ones and at the limits.
+
+use hikebox::{Fold, Policy, PolicyError, Schedule, Test};
+use std::io::Write;
+use std::process::{Command, Stdio};
+use std::time::Duration;
+
+/// The program that the engine's crates build: where `HIKEBOX_ZSCHED` says.
+fn zsched(json: &str) -> String {
+    let program = std::env::var_os("HIKEBOX_ZSCHED").expect("HIKEBOX_ZSCHED names the program zsched");
+    let mut child = Command::new(program)
+        .args(["plan", "--steps", "12"])
+        .stdin(Stdio::piped())
+        .stdout(Stdio::piped())
+        .spawn()
+        .unwrap();
+    child.stdin.take().unwrap().write_all(json.as_bytes()).unwrap();
+    let output = child.wait_with_output().unwrap();
+    assert!(output.status.success(), "{json}");
+    String::from_utf8(output.stdout).unwrap()
+}
+
+/// Numbers by a linear congruence, the same in each run.
+struct Numbers(u64);
+
+impl Numbers {
+    fn below(&mut self, bound: u64) -> u64 {
+        self.0 = self.0.wrapping_mul(6_364_136_223_846_793_005).wrapping_add(1_442_695_040_888_963_407);
+        (self.0 >> 33) % bound
+    }
+
+    fn millis(&mut self) -> Duration {
+        Duration::from_millis(self.below(500) + 1)
+    }
+
+    fn test(&mut self) -> Test {
+        let number = self.below(300);
+        match self.below(3) {
+            0 => Test::Below(number),
+            1 => Test::AtLeast(number),
+            _ => Test::Equal(number),
+        }
+    }
+
+    fn leaf(&mut self) -> Schedule {
+        match self.below(13) {
+            0 => Schedule::forever(),
+            1 => Schedule::recurs(self.below(9)),
+            2 => Schedule::spaced(self.millis()),
+            3 => Schedule::fixed(self.millis()),
+            4 => Schedule::windowed(self.millis()),
+            5 => Schedule::linear(self.millis()),
+            6 => Schedule::exponential(self.millis(), self.below(4) + 1),
+            7 => Schedule::exponential_milli(self.millis(), self.below(3000) + 1),
+            8 => Schedule::fibonacci(self.millis()),
+            9 => Schedule::elapsed(),
+            10 => Schedule::identity(),
+            11 => Schedule::unfold(self.below(5), self.below(5), self.below(5)),
+            _ => Schedule::lone(self.millis()),
+        }
+    }
+
+    fn schedule(&mut self, depth: u64) -> Schedule {
+        if depth == 0 || self.below(5) == 0 {
+            return self.leaf();
+        }
+        let under = self.schedule(depth - 1);
+        match self.below(24) {
+            0 | 20 => under & self.schedule(depth - 1),
+            1 | 21 => under | self.schedule(depth - 1),
+            2 | 22 => under.then(self.schedule(depth - 1)),
+            3 | 23 => under >> self.schedule(depth - 1),
+            4 => under.while_input(self.test()),
+            5 => under.until_input(self.test()),
+            6 => under.while_output(self.test()),
+            7 => under.until_output(self.test()),
+            8 => under.gather([Fold::Sum, Fold::Count, Fold::Max, Fold::List][self.below(4) as usize]),
+            9 => under.delayed_by(self.millis()),
+            10 => under.with_delay(self.millis()),
+            11 => under.cap(self.millis()),
+            12 => under.add_out(),
+            13 => under.jittered(0.5..1.5),
+            14 => under.up_to(self.millis()),
+            15 => under.renew(self.millis()),
+            16 => under.renew_idle(self.millis()),
+            17 => under.first(),
+            18 => under.second(),
+            _ => under.nothing(),
+        }
+    }
+}
+
+#[test]
+fn three_hundred_random_policies_step_as_zsched_says() {
+    let mut numbers = Numbers(2026);
+    for _ in 0..300 {
+        let schedule = numbers.schedule(5);
+        let policy = Policy::new(&schedule).unwrap();
+        let lines: String = policy.preview(12).unwrap().iter().map(|line| format!("{line}\n")).collect();
+        assert_eq!(lines, zsched(schedule.as_json()), "{schedule}");
+    }
+}
+
+#[test]
+fn faults_are_those_of_the_text() {
+    let fault = |json: &str| Policy::from_json(json).unwrap_err();
+    assert_eq!(fault(r#"{"recurs":-1}"#), PolicyError::NotAPolicy);
+    assert!(matches!(fault(r#"{"recurs":3"#), PolicyError::NotJson { .. }));
+    assert!(matches!(fault(""), PolicyError::NotJson { .. }));
+    assert_eq!(fault(r#"{"fixed":0}"#), PolicyError::OutOfRange);
+    assert_eq!(fault(r#"{"exponential":[1,1001]}"#), PolicyError::OutOfRange);
+
+    let mut deep = Schedule::forever();
+    for _ in 0..31 {
+        deep = deep.nothing();
+    }
+    assert_eq!(Policy::new(&deep).unwrap().depth(), 32);
+    assert_eq!(Policy::new(&deep.nothing()).unwrap_err(), PolicyError::TooDeep);
+
+    let mut wide = Schedule::forever();
+    for _ in 0..7 {
+        wide = wide.clone() & wide;
+    }
+    assert_eq!(Policy::new(&wide).unwrap().nodes(), 255);
+    assert_eq!(Policy::new(&wide.clone().nothing()).unwrap().nodes(), 256);
+    assert_eq!(Policy::new(&wide.nothing().nothing()).unwrap_err(), PolicyError::TooMany);
+}
+
+#[test]
+fn durations_are_rounded_up_and_ratios_to_thousandths() {
+    assert_eq!(Schedule::spaced(Duration::from_micros(1)).as_json(), r#"{"spaced":1}"#);
+    assert_eq!(Schedule::spaced(Duration::from_millis(7)).as_json(), r#"{"spaced":7}"#);
+    assert_eq!(Schedule::forever().jittered(0.1234..10.0).as_json(), r#"{"jitter":[0,123,10000,"forever"]}"#);
+    for ratios in [-0.1..1.0, 0.0..10.1, 0.0..f64::NAN] {
+        let schedule = Schedule::forever().jittered(ratios);
+        assert_eq!(Policy::new(&schedule).unwrap_err(), PolicyError::OutOfRange);
+    }
+    let longest = Schedule::spaced(Duration::from_millis(4_611_686_018_427_387_903));
+    assert!(Policy::new(&longest).is_ok());
+    assert_eq!(Policy::new(&Schedule::spaced(Duration::MAX)).unwrap_err(), PolicyError::OutOfRange);
+}

@@ -1,0 +1,79 @@
+"""Compares the calls that include/hikebox.h declares with those that crates/hikebox_c exports: their names, and of each the
+types of its parameters in order. A handle's type is a struct of one pointer, whichever kind it is of."""
+import pathlib
+import re
+import sys
+
+TOP = pathlib.Path(__file__).resolve().parent.parent
+RATTLE = {
+    "&mut Handle": ["handle *"],
+    "&[u8]": ["const uint8_t *", "size_t"],
+    "&mut [u8]": ["uint8_t *", "size_t"],
+    "&[u32; 4]": ["const uint32_t *"],
+    "&mut u64": ["uint64_t *"],
+    "&mut usize": ["size_t *"],
+    "&mut Place": ["hikebox_place *"],
+    "&mut Decided": ["hikebox_decision *"],
+    "&mut Reply": ["hikebox_next *"],
+    "u64": ["uint64_t"],
+    "u32": ["uint32_t"],
+    "alloc: Global": [],
+}
+STRUCTS = {"Place": "hikebox_place", "Decided": "hikebox_decision", "Reply": "hikebox_next"}
+
+
+def without_comments(text):
+    return re.sub(r"/\*.*?\*/|//[^\n]*", "", text, flags=re.S)
+
+
+def declared():
+    text = without_comments((TOP / "include/hikebox.h").read_text())
+    calls = {}
+    for name, parameters in re.findall(r"hikebox_status\s+(hikebox_\w+)\(([^)]*)\)\s*;", text):
+        types = []
+        for parameter in parameters.split(","):
+            kind, _, array = re.fullmatch(r"\s*(.*?[\s*])(\w+)(\[\d+\])?\s*", parameter, re.S).groups()
+            kind = " ".join((kind + ("*" if array else "")).replace("*", " * ").split())
+            types.append(re.sub(r"hikebox_(policy|driver|pass|retry) \*", "handle *", kind))
+        calls[name] = types
+    return calls
+
+
+def exported():
+    calls = {}
+    for file in sorted((TOP / "crates/hikebox_c/src").glob("*.rt")):
+        for name, parameters in re.findall(r'pub extern "C" fn (\w+)\(([^)]*)\) -> u32', without_comments(file.read_text())):
+            types = []
+            for parameter in re.split(r",\s*(?=\w+:)", parameters.strip().rstrip(",")):
+                kind = parameter.partition(": ")[2]
+                types += RATTLE[parameter] if parameter in RATTLE else RATTLE[kind]
+            calls[name] = types
+    return calls
+
+
+def fields(text, pattern, types):
+    return [(types.get(kind, kind), name) for kind, name in re.findall(pattern, text)]
+
+
+def structs():
+    header = without_comments((TOP / "include/hikebox.h").read_text())
+    replies = without_comments((TOP / "crates/sched_handle/src/replies.rt").read_text())
+    for rattle, c in STRUCTS.items():
+        here = re.search(r"typedef struct \{([^}]*)\} " + c + ";", header).group(1)
+        there = re.search(r"#\[repr\(C\)\]\s*#\[derive\([^)]*\)\]\s*pub struct " + rattle + r" \{([^}]*)\}", replies).group(1)
+        is_c = re.findall(r"(\w+) (\w+);", here)
+        is_rattle = [({"u64": "uint64_t", "u32": "uint32_t"}.get(kind, kind), name) for name, kind in re.findall(r"pub (\w+): (\w+)", there)]
+        yield c, is_c, is_rattle
+
+
+def main():
+    is_c, is_rattle = declared(), exported()
+    wrong = [f"{name}: declared {is_c.get(name)}, exported {is_rattle.get(name)}" for name in sorted({*is_c, *is_rattle}) if is_c.get(name) != is_rattle.get(name)]
+    wrong += [f"{name}: declared {here}, written {there}" for name, here, there in structs() if here != there]
+    for line in wrong:
+        print(f"tests/exports.py: {line}", file=sys.stderr)
+    print(f"tests/exports.py: {len(is_c)} calls compared")
+    return bool(wrong) or not is_c
+
+
+sys.exit(main())

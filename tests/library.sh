@@ -1,0 +1,96 @@
+#!/usr/bin/env bash
+# Builds the library and calls it from C, linked and loaded: it steps 300 random policies as `zsched plan` does, retries end
+# as `zsched pool` says, handles that are empty, full or of another kind are refused and nothing is lost, 16 threads draw
+# 10,000,000 tickets, each once, and valgrind finds no error and no leak. Each growth is refused in turn.
+# It needs a C compiler with its headers, valgrind and python3.
+set -euo pipefail
+top=$(cd "$(dirname "${BASH_SOURCE[0]}")/.." && pwd)
+work=$(mktemp -d)
+trap 'rm -rf "$work"' EXIT
+failed=0
+for tool in cc valgrind python3; do
+  command -v "$tool" >/dev/null || {
+    echo "tests/library.sh: no $tool here: apt-get install gcc libc6-dev valgrind python3" >&2
+    exit 1
+  }
+done
+
+wrong() {
+  echo "tests/library.sh: $*" >&2
+  failed=1
+}
+
+"$top/bin/dist" "$work/dist"
+python3 "$top/tests/exports.py" || failed=1
+flags=(-std=gnu11 -Wall -Wextra -Werror -O1 "-I$work/dist" -pthread)
+cc "${flags[@]}" -o "$work/linked" "$top/tests/library.c" "$work/dist/libhikebox.a"
+cc "${flags[@]}" -o "$work/loaded" "$top/tests/library.c" "-L$work/dist" "-Wl,-rpath,$work/dist" -lhikebox
+cc "${flags[@]}" -o "$work/retry" "$top/examples/c/retry.c" "$work/dist/libhikebox.a"
+exported=$(nm -D --defined-only "$work/dist/libhikebox.so" | awk '{ print $NF }' | LC_ALL=C sort)
+declared=$(sed -n 's/.*hikebox_status \(hikebox_[a-z_]*\)(.*/\1/p' "$top/include/hikebox.h" | LC_ALL=C sort)
+[ "$exported" = "$declared" ] || wrong "libhikebox.so has other calls than hikebox.h"
+
+# The example: two runs fail, and the third succeeds.
+printf 'run 1: 503\nrun 2: 503\nrun 3: 200\nwon after 3 runs, 2 retries granted\n2 tickets drawn of the budget\n' >"$work/want"
+"$work/retry" >"$work/out" && cmp -s "$work/out" "$work/want" || wrong "examples/c/retry.c: $(cat "$work/out")"
+
+# Policies, step by step.
+python3 "$top/tests/random_policies.py" 300 18 >"$work/policies"
+count=0 refused=0
+while IFS=$'\t' read -r options policy; do
+  read -r steps from took input word <<<"$options"
+  count=$((count + 1))
+  status=0 said=0
+  printf '%s' "$policy" | "$top/bin/zsched" plan --steps "$steps" --from "$from" --took "$took" --input "$input" \
+    --word "$word" >"$work/want" 2>/dev/null || status=$?
+  printf '%s' "$policy" | "$work/linked" plan "$steps" "$from" "$took" "$input" "$word" >"$work/out" || said=$?
+  if [ "$status" != 0 ]; then
+    refused=$((refused + 1))
+    [ "$said" -ge 10 ] && [ "$said" -le 14 ] || wrong "plan $policy: status $said where zsched's is $status"
+  elif [ "$said" != 0 ] || ! cmp -s "$work/out" "$work/want"; then
+    wrong "plan $policy $options: status $said, $(diff "$work/out" "$work/want" | head -n 3)"
+  fi
+done <"$work/policies"
+[ "$count" = 300 ] && [ "$refused" -lt 30 ] || wrong "$count policies, $refused refused"
+
+# Retries whose runs end as they are told to.
+ends() {
+  local budget=$1 policy=$2 runs=$3
+  shift 3
+  printf '[{"plan":%s,"runs":%s}]' "$policy" "$runs" >"$work/jobs"
+  "$top/bin/zsched" pool --workers 1 --budget "$budget" <"$work/jobs" | head -n 1 >"$work/want"
+  printf '%s' "$policy" | "$work/linked" retry "$budget" "$@" >"$work/out" && cmp -s "$work/out" "$work/want" ||
+    wrong "retry $policy $*: $(cat "$work/out"), wanted $(cat "$work/want")"
+}
+ends 100 '{"meet":[{"recurs":3},{"spaced":100}]}' '[{"lost":7},{"won":200}]' lost:7 won:200
+ends 100 '{"meet":[{"recurs":3},{"spaced":100}]}' '[{"lost":7}]' lost:7
+ends 2 '{"meet":[{"recurs":3},{"exponential":[100,2]}]}' '[{"lost":7},{"lost":8}]' lost:7 lost:8
+ends 0 '{"recurs":3}' '[{"lost":9}]' lost:9
+ends 5 '{"recurs":0}' '[{"won":1}]' won:1
+ends 5 '"forever"' '[{"lost":1},{"lost":2},{"lost":3},{"won":4}]' lost:1 lost:2 lost:3 won:4
+
+for program in linked loaded; do
+  "$work/$program" handles || wrong "$program handles"
+  "$work/$program" draw 16 10000000 || wrong "$program draw"
+  for words in handles calls 'draw 4 20000'; do
+    # shellcheck disable=SC2086
+    valgrind --quiet --leak-check=full --show-leak-kinds=all --error-exitcode=9 "$work/$program" $words >"$work/out" ||
+      wrong "valgrind $program $words"
+  done
+done
+
+# Each growth refused in turn: the call says so, and is done when it is made again; a retry may end for want of memory.
+cc -O1 -shared -fPIC -nostdlib -o "$work/refuse.so" "$top/tests/refuse.c"
+"$work/linked" calls >"$work/whole"
+growth=0
+while :; do
+  growth=$((growth + 1))
+  status=0
+  LD_PRELOAD="$work/refuse.so" REFUSE_AT=$growth "$work/linked" calls >"$work/out" 8>/dev/null 9>"$work/refused" || status=$?
+  [ -s "$work/refused" ] || break
+  [ "$status" = 0 ] && [ "$(grep -c '^NoMemory: ' "$work/out")" = 1 ] &&
+    grep -v '^NoMemory: ' "$work/out" | cmp -s - "$work/whole" || wrong "growth $growth refused: status $status, $(cat "$work/out")"
+done
+[ "$growth" -gt 40 ] && [ "$status" = 0 ] && cmp -s "$work/out" "$work/whole" || wrong "$((growth - 1)) growths, status $status"
+echo "tests/library.sh: 300 policies, $((growth - 1)) growths refused in turn"
+exit "$failed"
