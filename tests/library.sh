@@ -1,32 +1,29 @@
 #!/usr/bin/env bash
-# Builds the library and calls it from C, linked and loaded: it steps 300 random policies as `zsched plan` does, retries end
-# as `zsched pool` says, handles that are empty, full or of another kind are refused and nothing is lost, 16 threads draw
-# 10,000,000 tickets, each once, and valgrind finds no error and no leak. Each growth is refused in turn.
-# It needs a C compiler with its headers, valgrind and python3.
+# Calls the library from C, linked and loaded: it steps 300 random policies as `zsched plan` does, retries end as
+# `zsched pool` says, handles that are empty, full or of another kind are refused and nothing is lost, 16 threads draw
+# 10,000,000 tickets, each once, and valgrind finds no error and no leak. Each growth is refused in turn. HIKEBOX_LIB_DIR
+# names the folder of the files that bin/dist made; with no such folder they are made first.
 set -euo pipefail
 top=$(cd "$(dirname "${BASH_SOURCE[0]}")/.." && pwd)
 work=$(mktemp -d)
 trap 'rm -rf "$work"' EXIT
 failed=0
-for tool in cc valgrind python3; do
-  command -v "$tool" >/dev/null || {
-    echo "tests/library.sh: no $tool here: apt-get install gcc libc6-dev valgrind python3" >&2
-    exit 1
-  }
-done
+"$top/tests/packages.sh" gcc libc6-dev valgrind python3 binutils
 
 wrong() {
   echo "tests/library.sh: $*" >&2
   failed=1
 }
 
-"$top/bin/dist" "$work/dist"
+dist=${HIKEBOX_LIB_DIR:-}
+[ -n "$dist" ] || { dist=$work/dist; "$top/bin/dist" "$dist"; }
+zsched=$dist/zsched
 python3 "$top/tests/exports.py" || failed=1
-flags=(-std=gnu11 -Wall -Wextra -Werror -O1 "-I$work/dist" -pthread)
-cc "${flags[@]}" -o "$work/linked" "$top/tests/library.c" "$work/dist/libhikebox.a"
-cc "${flags[@]}" -o "$work/loaded" "$top/tests/library.c" "-L$work/dist" "-Wl,-rpath,$work/dist" -lhikebox
-cc "${flags[@]}" -o "$work/retry" "$top/examples/c/retry.c" "$work/dist/libhikebox.a"
-exported=$(nm -D --defined-only "$work/dist/libhikebox.so" | awk '{ print $NF }' | LC_ALL=C sort)
+flags=(-std=gnu11 -Wall -Wextra -Werror -O1 "-I$dist" -pthread)
+cc "${flags[@]}" -o "$work/linked" "$top/tests/library.c" "$dist/libhikebox.a"
+cc "${flags[@]}" -o "$work/loaded" "$top/tests/library.c" "-L$dist" "-Wl,-rpath,$dist" -lhikebox
+cc "${flags[@]}" -o "$work/retry" "$top/examples/c/retry.c" "$dist/libhikebox.a"
+exported=$(nm -D --defined-only "$dist/libhikebox.so" | awk '{ print $NF }' | LC_ALL=C sort)
 declared=$(sed -n 's/.*hikebox_status \(hikebox_[a-z_]*\)(.*/\1/p' "$top/include/hikebox.h" | LC_ALL=C sort)
 [ "$exported" = "$declared" ] || wrong "libhikebox.so has other calls than hikebox.h"
 
@@ -41,7 +38,7 @@ while IFS=$'\t' read -r options policy; do
   read -r steps from took input word <<<"$options"
   count=$((count + 1))
   status=0 said=0
-  printf '%s' "$policy" | "$top/bin/zsched" plan --steps "$steps" --from "$from" --took "$took" --input "$input" \
+  printf '%s' "$policy" | "$zsched" plan --steps "$steps" --from "$from" --took "$took" --input "$input" \
     --word "$word" >"$work/want" 2>/dev/null || status=$?
   printf '%s' "$policy" | "$work/linked" plan "$steps" "$from" "$took" "$input" "$word" >"$work/out" || said=$?
   if [ "$status" != 0 ]; then
@@ -58,7 +55,7 @@ ends() {
   local budget=$1 policy=$2 runs=$3
   shift 3
   printf '[{"plan":%s,"runs":%s}]' "$policy" "$runs" >"$work/jobs"
-  "$top/bin/zsched" pool --workers 1 --budget "$budget" <"$work/jobs" | head -n 1 >"$work/want"
+  "$zsched" pool --workers 1 --budget "$budget" <"$work/jobs" | head -n 1 >"$work/want"
   printf '%s' "$policy" | "$work/linked" retry "$budget" "$@" >"$work/out" && cmp -s "$work/out" "$work/want" ||
     wrong "retry $policy $*: $(cat "$work/out"), wanted $(cat "$work/want")"
 }

@@ -22,25 +22,7 @@ for zsched in "$top/crates/zsched/out/zsched" "$top/dist/zsched"; do
   fi
 done
 
-# installs those of these packages that are missing
-wants_packages() {
-  local missing=() package
-  for package in "$@"; do
-    dpkg-query -W -f '${Status}' "$package" 2>/dev/null | grep -q 'ok installed' || missing+=("$package")
-  done
-  [ "${#missing[@]}" -gt 0 ] || return 0
-  if [ "$(id -u)" != 0 ] || ! command -v apt-get >/dev/null; then
-    fails "these packages of Debian are missing: ${missing[*]}"
-  fi
-  echo "tests/python.sh: installs ${missing[*]}"
-  export RUNLEVEL=1 DEBIAN_FRONTEND=noninteractive
-  if ! { apt-get update && apt-get install -y --no-install-recommends "${missing[@]}"; } >"$work/apt" 2>&1; then
-    tail -n 20 "$work/apt" >&2
-    fails "these packages can't be installed: ${missing[*]}"
-  fi
-}
-
-wants_packages python3-pytest python3-tenacity python3-requests python3-urllib3 python3-redis redis-server mypy \
+"$top/tests/packages.sh" python3-pytest python3-tenacity python3-requests python3-urllib3 python3-redis redis-server mypy \
   python3-pip python3-setuptools python3-wheel python3-venv binutils
 
 echo "tests/python.sh: types"

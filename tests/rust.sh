@@ -6,17 +6,9 @@ top=$(cd "$(dirname "${BASH_SOURCE[0]}")/.." && pwd)
 export HIKEBOX_LIB_DIR=${HIKEBOX_LIB_DIR:-$top/dist}
 export HIKEBOX_ZSCHED=${HIKEBOX_ZSCHED:-$top/crates/zsched/out/zsched}
 
-missing=()
-for package in librust-tokio-dev librust-tower-dev librust-backoff-dev librust-retry-dev librust-criterion-dev librust-libc-dev \
-  librust-serde-json-dev librust-crc32fast-dev; do
-  dpkg -s "$package" >/dev/null 2>&1 || missing+=("$package")
-done
-command -v cargo >/dev/null || missing+=(cargo)
-if [ ${#missing[@]} -gt 0 ]; then
-  echo "tests/rust.sh: installing ${missing[*]}" >&2
-  apt-get update -qq >&2
-  DEBIAN_FRONTEND=noninteractive apt-get install -y -qq --no-install-recommends "${missing[@]}" >&2
-fi
+command -v cargo >/dev/null || "$top/tests/packages.sh" cargo
+"$top/tests/packages.sh" librust-tokio-dev librust-tower-dev librust-backoff-dev librust-retry-dev librust-criterion-dev \
+  librust-libc-dev librust-serde-json-dev librust-crc32fast-dev
 
 cd "$top/rust"
 cargo test --offline --quiet --all-features
