@@ -167,7 +167,7 @@ refuses_polls() {
       [ "$status" = 5 ] && is_front || wrong "$growth" "$status" refused_polls
     fi
   done
-  [ "$status" = 0 ] && cmp -s "$work/out" "$work/out.whole" && [ "$(sort -u "$work/shown" | wc -l)" = 29 ] ||
+  [ "$status" = 0 ] && cmp -s "$work/out" "$work/out.whole" && [ "$(sort -u "$work/shown" | wc -l)" = 38 ] ||
     wrong none "$status" refused_polls
   echo "tests/refused_memory.sh: refused_polls: $(wc -l <"$work/shown") of $((growth - 1)) growths refused in a poll"
 }

@@ -1,17 +1,20 @@
-//! Polls a retry, a retry with a fallback and a repeat by hand, and prints what each shows after each poll.
+//! Polls a retry, a retry with a fallback, a repeat and a retry of calls by hand, and prints what each shows after each
+//! poll.
 //!
 //! A script runs it with each growth refused in turn; status 5 says that memory was refused to something else than a poll.
 #![tactic(auto)]
 
 ghost use Rattle.std.specs.Prelude.{◌≡◌, [], IfSome, is_some};
 
+mod counted;
 mod shown;
 mod spare;
 
+use counted::Counted;
 use futures::task::{Context, Doorbell, Poll, Queue};
 use sched_driver::Driver;
 use sched_plan::Plan;
-use sched_run::{How, Ran, Repeat, Retry, RetryOr, Scripted, Task};
+use sched_run::{Call, How, Ran, Repeat, Retry, RetryOr, Scripted, Task};
 use sched_ticket::Budget;
 use sched_time::{Millis, Moment, Tick};
 use shown::Shown;
@@ -44,7 +47,8 @@ fn queue_of_one(rt: &HostRuntime) -> Option<Queue> {
 fn poll_each(rt: &HostRuntime, cx: &mut Context<'_>) -> Option<()> {
     poll_retry(rt, cx)?;
     poll_retry_or(rt, cx)?;
-    poll_repeat(rt, cx)
+    poll_repeat(rt, cx)?;
+    poll_call(rt, cx)
 }
 
 // Polls the task eight times, and prints what it shows after each poll.
@@ -89,6 +93,16 @@ fn poll_repeat(rt: &HostRuntime, cx: &mut Context<'_>) -> Option<()> {
     let effect = scripted(alloc, &[won()])?;
     let mut repeat = Repeat::new(alloc, effect, spaced(alloc, 5)?);
     poll_all(rt, "repeat", &mut repeat, cx)
+}
+
+// A retry of calls, of which five fail and the sixth succeeds.
+fn poll_call(rt: &HostRuntime, cx: &mut Context<'_>) -> Option<()> {
+    let alloc = rt.alloc();
+    let effect = Call::new(alloc, Counted::new(5));
+    let driver = spaced(alloc, 9)?;
+    let (budget, pass) = Budget::new(alloc, 9).ok()?;
+    let mut retry = Retry::new(alloc, effect, driver, pass, &budget);
+    poll_all(rt, "call", &mut retry, cx)
 }
 
 fn lost() -> Ran {

@@ -20,7 +20,7 @@ pub trait Shown {
     fn runs(&self) -> &[Ran];
 }
 
-impl<'a> Shown for Retry<'a, Scripted> {
+impl<'a, X: Effect> Shown for Retry<'a, X> {
     fn driver(&self) -> &Driver {
         Retry::driver(self)
     }
