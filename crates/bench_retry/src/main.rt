@@ -1,8 +1,8 @@
 //! Polls retries by hand: `bench_retry [WHAT] [PLAN] [ROUNDS]`; a round of `retry` of `pair` where nothing is said.
 //!
-//! WHAT is `retry`, a thousand retries of an effect that fails each time, `step`, a thousand steps of its driver alone, or
-//! `wait`, a thousand polls of a retry that waits. PLAN is `pair` or `spaced`. It prints a count and no time; a script
-//! measures it from outside.
+//! WHAT is `retry`, a thousand retries of an effect that fails each time, `step`, a thousand steps of its driver alone,
+//! or `wait`, a thousand polls of a retry that waits. PLAN is `pair` or `spaced`. It prints a count and no time; a
+//! script measures it from outside.
 #![tactic(auto)]
 
 ghost use Rattle.std.specs.Prelude.{◌≡◌, [], IfSome};

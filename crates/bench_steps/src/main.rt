@@ -1,6 +1,6 @@
 //! Steps a schedule in place: `bench_steps [PLAN] [EVENTS] [driver]`, where PLAN is `pair`, `fixed`, `tree`, `crossed`,
-//! `exponential`, `retry` or `rounds`; of `pair` and 1,000 events where nothing is said. With `driver` a driver steps it,
-//! which keeps a journal. It prints where the run ended and no time; a script measures it from outside.
+//! `exponential`, `retry` or `rounds`; of `pair` and 1,000 events where nothing is said. With `driver` a driver steps
+//! it, which keeps a journal. It prints where the run ended and no time; a script measures it from outside.
 #![tactic(auto)]
 
 ghost use Rattle.std.specs.Prelude.{ℕ, ◌≤◌, IfOk};
@@ -57,8 +57,8 @@ fn crossed(alloc: Global) -> Result<Plan, PlanFault> {
     Plan::follow(alloc, tree(alloc, 6, false)?, Plan::spaced(1)?)
 }
 
-/// Eight nodes: an exponential back-off, each wait a little longer, capped and jittered, within a time and so many times,
-/// with the waits as output.
+/// Eight nodes: an exponential back-off, each wait a little longer, capped and jittered, within a time and so many
+/// times, with the waits as output.
 fn retry(alloc: Global) -> Result<Plan, PlanFault> {
     let waits = Plan::add(alloc, 5, Plan::exponential(100, 2)?)?;
     let waits = Plan::jitter(alloc, 0, 800, 1200, Plan::cap(alloc, 1000, waits)?)?;

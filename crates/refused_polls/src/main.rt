@@ -1,7 +1,8 @@
 //! Polls a retry, a retry with a fallback, a repeat and a retry of calls by hand, and prints what each shows after each
 //! poll.
 //!
-//! A script runs it with each growth refused in turn; status 5 says that memory was refused to something else than a poll.
+//! A script runs it with each growth refused in turn; status 5 says that memory was refused to something else than a
+//! poll.
 #![tactic(auto)]
 
 ghost use Rattle.std.specs.Prelude.{◌≡◌, [], IfSome, is_some};

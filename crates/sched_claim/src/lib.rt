@@ -1,7 +1,7 @@
 //! Numbered jobs that any number of workers claim, each job once, with no lock and no wait.
 //!
-//! The number of jobs is the limit of a budget of its own, and a claim is a draw of it. Each worker has a `Share`, which
-//! keeps the jobs that it claimed and has not closed. Nothing is allocated once the shares are made.
+//! The number of jobs is the limit of a budget of its own, and a claim is a draw of it. Each worker has a `Share`,
+//! which keeps the jobs that it claimed and has not closed. Nothing is allocated once the shares are made.
 #![tactic(auto)]
 
 mod claims;

@@ -1,4 +1,5 @@
-//! What the program `zsched` reads and writes: its command line, and what it prints of pools; and what it prints of plans.
+//! What the program `zsched` reads and writes: its command line, and what it prints of pools; and what it prints of
+//! plans.
 #![tactic(auto)]
 
 mod faults;

@@ -26,7 +26,7 @@ abbrev pub HasRoom : Driven → ℕ → Type 0
 HasRoom d now = (last_moment d.journal ≤ now) × (length d.journal < 65536)
 
 -- Each refusal comes only in its own case, tested in this order: a moment before that of the journal's last event, then
--- a full journal, then want of memory.
+-- a full journal, then a growth that was refused.
 abbrev pub Refuses : Driven → ℕ → DriveFault → Type 0
 Refuses d now (Backwards floor) = (floor ≡ last_moment d.journal) × (now < floor)
 Refuses d now JournalFull = (last_moment d.journal ≤ now) × (length d.journal ≡ 65536)

@@ -86,7 +86,7 @@ impl Driver {
     /// Gives the plan one more event, also after `Done`, and answers what it decides: the next start, or `Done`.
     ///
     /// Refused as `Backwards` where the tick is before the journal's last event, as `JournalFull` where the journal
-    /// holds 65,536 events, and for want of memory; the driver is then unchanged, and the input dropped.
+    /// holds 65,536 events, and as `NoMemory`; the driver is then unchanged, and the input dropped.
     pub fn next(&mut self, alloc: Global, tick: Tick, input: Val) -> Result<Decision, DriveFault>
         ensures kept { IfOk result (λ _. self.new ≡ after self.old (event_of tick input)) }
         ensures decision { IfOk result (λ d. d ≡ (answer self.new.plan self.new.journal).decision) }

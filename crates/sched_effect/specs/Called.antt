@@ -10,7 +10,7 @@ pub record Calling (A : Type 0) : Type 0 where
   pub action : A
   pub runs : List Ran
 
--- The run that ended is what the action gave once. Where memory is wanting it was not taken.
+-- The run that ended is what the action gave once. Where memory is refused it was not taken.
 abbrev pub RunOnce : {A R : Type 0} → (A → R → A → Type 0) → A → Poll (Result R NoMemory) → A → Type 0
 RunOnce gives action (Ready (Ok run)) after = gives action run after
 RunOnce gives action (Ready (Err fault)) after = after ≡ action

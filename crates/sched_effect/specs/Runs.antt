@@ -18,14 +18,14 @@ module _ {I F : Type 0} (item_code : I → ℕ) (fault_code : F → ℕ) where
   ran_by (Ok item) = Won (item_code item)
   ran_by (Err fault) = Lost (fault_code fault)
 
-  -- the runs that a poll ended: one, or none where it is pending or memory is wanting
+  -- the runs that a poll ended: one, or none where it is pending or memory is refused
   abbrev pub ended_by : Poll (Result (Result I F) NoMemory) → List Ran
   ended_by (Ready (Ok run)) = ran_by run ∷ []
   ended_by (Ready (Err fault)) = []
   ended_by Pending = []
 
-  -- What a poll of a fallback leaves: the code of the fault and the output that it was asked with, and its answer, if it
-  -- has one yet. Of one that memory is wanting for nothing is said.
+  -- What a poll of a fallback leaves: the code of the fault and the output that it was asked with, and its answer, if
+  -- it has one yet. Nothing is said of one that ends as `NoMemory`.
   abbrev pub Falls : Poll (Result (Result I F) NoMemory) → ℕ → Datum → Option (ℕ × Datum) → Option Ran → Type 0
   Falls (Ready (Ok run)) code output asked answered = (asked ≡ Some (code, output)) × (answered ≡ Some (ran_by run))
   Falls (Ready (Err fault)) code output asked answered = Unit {0}

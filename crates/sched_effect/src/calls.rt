@@ -31,7 +31,7 @@ pub trait Action: Drop {
 }
 
 /// An effect whose runs take an action once each. It keeps the list of its finished runs: room for a run is reserved
-/// before the action is taken, so that nothing that finished is lost at want of memory.
+/// before the action is taken, so that nothing that finished is lost where memory is refused.
 #[derive(Drop)]
 pub struct Call<A: Action> {
     action: A,
@@ -72,7 +72,7 @@ impl<A: Action> Effect for Call<A> {
 
     ghost unused = { λ call new. new };
 
-    /// Takes the action once. Where memory is wanting it is not taken.
+    /// Takes the action once. Where memory is refused it is not taken.
     fn poll_run(
         &mut self,
         _cx: &mut Context<'_>,

@@ -21,7 +21,7 @@ pub trait Effect: Drop {
     ghost fresh: { Self → Type 0 };
 
     /// Polls the run under way, or begins one where there is none: the first poll, and each one after a `Ready`.
-    /// A run that ends is listed; one that is pending, or that ends for want of memory, is not.
+    /// A run that ends is listed; one that is pending, or that ends as `NoMemory`, is not.
     fn poll_run(
         &mut self,
         cx: &mut Context<'_>,

@@ -1,4 +1,4 @@
-//! What answers in the place of an effect that has failed for good.
+//! What answers instead of an effect that has failed for good.
 ghost use Rattle.std.specs.Prelude.{◌≡◌, ℕ, Option, option_map};
 ghost use Rattle.futures.specs.Task.{Keeps};
 ghost use Rattle.sched_plan.specs.Datum.{Datum};

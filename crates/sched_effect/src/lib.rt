@@ -1,5 +1,5 @@
-//! Effects that are run again and again: what a run leaves, an effect that follows a script, and a fallback for the last
-//! failure.
+//! Effects that are run again and again: what a run leaves, an effect that follows a script, and a fallback for the
+//! last failure.
 #![tactic(auto)]
 
 mod calls;

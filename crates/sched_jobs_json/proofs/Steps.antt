@@ -18,8 +18,8 @@ abbrev pub after : {A : Type 0} → List A → Result (List A) ReadFault → Res
 after front (Ok rest) = Ok (front ++ rest)
 after front (Err fault) = Err fault
 
--- So far the items before `rest` were found: the whole's answer is theirs with that of the rest, and memory that the rest
--- asks for the whole asks for.
+-- So far the items before `rest` were found: the whole's answer is theirs with that of the rest, and memory that the
+-- rest asks for the whole asks for.
 pub record GoesOn {A : Type 0} (reads : Data → Reading A) (all rest : Items) (found : List A) : Type 0 where
   pub answer : (each reads all).answer ≡ after found (each reads rest).answer
   pub asked : IsTrue (each reads rest).asked → IsTrue (each reads all).asked

@@ -20,7 +20,7 @@ out_of_range = record { answer = Err (Plan OutOfRange); asked = false }
 abbrev pub asking : {A : Type 0} → Reading A → Reading A
 asking r = record { answer = r.answer; asked = true }
 
--- a vector is the reading's list; only want of memory may come instead, and only where memory was asked for
+-- a vector is the reading's list; only `NoMemory` may come instead, and only where memory was asked for
 abbrev pub Lists : {A : Type 0} → Result (Vec A Global) ReadFault → Reading (List A) → Type 0
 Lists (Ok found) r = r.answer ≡ Ok found.items
 Lists (Err (Plan NoMemory)) r = IsTrue r.asked

@@ -1,4 +1,5 @@
--- Which jobs a JSON value spells, or the first fault found in it. An object has its members in the order of their names.
+-- Which jobs a JSON value spells, or the first fault found in it. An object has its members in the order of their
+-- names.
 use Rattle.std.specs.Prelude.{false, ℕ, zero, suc, nat_lt, ◌||◌, ◌&&◌, ◌==◌, if◌then◌else◌, bytes_eq, codes, List, [], ◌∷◌, Option, Some, None, Result, Ok, Err}
 use Rattle.serde_json.specs.Data.{Data, array, object, Items, no_items, item, no_members, member}
 use Rattle.sched_time.specs.declared.numbers.TheConstants.{FAR}
@@ -59,7 +60,8 @@ job_of plan runs =
 -- once their number is right, memory is asked for them
 abbrev pub job_with : Option (Data × Items) → Reading Job
 job_with None = not_a_plan
-job_with (Some (plan, runs)) = if (count runs == 0) || nat_lt 64 (count runs) then out_of_range else asking (job_of plan runs)
+job_with (Some (plan, runs)) =
+    if (count runs == 0) || nat_lt 64 (count runs) then out_of_range else asking (job_of plan runs)
 
 -- {"plan":PLAN,"runs":[RUN,..]}
 abbrev pub job_in : Data → Reading Job

@@ -63,7 +63,8 @@ impl JobRead {
 }
 
 /// The jobs that a JSON value spells, in order, or the first fault found: an array of at most 4,096 jobs, each an
-/// object of exactly the members `plan`, a plan, and `runs`, an array of 1 to 64 runs `{"won":CODE}` or `{"lost":CODE}`.
+/// object of exactly the members `plan`, a plan, and `runs`, an array of 1 to 64 runs `{"won":CODE}` or
+/// `{"lost":CODE}`.
 ///
 /// A value of another form is refused as `NotAPlan`, a number of jobs or runs and a code outside its range as
 /// `OutOfRange`. Of each job its members are looked at first, then the number of its runs, then its runs from left to

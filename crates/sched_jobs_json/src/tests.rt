@@ -19,7 +19,7 @@ fn jobs_of(alloc: Global, text: &str) -> Result<Vec<JobRead>, Fail> {
     Ok(read_jobs(alloc, &value)?)
 }
 
-// The fault of a JSON text, if it has one. Want of memory is no answer, but ends the test.
+// The fault of a JSON text, if it has one. `NoMemory` is no answer, but ends the test.
 fn fault_of(alloc: Global, text: &str) -> Result<Option<ReadFault>, Fail> {
     let value = Value::from_str(alloc, text)?;
     match read_jobs(alloc, &value).err() {

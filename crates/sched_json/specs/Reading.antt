@@ -12,7 +12,7 @@ pub record Reading (A : Type 0) : Type 0 where
   pub answer : Result A ReadFault
   pub asked : Bool
 
--- an answer is the reading's own; only want of memory may come instead, and only where memory was asked for
+-- an answer is the reading's own; only `NoMemory` may come instead, and only where memory was asked for
 abbrev pub Reads : {A : Type 0} → Result A ReadFault → Reading A → Type 0
 Reads (Err (Plan NoMemory)) r = IsTrue r.asked
 Reads answer r = answer ≡ r.answer

@@ -17,7 +17,8 @@ abbrev mutual
   items_code (item d ds) = gcons (datum_code d) (items_code ds)
 
 abbrev datum_at : ℕ → ℕ → Datum → Datum → Items → Datum
-datum_at tag n a b ds = cond (nat_eq tag 0) unit (cond (nat_eq tag 1) (num n) (cond (nat_eq tag 2) (pair a b) (list ds)))
+datum_at tag n a b ds =
+    cond (nat_eq tag 0) unit (cond (nat_eq tag 1) (num n) (cond (nat_eq tag 2) (pair a b) (list ds)))
 
 abbrev number_from : Gv → ℕ
 number_from (gnum n) = n

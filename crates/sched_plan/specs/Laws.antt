@@ -15,4 +15,5 @@ WholeFactorsAgree = (base factor : ℕ) → base ≤ FAR → 1 ≤ factor → fa
 
 -- no schedule goes on before the event that it answers
 abbrev pub StartsAreNotBefore : Type 0
-StartsAreNotBefore = (s : Schedule) (h : List Event) → last_moment h ≤ FAR → StartsBy (last_moment h) (answer s h).decision
+StartsAreNotBefore =
+    (s : Schedule) (h : List Event) → last_moment h ≤ FAR → StartsBy (last_moment h) (answer s h).decision

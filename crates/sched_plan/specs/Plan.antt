@@ -26,7 +26,7 @@ built_plan s =
     if nat_lt 32 (depth_of s) then Err TooDeep else
     if nat_lt 256 (nodes_of s) then Err TooMany else Ok s
 
--- a builder that takes memory answers so too, and refuses for want of memory only where no other refusal comes
+-- a builder that takes memory answers so too, and fails with `NoMemory` only where no other refusal comes
 abbrev pub Builds : Result Schedule PlanFault → Schedule → Type 0
 Builds (Err NoMemory) s = built_plan s ≡ Ok s
 Builds r s = r ≡ built_plan s

@@ -36,7 +36,8 @@ leaf_in_range (Fixed length) = nat_le 1 length && nat_le length FAR
 leaf_in_range (Windowed length) = nat_le 1 length && nat_le length FAR
 leaf_in_range (Linear delay) = nat_le delay FAR
 leaf_in_range (Exponential base factor) = nat_le base FAR && (nat_le 1 factor && nat_le factor 1000)
-leaf_in_range (ExponentialMilli base thousandths) = nat_le base FAR && (nat_le 1 thousandths && nat_le thousandths 1000000)
+leaf_in_range (ExponentialMilli base thousandths) =
+    nat_le base FAR && (nat_le 1 thousandths && nat_le thousandths 1000000)
 leaf_in_range (Fibonacci delay) = nat_le delay FAR
 leaf_in_range Elapsed = true
 leaf_in_range Identity = true

@@ -42,7 +42,7 @@ pub enum One {
     Gather(Fold),
     /// Each delay made longer by this much.
     Add(Millis),
-    /// This delay in the place of each.
+    /// This delay instead of each.
     Set(Millis),
     /// Each delay, but at most this one.
     Cap(Millis),

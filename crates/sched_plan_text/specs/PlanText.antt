@@ -39,7 +39,8 @@ decision_text Done = codes " done"
 -- the line of a history's last event: `MOMENT: OUTPUT next START` or `MOMENT: OUTPUT done`
 abbrev pub line_text : Schedule → List Event → List ℕ
 line_text s h =
-    decimal (last_moment h) ++ codes ": " ++ text_of (answer s h).output ++ decision_text (answer s h).decision ++ codes "\n"
+    decimal (last_moment h) ++ codes ": " ++ text_of (answer s h).output
+    ++ decision_text (answer s h).decision ++ codes "\n"
 
 -- a line for each event
 abbrev pub lines_text : Schedule → List Event → List ℕ

@@ -17,7 +17,8 @@ joined (xs ∷ rest) = xs ++ joined rest
 
 -- The ends of so many jobs, the pass that was handed in before, the pass for all of them, and how many tickets the jobs
 -- were granted.
-pub record IsEnd (budget : Name) (jobs : ℕ) (before : Held) (ends : List Past) (pass : Held) (granted : ℕ) : Type 0 where
+pub record IsEnd (budget : Name) (jobs : ℕ) (before : Held) (ends : List Past) (pass : Held) (granted : ℕ)
+    : Type 0 where
   pub all : length ends ≡ jobs
   -- each job keeps the law of a retry
   pub laws : All (Law retry) ends
@@ -41,7 +42,7 @@ abbrev pub has_refused : List Past → Bool
 has_refused ends = list_any (λ v. is_refused v.over) ends
 
 -- What is true where a budget is closed with the pass of all jobs.
-pub record Agrees (budget : Name) (before : Held) (ends : List Past) (pass : Held) (granted : ℕ) (limit : ℕ) : Type 0 where
+pub record Agrees (budget : Name) (before : Held) (ends : List Past) (pass : Held) (granted limit : ℕ) : Type 0 where
   -- the tickets are those handed in and those granted
   pub count : length pass.has.tickets ≡ length before.has.tickets + granted
   -- they are the limit where a job was refused and the budget was never raised

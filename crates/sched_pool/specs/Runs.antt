@@ -24,4 +24,5 @@ module _ {X N I F : Type 0} where
   StopFits budget board pass workers (NoMemory b p) = CanRun board workers × (b.jobs ≡ board.jobs) × (p ≡ pass)
   StopFits budget board pass workers (NotStarted b p) = CanRun board workers × (b.jobs ≡ board.jobs) × (p ≡ pass)
   StopFits budget board pass workers (TurnsSpent e) =
-      CanRun board workers × IsEnd budget board.jobs pass e.jobs.items e.pass e.granted × (all_over e.jobs.items ≡ false)
+      CanRun board workers × IsEnd budget board.jobs pass e.jobs.items e.pass e.granted
+      × (all_over e.jobs.items ≡ false)

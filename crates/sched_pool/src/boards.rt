@@ -70,9 +70,9 @@ impl<'a, X: Effect, N: Naming> Board<'a, X, N> {
         self.jobs.len()
     }
 
-    /// Adds a retry that was not polled, and answers its number. A refusal hands it back and leaves the board as it was:
-    /// `Sealed` where the jobs were shared out, `BoardFull` where there are 4,096 jobs, `NoMemory` where a growth was
-    /// refused.
+    /// Adds a retry that was not polled, and answers its number. A refusal hands it back and leaves the board as it
+    /// was: `Sealed` where the jobs were shared out, `BoardFull` where there are 4,096 jobs, `NoMemory` where a growth
+    /// was refused.
     pub fn add(&mut self, retry: Retry<'a, X>) -> Result<usize, AddRefused<'a, X>>
         requires of { retry.budget ≡ N.budget }
         requires new { retry.past ≡ nothing_yet retry.past.driver.plan }
@@ -90,6 +90,7 @@ impl<'a, X: Effect, N: Naming> Board<'a, X, N> {
             AddFault::NoMemory
         } else {
             let number = self.jobs.len();
+            // For the proof alone: by the law that this look tells, a retry that was not polled has no ending to take.
             let _ = retry.over();
             self.jobs.push_reserved(Mutex::new(Job::new(retry)));
             return Ok(number);

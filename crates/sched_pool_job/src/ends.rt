@@ -113,8 +113,8 @@ impl<X: Effect> JobEnd<X> {
         self.ending.as_ref()
     }
 
-    /// How many tickets it was granted. They are as many as the journal's events, less one where the schedule was done or
-    /// the budget refused a ticket.
+    /// How many tickets it was granted. They are as many as the journal's events, less one where the schedule was done
+    /// or the budget refused a ticket.
     pub fn granted(&self) -> u64
         ensures granted { result ≡ self.now.granted }
         ensures events { result + bit (is_stop self.now.over) ≡ length self.now.driver.journal }

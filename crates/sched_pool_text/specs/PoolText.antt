@@ -30,7 +30,8 @@ ending_text None code = codes "not over"
 -- `job K: ENDING, granted G`
 abbrev pub line_text : ℕ → Option How → List Ran → ℕ → List ℕ
 line_text number how runs granted =
-    codes "job " ++ decimal number ++ codes ": " ++ ending_text how (last_code runs) ++ codes ", granted " ++ decimal granted ++ codes "\n"
+    codes "job " ++ decimal number ++ codes ": " ++ ending_text how (last_code runs)
+    ++ codes ", granted " ++ decimal granted ++ codes "\n"
 
 -- the line of a job with this number
 abbrev pub job_text : ℕ → Past → List ℕ

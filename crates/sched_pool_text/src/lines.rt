@@ -7,8 +7,8 @@ use sched_time::NoMemory;
 use std::alloc::Global;
 use std::fmt::Write;
 
-/// The line of one job, with the line feed at its end: `job K: won C, granted G` and the like, where C is the code of its
-/// last finished run. Fails only with `NoMemory`.
+/// The line of one job, with the line feed at its end: `job K: won C, granted G` and the like, where C is the code of
+/// its last finished run. Fails only with `NoMemory`.
 pub fn job_line(
     alloc: Global,
     number: usize,

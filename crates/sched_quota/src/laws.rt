@@ -18,8 +18,8 @@ pub fn windows_are_kept()
     ensures counted { LatestIsCounted }
 {}
 
-/// A pass is refused for want of room only where so many tickets were given in that window as the requests that it read
-/// allow; what a pass has seen was counted.
+/// A pass finds no ticket left only where at least as many tickets were given in that window as the requests that it
+/// read allow; what a pass has seen was counted.
 pub fn refusals_are_just()
     ensures refusals { RefusalsAreJust }
     ensures sight { SightIsTrue }

@@ -3,7 +3,7 @@
 //! | Step | On the word | The stepping pass |
 //! |---|---|---|
 //! | `Read` | requests are read | has seen them |
-//! | `Open` | requests become a window's first number, where they are less | has opened that window, and has seen them |
+//! | `Open` | requests become a window's first number, where they are less | has opened that window, and seen them |
 //! | `Count` | 1 more request | gains its number |
 //! | `Find` | draws are read | has found them |
 //! | `Win` | draws become the one after its next ticket, where they are what it found | gains the ticket, or a loss |

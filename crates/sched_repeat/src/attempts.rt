@@ -10,8 +10,8 @@ use sched_task_law::{Polled, Runner};
 use sched_time::Tick;
 use std::alloc::Global;
 
-// Polls the run under way, or begins one; a success steps the schedule. Answers the ending that this comes to, or `None`
-// where the repeat goes on.
+// Polls the run under way, or begins one; a success steps the schedule. Answers the ending that this comes to, or
+// `None` where the repeat goes on.
 pub(crate) fn poll_attempt<X: Effect>(
     alloc: Global,
     runner: &mut Runner<X>,

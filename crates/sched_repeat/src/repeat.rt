@@ -18,7 +18,8 @@ use sched_time::{Moment, Tick};
 use std::alloc::Global;
 use std::marker::Model;
 
-/// An effect that is run again after each success, as its driver's schedule says, until it fails or the schedule is done.
+/// An effect that is run again after each success, as its driver's schedule says, until it fails or the schedule is
+/// done.
 #[derive(Drop)]
 pub struct Repeat<X: Effect> {
     runner: Runner<X>,
@@ -59,9 +60,9 @@ impl<X: Effect> Repeat<X> {
 
     /// Polls the repeat once at the tick, and is ready where it is over.
     ///
-    /// A run is polled, or begun, save where the repeat is over or waits for a later moment. A failure ends it. A success
-    /// steps the schedule; where that goes on, the repeat waits for the start planned. A refused step or growth ends it as
-    /// `Broken`.
+    /// A run is polled, or begun, unless the repeat is over or waits for a later moment. A failure ends it. A
+    /// success steps the schedule; where that goes on, the repeat waits for the start planned. A refused step or growth
+    /// ends it as `Broken`.
     pub fn poll_at(&mut self, alloc: Global, tick: &Tick, cx: &mut Context<'_>) -> Poll<()>
         ensures poll { RepeatPoll self.old tick.entry.now (is_ready result) self.new }
         ensures answers { is_ready result ≡ is_some self.new.past.over }

@@ -23,8 +23,8 @@ use sched_time::{Moment, Tick};
 use std::alloc::Global;
 use std::marker::Model;
 
-/// An effect that is run until it succeeds, again after each failure as its driver's schedule says, with a ticket of the
-/// budget for each retry.
+/// An effect that is run until it succeeds, again after each failure as its driver's schedule says, with a ticket of
+/// the budget for each retry.
 #[derive(Drop)]
 pub struct Retry<'a, X: Effect> {
     runner: Runner<X>,
@@ -82,9 +82,9 @@ impl<'a, X: Effect> Retry<'a, X> {
 
     /// Polls the retry once at the tick, and is ready where it is over.
     ///
-    /// A run is polled, or begun, save where the retry is over or waits for a later moment. A success ends it. A failure
-    /// steps the schedule; where that goes on, a ticket is drawn, and with one the retry waits for the start planned.
-    /// A refused step or growth ends it as `Broken`.
+    /// A run is polled, or begun, unless the retry is over or waits for a later moment. A success ends it. A
+    /// failure steps the schedule; where that goes on, a ticket is drawn, and with one the retry waits for the start
+    /// planned. A refused step or growth ends it as `Broken`.
     pub fn poll_at(&mut self, alloc: Global, tick: &Tick, cx: &mut Context<'_>) -> Poll<()>
         ensures poll { RetryPoll retry self.old tick.entry.now (is_ready result) self.new }
         ensures answers { is_ready result ≡ is_some self.new.past.over }

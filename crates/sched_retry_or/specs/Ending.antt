@@ -11,9 +11,11 @@ use Rattle.sched_retry_or.specs.declared.endings.RetryOrEnding.{RetryOrEnding}
 use Rattle.sched_retry_or.specs.declared.endings.RetryOrEnding.TheVariants.{Won, Fallen, Cancelled, Broken}
 
 module _ {I F : Type 0} (item_code : I → ℕ) (fault_code : F → ℕ) where
-  -- an ending says how the task is over; a success has the code of the last run, and what the fallback gave is its answer
+  -- an ending says how the task is over; a success has the code of the last run, and what the fallback gave is its
+  -- answer
   abbrev pub RetryOrFits : Option How → List Ran → Option Ran → RetryOrEnding I F → Type 0
-  RetryOrFits over runs answered (Won item) = (over ≡ Some how.Won) × (last_element runs ≡ Some (ran.Won (item_code item)))
+  RetryOrFits over runs answered (Won item) =
+      (over ≡ Some how.Won) × (last_element runs ≡ Some (ran.Won (item_code item)))
   RetryOrFits over runs answered (Fallen run) =
       (is_stop over ≡ true) × (answered ≡ Some (ran_by item_code fault_code run))
   RetryOrFits over runs answered Cancelled = over ≡ Some how.Cancelled

@@ -27,8 +27,8 @@ stops_refused None = false
 stops_refused (Some stopped) = is_refused (Some stopped.how)
 
 module _ {I F : Type 0} (item_code : I → ℕ) (fault_code : F → ℕ) where
-  -- What a poll of the fallback comes to, with what it was asked and has answered then. Of one that memory is wanting for
-  -- nothing is said.
+  -- What a poll of the fallback comes to, with what it was asked and has answered then. Nothing is said of one that
+  -- ends as `NoMemory`.
   abbrev pub Asked : Stopped F → Datum → Option (How × RetryOrEnding I F) → Option (ℕ × Datum) → Option Ran → Type 0
   Asked stopped output None asked answered = (asked ≡ Some (fault_code stopped.fault, output)) × (answered ≡ None)
   Asked stopped output (Some (over, Fallen run)) asked answered =

@@ -7,7 +7,7 @@ use sched_task::RunFault;
 pub enum RetryOrEnding<I: Drop, F: Drop> {
     /// The first success.
     Won(I),
-    /// What the fallback gave in the place of the last failure.
+    /// What the fallback gave instead of the last failure.
     Fallen(Result<I, F>),
     /// It was cancelled.
     Cancelled,

@@ -97,8 +97,9 @@ impl<'a, X: Effect, F: Fallback<X>> RetryOr<'a, X, F> {
 
     /// Polls the retry once at the tick, and is ready where it is over.
     ///
-    /// It is polled as `Retry` is, save that it does not end where the schedule is done or the budget has no ticket: then
-    /// each later poll asks the fallback once, with the last failure and the driver's last output, until it answers.
+    /// It is polled as `Retry` is, except that it does not end where the schedule is done or the budget has no ticket:
+    /// then each later poll asks the fallback once, with the last failure and the driver's last output, until it
+    /// answers.
     pub fn poll_at(&mut self, alloc: Global, tick: &Tick, cx: &mut Context<'_>) -> Poll<()>
         ensures poll { FallingPoll self.old tick.entry.now (is_ready result) self.new }
         ensures answers { is_ready result ≡ is_some self.new.retrying.past.over }

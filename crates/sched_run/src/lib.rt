@@ -1,8 +1,9 @@
-//! Effects that are retried and repeated as a schedule says: the tasks, with what they are made of and what drives them.
+//! Effects that are retried and repeated as a schedule says: the tasks, with what they are made of and what drives
+//! them.
 //!
-//! A `Retry` runs an effect until it succeeds, again after each failure as its driver's schedule says, with a ticket of a
-//! shared budget for each retry. A `RetryOr` asks a fallback in the end, and a `Repeat` runs again after each success. Each
-//! is polled by hand with `poll_at`, or is a future by `Timed`, which `block_on` runs to its end.
+//! A `Retry` runs an effect until it succeeds, again after each failure as its driver's schedule says, with a ticket of
+//! a shared budget for each retry. A `RetryOr` asks a fallback in the end, and a `Repeat` runs again after each
+//! success. Each is polled by hand with `poll_at`, or is a future by `Timed`, which `block_on` runs to its end.
 //!
 //! All that one retry names is here: a program that stands on this crate alone needs no other line in crates.txt.
 #![tactic(auto)]

@@ -34,4 +34,5 @@ pub record AreRun (jobs : List Job) (limit : ℕ) (ends : List Past) (granted : 
 
 -- the ends of so many jobs on this budget, whose pass had no tickets before
 abbrev pub IsNewEnd : Name → ℕ → List Past → Held → ℕ → Type 0
-IsNewEnd budget jobs ends pass granted = (before : Held) × (before.has.tickets ≡ []) × IsEnd budget jobs before ends pass granted
+IsNewEnd budget jobs ends pass granted =
+    (before : Held) × (before.has.tickets ≡ []) × IsEnd budget jobs before ends pass granted

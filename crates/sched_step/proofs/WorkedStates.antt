@@ -1,5 +1,5 @@
--- Worked examples of states, computed with the definitions alone: what a node keeps after a history, the value that shows
--- it, and where it fits.
+-- Worked examples of states, computed with the definitions alone: what a node keeps after a history, the value that
+-- shows it, and where it fits.
 use Rattle.std.specs.Prelude.{◌≡◌, ℕ, true, false, List, [], ◌∷◌, Some, refl}
 use Rattle.sched_plan.specs.Datum.{Datum, unit, num, pair, list, items_of}
 use Rattle.sched_plan.specs.Schedule.{Schedule, leaf, one, two}

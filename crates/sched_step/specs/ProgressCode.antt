@@ -60,8 +60,8 @@ abbrev leaf_state_at : ℕ → Gv → Gv → LeafState
 leaf_state_at tag a b =
     let n = number_from a in
     let states =
-    Counted n ∷ Planned n (plan_from b) ∷ Windows n (moment_from b) ∷ Product n ∷ Scaled n ∷ Summands n (number_from b) ∷
-    Started (moment_from b) ∷ Blank ∷ Unfolded n ∷ Spent (nat_eq n 1) ∷ [] in
+    Counted n ∷ Planned n (plan_from b) ∷ Windows n (moment_from b) ∷ Product n ∷ Scaled n ∷ Summands n (number_from b)
+    ∷ Started (moment_from b) ∷ Blank ∷ Unfolded n ∷ Spent (nat_eq n 1) ∷ [] in
     get_or states tag Blank
 
 abbrev leaf_state_from : Gv → LeafState
@@ -107,7 +107,8 @@ progress_code (at_two t p q) = gcons (gnum 2) (gcons (turn_code t) (gcons (progr
 
 abbrev shape_at : ℕ → Gv → Progress → Progress → Progress
 shape_at tag k p q =
-    cond (nat_eq tag 0) (at_leaf (leaf_state_from k)) (cond (nat_eq tag 1) (at_one (kept_from k) p) (at_two (turn_from k) p q))
+    cond (nat_eq tag 0) (at_leaf (leaf_state_from k))
+    (cond (nat_eq tag 1) (at_one (kept_from k) p) (at_two (turn_from k) p q))
 
 abbrev progress_from : Gv → Progress
 progress_from (gcons (gnum tag) (gcons k (gcons p q))) = shape_at tag k (progress_from p) (progress_from q)

@@ -216,7 +216,8 @@ one_answers Second s e a = giving (second_part a.output) a
 one_answers Nothing s e a = silent a
 
 -- the node's step over that of the schedule under it, whose progress before the first event is `start`
-abbrev pub one_step : One → Progress → (Progress → Event → Progress × Answer) → Kept → Progress → Event → Progress × Answer
+abbrev pub one_step : One → Progress → (Progress → Event → Progress × Answer) →
+    Kept → Progress → Event → Progress × Answer
 one_step k start step s p e =
     let r = step (if begins k s e.now then start else p) e in
     (at_one (one_next k s e r.1) r.0, one_answers k s e r.1)
@@ -237,13 +238,15 @@ at_crossing a second b =
     if is_done a.1.decision then past_crossing a.0 b else (at_two Uncrossed a.0 second, a.1)
 
 -- one of two schedules in turn is stepped, and both at the crossing
-abbrev pub follow_step : (Progress → Event → Progress × Answer) → (Progress → Event → Progress × Answer) → Turn → Progress → Progress → Event → Progress × Answer
+abbrev pub follow_step : (Progress → Event → Progress × Answer) → (Progress → Event → Progress × Answer) →
+    Turn → Progress → Progress → Event → Progress × Answer
 follow_step front rest Together p q e = at_crossing (front p e) q (rest q e)
 follow_step front rest Uncrossed p q e = at_crossing (front p e) q (rest q e)
 follow_step front rest Crossed p q e = past_crossing p (rest q e)
 
 -- the node's step over those of both schedules
-abbrev pub two_step : Two → (Progress → Event → Progress × Answer) → (Progress → Event → Progress × Answer) → Turn → Progress → Progress → Event → Progress × Answer
+abbrev pub two_step : Two → (Progress → Event → Progress × Answer) → (Progress → Event → Progress × Answer) →
+    Turn → Progress → Progress → Event → Progress × Answer
 two_step Meet front rest t p q e =
     let a = front p e in let b = rest q e in side_by_side a b (meet_answer a.1 b.1)
 two_step Join front rest t p q e =

@@ -166,8 +166,8 @@ impl Kept {
         }
     }
 
-    /// Notes what the step under way makes of it, and makes of the output and decision of the plan under the node those of
-    /// the node.
+    /// Notes what the step under way makes of it, and makes of the output and decision of the plan under the node those
+    /// of the node.
     pub(crate) fn step(
         &mut self,
         walk: &Walk<'_>,

@@ -126,8 +126,8 @@ impl LeafState {
         }
     }
 
-    /// Notes in `next` the state after one more event, and makes `output` and `decision` what the leaf answers to it. It
-    /// takes memory for the output alone.
+    /// Notes in `next` the state after one more event, and makes `output` and `decision` what the leaf answers to it.
+    /// It takes memory for the output alone.
     pub(crate) fn step(
         &self,
         walk: &Walk<'_>,

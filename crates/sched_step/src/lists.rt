@@ -97,8 +97,8 @@ impl Listed {
         decision: Decision,
     ) -> Result<(), NoMemory>
         ensures present { self.new.present ≡ self.old.present }
-        ensures next { let before = (if walk.now.fresh then [] else self.old.present) in IfOk result (λ _. self.new.next ≡
-            (if goes_on decision then before ++ output.old ∷ [] else before)) }
+        ensures next { let before = (if walk.now.fresh then [] else self.old.present) in
+            IfOk result (λ _. self.new.next ≡ (if goes_on decision then before ++ output.old ∷ [] else before)) }
         ensures output { let before = (if walk.now.fresh then [] else self.old.present) in
             IfOk result (λ _. output.new ≡ list (items_of before)) }
     {

@@ -15,8 +15,8 @@ use std::alloc::Global;
 impl State {
     /// Steps the plan with one more event, in place, and gives what it answers. It takes memory for the output alone.
     ///
-    /// The state must fit the plan at the tick's moment, as that of `initial`, `renew` and every earlier step does where
-    /// moments don't fall. Fails only with `NoMemory`; the state is then unchanged.
+    /// The state must fit the plan at the tick's moment, as that of `initial`, `renew` and every earlier step does
+    /// where moments don't fall. Fails only with `NoMemory`; the state is then unchanged.
     pub fn advance(
         &mut self,
         alloc: Global,

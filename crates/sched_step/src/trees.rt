@@ -166,8 +166,8 @@ impl Tree {
         }
     }
 
-    /// The step under way is taken: it is now what it was to be. It takes no memory, and leaves what doesn't move alone.
-    /// Inlined as a step is.
+    /// The step under way is taken: it is now what it was to be. It takes no memory, and leaves what doesn't move
+    /// alone. Inlined as a step is.
     #[cycle(commit)]
     #[inline(always)]
     pub(crate) fn commit(&mut self)

@@ -30,9 +30,11 @@ module _ {S : Type 0} (reads : S → Option ℕ → S → Type 0) where
 
   -- The clock reads its source; where the moment waited for is later, it sleeps for as long as it is away, and tells
   -- the moment of one more reading.
-  pub record Waited (sleeps : S → ℕ → S → Type 0) (clock : Counting S) (until : ℕ) (moment : ℕ) (after : Counting S) : Type 0 where
+  pub record Waited (sleeps : S → ℕ → S → Type 0) (clock : Counting S) (until moment : ℕ) (after : Counting S)
+      : Type 0 where
     pub first : ℕ
     pub early : Counting S
     pub read : Told clock first early
     pub woke : ((until ≤ first) × (moment ≡ first) × (after ≡ early))
-        ⊎ ((first < until) × ((woken : S) × sleeps early.source (until - first) woken × Told (record early { source = woken }) moment after))
+        ⊎ ((first < until) × ((woken : S) × sleeps early.source (until - first) woken
+        × Told (record early { source = woken }) moment after))

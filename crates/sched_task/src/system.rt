@@ -61,7 +61,8 @@ impl<S> Model for SystemClock<S> {
 impl<S: TimeSource> SystemClock<S> {
     /// A clock at moment 0, as `SystemClock::new(&rt)?`. Where its source can't be read, its error is handed on.
     pub fn new(source: S) -> io::Result<SystemClock<S>>
-        ensures made { IfOk result (λ clock. (clock.last ≡ 0) × S.reads source (Some (instant_nanos clock.start)) clock.source) }
+        ensures made { IfOk result
+            (λ clock. (clock.last ≡ 0) × S.reads source (Some (instant_nanos clock.start)) clock.source) }
         ensures refused { IfErr result (λ _. (after : S) × S.reads source None after) }
     {
         let mut source = source;
@@ -88,7 +89,8 @@ impl<S: TimeSource> SystemClock<S> {
 impl<S: TimeSource> Clock for SystemClock<S> {
     ghost tells = { λ clock moment after. (clock.last ≤ moment) × Told S.reads clock moment after };
 
-    ghost waits = { λ clock until moment after. (clock.last ≤ moment) × Waited S.reads S.sleeps clock until moment after };
+    ghost waits = { λ clock until moment after.
+        (clock.last ≤ moment) × Waited S.reads S.sleeps clock until moment after };
 
     fn now(&mut self) -> Moment {
         let reading = self.source.read();

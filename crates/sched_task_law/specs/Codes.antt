@@ -65,7 +65,15 @@ coded_runs =
 abbrev pub coded_past : Coded Past
 coded_past =
     code_by (Driven × (List Ran × (List ℕ × (Option How × (Bool × ℕ)))))
-    (coded× coded_driven (coded× (coded_list coded_ran) (coded× (coded_list coded_ℕ) (coded× (coded_option coded_how) (coded× coded_bool coded_ℕ)))))
+    (coded× coded_driven (coded× (coded_list coded_ran) (coded× (coded_list coded_ℕ)
+    (coded× (coded_option coded_how) (coded× coded_bool coded_ℕ)))))
     (λ v. (v.driver, (v.runs, (v.begun, (v.over, (v.denied, v.granted))))))
-    (λ p. record { driver = p.0; runs = p.1.0; begun = p.1.1.0; over = p.1.1.1.0; denied = p.1.1.1.1.0; granted = p.1.1.1.1.1 })
+    (λ p. record {
+      driver = p.0;
+      runs = p.1.0;
+      begun = p.1.1.0;
+      over = p.1.1.1.0;
+      denied = p.1.1.1.1.0;
+      granted = p.1.1.1.1.1;
+    })
     (λ _. refl)

@@ -68,14 +68,16 @@ pub record Law (kind : Kind) (v : Past) : Type 0 where
   -- each run but the last calls for a step of the schedule, and the last calls for none exactly where it ended the task
   pub before_last : all_but_last (calls kind) v.runs ≡ true
   pub last : last_is (λ r. not (calls kind r)) v.runs ≡ is_final kind v.over
-  -- the journal has the codes of the runs that call for a step, in order; the last one's is missing where its step was refused
+  -- the journal has the codes of the runs that call for a step, in order; the last one's is missing where its step was
+  -- refused
   pub fed : (inputs v.driver.journal ≡ called_inputs kind v.runs) ⊎ LacksLast kind v
   -- the schedule goes on at each event but the last
   pub went_on : (n : ℕ) → 0 < n → n < length v.driver.journal →
       is_done (decision_on v.driver.plan (take n v.driver.journal)) ≡ false
   -- each run after the first was begun at or after the start that the schedule planned at the event before
   pub waited : (n : ℕ) → 0 < n → n < length v.begun → (n ≤ length v.driver.journal)
-      × IsSomeAnd (start_of (decision_on v.driver.plan (take n v.driver.journal))) (λ start. start ≤ slice_index v.begun n)
+      × IsSomeAnd (start_of (decision_on v.driver.plan (take n v.driver.journal)))
+      (λ start. start ≤ slice_index v.begun n)
   -- as many runs were begun as have finished, or one more; no run begins once the task is stopped
   pub counted : (length v.begun ≡ length v.runs) ⊎ HasOneMore v
   pub denied : v.denied ≡ true → IsDenied kind v

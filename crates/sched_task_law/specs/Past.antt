@@ -82,4 +82,5 @@ bit b = if b then 1 else 0
 
 -- what is over waits for nothing
 pub waits_for-over : (v : Past) → is_some v.over ≡ true → waits_for v ≡ None
-waits_for-over v over = ap (λ b. if b || (is_under_way v.runs v.begun || v.denied) then None else next_start_of v.driver) over
+waits_for-over v over =
+    ap (λ b. if b || (is_under_way v.runs v.begun || v.denied) then None else next_start_of v.driver) over

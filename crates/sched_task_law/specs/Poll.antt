@@ -24,7 +24,7 @@ pub data Happened : Type 0 where
   cannot_begin : Happened
   -- the run is not finished
   runs_on : Happened
-  -- memory is wanting for the run
+  -- memory is refused to the run
   cannot_run : Happened
   -- the run finishes and calls for no step of the schedule
   ends : Ran → Happened
@@ -38,7 +38,7 @@ pub data Happened : Type 0 where
   recurs : Ran → Happened
   -- the fallback has no answer yet
   asks : Happened
-  -- memory is wanting for the fallback
+  -- memory is refused to the fallback
   cannot_ask : Happened
   -- the fallback answers
   falls : Happened
@@ -67,7 +67,7 @@ stepped v t r = record v {
   driver = driven_after v.driver (step_event t r);
 }
 
--- a stop ends the task, save where a fallback is asked
+-- a stop ends the task, unless a fallback is asked
 abbrev pub stop : Kind → How → Option How
 stop kind how = if falls_back kind then None else Some how
 

@@ -1,4 +1,5 @@
--- What the rule says in the words of whoever uses a budget. Each law is the contract of a function of the module `laws`.
+-- What the rule says in the words of whoever uses a budget. Each law is the contract of a function of the module
+-- `laws`.
 use Rattle.std.specs.Prelude.{◌≡◌, ◌≢◌, ℕ, ◌+◌, ◌<◌, ◌≤◌, false, List, length, min}
 use mathlib.Core.Option.{some}
 use lib.ListN.{get_elem?}

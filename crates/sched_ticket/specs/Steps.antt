@@ -29,7 +29,8 @@ abbrev pub counts : Then
 counts s m made n =
     (made < 65536 → Sees m n (with_part m.0)) × (65536 ≤ made → Sees m n (with_refused_split m.0))
 
--- a pass's tickets never pass the limit: that of a budget that keeps its limit, else the greatest that the pass has found
+-- a pass's tickets never pass the limit: that of a budget that keeps its limit, else the greatest that the pass has
+-- found
 pub record IsWithin (v : View) : Type 0 where
   pub few : length v.tickets ≤ v.floor
   pub fixed : v.terms.rises ≡ false → v.floor ≡ v.terms.limit

@@ -6,7 +6,8 @@ ghost use Rattle.sched_ticket.specs.Laws.{FloorsStayBelow, LimitIsRaised, Passes
 ghost use Rattle.sched_ticket.specs.Laws.{PassesAreCounted, EachIsRefusedOnce, WordsStaySmall, SplitsAreRefusedLate};
 ghost use Rattle.sched_ticket.specs.Laws.{SoleIsAlone, SharedHasAnother};
 
-/// Each number drawn is in one pass, as a ticket or as a refused number, and the draws are the tickets and the refusals.
+/// Each number drawn is in one pass, as a ticket or as a refused number, and the draws are the tickets and the
+/// refusals.
 pub fn numbers_stand_once()
     ensures once { NumbersStandOnce }
     ensures counted { DrawsAreCounted }
@@ -20,8 +21,8 @@ pub fn tickets_stand_once()
     ensures refusals { RefusalsAreLate }
 {}
 
-/// The tickets never pass the limit, of a rising budget its limit at that moment: that is the first one, or the greatest
-/// that a pass raised it to.
+/// The tickets never pass the limit, of a rising budget its limit at that moment: that is the first one, or the
+/// greatest that a pass raised it to.
 pub fn tickets_stay_below()
     ensures all { TicketsStayBelow }
     ensures each { EachTicketIsBelow }

@@ -1,9 +1,9 @@
 //! A retry budget that all workers share: tickets drawn by any number of threads, each once, with an exact total.
 //!
 //! A `Budget` is a table of three words, drawn, made and limit, under one rule. A `Pass` is the right to step on
-//! them: a thread draws tickets with its pass, splits a pass for another thread, and joins the passes of threads that have
-//! ended. Whoever has joined every pass closes the budget and learns how many tickets were drawn. There is no lock, no
-//! call waits, and no memory is taken after the budget is made.
+//! them: a thread draws tickets with its pass, splits a pass for another thread, and joins the passes of threads that
+//! have ended. Whoever has joined every pass closes the budget and learns how many tickets were drawn. There is no
+//! lock, no call waits, and no memory is taken after the budget is made.
 #![tactic(auto)]
 
 mod budget;

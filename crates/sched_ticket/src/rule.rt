@@ -3,13 +3,13 @@
 //! | Step | On the word | The stepping pass |
 //! |---|---|---|
 //! | `Draw` | 1 more drawn | gains the number found: a ticket below its floor, else a refusal |
-//! | `Count` | 1 more made | stands for one more, and counts a split, where fewer than 65,536 were made; else gains a refused split |
+//! | `Count` | 1 more made | stands for one more, by a split, where fewer than 65,536 were made; else a refused split |
 //! | `Part` | none changes | gives that one to a new pass |
 //! | `Merge` | none changes | takes in another pass, which is spent |
 //! | `Learn` | none changes | learns that its tickets are distinct |
 //! | `Look` | made is read | is marked sole or shared |
 //! | `ReadLimit` | limit is read | its floor becomes the limit |
-//! | `Raise` | limit becomes the greater of itself and the number given | its floor becomes the new limit, and it keeps the greatest number that it gave |
+//! | `Raise` | limit becomes at least the number given | its floor becomes the limit; it keeps the greatest it gave |
 ghost use Rattle.sched_ticket.specs.Rule.{IsKept};
 ghost use Rattle.sched_ticket.specs.View.{first_view, blank_view, without_part, part_of, both};
 ghost use Rattle.sched_ticket.specs.Steps.{draws, counts, learns, looks, reads_limit, raises};
@@ -17,7 +17,8 @@ ghost use Rattle.sched_ticket.specs.Steps.{draws, counts, learns, looks, reads_l
 use crate::view::{Terms, View};
 use atomic_table::{Join, Play, Split, TableRule};
 
-/// The word that counts the numbers drawn. Each word has cache lines of its own: steps on one slow down none on another.
+/// The word that counts the numbers drawn. Each word has cache lines of its own: steps on one slow down none on
+/// another.
 pub(crate) const DRAWN: usize = 0;
 
 /// The word that counts the passes made.

@@ -93,7 +93,8 @@ module _ {T C : Type 0} (ended : T → Option How) (waits_for : T → Option ℕ
   abbrev pub ArePolls : Standing T C → List (Poll T C) → Standing T C → Type 0
   ArePolls loop [] after = IsIdle tells waits loop after
   ArePolls loop (poll ∷ polls) after =
-      ((before : Standing T C) × IsIdle tells waits loop before × IsPoll before poll × ArePolls (polled before poll) polls after)
+      ((before : Standing T C) × IsIdle tells waits loop before × IsPoll before poll
+      × ArePolls (polled before poll) polls after)
 
   -- a loop's course: at most so many polls
   pub record IsCourse (most : ℕ) (loop after : Standing T C) : Type 0 where

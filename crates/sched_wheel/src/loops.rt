@@ -41,8 +41,8 @@ impl WheelLoop {
     /// Polls the tasks, each when its moment has come, until all are over.
     ///
     /// It takes at most this many turns, and answers how many. A turn is one poll of a task that is not over, with a
-    /// fresh answer of the clock and four words of the generator, or one wait. It waits only where every task that is not
-    /// over waits for a moment after the clock's last answer, and then for the least of these.
+    /// fresh answer of the clock and four words of the generator, or one wait. It waits only where every task that is
+    /// not over waits for a moment after the clock's last answer, and then for the least of these.
     ///
     /// Refused as `NoMemory` and, where all turns were taken and a task is not over, as `TurnsSpent`; the tasks then
     /// stand as their polls left them, and a further call goes on.
@@ -173,8 +173,8 @@ fn wait_for_least<C: Clock>(agenda: &mut Agenda, clock: &mut C) -> Result<bool, 
     Ok(true)
 }
 
-// The next task to poll, at a fresh answer of the clock. One that waits for a moment after that answer, as after a clock
-// that went back, is put back.
+// The next task to poll, at a fresh answer of the clock. One that waits for a moment after that answer, as after a
+// clock that went back, is put back.
 fn next_due<T: Task, C: Clock>(
     agenda: &mut Agenda,
     tasks: &[T],

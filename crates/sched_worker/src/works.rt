@@ -40,12 +40,12 @@ pub enum Finish {
 /// Works through a share: claims jobs, drives them until all are over, and claims again, until no job is left.
 ///
 /// It begins with the jobs that the share keeps, and drives at most as many at a time as the station holds. It takes at
-/// most `turns` turns: a turn is one poll of a job, one look at a gate that is not ready for it, or one wait for the least
-/// moment that a job waits for. A poll takes four words of the station's generator, which gives no others. A job is locked
-/// for each poll of it, not between polls.
+/// most `turns` turns: a turn is one poll of a job, one look at a gate that is not ready for it, or one wait for the
+/// least moment that a job waits for. A poll takes four words of the station's generator, which gives no others. A job
+/// is locked for each poll of it, not between polls.
 ///
-/// Where it stops before all is over, the share keeps the jobs that it claimed and has not seen over, and a further call
-/// goes on with them.
+/// Where it stops before all is over, the share keeps the jobs that it claimed and has not seen over, and a further
+/// call goes on with them.
 pub fn work_through<R, T: Task, J: Claimed, C: Clock, G: Rng, Q: Gate>(
     rt: &R,
     jobs: &[Mutex<T>],

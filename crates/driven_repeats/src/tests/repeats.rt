@@ -104,8 +104,8 @@ fn a_run_that_never_ends_spends_all_turns(rt: HostRuntime) {
     assert_eq!(rt; tasks[0].driver().journal().len(), 0);
 }
 
-// The words are the first ones that the authors' C program gives for the seed 1, 2, 3, 4: lane 0 has 641 in the first poll
-// and 836907274 in the second, which pick 800 and 877 thousandths of the delay.
+// The words are the first ones that the authors' C program gives for the seed 1, 2, 3, 4: lane 0 has 641 in the first
+// poll and 836907274 in the second, which pick 800 and 877 thousandths of the delay.
 #[test]
 fn a_jittered_repeat_waits_as_its_words_say(rt: HostRuntime) -> Result<(), Fail> {
     let alloc = rt.alloc();

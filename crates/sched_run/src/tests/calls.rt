@@ -33,7 +33,7 @@ impl Coded for Outage {
     }
 }
 
-// A call that is pending for some polls, and is then answered or not; `starves` says that memory is wanting instead.
+// A call that is pending for some polls, and is then answered or not; `starves` says that memory is refused instead.
 #[derive(Drop)]
 pub(super) struct Calls {
     pub(super) pending: u32,
@@ -103,7 +103,8 @@ impl Effect for Calls {
     }
 }
 
-// A cache that answers in the place of a call, after some pending polls; it holds a reply or an outage, or is out of memory.
+// A cache that answers instead of a call, after some pending polls; it holds a reply or an outage, or is out of
+// memory.
 #[derive(Drop)]
 pub(super) struct Cache {
     pub(super) alloc: Global,

@@ -8,7 +8,8 @@ use std::random::RandomSource;
 use std::test::Fail;
 use std::time::{self, Duration, Instant};
 
-// Reads these milliseconds, one after the other, and fails at `None` and past the last one. It adds up what it slept for.
+// Reads these milliseconds, one after the other, and fails at `None` and past the last one. It adds up what it slept
+// for.
 #[derive(Drop)]
 struct Readings<'a> {
     millis: &'a [Option<u64>],
@@ -142,8 +143,8 @@ impl RandomSource for Exhausted {
     }
 }
 
-// By hand, for the state 03020100, 07060504, 0b0a0908, 0f0e0d0c of the bytes 0 to 15: the first and last words add up to
-// 12100e0c, which turned left by 7 is 08070609, and 03020100 more is 0b090709.
+// By hand, for the state 03020100, 07060504, 0b0a0908, 0f0e0d0c of the bytes 0 to 15: the first and last words add up
+// to 12100e0c, which turned left by 7 is 08070609, and 03020100 more is 0b090709.
 #[test]
 fn the_systems_bytes_seed_its_words(rt: HostRuntime) -> Result<(), Fail> {
     let mut words = SystemWords::new(&Bytes(0))?;

@@ -22,7 +22,7 @@ impl Plan {
         Plan::over_one(alloc, One::Add(delay), plan)
     }
 
-    /// The plan with a delay of `delay` milliseconds in the place of each of its own.
+    /// The plan with a delay of `delay` milliseconds instead of each of its own.
     /// Refused as `OutOfRange` past `FAR`, `TooDeep`, `TooMany` or `NoMemory`.
     pub fn set(alloc: Global, delay: u64, plan: Plan) -> Result<Plan, PlanFault>
         ensures { Builds result (one (One.Set delay) plan) }
