@@ -2,52 +2,76 @@
 ghost use Rattle.std.specs.Prelude.{◌≡◌};
 ghost use Rattle.sched_handle.specs.Status.{code_of};
 
+use thiserror::Error;
+
 /// Why a call was refused.
-#[derive(Clone, Copy)]
+#[derive(Clone, Copy, Debug, PartialEq, Eq, Error)]
 pub enum Status {
     /// The handle holds nothing.
+    #[error("the handle is empty")]
     Empty,
     /// The handle holds something of another kind.
+    #[error("the handle holds something of another kind")]
     WrongKind,
     /// The handle that was to be filled holds something.
+    #[error("the handle holds something already")]
     Full,
     /// A growth was refused.
+    #[error("no memory")]
     NoMemory,
     /// A moment, an input or a code is out of range.
+    #[error("a number is out of range")]
     TooLarge,
     /// The bytes are more than the room for them.
+    #[error("there is not enough room")]
     NoRoom,
     /// The text is not JSON.
+    #[error("the text is not JSON")]
     NotJson,
     /// The JSON is no policy.
+    #[error("the value is not a policy")]
     NotAPolicy,
     /// A parameter of a policy is out of range.
+    #[error("a parameter is out of range")]
     OutOfRange,
     /// The policy is too deep.
+    #[error("the policy is too deep")]
     TooDeep,
     /// The policy has too many nodes.
+    #[error("the policy has too many nodes")]
     TooMany,
     /// The moment is before the last event's.
+    #[error("the moment is before the last event")]
     Backwards,
     /// The journal is full.
+    #[error("the journal is full")]
     JournalFull,
     /// There is no output yet.
+    #[error("there is no output yet")]
     NoOutput,
     /// The output is no number.
+    #[error("the output is not a number")]
     NotANumber,
     /// The limit is too large.
+    #[error("the limit is more than 4294967296 tickets")]
     LimitTooLarge,
     /// The budget keeps its limit.
+    #[error("the budget keeps its limit")]
     Fixed,
     /// The budget has no ticket.
+    #[error("the budget has no ticket")]
     NoTicket,
     /// Too many passes were made.
+    #[error("more than 65536 passes of one budget")]
     TooManyPasses,
     /// Another pass is alive or was dropped.
+    #[error("another pass of the budget is alive or was dropped")]
     PassesOut,
     /// The report is none that there is.
+    #[error("there is no such report")]
     NoSuchReport,
     /// A run is reported, and none is under way.
+    #[error("no run is under way")]
     NoRun,
 }
 

@@ -9,8 +9,10 @@ ghost use Rattle.sched_host.specs.Worker.{SplitFails, CloseFails};
 
 use sched_ticket::{Budget, Pass, TicketFault};
 use std::alloc::Global;
+use std::fmt;
 use std::marker::Model;
 use std::sync::Arc;
+use thiserror::Error;
 
 /// A pass with its budget, which the passes of other workers share. The budget lives as long as one of them.
 #[derive(Drop)]
@@ -34,12 +36,23 @@ impl Model for Worker {
 }
 
 /// Why a worker did not close its budget.
-#[derive(Drop)]
+#[derive(Drop, Error)]
 pub enum CloseFault {
     /// Another pass of the budget is alive or was dropped. The worker is as before.
+    #[error("another pass of the budget is alive or was dropped")]
     PassesOut(Worker),
     /// Another pass was dropped, and there was no memory to share the budget again. The worker was dropped.
+    #[error("no memory")]
     NoMemory,
+}
+
+impl fmt::Debug for CloseFault {
+    fn fmt<W: fmt::Write>(&self, f: &mut fmt::Formatter<W>) -> fmt::Result {
+        f.write_str(match self {
+            CloseFault::PassesOut(_) => "PassesOut",
+            CloseFault::NoMemory => "NoMemory",
+        })
+    }
 }
 
 impl Worker {

@@ -1,5 +1,5 @@
 -- The forms that a node's value may have, each told by how the text of such a node looks.
-use Rattle.std.specs.Prelude.{ℕ, if◌then◌else◌, bytes_eq, List, [], ◌∷◌, Option, Some, None, option_map, option_and_then}
+use Rattle.std.specs.Prelude.{◌≡◌, ℕ, if◌then◌else◌, bytes_eq, List, [], ◌∷◌, Option, Some, None, option_map, option_and_then}
 use Rattle.serde_json.specs.Data.{Data}
 use Rattle.serde_json.specs.Find.{as_bool, as_number, as_str, as_u64}
 use Rattle.sched_plan.specs.Schedule.{Schedule}
@@ -7,6 +7,8 @@ use Rattle.sched_plan.specs.declared.leaves.Leaf.{Leaf}
 use Rattle.sched_plan.specs.declared.nodes.One.{One}
 use Rattle.sched_plan.specs.declared.nodes.One.TheVariants.{Gate, Gather, Jitter}
 use Rattle.sched_plan.specs.declared.nodes.Two.{Two}
+use Rattle.sched_json.specs.declared.faults.ReadFault.{ReadFault}
+use Rattle.sched_json.specs.declared.faults.ReadFault.TheVariants.{NotAPlan}
 use Rattle.sched_json.specs.Reading.{Reading}
 use Rattle.sched_json.specs.Words.{sides, tests, folds}
 
@@ -32,7 +34,8 @@ Row = List ℕ × Form
 -- what the node of this name spells, by a table of nodes
 abbrev pub spelt_by : List Row → List ℕ → Part → List Part → Option Spelt
 spelt_by [] name value items = None
-spelt_by (row ∷ rows) name value items = if bytes_eq name row.0 then row.1 value items else spelt_by rows name value items
+spelt_by (row ∷ rows) name value items =
+    if bytes_eq name row.0 then row.1 value items else spelt_by rows name value items
 
 -- what a word means, by a table of words
 abbrev pub meant_by : {A : Type 0} → List (List ℕ × A) → List ℕ → Option A
@@ -62,6 +65,10 @@ four_of _ = None
 abbrev pub five_of : {A : Type 0} → List A → Option (A × A × A × A × A)
 five_of (a ∷ b ∷ c ∷ d ∷ e ∷ []) = Some (a, b, c, d, e)
 five_of _ = None
+
+-- the items do not have this form, and the fault says that the value is no plan
+abbrev pub LacksForm : {A : Type 0} → Option A → ReadFault → Type 0
+LacksForm form fault = (fault ≡ NotAPlan) × (form ≡ None)
 
 -- [n,m]
 abbrev pub two_numbers_in : List Part → Option (ℕ × ℕ)
@@ -105,7 +112,10 @@ gate_and_part items =
 
 -- [FOLD,A]
 abbrev pub gather_and_part : List Part → Option (One × Part)
-gather_and_part items = option_and_then (λ p. option_map (λ fold. (Gather fold, p.1)) (word_in folds p.0.json)) (two_of items)
+gather_and_part items =
+    option_and_then (λ p.
+    option_map (λ fold. (Gather fold, p.1))
+    (word_in folds p.0.json)) (two_of items)
 
 -- {"NAME":n}, {"NAME":[n,m]}, {"NAME":[n,m,k]}
 abbrev pub a_number : (ℕ → Leaf) → Form

@@ -3,13 +3,16 @@ ghost use Rattle.sched_plan.specs.Plan.{Builds};
 ghost use Rattle.sched_json.specs.Reading.{Reads, built_node};
 
 use sched_plan::{Plan, PlanFault};
+use thiserror::Error;
 
 /// Why a JSON value is not read as a plan.
-#[derive(Clone, Copy, Debug, PartialEq, Eq)]
+#[derive(Clone, Copy, Debug, PartialEq, Eq, Error)]
 pub enum ReadFault {
     /// The value, or a part of it that should be a plan, has not the form of a node.
+    #[error("the value is not a plan")]
     NotAPlan,
     /// The builder of a node refused it.
+    #[error(transparent)]
     Plan(PlanFault),
 }
 

@@ -3,9 +3,8 @@ ghost use Rattle.std.specs.Prelude.{◌≡◌, ◌≤◌, IfOk, IfErr, IfSome, I
 ghost use Rattle.serde_json.specs.Data.{depth, items_depth};
 ghost use Rattle.serde_json.specs.View.{view, items_view};
 ghost use Rattle.sched_plan.specs.declared.nodes.One.TheVariants.{Gate, Gather, Jitter};
-ghost use Rattle.sched_json.specs.declared.faults.ReadFault.TheVariants.{NotAPlan};
 ghost use Rattle.sched_json.specs.Reading.{or_not_a_plan};
-ghost use Rattle.sched_json.specs.Forms.{number_in, two_numbers_in, three_numbers_in, number_and_part, jitter_and_part, gate_and_part, gather_and_part, two_of as two_parts, three_of as three_parts, four_of as four_parts, five_of as five_parts};
+ghost use Rattle.sched_json.specs.Forms.{LacksForm, number_in, two_numbers_in, three_numbers_in, number_and_part, jitter_and_part, gate_and_part, gather_and_part, two_of as two_parts, three_of as three_parts, four_of as four_parts, five_of as five_parts};
 ghost use Rattle.sched_json.specs.PlanOf.{part_of, parts_of, parts_of_items};
 
 use crate::faults::ReadFault;
@@ -42,7 +41,7 @@ pub(crate) fn number_and_plan(value: &Value) -> Result<(u64, &Value), ReadFault>
         (λ form. number_and_part (parts_of (view value.now)) ≡
         Some (form.0, part_of (view form.1.now))) }
     ensures nested { IfOk result (λ form. depth (view form.1.now) ≤ depth (view value.now)) }
-    ensures err { IfErr result (λ fault. (fault ≡ NotAPlan) × (number_and_part (parts_of (view value.now)) ≡ None)) }
+    ensures err { IfErr result (LacksForm (number_and_part (parts_of (view value.now)))) }
 {
     let (first, plan) = two_of(items(value)).ok_or(ReadFault::NotAPlan)?;
     Ok((number(first)?, plan))
@@ -54,7 +53,7 @@ pub(crate) fn jitter_and_plan(value: &Value) -> Result<(u64, u64, u64, &Value), 
         (λ form. jitter_and_part (parts_of (view value.now)) ≡
         Some (Jitter form.0 form.1 form.2, part_of (view form.3.now))) }
     ensures nested { IfOk result (λ form. depth (view form.3.now) ≤ depth (view value.now)) }
-    ensures err { IfErr result (λ fault. (fault ≡ NotAPlan) × (jitter_and_part (parts_of (view value.now)) ≡ None)) }
+    ensures err { IfErr result (LacksForm (jitter_and_part (parts_of (view value.now)))) }
 {
     let (lane, least, most, plan) = four_of(items(value)).ok_or(ReadFault::NotAPlan)?;
     Ok((number(lane)?, number(least)?, number(most)?, plan))
@@ -66,7 +65,7 @@ pub(crate) fn gate_and_plan(value: &Value) -> Result<(Side, bool, Test, u64, &Va
         (λ form. gate_and_part (parts_of (view value.now)) ≡
         Some (Gate form.0 form.1 form.2 form.3, part_of (view form.4.now))) }
     ensures nested { IfOk result (λ form. depth (view form.4.now) ≤ depth (view value.now)) }
-    ensures err { IfErr result (λ fault. (fault ≡ NotAPlan) × (gate_and_part (parts_of (view value.now)) ≡ None)) }
+    ensures err { IfErr result (LacksForm (gate_and_part (parts_of (view value.now)))) }
 {
     let (first, want, third, bound, plan) = five_of(items(value)).ok_or(ReadFault::NotAPlan)?;
     let want = want.as_bool().ok_or(ReadFault::NotAPlan)?;
@@ -79,7 +78,7 @@ pub(crate) fn gather_and_plan(value: &Value) -> Result<(Fold, &Value), ReadFault
         (λ form. gather_and_part (parts_of (view value.now)) ≡
         Some (Gather form.0, part_of (view form.1.now))) }
     ensures nested { IfOk result (λ form. depth (view form.1.now) ≤ depth (view value.now)) }
-    ensures err { IfErr result (λ fault. (fault ≡ NotAPlan) × (gather_and_part (parts_of (view value.now)) ≡ None)) }
+    ensures err { IfErr result (LacksForm (gather_and_part (parts_of (view value.now)))) }
 {
     let (first, plan) = two_of(items(value)).ok_or(ReadFault::NotAPlan)?;
     Ok((fold(first)?, plan))
@@ -92,7 +91,7 @@ pub(crate) fn two_plans(value: &Value) -> Result<(&Value, &Value), ReadFault>
         Some (part_of (view form.0.now), part_of (view form.1.now))) }
     ensures first { IfOk result (λ form. depth (view form.0.now) ≤ depth (view value.now)) }
     ensures second { IfOk result (λ form. depth (view form.1.now) ≤ depth (view value.now)) }
-    ensures err { IfErr result (λ fault. (fault ≡ NotAPlan) × (two_parts (parts_of (view value.now)) ≡ None)) }
+    ensures err { IfErr result (LacksForm (two_parts (parts_of (view value.now)))) }
 {
     two_of(items(value)).ok_or(ReadFault::NotAPlan)
 }

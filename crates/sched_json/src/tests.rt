@@ -6,6 +6,7 @@ use std::alloc::Global;
 use std::process::Abort;
 use std::test::Fail;
 
+mod fault_texts;
 mod first_faults;
 mod forms;
 mod limits;
@@ -23,7 +24,7 @@ fn plan_of(alloc: Global, text: &str) -> Result<Plan, Fail> {
     Ok(read_plan(alloc, &value)?)
 }
 
-// The fault of a JSON text, if it has one. Want of memory is no answer, but ends the test.
+// The fault of a JSON text, if it has one. `NoMemory` is no answer, but ends the test.
 fn fault_of(alloc: Global, text: &str) -> Result<Option<ReadFault>, Fail> {
     let value = Value::from_str(alloc, text)?;
     match read_plan(alloc, &value).err() {

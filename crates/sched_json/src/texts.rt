@@ -6,21 +6,29 @@ use crate::plans::read_plan;
 use sched_plan::{Plan, PlanFault};
 use serde_json::Value;
 use std::alloc::Global;
+use thiserror::Error;
 
 /// Why bytes are not read as a plan.
-#[derive(Clone, Copy, Debug, PartialEq, Eq)]
+#[derive(Clone, Copy, Debug, PartialEq, Eq, Error)]
 pub enum TextFault {
-    /// The bytes are no JSON text: they stop being one at this line and column, counted from 1; 0 where that is not known.
+    /// The bytes are no JSON text: they stop being one at this line and column, counted from 1; 0 where that is not
+    /// known.
+    #[error("the text is not JSON, at line {line}, column {column}")]
     NotJson { line: usize, column: usize },
     /// The value, or a part of it that should be a plan, has not the form of a node.
+    #[error("the value is not a plan")]
     NotAPlan,
     /// A parameter is outside its range.
+    #[error("a parameter is out of range")]
     OutOfRange,
     /// The plan is deeper than 32.
+    #[error("the plan is too deep")]
     TooDeep,
     /// The plan has more than 256 nodes.
+    #[error("the plan has too many nodes")]
     TooMany,
     /// A growth was refused.
+    #[error("no memory")]
     NoMemory,
 }
 

@@ -2,6 +2,7 @@
 
 use sched_effect::Effect;
 use sched_retry::Retry;
+use std::fmt;
 use thiserror::Error;
 
 /// Why a board took no job.
@@ -19,12 +20,19 @@ pub enum AddFault {
 }
 
 /// A retry that a board did not take, as it was.
-#[derive(Drop)]
+#[derive(Drop, Error)]
+#[error("{fault}")]
 pub struct AddRefused<'a, X: Effect> {
     /// The retry.
     pub retry: Retry<'a, X>,
     /// Why it was not taken.
     pub fault: AddFault,
+}
+
+impl<'a, X: Effect> fmt::Debug for AddRefused<'a, X> {
+    fn fmt<W: fmt::Write>(&self, f: &mut fmt::Formatter<W>) -> fmt::Result {
+        fmt::Debug::fmt(&self.fault, f)
+    }
 }
 
 /// Why a board's jobs were not shared out.

@@ -18,26 +18,45 @@ use sched_ticket::{Naming, Pass};
 use sched_time::NoMemory;
 use sched_worker::{Finish, Gate, Station};
 use std::alloc::{AllocGlobal, Global};
+use std::fmt;
 use std::marker::Model;
 use std::random::RandomSource;
 use std::sync::Wait;
 use std::sync::atomic::{AtomicBool, Ordering};
 use std::thread::{self, Threads};
+use thiserror::Error;
 
 /// Why a board did not run until all its jobs were over.
-#[derive(Drop)]
+#[derive(Drop, Error)]
 pub enum PoolStop<'a, X: Effect, N: Naming> {
     /// There are no stations, or more than 16. The board and the pass are as they were.
+    #[error("1 to 16 workers are wanted")]
     BadWorkers(Board<'a, X, N>, Pass),
     /// The jobs were shared out before. The board and the pass are as they were.
+    #[error("the board's jobs were shared out before")]
     Sealed(Board<'a, X, N>, Pass),
     /// A growth was refused. The jobs stand as their polls left them, and may be shared out.
+    #[error("no memory")]
     NoMemory(Board<'a, X, N>, Pass),
     /// The system started no thread for a worker, and those that it started have ended. The jobs stand as their polls
     /// left them, and are shared out.
+    #[error("a worker was not started")]
     NotStarted(Board<'a, X, N>, Pass),
     /// A job is not over: its worker took all its turns.
+    #[error("all turns were taken")]
     TurnsSpent(PoolEnd<X>),
+}
+
+impl<'a, X: Effect, N: Naming> fmt::Debug for PoolStop<'a, X, N> {
+    fn fmt<W: fmt::Write>(&self, f: &mut fmt::Formatter<W>) -> fmt::Result {
+        f.write_str(match self {
+            PoolStop::BadWorkers(..) => "BadWorkers",
+            PoolStop::Sealed(..) => "Sealed",
+            PoolStop::NoMemory(..) => "NoMemory",
+            PoolStop::NotStarted(..) => "NotStarted",
+            PoolStop::TurnsSpent(..) => "TurnsSpent",
+        })
+    }
 }
 
 // What all workers of a run have.
@@ -106,8 +125,8 @@ enum Effort {
 }
 
 impl<'a, X: Effect, N: Naming> Board<'a, X, N> {
-    /// Runs the board: a thread for each station drives jobs in at most `turns` turns, and then the board is taken back.
-    /// Where every job is over it is `Ok`. Want of memory of a worker comes before a thread that was not started.
+    /// Runs the board: a thread for each station drives jobs in at most `turns` turns, and then the board is taken
+    /// back. Where every job is over it is `Ok`. `NoMemory` of a worker comes before `NotStarted`.
     pub fn run<R, C, G, Q>(
         mut self,
         rt: &R,
@@ -229,7 +248,7 @@ where
     how_far(started, shift.no_memory.load(Ordering::SeqCst))
 }
 
-// How far the threads of a run got: want of memory comes before a thread that was not started.
+// How far the threads of a run got: `NoMemory` comes before `NotStarted`.
 fn how_far(started: bool, no_memory: bool) -> Effort
     ensures memory { no_memory ≡ true → result ≡ Effort.NoMemory }
     ensures threads { no_memory ≡ false → started ≡ false → result ≡ Effort.NotStarted }

@@ -21,6 +21,7 @@ use std::marker::Brand;
 use std::random::RandomSource;
 use std::sync::Wait;
 use std::thread::Threads;
+use thiserror::Error;
 
 // How many jobs a worker drives at a time.
 const HOLD: usize = 64;
@@ -35,13 +36,16 @@ pub struct Batch {
 }
 
 /// Why jobs were not run.
-#[derive(Clone, Copy, Debug, PartialEq, Eq)]
+#[derive(Clone, Copy, Debug, PartialEq, Eq, Error)]
 pub enum BatchFault {
     /// A growth was refused.
+    #[error("no memory")]
     NoMemory,
     /// The system started no thread for a worker.
+    #[error("a worker was not started")]
     NotStarted,
     /// An ended job is not the one that was read at its place, or the budget does not count as it should.
+    #[error("the jobs were mixed up")]
     Mixed,
 }
 
@@ -60,8 +64,8 @@ impl From<NoMemory> for BatchFault {
 /// Runs the jobs by so many workers, 1 to 16, each with a virtual clock from 0 and at most `turns` turns: each job is
 /// retried by its plan, and all of them draw on one budget of `limit` tickets.
 ///
-/// Refused as `NoMemory`; as `NotStarted` where a worker was not started; and as `Mixed` where an ended job is not the one
-/// that was read at its place, or the budget does not count as it should: no right run meets that.
+/// Refused as `NoMemory`; as `NotStarted` where a worker was not started; and as `Mixed` where an ended job is not the
+/// one that was read at its place, or the budget does not count as it should: no right run meets that.
 pub fn run_batch<R>(
     rt: &R,
     alloc: Global,

@@ -1,5 +1,7 @@
 //! How a task ended.
 
+use thiserror::Error;
+
 /// How a task ended.
 #[derive(Clone, Copy, Debug, PartialEq, Eq)]
 pub enum How {
@@ -18,12 +20,15 @@ pub enum How {
 }
 
 /// Why a task could not go on.
-#[derive(Clone, Copy, Debug, PartialEq, Eq)]
+#[derive(Clone, Copy, Debug, PartialEq, Eq, Error)]
 pub enum RunFault {
     /// A growth was refused.
+    #[error("no memory")]
     NoMemory,
     /// The driver's journal holds 65,536 events.
+    #[error("the journal is full")]
     JournalFull,
     /// The clock went back.
+    #[error("the clock went back")]
     Backwards,
 }
