@@ -1,15 +1,14 @@
 //! A worker's share: the right to claim jobs, and those that it claimed and has not closed.
 ghost use Rattle.std.specs.Prelude.{◌≡◌, ℕ, ◌<◌, ◌≤◌, [], ◌∷◌, length, vec_len, vec_capacity, false, None, All, IfSome, IfNone, MatchOption, remove, slice_index_or};
 ghost use Rattle.sched_ticket.specs.Lists.{times};
-ghost use Rattle.sched_ticket.specs.Calls.{DrewNone};
-ghost use Rattle.sched_claim.specs.Portion.{IsShareOf, Took};
+ghost use Rattle.sched_claim.specs.Portion.{IsShareOf, Took, TookNone};
 
 use crate::claims::Claimed;
 use sched_ticket::Pass;
 use std::marker::Model;
 
-/// One worker's right to claim jobs. Contracts see it as its pass, whose tickets are the jobs that it claimed, and those
-/// of them that are still active.
+/// One worker's right to claim jobs. Contracts see it as its pass, whose tickets are the jobs that it claimed, and
+/// those of them that are still active.
 #[derive(Drop)]
 pub struct Share {
     pub(crate) pass: Pass,
@@ -46,7 +45,7 @@ impl Share {
         ensures tickets { MatchOption result (self.new.pass.has.tickets ≡ self.old.pass.has.tickets)
             (λ job. (self.new.pass.has.tickets ≡ job ∷ self.old.pass.has.tickets)
             × (length self.old.pass.has.tickets ≤ job) × (job < self.old.pass.has.terms.limit)) }
-        ensures none { IfNone result (DrewNone self.old.pass.has self.new.pass.has × (self.new.active ≡ self.old.active)) }
+        ensures none { IfNone result (TookNone self.old self.new) }
         ensures again { 0 < length self.old.pass.has.refusals → (result ≡ None) × (self.new ≡ self.old) }
     {
         let claims = jobs.claims()?;

@@ -76,14 +76,17 @@ IsJobsInput left left' P = IsInput left left' (λ bytes. (jobs : List Job) × Sp
 -- the jobs that were read were run on the budget, and P is true of their ends and their text
 abbrev pub IsRunInput : PoolOptions → Option (List ℕ) → Option (List ℕ) → (List Past → List ℕ → Type 0) → Type 0
 IsRunInput o left left' P =
-    IsJobsInput left left' (λ jobs. (ends : List Past) × (granted : ℕ) × AreRun jobs o.budget ends granted × P ends (pool_text ends granted o.budget))
+    IsJobsInput left left' (λ jobs. (ends : List Past) × (granted : ℕ)
+    × AreRun jobs o.budget ends granted × P ends (pool_text ends granted o.budget))
 
 -- The printing of a pool: at Ok and at `Unfinished` the whole text was written of the jobs that were read, run on the
 -- budget; at a fault of reading nothing was written, and the input is at fault as the answer says; nothing was written
--- where a worker was not started or the jobs were mixed up; at a failed write a front of the text was written; and so too
--- where memory was refused, unless nothing was written.
-abbrev pub PrintsPool : PoolOptions → Option (List ℕ) → Option (List ℕ) → Option (List ℕ) → Option (List ℕ) → Result (Unit {0}) PrintFault → Type 0
-PrintsPool o left left' taken taken' (Ok done) = IsRunInput o left left' (λ ends text. WritesPool taken taken' ends text (Ok done))
+-- where a worker was not started or the jobs were mixed up; at a failed write a front of the text was written; and so
+-- too where memory was refused, unless nothing was written.
+abbrev pub PrintsPool : PoolOptions → Option (List ℕ) → Option (List ℕ) → Option (List ℕ) → Option (List ℕ) →
+    Result (Unit {0}) PrintFault → Type 0
+PrintsPool o left left' taken taken' (Ok done) =
+    IsRunInput o left left' (λ ends text. WritesPool taken taken' ends text (Ok done))
 PrintsPool o left left' taken taken' (Err Unfinished) =
     IsRunInput o left left' (λ ends text. WritesPool taken taken' ends text (Err Unfinished))
 PrintsPool o left left' taken taken' (Err WriteFailed) =
