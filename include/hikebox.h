@@ -323,8 +323,9 @@ HIKEBOX_CHECKED hikebox_status hikebox_retry_new(hikebox_policy *policy, hikebox
  * and the policy is stepped with the code as its input; where that goes on a ticket is drawn, and with one the
  * retry waits for the start planned, or runs at once where that is now. With HIKEBOX_NO_REPORT the code counts
  * for nothing, and a run begins where none is under way and `now` is not before the moment waited for. On a
- * retry that is over nothing changes. HIKEBOX_TOO_LARGE; _NO_SUCH_REPORT; _EMPTY; _WRONG_KIND; _NO_RUN. Where
- * memory is wanting or the clock went back the answer is HIKEBOX_OK, and the retry is over.
+ * retry that is over nothing changes. HIKEBOX_TOO_LARGE, of the moment; _NO_SUCH_REPORT; _TOO_LARGE, of the code;
+ * _EMPTY; _WRONG_KIND; _NO_RUN. Where memory is wanting or the clock went back the answer is HIKEBOX_OK, and the
+ * retry is over.
  */
 HIKEBOX_CHECKED hikebox_status hikebox_retry_poll(hikebox_retry *retry, uint64_t now, const uint32_t words[4],
                                                   uint32_t report, uint64_t code, hikebox_next *next);

@@ -1,11 +1,18 @@
 //! Budgets and their passes.
-ghost use Rattle.sched_handle.specs.Passes.{AreOfOneBudget};
+ghost use Rattle.std.specs.Prelude.{true, false};
+ghost use Rattle.sched_handle.specs.Fills.{Frees};
+ghost use Rattle.sched_handle.specs.Passes.{MakesBudget, Draws, Splits, Raises, CountsTickets, AreOfOneBudget};
+ghost use Rattle.sched_handle.specs.declared.held.Kind.TheVariants as kind;
+ghost use Rattle.hikebox_c.specs.Calls.{Tells, Kept, OnHeld, Makes, MakesWith};
+ghost use Rattle.hikebox_c.specs.Budgets.{JoinsHeld, ClosesHeld};
 
 use sched_handle::{Handle, Held, Kind, Status, tell};
 use std::alloc::Global;
 
 #[unsafe(no_mangle)]
-pub extern "C" fn hikebox_budget_fixed(alloc: Global, limit: u64, pass: &mut Handle) -> u32 {
+pub extern "C" fn hikebox_budget_fixed(alloc: Global, limit: u64, pass: &mut Handle) -> u32
+    ensures { Makes (MakesBudget limit false) pass.old.held result pass.new.held }
+{
     if pass.is_full(alloc) {
         return Status::Full.code();
     }
@@ -14,7 +21,9 @@ pub extern "C" fn hikebox_budget_fixed(alloc: Global, limit: u64, pass: &mut Han
 }
 
 #[unsafe(no_mangle)]
-pub extern "C" fn hikebox_budget_rising(alloc: Global, limit: u64, pass: &mut Handle) -> u32 {
+pub extern "C" fn hikebox_budget_rising(alloc: Global, limit: u64, pass: &mut Handle) -> u32
+    ensures { Makes (MakesBudget limit true) pass.old.held result pass.new.held }
+{
     if pass.is_full(alloc) {
         return Status::Full.code();
     }
@@ -23,7 +32,9 @@ pub extern "C" fn hikebox_budget_rising(alloc: Global, limit: u64, pass: &mut Ha
 }
 
 #[unsafe(no_mangle)]
-pub extern "C" fn hikebox_pass_draw(alloc: Global, pass: &mut Handle, ticket: &mut u64) -> u32 {
+pub extern "C" fn hikebox_pass_draw(alloc: Global, pass: &mut Handle, ticket: &mut u64) -> u32
+    ensures { OnHeld Draws pass.old.held pass.new.held (Tells result ticket.old ticket.new) }
+{
     let Some(mut held) = pass.take(alloc) else {
         return Status::Empty.code();
     };
@@ -33,7 +44,9 @@ pub extern "C" fn hikebox_pass_draw(alloc: Global, pass: &mut Handle, ticket: &m
 }
 
 #[unsafe(no_mangle)]
-pub extern "C" fn hikebox_pass_split(alloc: Global, pass: &mut Handle, part: &mut Handle) -> u32 {
+pub extern "C" fn hikebox_pass_split(alloc: Global, pass: &mut Handle, part: &mut Handle) -> u32
+    ensures { MakesWith Splits pass.old.held pass.new.held part.old.held result part.new.held }
+{
     if part.is_full(alloc) {
         return Status::Full.code();
     }
@@ -48,6 +61,7 @@ pub extern "C" fn hikebox_pass_split(alloc: Global, pass: &mut Handle, part: &mu
 #[unsafe(no_mangle)]
 pub extern "C" fn hikebox_pass_join(alloc: Global, pass: &mut Handle, other: &mut Handle) -> u32
     requires { AreOfOneBudget pass.old.held other.old.held }
+    ensures { JoinsHeld pass.old.held other.old.held result pass.new.held other.new.held }
 {
     let Some(mut held) = pass.take(alloc) else {
         return Status::Empty.code();
@@ -76,7 +90,9 @@ pub extern "C" fn hikebox_pass_raise(
     pass: &mut Handle,
     to: u64,
     limit: &mut u64,
-) -> u32 {
+) -> u32
+    ensures { OnHeld (Raises to) pass.old.held pass.new.held (Tells result limit.old limit.new) }
+{
     let Some(mut held) = pass.take(alloc) else {
         return Status::Empty.code();
     };
@@ -86,7 +102,9 @@ pub extern "C" fn hikebox_pass_raise(
 }
 
 #[unsafe(no_mangle)]
-pub extern "C" fn hikebox_pass_count(alloc: Global, pass: &mut Handle, tickets: &mut u64) -> u32 {
+pub extern "C" fn hikebox_pass_count(alloc: Global, pass: &mut Handle, tickets: &mut u64) -> u32
+    ensures { OnHeld (Kept CountsTickets) pass.old.held pass.new.held (Tells result tickets.old tickets.new) }
+{
     let Some(held) = pass.take(alloc) else {
         return Status::Empty.code();
     };
@@ -96,7 +114,9 @@ pub extern "C" fn hikebox_pass_count(alloc: Global, pass: &mut Handle, tickets: 
 }
 
 #[unsafe(no_mangle)]
-pub extern "C" fn hikebox_pass_close(alloc: Global, pass: &mut Handle, tickets: &mut u64) -> u32 {
+pub extern "C" fn hikebox_pass_close(alloc: Global, pass: &mut Handle, tickets: &mut u64) -> u32
+    ensures { ClosesHeld pass.old.held pass.new.held (Tells result tickets.old tickets.new) }
+{
     let Some(mut held) = pass.take(alloc) else {
         return Status::Empty.code();
     };
@@ -108,6 +128,8 @@ pub extern "C" fn hikebox_pass_close(alloc: Global, pass: &mut Handle, tickets: 
 }
 
 #[unsafe(no_mangle)]
-pub extern "C" fn hikebox_pass_free(alloc: Global, pass: &mut Handle) -> u32 {
+pub extern "C" fn hikebox_pass_free(alloc: Global, pass: &mut Handle) -> u32
+    ensures { Frees kind.Pass pass.old.held result pass.new.held }
+{
     pass.free(alloc, Kind::Pass)
 }

@@ -1,15 +1,23 @@
 //! Drivers.
+ghost use Rattle.std.specs.Prelude.{◌≡◌, ◌⊎◌, ◌<◌, ◌≤◌, Err};
+ghost use Rattle.sched_time.specs.declared.numbers.TheConstants.{FAR};
+ghost use Rattle.sched_handle.specs.Drivers.{Resets, Planned, CountsEvents, LastNumber, LastText};
+ghost use Rattle.sched_handle.specs.Fills.{Frees};
+ghost use Rattle.sched_handle.specs.Policies.{Drives};
+ghost use Rattle.sched_handle.specs.Status.{told};
+ghost use Rattle.sched_handle.specs.declared.held.Kind.TheVariants as kind;
+ghost use Rattle.sched_handle.specs.declared.status.Status.TheVariants as status;
+ghost use Rattle.hikebox_c.specs.Calls.{Tells, Kept, OnHeld, MakesWith};
+ghost use Rattle.hikebox_c.specs.Drivers.{TellsText, NextsAt};
 
-use sched_handle::{Decided, Handle, Held, Kind, Status, put_text, tell, tick_at};
+use sched_handle::{Decided, Handle, Kind, Status, put_text, tell, tick_at};
 use sched_time::Millis;
 use std::alloc::Global;
 
 #[unsafe(no_mangle)]
-pub extern "C" fn hikebox_driver_new(
-    alloc: Global,
-    policy: &mut Handle,
-    driver: &mut Handle,
-) -> u32 {
+pub extern "C" fn hikebox_driver_new(alloc: Global, policy: &mut Handle, driver: &mut Handle) -> u32
+    ensures { MakesWith (Kept Drives) policy.old.held policy.new.held driver.old.held result driver.new.held }
+{
     if driver.is_full(alloc) {
         return Status::Full.code();
     }
@@ -29,7 +37,12 @@ pub extern "C" fn hikebox_driver_next(
     words: &[u32; 4],
     input: u64,
     decision: &mut Decided,
-) -> u32 {
+) -> u32
+    ensures next { now ≤ FAR → input ≤ FAR → OnHeld (NextsAt now words.now input) driver.old.held driver.new.held
+        (Tells result decision.old decision.new) }
+    ensures too_large { (FAR < now) ⊎ (FAR < input) → (driver.new.held ≡ driver.old.held)
+        × Tells result decision.old decision.new (Err status.TooLarge) }
+{
     let Ok(tick) = tick_at(now, words) else {
         return Status::TooLarge.code();
     };
@@ -49,7 +62,9 @@ pub extern "C" fn hikebox_driver_next_start(
     alloc: Global,
     driver: &mut Handle,
     decision: &mut Decided,
-) -> u32 {
+) -> u32
+    ensures { OnHeld (Kept Planned) driver.old.held driver.new.held (Tells result decision.old decision.new) }
+{
     let Some(held) = driver.take(alloc) else {
         return Status::Empty.code();
     };
@@ -63,7 +78,9 @@ pub extern "C" fn hikebox_driver_last_number(
     alloc: Global,
     driver: &mut Handle,
     number: &mut u64,
-) -> u32 {
+) -> u32
+    ensures { OnHeld (Kept LastNumber) driver.old.held driver.new.held (Tells result number.old number.new) }
+{
     let Some(held) = driver.take(alloc) else {
         return Status::Empty.code();
     };
@@ -78,7 +95,10 @@ pub extern "C" fn hikebox_driver_last_text(
     driver: &mut Handle,
     text: &mut [u8],
     length: &mut usize,
-) -> u32 {
+) -> u32
+    ensures { OnHeld (Kept LastText) driver.old.held driver.new.held
+        (TellsText result text.old text.new length.old length.new) }
+{
     let Some(held) = driver.take(alloc) else {
         return Status::Empty.code();
     };
@@ -94,11 +114,9 @@ pub extern "C" fn hikebox_driver_last_text(
 }
 
 #[unsafe(no_mangle)]
-pub extern "C" fn hikebox_driver_events(
-    alloc: Global,
-    driver: &mut Handle,
-    events: &mut u64,
-) -> u32 {
+pub extern "C" fn hikebox_driver_events(alloc: Global, driver: &mut Handle, events: &mut u64) -> u32
+    ensures { OnHeld (Kept CountsEvents) driver.old.held driver.new.held (Tells result events.old events.new) }
+{
     let Some(held) = driver.take(alloc) else {
         return Status::Empty.code();
     };
@@ -108,7 +126,9 @@ pub extern "C" fn hikebox_driver_events(
 }
 
 #[unsafe(no_mangle)]
-pub extern "C" fn hikebox_driver_reset(alloc: Global, driver: &mut Handle) -> u32 {
+pub extern "C" fn hikebox_driver_reset(alloc: Global, driver: &mut Handle) -> u32
+    ensures { OnHeld Resets driver.old.held driver.new.held (λ r. result ≡ told r) }
+{
     let Some(mut held) = driver.take(alloc) else {
         return Status::Empty.code();
     };
@@ -121,6 +141,8 @@ pub extern "C" fn hikebox_driver_reset(alloc: Global, driver: &mut Handle) -> u3
 }
 
 #[unsafe(no_mangle)]
-pub extern "C" fn hikebox_driver_free(alloc: Global, driver: &mut Handle) -> u32 {
+pub extern "C" fn hikebox_driver_free(alloc: Global, driver: &mut Handle) -> u32
+    ensures { Frees kind.Driver driver.old.held result driver.new.held }
+{
     driver.free(alloc, Kind::Driver)
 }

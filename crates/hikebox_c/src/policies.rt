@@ -1,6 +1,14 @@
 //! Policies.
+ghost use Rattle.std.specs.Prelude.{◌≡◌, ◌≢◌};
+ghost use Rattle.sched_handle.specs.Fills.{Frees};
+ghost use Rattle.sched_handle.specs.Policies.{ReadsPolicy, Copies, Sizes, nowhere};
+ghost use Rattle.sched_handle.specs.Status.{code_of};
+ghost use Rattle.sched_handle.specs.declared.held.Kind.TheVariants as kind;
+ghost use Rattle.sched_handle.specs.declared.status.Status.TheVariants as status;
+ghost use Rattle.hikebox_c.specs.Calls.{Tells, Kept, OnHeld, Makes, MakesWith};
+ghost use Rattle.hikebox_c.specs.Policies.{size_of};
 
-use sched_handle::{Handle, Held, Kind, Place, Size, Status, tell};
+use sched_handle::{Handle, Held, Kind, Place, Size, Status};
 use std::alloc::Global;
 
 #[unsafe(no_mangle)]
@@ -9,7 +17,10 @@ pub extern "C" fn hikebox_policy_read(
     json: &[u8],
     policy: &mut Handle,
     place: &mut Place,
-) -> u32 {
+) -> u32
+    ensures policy { Makes (ReadsPolicy json.now) policy.old.held result policy.new.held }
+    ensures place { result ≢ code_of status.NotJson → place.new ≡ nowhere }
+{
     *place = Place { line: 0, column: 0 };
     if policy.is_full(alloc) {
         return Status::Full.code();
@@ -19,11 +30,9 @@ pub extern "C" fn hikebox_policy_read(
 }
 
 #[unsafe(no_mangle)]
-pub extern "C" fn hikebox_policy_copy(
-    alloc: Global,
-    policy: &mut Handle,
-    copy: &mut Handle,
-) -> u32 {
+pub extern "C" fn hikebox_policy_copy(alloc: Global, policy: &mut Handle, copy: &mut Handle) -> u32
+    ensures { MakesWith (Kept Copies) policy.old.held policy.new.held copy.old.held result copy.new.held }
+{
     if copy.is_full(alloc) {
         return Status::Full.code();
     }
@@ -41,7 +50,10 @@ pub extern "C" fn hikebox_policy_size(
     policy: &mut Handle,
     nodes: &mut u64,
     depth: &mut u64,
-) -> u32 {
+) -> u32
+    ensures { OnHeld (Kept Sizes) policy.old.held policy.new.held
+        (Tells result (size_of nodes.old depth.old) (size_of nodes.new depth.new)) }
+{
     let Some(held) = policy.take(alloc) else {
         return Status::Empty.code();
     };
@@ -58,6 +70,8 @@ pub extern "C" fn hikebox_policy_size(
 }
 
 #[unsafe(no_mangle)]
-pub extern "C" fn hikebox_policy_free(alloc: Global, policy: &mut Handle) -> u32 {
+pub extern "C" fn hikebox_policy_free(alloc: Global, policy: &mut Handle) -> u32
+    ensures { Frees kind.Policy policy.old.held result policy.new.held }
+{
     policy.free(alloc, Kind::Policy)
 }

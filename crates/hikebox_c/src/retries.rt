@@ -1,5 +1,13 @@
 //! Retries.
-ghost use Rattle.sched_handle.specs.Retries.{IsOfItsBudget};
+ghost use Rattle.std.specs.Prelude.{◌≡◌, ◌<◌, ◌≤◌, Err};
+ghost use Rattle.sched_time.specs.declared.numbers.TheConstants.{FAR};
+ghost use Rattle.sched_handle.specs.Fills.{Frees};
+ghost use Rattle.sched_handle.specs.Retries.{Sees, Cancels, IsOfItsBudget};
+ghost use Rattle.sched_handle.specs.Status.{told};
+ghost use Rattle.sched_handle.specs.declared.held.Kind.TheVariants as kind;
+ghost use Rattle.sched_handle.specs.declared.status.Status.TheVariants as status;
+ghost use Rattle.hikebox_c.specs.Calls.{Tells, Kept, OnHeld};
+ghost use Rattle.hikebox_c.specs.Retries.{NewRetry, Reports, PollsAt, EndsHeld};
 
 use sched_effect::Ran;
 use sched_handle::{Handle, Held, Kind, Reply, Status, tell, tick_at};
@@ -12,7 +20,10 @@ pub extern "C" fn hikebox_retry_new(
     policy: &mut Handle,
     pass: &mut Handle,
     retry: &mut Handle,
-) -> u32 {
+) -> u32
+    ensures retry { NewRetry policy.old.held pass.old.held pass.new.held retry.old.held result retry.new.held }
+    ensures policy { policy.new.held ≡ policy.old.held }
+{
     if retry.is_full(alloc) {
         return Status::Full.code();
     }
@@ -38,7 +49,10 @@ pub extern "C" fn hikebox_retry_poll(
     report: u32,
     code: u64,
     next: &mut Reply,
-) -> u32 {
+) -> u32
+    ensures poll { now ≤ FAR → PollsAt now words.now report code retry.old.held retry.new.held (Tells result next.old next.new) }
+    ensures too_large { FAR < now → (retry.new.held ≡ retry.old.held) × Tells result next.old next.new (Err status.TooLarge) }
+{
     let Ok(tick) = tick_at(now, words) else {
         return Status::TooLarge.code();
     };
@@ -55,7 +69,9 @@ pub extern "C" fn hikebox_retry_poll(
 }
 
 // The run that is reported, if any.
-fn reported(report: u32, code: u64) -> Result<Option<Ran>, Status> {
+fn reported(report: u32, code: u64) -> Result<Option<Ran>, Status>
+    ensures { Reports report code result }
+{
     if report == 0 {
         return Ok(None);
     }
@@ -73,7 +89,9 @@ fn reported(report: u32, code: u64) -> Result<Option<Ran>, Status> {
 }
 
 #[unsafe(no_mangle)]
-pub extern "C" fn hikebox_retry_see(alloc: Global, retry: &mut Handle, next: &mut Reply) -> u32 {
+pub extern "C" fn hikebox_retry_see(alloc: Global, retry: &mut Handle, next: &mut Reply) -> u32
+    ensures { OnHeld (Kept Sees) retry.old.held retry.new.held (Tells result next.old next.new) }
+{
     let Some(held) = retry.take(alloc) else {
         return Status::Empty.code();
     };
@@ -83,7 +101,9 @@ pub extern "C" fn hikebox_retry_see(alloc: Global, retry: &mut Handle, next: &mu
 }
 
 #[unsafe(no_mangle)]
-pub extern "C" fn hikebox_retry_cancel(alloc: Global, retry: &mut Handle) -> u32 {
+pub extern "C" fn hikebox_retry_cancel(alloc: Global, retry: &mut Handle) -> u32
+    ensures { OnHeld Cancels retry.old.held retry.new.held (λ r. result ≡ told r) }
+{
     let Some(mut held) = retry.take(alloc) else {
         return Status::Empty.code();
     };
@@ -98,6 +118,7 @@ pub extern "C" fn hikebox_retry_cancel(alloc: Global, retry: &mut Handle) -> u32
 #[unsafe(no_mangle)]
 pub extern "C" fn hikebox_retry_end(alloc: Global, retry: &mut Handle, pass: &mut Handle) -> u32
     requires { IsOfItsBudget retry.old.held pass.old.held }
+    ensures { EndsHeld retry.old.held pass.old.held result retry.new.held pass.new.held }
 {
     let Some(held) = retry.take(alloc) else {
         return Status::Empty.code();
@@ -121,6 +142,8 @@ pub extern "C" fn hikebox_retry_end(alloc: Global, retry: &mut Handle, pass: &mu
 }
 
 #[unsafe(no_mangle)]
-pub extern "C" fn hikebox_retry_free(alloc: Global, retry: &mut Handle) -> u32 {
+pub extern "C" fn hikebox_retry_free(alloc: Global, retry: &mut Handle) -> u32
+    ensures { Frees kind.Retry retry.old.held result retry.new.held }
+{
     retry.free(alloc, Kind::Retry)
 }

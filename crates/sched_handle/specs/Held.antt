@@ -1,5 +1,5 @@
 -- What a handle holds, and which kind of thing it is.
-use Rattle.std.specs.Prelude.{◌≡◌, ◌≢◌}
+use Rattle.std.specs.Prelude.{◌≡◌, ◌≢◌, Result, Err}
 use Rattle.sched_handle.specs.declared.held.Held.{Held}
 use Rattle.sched_handle.specs.declared.held.Held.TheVariants.{Room, Policy, Driver, Pass, Retry}
 use Rattle.sched_handle.specs.declared.held.Kind.{Kind}
@@ -13,6 +13,14 @@ kind_of (Policy s) = kind.Policy
 kind_of (Driver d) = kind.Driver
 kind_of (Pass s) = kind.Pass
 kind_of (Retry r) = kind.Retry
+
+-- a call that asks for this kind is refused for this reason
+abbrev pub IsOther : Kind → Held → Status → Type 0
+IsOther k held s = (s ≡ WrongKind) × (kind_of held ≢ k)
+
+-- of what is of another kind nothing changes
+abbrev pub OtherKind : {A : Type 0} → Held → Result A Status → Held → Type 0
+OtherKind u r v = (r ≡ Err WrongKind) × (v ≡ u)
 
 -- a call that asks for this kind, and for memory, is refused
 abbrev pub Wants : Kind → Held → Status → Type 0

@@ -1,18 +1,18 @@
 -- What the calls on a pass do.
-use Rattle.std.specs.Prelude.{◌≡◌, ◌≢◌, ◌⊎◌, ℕ, ◌<◌, ◌≤◌, false, length, Option, Some, None, Result, Ok, Err}
+use Rattle.std.specs.Prelude.{◌≡◌, ℕ, ◌<◌, ◌≤◌, Bool, false, length, Option, Some, Result, Ok, Err}
 use Rattle.std.specs.Global.{Global}
 use Rattle.std_alloc.specs.declared.boxed.Box.{Box}
-use Rattle.sched_ticket.specs.View.{part_of, with_split, both}
+use Rattle.sched_ticket.specs.View.{terms, first_view, part_of, with_split, both}
 use Rattle.sched_ticket.specs.Calls.{Drew, DrewNone, SplitRefused, Raised, IsWhole}
 use Rattle.sched_host.specs.Share.{Share}
 use Rattle.sched_host.specs.Worker.{CloseFails}
 use Rattle.sched_host.specs.declared.worker.CloseFault.TheVariants as close
-use Rattle.sched_handle.specs.Held.{kind_of}
+use Rattle.sched_handle.specs.Held.{IsOther, OtherKind}
 use Rattle.sched_handle.specs.declared.held.Held.{Held}
 use Rattle.sched_handle.specs.declared.held.Held.TheVariants.{Room, Pass}
 use Rattle.sched_handle.specs.declared.held.Kind.TheVariants as kind
 use Rattle.sched_handle.specs.declared.status.Status.{Status}
-use Rattle.sched_handle.specs.declared.status.Status.TheVariants.{WrongKind, NoMemory, LimitTooLarge, Fixed, NoTicket, TooManyPasses, PassesOut}
+use Rattle.sched_handle.specs.declared.status.Status.TheVariants.{NoMemory, LimitTooLarge, Fixed, NoTicket, TooManyPasses, PassesOut}
 
 -- a budget of this limit is not made for this reason
 abbrev pub NotMade : ℕ → Status → Type 0
@@ -20,13 +20,15 @@ NotMade limit LimitTooLarge = 4294967296 < limit
 NotMade limit NoMemory = limit ≤ 4294967296
 NotMade limit _ = ⊥
 
+-- a budget of this limit is made, with its first pass, or none for this reason
+abbrev pub MakesBudget : ℕ → Bool → Result (Box Held Global) Status → Type 0
+MakesBudget limit rises (Ok b) =
+    (s : Share) × (b.value ≡ Pass s) × (s.budget.terms ≡ terms limit rises) × (s.pass.has ≡ first_view (terms limit rises))
+MakesBudget limit rises (Err s) = NotMade limit s
+
 -- a pass of the same budget, of which this is true
 abbrev pub IsPassOf : Share → Held → (Share → Type 0) → Type 0
 IsPassOf s v P = (t : Share) × (v ≡ Pass t) × (t.budget ≡ s.budget) × P t
-
--- of what is no pass nothing changes
-abbrev pub OtherKind : {A : Type 0} → Held → Result A Status → Held → Type 0
-OtherKind u r v = (r ≡ Err WrongKind) × (v ≡ u)
 
 abbrev pub PassDraws : Share → Result ℕ Status → Held → Type 0
 PassDraws s (Ok k) v = IsPassOf s v (λ t. Drew s.pass.has k t.pass.has)
@@ -56,6 +58,11 @@ PassRaises to s (Err _) v = ⊥
 abbrev pub Raises : ℕ → Held → Result ℕ Status → Held → Type 0
 Raises to (Pass s) r v = PassRaises to s r v
 Raises to u r v = OtherKind u r v
+
+-- how many tickets a pass has
+abbrev pub CountsTickets : Held → Result ℕ Status → Type 0
+CountsTickets u (Ok n) = (s : Share) × (u ≡ Pass s) × (n ≡ length s.pass.has.tickets)
+CountsTickets u (Err s) = IsOther kind.Pass u s
 
 -- passes of one budget
 abbrev pub IsShareOf : Held → Held → Type 0

@@ -1,10 +1,14 @@
--- What bytes are read as.
-use Rattle.std.specs.Prelude.{◌≡◌, ℕ, List, Result, Ok, Err}
-use Rattle.sched_plan.specs.Schedule.{Schedule}
+-- What bytes are read as, and what the calls on a policy do.
+use Rattle.std.specs.Prelude.{◌≡◌, ℕ, List, [], Result, Ok, Err}
+use Rattle.sched_plan.specs.Schedule.{Schedule, nodes_of, depth_of}
 use Rattle.sched_json.specs.Texts.{ReadsText}
 use Rattle.sched_json.specs.declared.texts.TextFault.TheVariants as text
+use Rattle.sched_handle.specs.Held.{kind_of, IsOther, Wants}
 use Rattle.sched_handle.specs.declared.held.Held.{Held}
-use Rattle.sched_handle.specs.declared.held.Held.TheVariants.{Policy}
+use Rattle.sched_handle.specs.declared.held.Held.TheVariants.{Policy, Driver}
+use Rattle.sched_handle.specs.declared.held.Kind.TheVariants as kind
+use Rattle.sched_handle.specs.declared.replies.Place.{Place}
+use Rattle.sched_handle.specs.declared.replies.Size.{Size}
 use Rattle.sched_handle.specs.declared.status.Status.{Status}
 use Rattle.sched_handle.specs.declared.status.Status.TheVariants.{NotJson, NotAPolicy, OutOfRange, TooDeep, TooMany, NoMemory}
 use Rattle.std.specs.Global.{Global}
@@ -20,3 +24,27 @@ ReadsPolicy bytes (Err TooDeep) = ReadsText bytes (Err text.TooDeep)
 ReadsPolicy bytes (Err TooMany) = ReadsText bytes (Err text.TooMany)
 ReadsPolicy bytes (Err NoMemory) = Unit {0}
 ReadsPolicy bytes (Err _) = ⊥
+
+-- no place
+abbrev pub nowhere : Place
+nowhere = record { line = 0; column = 0 }
+
+-- a place is told only of bytes that are no JSON
+abbrev pub TellsPlace : Result (Box Held Global) Status → Place → Type 0
+TellsPlace (Err NotJson) place = Unit {0}
+TellsPlace r place = place ≡ nowhere
+
+-- an equal policy is made, or none for this reason
+abbrev pub Copies : Held → Result (Box Held Global) Status → Type 0
+Copies u (Ok b) = (b.value ≡ u) × (kind_of u ≡ kind.Policy)
+Copies u (Err s) = Wants kind.Policy u s
+
+-- how many nodes a policy has, and how deep it is
+abbrev pub Sizes : Held → Result Size Status → Type 0
+Sizes u (Ok size) = (s : Schedule) × (u ≡ Policy s) × (size.nodes ≡ nodes_of s) × (size.depth ≡ depth_of s)
+Sizes u (Err s) = IsOther kind.Policy u s
+
+-- a driver of a policy is made, before its first event, or none for this reason
+abbrev pub Drives : Held → Result (Box Held Global) Status → Type 0
+Drives u (Ok b) = (s : Schedule) × (u ≡ Policy s) × (b.value ≡ Driver (record { plan = s; journal = [] }))
+Drives u (Err s) = Wants kind.Policy u s

@@ -1,5 +1,5 @@
 -- What the calls on a retry do.
-use Rattle.std.specs.Prelude.{◌≡◌, ◌≢◌, ℕ, false, List, [], ◌∷◌, length, Option, Some, None, Result, Ok, Err}
+use Rattle.std.specs.Prelude.{◌≡◌, ℕ, false, [], ◌∷◌, length, Option, Some, None, Result, Ok, Err}
 use Rattle.std.specs.Global.{Global}
 use Rattle.std_alloc.specs.declared.boxed.Box.{Box}
 use Rattle.sched_time.specs.declared.numbers.Tick.{Tick}
@@ -11,13 +11,13 @@ use Rattle.sched_task.specs.declared.endings.RunFault.TheVariants as fault
 use Rattle.sched_ticket.specs.View.{part_of, with_split}
 use Rattle.sched_ticket.specs.Calls.{SplitRefused}
 use Rattle.sched_task_law.specs.Past.{Past, nothing_yet}
-use Rattle.sched_retry.specs.Retrying.{Retrying}
+use Rattle.sched_retry.specs.Retrying.{Retrying, gives_up}
 use Rattle.sched_host.specs.Host.{HostPoll, hears, next_of}
 use Rattle.sched_host.specs.Share.{Share}
 use Rattle.sched_host.specs.declared.retry.Next.{Next}
 use Rattle.sched_host.specs.declared.retry.Next.TheVariants as next
-use Rattle.sched_handle.specs.Held.{kind_of, Wants}
-use Rattle.sched_handle.specs.Passes.{IsPassOf, OtherKind}
+use Rattle.sched_handle.specs.Held.{IsOther, OtherKind}
+use Rattle.sched_handle.specs.Passes.{IsPassOf}
 use Rattle.sched_handle.specs.declared.held.Held.{Held}
 use Rattle.sched_handle.specs.declared.held.Held.TheVariants.{Policy, Pass, Retry}
 use Rattle.sched_handle.specs.declared.held.Kind.TheVariants as kind
@@ -81,10 +81,20 @@ abbrev pub Polls : Tick → Option Ran → Held → Result Reply Status → Held
 Polls t report (Retry r) x v = RetryPolls t report r x v
 Polls t report u x v = OtherKind u x v
 
--- handles of a retry and of a pass of its budget
-abbrev pub IsOfItsBudget : Option Held → Option Held → Type 0
-IsOfItsBudget u v = (r : Retrying) (s : Share) → u ≡ Some (Retry r) → v ≡ Some (Pass s) → r.budget ≡ s.budget
+-- what a retry is at
+abbrev pub Sees : Held → Result Reply Status → Type 0
+Sees u (Ok x) = (r : Retrying) × (u ≡ Retry r) × (x ≡ reply_of r.past)
+Sees u (Err s) = IsOther kind.Retry u s
+
+-- a retry that is not over ends as cancelled
+abbrev pub Cancels : Held → Result (Unit {0}) Status → Held → Type 0
+Cancels (Retry r) x v = (x ≡ Ok tt) × (v ≡ Retry (gives_up r))
+Cancels u x v = OtherKind u x v
 
 -- the pass of a retry, with all its tickets
 abbrev pub GivesBack : Held → Held → Type 0
-GivesBack u v = (r : Retrying) → u ≡ Retry r → (t : Share) × (v ≡ Pass t) × (t.budget ≡ r.budget) × (t.pass ≡ r.pass)
+GivesBack u v = (r : Retrying) × (t : Share) × (u ≡ Retry r) × (v ≡ Pass t) × (t.budget ≡ r.budget) × (t.pass ≡ r.pass)
+
+-- handles of a retry and of a pass of its budget
+abbrev pub IsOfItsBudget : Option Held → Option Held → Type 0
+IsOfItsBudget u v = (r : Retrying) (s : Share) → u ≡ Some (Retry r) → v ≡ Some (Pass s) → r.budget ≡ s.budget

@@ -1,15 +1,9 @@
 //! Calls on drivers.
-ghost use Rattle.std.specs.Prelude.{◌≡◌, ◌≢◌, ◌<◌, ◌≤◌, [], None, Some, length, string_bytes, IfOk, IfErr, IfSome};
-ghost use Rattle.sched_plan.specs.Datum.{Datum, as_number, num};
-ghost use Rattle.sched_plan.specs.DatumText.{text_of};
-ghost use Rattle.sched_step.specs.StateOf.{event_of};
-ghost use Rattle.sched_driver.specs.Driven.{Driven, last_output, next_start_of};
-ghost use Rattle.sched_handle.specs.Held.{kind_of, Wants};
-ghost use Rattle.sched_handle.specs.Drivers.{Nexts, NumberFails};
-ghost use Rattle.sched_handle.specs.Replies.{decided_of};
+ghost use Rattle.std.specs.Prelude.{◌≡◌, IfOk, IfErr};
+ghost use Rattle.sched_handle.specs.Held.{IsOther};
+ghost use Rattle.sched_handle.specs.Drivers.{Nexts, Resets, Planned, CountsEvents, LastNumber, LastText};
 ghost use Rattle.sched_handle.specs.declared.held.Held.TheVariants as what;
 ghost use Rattle.sched_handle.specs.declared.held.Kind.TheVariants as kind;
-ghost use Rattle.sched_handle.specs.declared.status.Status.TheVariants as status;
 
 use crate::held::Held;
 use crate::replies::Decided;
@@ -40,9 +34,7 @@ impl Held {
 
     /// Back to before the first event.
     pub fn reset(&mut self) -> Result<(), Status>
-        ensures ok { IfOk result (λ _. (d : Driven) × (self.old ≡ what.Driver d)
-            × (self.new ≡ what.Driver (record { plan = d.plan; journal = [] }))) }
-        ensures err { IfErr result (λ s. (s ≡ status.WrongKind) × (kind_of self.old ≢ kind.Driver) × (self.new ≡ self.old)) }
+        ensures { Resets self.old result self.new }
     {
         match self {
             Held::Driver(driver) => {
@@ -59,7 +51,7 @@ impl Held {
     /// The driver, where it is one.
     fn driven(&self) -> Result<&Driver, Status>
         ensures ok { IfOk result (λ driver. self.now ≡ what.Driver driver.now) }
-        ensures err { IfErr result (λ s. (s ≡ status.WrongKind) × (kind_of self.now ≢ kind.Driver)) }
+        ensures err { IfErr result (IsOther kind.Driver self.now) }
     {
         match self {
             Held::Driver(driver) => Ok(driver),
@@ -72,8 +64,7 @@ impl Held {
 
     /// What was decided at the last event.
     pub fn planned(&self) -> Result<Decided, Status>
-        ensures ok { IfOk result (λ x. (d : Driven) × (self.now ≡ what.Driver d) × (x ≡ decided_of (next_start_of d))) }
-        ensures err { IfErr result (λ s. (s ≡ status.WrongKind) × (kind_of self.now ≢ kind.Driver)) }
+        ensures { Planned self.now result }
     {
         let driver = self.driven()?;
         Ok(Decided::of(driver.next_start()))
@@ -81,8 +72,7 @@ impl Held {
 
     /// How many events the journal has.
     pub fn events(&self) -> Result<u64, Status>
-        ensures ok { IfOk result (λ n. (d : Driven) × (self.now ≡ what.Driver d) × (n ≡ length d.journal)) }
-        ensures err { IfErr result (λ s. (s ≡ status.WrongKind) × (kind_of self.now ≢ kind.Driver)) }
+        ensures { CountsEvents self.now result }
     {
         let driver = self.driven()?;
         Ok(driver.journal().len() as u64)
@@ -90,9 +80,7 @@ impl Held {
 
     /// The output last given, where it is a number.
     pub fn last_number(&self) -> Result<u64, Status>
-        ensures ok { IfOk result (λ n. (d : Driven) × (self.now ≡ what.Driver d)
-            × (o : Datum) × (last_output d ≡ Some o) × (as_number o ≡ Some n)) }
-        ensures err { IfErr result (NumberFails self.now) }
+        ensures { LastNumber self.now result }
     {
         let driver = self.driven()?;
         let Some(output) = driver.last() else {
@@ -106,9 +94,7 @@ impl Held {
 
     /// The output last given, as text.
     pub fn last_text(&self, alloc: Global) -> Result<String, Status>
-        ensures ok { IfOk result (λ text. (d : Driven) × (self.now ≡ what.Driver d)
-            × (o : Datum) × (last_output d ≡ Some o) × (string_bytes text ≡ text_of o)) }
-        ensures err { IfErr result (NumberFails self.now) }
+        ensures { LastText self.now result }
     {
         let driver = self.driven()?;
         let Some(output) = driver.last() else {

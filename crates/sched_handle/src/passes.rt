@@ -1,10 +1,7 @@
 //! Calls on passes.
-ghost use Rattle.std.specs.Prelude.{◌≡◌, ◌≢◌, ◌<◌, ◌≤◌, true, false, length, IfOk, IfErr, IfSome, IfNone};
-ghost use Rattle.sched_ticket.specs.View.{terms, first_view};
-ghost use Rattle.sched_ticket.specs.Calls.{IsWhole};
-ghost use Rattle.sched_host.specs.Share.{Share};
+ghost use Rattle.std.specs.Prelude.{◌≡◌, ◌≢◌, true, false, IfOk, IfErr, IfSome, IfNone};
 ghost use Rattle.sched_handle.specs.Held.{kind_of};
-ghost use Rattle.sched_handle.specs.Passes.{NotMade, Draws, Splits, Raises, IsShareOf, Joins, Closes};
+ghost use Rattle.sched_handle.specs.Passes.{MakesBudget, Draws, Splits, Raises, CountsTickets, IsShareOf, Joins, Closes};
 ghost use Rattle.sched_handle.specs.declared.held.Held.TheVariants as what;
 ghost use Rattle.sched_handle.specs.declared.held.Kind.TheVariants as kind;
 ghost use Rattle.sched_handle.specs.declared.status.Status.TheVariants as status;
@@ -19,9 +16,7 @@ use std::mem;
 impl Held {
     /// A budget of `limit` tickets, and its first pass.
     pub fn fixed(alloc: Global, limit: u64) -> Result<Box<Held>, Status>
-        ensures ok { IfOk result (λ b. (s : Share) × (b.value ≡ what.Pass s)
-            × (s.budget.terms ≡ terms limit false) × (s.pass.has ≡ first_view (terms limit false))) }
-        ensures err { IfErr result (NotMade limit) }
+        ensures { MakesBudget limit false result }
     {
         match Worker::fixed(alloc, limit) {
             Ok(worker) => boxed(alloc, worker),
@@ -34,9 +29,7 @@ impl Held {
 
     /// A budget whose limit is `limit` and may rise, and its first pass.
     pub fn rising(alloc: Global, limit: u64) -> Result<Box<Held>, Status>
-        ensures ok { IfOk result (λ b. (s : Share) × (b.value ≡ what.Pass s)
-            × (s.budget.terms ≡ terms limit true) × (s.pass.has ≡ first_view (terms limit true))) }
-        ensures err { IfErr result (NotMade limit) }
+        ensures { MakesBudget limit true result }
     {
         match Worker::rising(alloc, limit) {
             Ok(worker) => boxed(alloc, worker),
@@ -111,8 +104,7 @@ impl Held {
 
     /// How many tickets were drawn with this pass, and with those joined into it.
     pub fn count(&self) -> Result<u64, Status>
-        ensures ok { IfOk result (λ n. (s : Share) × (self.now ≡ what.Pass s) × (n ≡ length s.pass.has.tickets)) }
-        ensures err { IfErr result (λ s. (s ≡ status.WrongKind) × (kind_of self.now ≢ kind.Pass)) }
+        ensures { CountsTickets self.now result }
     {
         match self {
             Held::Pass(worker) => Ok(worker.count()),

@@ -1,8 +1,7 @@
 //! Calls on policies.
-ghost use Rattle.std.specs.Prelude.{◌≡◌, ◌≢◌, [], IfOk, IfErr};
-ghost use Rattle.sched_plan.specs.Schedule.{Schedule, nodes_of, depth_of};
-ghost use Rattle.sched_handle.specs.Held.{kind_of, Wants};
-ghost use Rattle.sched_handle.specs.Policies.{ReadsPolicy};
+ghost use Rattle.std.specs.Prelude.{◌≡◌, [], IfOk, IfErr};
+ghost use Rattle.sched_handle.specs.Held.{Wants, IsOther};
+ghost use Rattle.sched_handle.specs.Policies.{ReadsPolicy, TellsPlace, Copies, Sizes, Drives};
 ghost use Rattle.sched_handle.specs.declared.held.Held.TheVariants as what;
 ghost use Rattle.sched_handle.specs.declared.held.Kind.TheVariants as kind;
 
@@ -15,9 +14,10 @@ use sched_plan::Plan;
 use std::alloc::Global;
 
 impl Held {
-    /// The policy that the bytes spell as JSON. `place` is where they stop being JSON, where they do.
+    /// The policy that the bytes spell as JSON. `place` is where they stop being JSON, where they do; otherwise 0, 0.
     pub fn read(alloc: Global, json: &[u8], place: &mut Place) -> Result<Box<Held>, Status>
-        ensures { ReadsPolicy json.now result }
+        ensures policy { ReadsPolicy json.now result }
+        ensures place { TellsPlace result place.new }
     {
         *place = Place { line: 0, column: 0 };
         let plan = match read_text(alloc, json) {
@@ -44,7 +44,7 @@ impl Held {
     /// The policy, where it is one.
     fn policy(&self) -> Result<&Plan, Status>
         ensures ok { IfOk result (λ plan. self.now ≡ what.Policy plan.now) }
-        ensures err { IfErr result (λ s. Wants kind.Policy self.now s × (kind_of self.now ≢ kind.Policy)) }
+        ensures err { IfErr result (IsOther kind.Policy self.now) }
     {
         match self {
             Held::Policy(plan) => Ok(plan),
@@ -57,8 +57,7 @@ impl Held {
 
     /// An equal policy.
     pub fn copied(&self, alloc: Global) -> Result<Box<Held>, Status>
-        ensures ok { IfOk result (λ b. (b.value ≡ self.now) × (kind_of self.now ≡ kind.Policy)) }
-        ensures err { IfErr result (Wants kind.Policy self.now) }
+        ensures { Copies self.now result }
     {
         let plan = self.policy()?;
         let Ok(plan) = plan.copy(alloc) else {
@@ -72,9 +71,7 @@ impl Held {
 
     /// How many nodes the policy has, and how deep it is.
     pub fn size(&self) -> Result<Size, Status>
-        ensures ok { IfOk result (λ size. (s : Schedule) × (self.now ≡ what.Policy s)
-            × (size.nodes ≡ nodes_of s) × (size.depth ≡ depth_of s)) }
-        ensures err { IfErr result (λ s. Wants kind.Policy self.now s × (kind_of self.now ≢ kind.Policy)) }
+        ensures { Sizes self.now result }
     {
         let plan = self.policy()?;
         Ok(Size {
@@ -85,9 +82,7 @@ impl Held {
 
     /// A driver of the policy, before its first event.
     pub fn driver(&self, alloc: Global) -> Result<Box<Held>, Status>
-        ensures ok { IfOk result (λ b. (s : Schedule) × (self.now ≡ what.Policy s)
-            × (b.value ≡ what.Driver (record { plan = s; journal = [] }))) }
-        ensures err { IfErr result (Wants kind.Policy self.now) }
+        ensures { Drives self.now result }
     {
         let driver = self.fresh_driver(alloc)?;
         match Box::new(alloc, Held::Driver(driver)) {

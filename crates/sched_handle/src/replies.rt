@@ -1,5 +1,5 @@
 //! What calls answer, as C sees it, and what they are given.
-ghost use Rattle.std.specs.Prelude.{◌≡◌, ◌<◌, ◌≤◌, ◌++◌, true, false, length, drop, string_bytes, IfOk, IfErr, OnOk, OnErr};
+ghost use Rattle.std.specs.Prelude.{◌≡◌, ◌<◌, ◌++◌, true, false, length, drop, IfOk, IfErr, OnOk, OnErr};
 ghost use Rattle.sched_time.specs.declared.numbers.TheConstants.{FAR};
 ghost use Rattle.sched_handle.specs.Replies.{decided_of};
 ghost use Rattle.sched_handle.specs.Status.{told};

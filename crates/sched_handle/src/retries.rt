@@ -1,13 +1,8 @@
 //! Calls on retries.
-ghost use Rattle.std.specs.Prelude.{◌≡◌, ◌≢◌, ◌<◌, ◌≤◌, length, IfOk, IfErr};
-ghost use Rattle.sched_retry.specs.Retrying.{Retrying, gives_up};
-ghost use Rattle.sched_host.specs.Share.{Share};
+ghost use Rattle.std.specs.Prelude.{◌≡◌};
 ghost use Rattle.sched_handle.specs.Held.{kind_of};
-ghost use Rattle.sched_handle.specs.Retries.{Retries, Polls, reply_of, how_number};
-ghost use Rattle.sched_handle.specs.Passes.{IsShareOf};
-ghost use Rattle.sched_handle.specs.declared.held.Held.TheVariants as what;
+ghost use Rattle.sched_handle.specs.Retries.{Retries, Polls, Sees, Cancels, GivesBack, reply_of, how_number};
 ghost use Rattle.sched_handle.specs.declared.held.Kind.TheVariants as kind;
-ghost use Rattle.sched_handle.specs.declared.status.Status.TheVariants as status;
 
 use crate::held::Held;
 use crate::replies::Reply;
@@ -74,8 +69,7 @@ impl Held {
 
     /// What the retry is at.
     pub fn see(&self) -> Result<Reply, Status>
-        ensures ok { IfOk result (λ x. (r : Retrying) × (self.now ≡ what.Retry r) × (x ≡ reply_of r.past)) }
-        ensures err { IfErr result (λ s. (s ≡ status.WrongKind) × (kind_of self.now ≢ kind.Retry)) }
+        ensures { Sees self.now result }
     {
         match self {
             Held::Retry(retry) => Ok(reply(retry)),
@@ -88,8 +82,7 @@ impl Held {
 
     /// Ends a retry that is not over as cancelled.
     pub fn cancel(&mut self) -> Result<(), Status>
-        ensures ok { IfOk result (λ _. (r : Retrying) × (self.old ≡ what.Retry r) × (self.new ≡ what.Retry (gives_up r))) }
-        ensures err { IfErr result (λ s. (s ≡ status.WrongKind) × (kind_of self.old ≢ kind.Retry) × (self.new ≡ self.old)) }
+        ensures { Cancels self.old result self.new }
     {
         match self {
             Held::Retry(retry) => {
@@ -106,8 +99,7 @@ impl Held {
     /// The pass of a retry, which is dropped.
     pub fn into_pass(self) -> Held
         requires { kind_of self ≡ kind.Retry }
-        ensures { (r : Retrying) × (t : Share) × (self ≡ what.Retry r) × (result ≡ what.Pass t)
-            × (t.budget ≡ r.budget) × (t.pass ≡ r.pass) }
+        ensures { GivesBack self result }
     {
         match self {
             Held::Retry(retry) => {

@@ -1,11 +1,11 @@
 -- What a host is to do for a retry, and one call on it.
-use Rattle.std.specs.Prelude.{◌≡◌, ℕ, Bool, not, ◌&&◌, if◌then◌else◌, List, ◌++◌, Option, Some, None, is_some}
+use Rattle.std.specs.Prelude.{◌≡◌, ℕ, ◌<◌, ◌≤◌, Bool, true, false, not, ◌&&◌, if◌then◌else◌, List, ◌++◌, Option, Some, None, is_some, IfSome, IsSomeAnd}
 use Rattle.sched_time.specs.declared.numbers.Tick.{Tick}
 use Rattle.sched_driver.specs.Driven.{next_start_of}
 use Rattle.sched_effect.specs.declared.ran.Ran.{Ran}
 use Rattle.sched_task.specs.declared.endings.How.{How}
 use Rattle.sched_task_law.specs.Kind.{retry}
-use Rattle.sched_task_law.specs.Past.{Past, is_under_way}
+use Rattle.sched_task_law.specs.Past.{Past, is_under_way, waits_for}
 use Rattle.sched_retry.specs.Retrying.{Retrying, RetryPoll}
 use Rattle.sched_host.specs.declared.retry.Next.{Next}
 use Rattle.sched_host.specs.declared.retry.Next.TheVariants.{Poll, Run, Wait, Over}
@@ -26,6 +26,11 @@ next_by_ending v None = if is_under_way v.runs v.begun then Run else next_by_sta
 -- what the host is to do: nothing more where it is over, to run where a run is under way, or else to wait or to poll
 abbrev pub next_of : Past → Next
 next_of v = next_by_ending v v.over
+
+-- whether a retry waits for a moment after this one
+abbrev pub Rests : Past → ℕ → Bool → Type 0
+Rests v now true = IsSomeAnd (waits_for v) (λ m. now < m)
+Rests v now false = IfSome (waits_for v) (λ m. m ≤ now)
 
 -- One poll of a retry, in which the runs that finish are those that the host told.
 pub record HostPoll (v : Retrying) (t : Tick) (told : List Ran) (u : Retrying) : Type 0 where

@@ -1,3 +1,4 @@
 pub mod Share
+pub mod Hosted
 pub mod Host
 pub mod Worker

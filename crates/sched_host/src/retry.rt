@@ -1,11 +1,11 @@
 //! Retries whose runs the host makes.
-ghost use Rattle.std.specs.Prelude.{◌≡◌, ◌<◌, ◌≤◌, [], ◌∷◌, ◌++◌, true, false, None, is_some, IfSome, IsSomeAnd, MatchBool, length};
+ghost use Rattle.std.specs.Prelude.{◌≡◌, ◌<◌, [], ◌∷◌, ◌++◌, true, false, None, is_some, MatchBool, length};
 ghost use Rattle.sched_ticket.specs.Held.{IsOf};
 ghost use Rattle.sched_task_law.specs.Kind.{retry};
-ghost use Rattle.sched_task_law.specs.Past.{nothing_yet, is_under_way, waits_for};
+ghost use Rattle.sched_task_law.specs.Past.{nothing_yet, is_under_way};
 ghost use Rattle.sched_retry.specs.Comes.{Comes};
 ghost use Rattle.sched_retry.specs.Retrying.{RetryLaw, gives_up};
-ghost use Rattle.sched_host.specs.Host.{HostPoll, hears, next_of, by_code};
+ghost use Rattle.sched_host.specs.Host.{HostPoll, hears, next_of, Rests, by_code};
 
 use crate::runs::HostRuns;
 use sched_driver::Driver;
@@ -42,18 +42,17 @@ pub struct HostRetry {
 }
 
 impl Model for HostRetry {
-    ghost use Rattle.std.specs.Prelude.{is_some};
     ghost use Rattle.sched_task_law.specs.Kind.{retry};
-    ghost use Rattle.sched_task_law.specs.Law.{is_refused};
-    ghost use Rattle.sched_retry.specs.Retrying.{Retrying, coded_retrying, retrying, RetryLaw};
+    ghost use Rattle.sched_retry.specs.Retrying.{Retrying, coded_retrying, RetryLaw};
+    ghost use Rattle.sched_host.specs.Hosted.{hosted};
 
     ghost Value = { Retrying };
 
     ghost coded = { coded_retrying };
 
-    ghost view = { λ r. retrying r.runs r.over (is_refused r.over) r.pass r.budget.value (is_some r.over) };
+    ghost view = { λ r. hosted r.runs r.over r.pass r.budget.value };
 
-    ghost invariant = { λ r. RetryLaw retry (retrying r.runs r.over (is_refused r.over) r.pass r.budget.value (is_some r.over)) };
+    ghost invariant = { λ r. RetryLaw retry (hosted r.runs r.over r.pass r.budget.value) };
 }
 
 impl HostRetry {
@@ -192,7 +191,7 @@ impl HostRetry {
     // Whether it waits for a moment after this one.
     fn rests(&self, now: Moment) -> bool
         requires { self.now.past.over ≡ None }
-        ensures { MatchBool result (IsSomeAnd (waits_for self.now.past) (λ m. now < m)) (IfSome (waits_for self.now.past) (λ m. m ≤ now)) }
+        ensures { Rests self.now.past now result }
     {
         match self.runs.due() {
             Some(start) => now.get() < start.get(),

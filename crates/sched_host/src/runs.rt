@@ -33,11 +33,12 @@ impl Model for HostRuns {
 
     ghost coded = { coded_runs };
 
-    ghost use Rattle.std.specs.Prelude.{◌<◌, ◌≤◌, ◌+◌, vec_len, vec_capacity};
+    ghost use Rattle.std.specs.Prelude.{vec_len, vec_capacity};
+    ghost use Rattle.sched_host.specs.Hosted.{HasRoomToEnd};
 
     ghost view = { λ r. record { driver = r.driver; runs = r.runs.items; begun = r.begun.items } };
 
-    ghost invariant = { λ r. (vec_len r.begun ≤ vec_len r.runs + 1) × (vec_len r.runs < vec_len r.begun → vec_len r.runs < vec_capacity r.runs) };
+    ghost invariant = { λ r. HasRoomToEnd (vec_len r.begun) (vec_len r.runs) (vec_capacity r.runs) };
 }
 
 impl HostRuns {

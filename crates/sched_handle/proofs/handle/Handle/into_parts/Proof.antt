@@ -1,10 +1,10 @@
 -- `into_parts` tests the pointer: that of a block is not null, and where the handle holds nothing it is.
 use mathlib.Core.Path.{◌≡◌, refl, sym, subst}
 use mathlib.Core.List.{List, [], ◌∷◌, ◌++◌}
-use lib.Dec.{T, lit<}
+use lib.Dec.{lit<}
 use seplogic.Ra.Ura.{Ura}
 use mir.Raw.{raw as bare}
-use mir.Val.{Val, vnull, vstruct, of_list, has_ty, WT}
+use mir.Val.{Val, vstruct, of_list, has_ty}
 use base.Logic.{SProp, ent, emp, id⊢, guard, guard_i}
 use base.Fml.{ftrue, fsep}
 use prog.Memory.{Memory}
@@ -21,7 +21,6 @@ use types.Run.{bin, lit, stop, fld, no_more, and_then, of_opd, first, branches, 
 use types.ByLocal.{alloc_all, pass_all, free_all, look_at, get, get_in, sets, env}
 use denote.Exit.{yes}
 use denote.RawPtr.{Ptr, block_ptr, null_ptr, ptr_val, Testable, tests_null}
-use denote.Signature.{type_at}
 use denote.Steps.{nothing}
 use denote.Triple.Spec.{triple_of}
 use denote.Triple.Table.{entered}

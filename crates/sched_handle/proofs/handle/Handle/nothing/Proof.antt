@@ -19,7 +19,7 @@ use types.ByLocal.{alloc_all, pass_all, free_all, look_at, get, sets}
 use denote.Exit.{yes}
 use denote.RattleType.{Valss}
 use denote.RawPtr.{Ptr, RawPtr, null_ptr, ptr_val}
-use denote.Signature.{type_at, plain}
+use denote.Signature.{plain}
 use denote.Steps.{nothing}
 use denote.Struct.Struct.{within}
 use denote.Struct.Owning.{shape, to}

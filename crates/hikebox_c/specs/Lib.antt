@@ -1,0 +1,5 @@
+pub mod Calls
+pub mod Policies
+pub mod Drivers
+pub mod Budgets
+pub mod Retries

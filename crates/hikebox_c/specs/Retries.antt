@@ -1,0 +1,50 @@
+-- What the calls on retries do.
+use Rattle.std.specs.Prelude.{◌≡◌, ◌≢◌, ℕ, ◌<◌, ◌≤◌, List, Option, Some, None, is_some, MatchBool, Result, Ok, Err}
+use Rattle.sched_time.specs.declared.numbers.TheConstants.{FAR}
+use Rattle.sched_time.specs.declared.numbers.Tick.{Tick}
+use Rattle.sched_effect.specs.declared.ran.Ran.{Ran}
+use Rattle.sched_effect.specs.declared.ran.Ran.TheVariants.{Won, Lost}
+use Rattle.sched_handle.specs.Passes.{Joins}
+use Rattle.sched_handle.specs.Retries.{Retries, Polls, GivesBack}
+use Rattle.sched_handle.specs.declared.held.Held.{Held}
+use Rattle.sched_handle.specs.declared.held.Kind.TheVariants as kind
+use Rattle.sched_handle.specs.declared.replies.Reply.{Reply}
+use Rattle.sched_handle.specs.declared.status.Status.{Status}
+use Rattle.sched_handle.specs.declared.status.Status.TheVariants.{Empty, Full, TooLarge, NoSuchReport}
+use Rattle.hikebox_c.specs.Calls.{Puts, OnHeld, MakesWith, OfKind}
+use Rattle.hikebox_c.specs.Budgets.{NoneJoined}
+
+-- a retry of what the first handle holds is made with what the second holds; the policy is asked for before the pass
+abbrev pub NewRetry : Option Held → Option Held → Option Held → Option Held → ℕ → Option Held → Type 0
+NewRetry None pass left u code v = MatchBool (is_some u)
+    ((left ≡ pass) × Puts u code v (Err Full))
+    ((left ≡ pass) × Puts u code v (Err Empty))
+NewRetry (Some policy) pass left u code v = MakesWith (Retries policy) pass left u code v
+
+-- the run that a number and a code report, if any
+abbrev pub Reports : ℕ → ℕ → Result (Option Ran) Status → Type 0
+Reports report code (Ok None) = report ≡ 0
+Reports report code (Ok (Some (Won c))) = (report ≡ 1) × (c ≡ code)
+Reports report code (Ok (Some (Lost c))) = (report ≡ 2) × (c ≡ code)
+Reports report code (Err NoSuchReport) = 2 < report
+Reports report code (Err TooLarge) = (report ≢ 0) × (report ≤ 2) × (FAR < code)
+Reports report code (Err _) = ⊥
+
+-- a poll with this report
+abbrev pub PollsWith : Tick → Result (Option Ran) Status → Option Held → Option Held → (Result Reply Status → Type 0) → Type 0
+PollsWith t (Ok report) u w tells = OnHeld (Polls t report) u w tells
+PollsWith t (Err s) u w tells = (w ≡ u) × tells (Err s)
+
+abbrev pub PollsAt : ℕ → List ℕ → ℕ → ℕ → Option Held → Option Held → (Result Reply Status → Type 0) → Type 0
+PollsAt now words report code u w tells =
+    (r : Result (Option Ran) Status) × Reports report code r × PollsWith (record { now = now; words = words }) r u w tells
+
+-- the pass of a retry is joined into another, and the retry's handle is empty
+abbrev pub RetryEnded : Held → Held → ℕ → Option Held → Option Held → Type 0
+RetryEnded x y code rest w = (p z : Held) × (w ≡ Some z) × GivesBack x p × Joins y p z × (rest ≡ None) × (code ≡ 0)
+
+-- a retry is freed, and its pass joined into that of the other handle, where both are there
+abbrev pub EndsHeld : Option Held → Option Held → ℕ → Option Held → Option Held → Type 0
+EndsHeld u v code rest w = OfKind kind.Retry u
+    (λ x. OfKind kind.Pass v (λ y. RetryEnded x y code rest w) (NoneJoined v u code w rest))
+    (NoneJoined v u code w rest)
