@@ -1,0 +1,19 @@
+//! What a retry draws on: a budget of tickets, a quota, or nothing at all.
+//!
+//! A value of `Draws` owns its pass and refers to its budget, by a reference or by an `Arc`. It is handed from retry to
+//! retry and keeps the tickets of all of them, so a worker has one for its life.
+#![tactic(auto)]
+
+mod draws;
+mod on_budget;
+mod on_quota;
+mod refers;
+#[cfg(test)]
+mod tests;
+mod unlimited;
+
+pub use draws::Draws;
+pub use on_budget::OnBudget;
+pub use on_quota::OnQuota;
+pub use refers::RefersTo;
+pub use unlimited::Unlimited;

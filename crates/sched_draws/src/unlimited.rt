@@ -1,0 +1,66 @@
+//! Draws on nothing.
+ghost use Rattle.std.specs.Prelude.{◌≡◌};
+
+use crate::draws::Draws;
+use sched_time::Moment;
+use std::marker::Model;
+
+/// No budget: each draw is granted, and counted. Only after 18446744073709551615 draws it refuses, and for good.
+/// Contracts see it as the number of draws.
+#[derive(Drop)]
+pub struct Unlimited {
+    granted: u64,
+}
+
+impl Model for Unlimited {
+    ghost use Rattle.std.specs.Prelude.{ℕ};
+
+    ghost Value = { ℕ };
+
+    ghost view = { λ d. d.granted };
+}
+
+impl Unlimited {
+    /// What has granted nothing yet.
+    pub fn new() -> Unlimited
+        ensures { result ≡ 0 }
+    {
+        Unlimited { granted: 0 }
+    }
+}
+
+impl Draws for Unlimited {
+    ghost use Rattle.std.specs.Prelude.{⊤, refl};
+    ghost use Rattle.sched_draws.specs.Counted.{FreelyDrew, FreelyDrew-counts, FreelyDrew-denies};
+
+    ghost Name = { ⊤ };
+
+    ghost name = { λ _. tt };
+
+    ghost granted = { λ d. d };
+
+    ghost drew = { λ d _ got e. FreelyDrew d got e };
+
+    ghost refused = { λ d. d ≡ 18446744073709551615 };
+
+    ghost stands = { λ _. ⊤ };
+
+    ghost keeps = { λ _ _ _ _ _. refl };
+
+    ghost counts = { λ d _ got e drew. FreelyDrew-counts d got e drew };
+
+    ghost denies = { λ d _ e drew. FreelyDrew-denies d e drew };
+
+    fn draw(&mut self, _now: Moment) -> bool {
+        if self.granted < u64::MAX {
+            self.granted += 1;
+            true
+        } else {
+            false
+        }
+    }
+
+    fn granted(&self) -> u64 {
+        self.granted
+    }
+}
