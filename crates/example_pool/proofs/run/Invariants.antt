@@ -1,0 +1,5 @@
+use Rattle.sched_ticket.specs.Held.{IsOf}
+use Rattle.example_pool.proofs.run.Given as goal
+
+abbrev pub invariant-loop : goal.invariant-loop
+invariant-loop g l = IsOf l.fn.budget l.pass

@@ -1,0 +1,82 @@
+//! `example_repeat FILE` polls a file's size at fixed boundaries, each 100 milliseconds after the one before, for a second.
+//! It prints the size polled last, and on standard error by how much each poll missed its boundary.
+#![tactic(auto)]
+
+use anyhow::{Context, Result, bail};
+use sched_run::{
+    Action, Call, Driver, Effect, MidWords, Moment, Plan, PlanFault, Ran, Repeat, RepeatEnding,
+    SystemClock, Tagged, Timed, block_on,
+};
+use std::alloc::{AllocGlobal, Global};
+use std::random::RandomSource;
+use std::rt::{Files, Runtime};
+use std::sync::Wait;
+use std::{env, fs, io};
+
+// What is repeated: to look how many bytes this file has.
+#[derive(Drop)]
+struct FileSize<'a, R> {
+    rt: &'a R,
+    path: &'a str,
+}
+
+impl<'a, R: Files> Action for FileSize<'a, R> {
+    type Item = u64;
+
+    type Fault = Tagged<io::Error>;
+
+    fn run(&mut self) -> Result<u64, Tagged<io::Error>> {
+        match fs::metadata(self.rt, self.path) {
+            Ok(found) => Ok(found.len()),
+            Err(error) => Err(Tagged::by(error, |_| 0)),
+        }
+    }
+}
+
+const LENGTH: u64 = 100;
+
+fn each_boundary(alloc: Global) -> Result<Plan, PlanFault> {
+    Plan::within(alloc, 1000, Plan::fixed(LENGTH)?)
+}
+
+// By how much each run missed its boundary. The boundaries are counted from the first run.
+fn print_misses<R: Eprint>(rt: &R, begun: &[Moment]) -> io::Result<()> {
+    let Some(first) = begun.first() else {
+        return Ok(());
+    };
+    for moment in begun {
+        let passed = moment.get().saturating_sub(first.get());
+        let missed = passed % LENGTH;
+        let boundary = passed - missed;
+        eprintln!(rt; "boundary {boundary}: missed by {missed} ms")?;
+    }
+    Ok(())
+}
+
+// The last size that was polled.
+fn poll<R: Runtime + RandomSource + AllocGlobal + Wait>(rt: &R, path: &str) -> Result<u64> {
+    let alloc = rt.alloc();
+    let driver = Driver::new(alloc, each_boundary(alloc)?)?;
+    let call = Call::new(alloc, FileSize { rt, path });
+    let repeat = Repeat::new(alloc, call, driver);
+    let timed = Timed::new(alloc, repeat, SystemClock::new(rt)?, MidWords);
+    let mut repeat = block_on(rt, timed)?;
+    print_misses(rt, repeat.begun())?;
+    match repeat.take_ending() {
+        Some(RepeatEnding::ScheduleDone) => {}
+        Some(RepeatEnding::Failed(fault)) => return Err(fault.value.into()),
+        _ => bail!("the repeat broke off"),
+    }
+    match repeat.effect().runs().last() {
+        Some(Ran::Won(size)) => Ok(size.get()),
+        _ => bail!("it was not polled"),
+    }
+}
+
+fn main(rt: HostRuntime) -> Result<()> {
+    let mut words = env::args(&rt)?;
+    let path = words.nth(1).context("usage: example_repeat FILE")?;
+    let size = poll(&rt, path.as_str())?;
+    println!(rt; "{size} bytes")?;
+    Ok(())
+}

@@ -1,0 +1,67 @@
+//! `example_retry FILE` prints a file, and waits for one that is not there yet: reading it is tried again after 100, 200,
+//! 400 and 800 milliseconds, each made up to a fifth shorter or longer. Where it was never read, it ends in the last error.
+#![tactic(auto)]
+
+use anyhow::{Context, Result, bail};
+use sched_run::{
+    Action, Budget, Call, Driver, Ending, Plan, PlanFault, Retry, SystemClock, SystemWords, Tagged,
+    Timed, block_on,
+};
+use std::alloc::{AllocGlobal, Global};
+use std::random::RandomSource;
+use std::rt::{Files, Runtime};
+use std::sync::Wait;
+use std::{env, fs, io};
+
+// What is retried: to read this file.
+#[derive(Drop)]
+struct ReadFile<'a, R> {
+    rt: &'a R,
+    path: &'a str,
+}
+
+impl<'a, R: Files + AllocGlobal> Action for ReadFile<'a, R> {
+    type Item = Tagged<String>;
+
+    type Fault = Tagged<io::Error>;
+
+    fn run(&mut self) -> Result<Tagged<String>, Tagged<io::Error>> {
+        match fs::read_to_string(self.rt, self.path) {
+            Ok(text) => Ok(Tagged::by(text, |text| text.len() as u64)),
+            Err(error) => Err(Tagged::by(error, |_| 0)),
+        }
+    }
+}
+
+fn back_off(alloc: Global) -> Result<Plan, PlanFault> {
+    let doubled = Plan::exponential(100, 2)?;
+    let jittered = Plan::jitter(alloc, 0, 800, 1200, doubled)?;
+    Plan::meet(alloc, Plan::recurs(4)?, jittered)
+}
+
+// The text of the file, once it can be read.
+fn read<R: Runtime + RandomSource + AllocGlobal + Wait>(rt: &R, path: &str) -> Result<String> {
+    let alloc = rt.alloc();
+    let (budget, pass) = Budget::new(alloc, 10)?;
+    let driver = Driver::new(alloc, back_off(alloc)?)?;
+    let call = Call::new(alloc, ReadFile { rt, path });
+    let retry = Retry::new(alloc, call, driver, pass, &budget);
+    let timed = Timed::new(alloc, retry, SystemClock::new(rt)?, SystemWords::new(rt)?);
+    let mut retry = block_on(rt, timed)?;
+    let retries = retry.granted();
+    eprintln!(rt; "{retries} retries")?;
+    match retry.take_ending() {
+        Some(Ending::Won(text)) => Ok(text.value),
+        Some(Ending::ScheduleDone(fault)) => Err(fault.value.into()),
+        Some(Ending::BudgetRefused(fault)) => Err(fault.value.into()),
+        _ => bail!("the retry broke off"),
+    }
+}
+
+fn main(rt: HostRuntime) -> Result<()> {
+    let mut words = env::args(&rt)?;
+    let path = words.nth(1).context("usage: example_retry FILE")?;
+    let text = read(&rt, path.as_str())?;
+    print!(rt; "{text}")?;
+    Ok(())
+}

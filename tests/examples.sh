@@ -1,0 +1,81 @@
+#!/usr/bin/env bash
+# Runs the built examples on the system's clock: example_retry with a file that is made 300 ms after it was started, with
+# none and with no word; and what example_repeat and example_pool print on standard error. An example that is missing or
+# older than its sources is built first.
+set -euo pipefail
+top=$(cd "$(dirname "${BASH_SOURCE[0]}")/.." && pwd)
+work=$(mktemp -d)
+trap 'rm -rf "$work"' EXIT
+cd "$work"
+failed=0
+
+fails() {
+  echo "tests/examples.sh: $*; output $(head -c 200 out); errors $(head -c 400 err)" >&2
+  failed=1
+}
+
+millis() { echo $(($(date +%s%N) / 1000000)); }
+
+# runs EXAMPLE WORD..: its status, how long it took, and what it wrote to out and err
+runs() {
+  local program=$top/crates/$1/out/$1 begin
+  begin=$(millis)
+  status=0
+  "$program" "${@:2}" >out 2>err </dev/null || status=$?
+  took=$(($(millis) - begin))
+}
+
+# starts_before_its_file: example_retry, and its file 300 ms later; it fails where the file came 450 ms after the start or
+# later, which is beside the third retry
+starts_before_its_file() {
+  local begin late
+  rm -f late.txt
+  begin=$(millis)
+  "$top/crates/example_retry/out/example_retry" late.txt >out 2>err </dev/null &
+  sleep 0.3
+  echo 'Here at last.' >late.new
+  mv late.new late.txt
+  late=$(($(millis) - begin))
+  status=0
+  wait $! || status=$?
+  [ "$late" -lt 450 ]
+}
+
+"$top/bin/build" example_retry data/note.txt
+"$top/bin/build" example_repeat data/note.txt
+"$top/bin/build" example_pool
+
+# The retries begin 80 to 120, 240 to 360 and 560 to 840 ms after the first run.
+for _ in 1 2 3 4 5; do ! starts_before_its_file || break; done
+[ "$status" = 0 ] && [ "$(cat out)" = 'Here at last.' ] && grep -qx '[23] retries' err ||
+  fails "example_retry, whose file comes after 300 ms: status $status"
+
+# The four delays are 1500 ms, each made up to a fifth shorter or longer; two seconds are left for a busy machine.
+runs example_retry missing.txt
+printf '4 retries\nError: No such file or directory (os error 2)\n' >err.want
+[ "$status" = 1 ] && [ ! -s out ] && cmp -s err err.want && [ "$took" -ge 1200 ] && [ "$took" -lt 3800 ] ||
+  fails "example_retry with no file: status $status after $took ms"
+
+runs example_retry
+[ "$status" = 1 ] && [ ! -s out ] && [ "$(cat err)" = 'Error: usage: example_retry FILE' ] ||
+  fails "example_retry with no word: status $status"
+
+# Polls from boundary 0 to the one at 1000 ms, or past it, each after its boundary by less than 100 ms.
+echo 'Here at once.' >note.txt
+runs example_repeat note.txt
+[ "$status" = 0 ] && [ "$(cat out)" = '14 bytes' ] && [ "$took" -ge 1000 ] && awk '
+  !/^boundary [0-9]+00: missed by [0-9][0-9]? ms$/ && $0 != "boundary 0: missed by 0 ms" { wrong = 1 }
+  NR == 1 && $0 != "boundary 0: missed by 0 ms" { wrong = 1 }
+  { boundary = $2 + 0; if (boundary < last) wrong = 1; last = boundary }
+  END { exit wrong || NR < 2 || NR > 11 || last < 1000 }
+' err || fails "example_repeat: status $status after $took ms"
+
+# As many calls over as before or more, in the end all.
+runs example_pool
+[ "$status" = 0 ] && [ "$(cat out)" = '200 calls were answered after 99 retries' ] && awk '
+  !/^[0-9]+ of 200 are over$/ { wrong = 1 }
+  { if ($1 + 0 < last) wrong = 1; last = $1 + 0 }
+  END { exit wrong || NR < 2 || last != 200 }
+' err || fails "example_pool: status $status"
+
+[ "$failed" = 0 ] && echo "tests/examples.sh: the examples did on the system's clock what they say"
