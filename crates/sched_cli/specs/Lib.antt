@@ -1,3 +1,4 @@
+pub mod Seeded
 pub mod Options
 pub mod Status
 pub mod PoolPrinting

@@ -7,7 +7,7 @@ pub enum WordsFault {
     /// A missing subcommand, an unknown option, or a value outside its range.
     #[error("zsched: bad command line")]
     Bad,
-    /// Help was asked for: the text to show.
+    /// Help or the version was asked for: the text to show.
     #[error("{0}")]
     Help(String),
     /// A growth was refused.
@@ -19,7 +19,7 @@ impl WordsFault {
     ghost use Rattle.std.specs.Prelude.{◌≡◌};
     ghost use Rattle.sched_cli.specs.Status.{words_status};
 
-    /// The status that the program exits with: 0 where help was asked for.
+    /// The status that the program exits with: 0 where help or the version was asked for.
     pub fn status(&self) -> u8
         ensures { result ≡ words_status self.now }
     {

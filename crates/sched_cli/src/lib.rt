@@ -2,17 +2,20 @@
 //! plans.
 #![tactic(auto)]
 
+mod commands;
 mod faults;
 mod options;
 mod pools;
+mod seeded;
 #[cfg(test)]
 mod tests;
 mod words;
 
 pub use faults::WordsFault;
-pub use options::{Asked, MOST_TICKETS, MOST_TURNS, MOST_WORKERS, PoolOptions};
+pub use options::{Asked, MOST_TICKETS, MOST_TURNS, MOST_WORKERS, Origin, PoolOptions};
 pub use pools::print_pool;
 pub use sched_plan_text::{
-    Counted, LONGEST_INPUT, MOST_STEPS, PlanOptions, PrintFault, Sink, Source, print_plan,
+    Counted, LONGEST_INPUT, MOST_STEPS, PlanCourse, PlanOptions, PrintFault, Sink, Source,
+    print_course, print_plan,
 };
 pub use words::read_words;

@@ -1,6 +1,6 @@
 ghost use Rattle.std.specs.Prelude.{◌≤◌};
 
-use sched_plan_text::PlanOptions;
+use sched_plan_text::{PlanCourse, PlanOptions};
 
 /// The most workers of a pool.
 pub const MOST_WORKERS: u64 = 16;
@@ -11,13 +11,38 @@ pub const MOST_TICKETS: u64 = 4294967296;
 /// The most turns of a pool's worker.
 pub const MOST_TURNS: u64 = 4294967296;
 
-/// What a command line asks the program to do.
-#[derive(Clone, Copy, Debug, PartialEq, Eq)]
+/// What a command line asks the program to do, and where the text for it comes from.
+#[derive(Debug, Drop)]
 pub enum Asked {
-    /// Print what one plan decides.
-    Plan(PlanOptions),
+    /// Print what one plan decides, with the same input and words at each event.
+    Plan(PlanOptions, Origin),
+    /// Print what one plan decides, with an input and words of its own at each event.
+    Course(PlanCourse, Origin),
     /// Run jobs on one budget, and print how each ended.
-    Pool(PoolOptions),
+    Pool(PoolOptions, Origin),
+}
+
+impl Asked {
+    ghost use Rattle.std.specs.Prelude.{◌≡◌};
+    ghost use Rattle.sched_cli.specs.Options.{origin_of};
+
+    /// Where the text comes from.
+    pub fn origin(&self) -> &Origin
+        ensures { result.now ≡ origin_of self.now }
+    {
+        match self {
+            Asked::Plan(_, origin) | Asked::Course(_, origin) | Asked::Pool(_, origin) => origin,
+        }
+    }
+}
+
+/// Where a text is read from.
+#[derive(Debug, Drop)]
+pub enum Origin {
+    /// Standard input.
+    StandardInput,
+    /// The file of this name.
+    File(String),
 }
 
 /// How jobs are run.

@@ -1,101 +1,64 @@
 ghost use Rattle.std.specs.Prelude.{IfOk, IfSome};
-ghost use Rattle.sched_cli.specs.Options.{AreInRange, PoolIsInRange, IsAskedInRange};
+ghost use Rattle.sched_cli.specs.Options.{AreInRange, AreInputs, AreWordsFor, PoolIsInRange, IsAskedInRange};
 
+use crate::commands::zsched_command;
 use crate::faults::WordsFault;
-use crate::options::{Asked, MOST_TICKETS, MOST_TURNS, MOST_WORKERS, PoolOptions};
+use crate::options::{Asked, MOST_TICKETS, MOST_TURNS, MOST_WORKERS, Origin, PoolOptions};
+use crate::seeded::seeded_words;
 use clap::error::ErrorKind;
-use clap::{Arg, ArgMatches, Command, Error, value_parser};
-use sched_plan_text::{MOST_STEPS, PlanOptions};
-use sched_time::{FAR, Millis, Moment};
+use clap::{ArgMatches, Error};
+use sched_plan_text::{MOST_STEPS, PlanCourse, PlanOptions};
+use sched_time::{Millis, Moment};
 use std::alloc::{AllocError, Global};
 
 /// Reads a command line, with the program's own name as its first word.
 ///
-/// Refused with `Bad` where the subcommand is missing or unknown, an option is unknown, comes twice
-/// or lacks its value, or a value is no decimal number in its range; with `Help` and the text to
-/// show where help was asked for; and with `NoMemory`.
+/// Refused with `Bad` where the subcommand is missing or unknown, an option is unknown, comes twice, lacks its value or
+/// stands beside one that takes its place, or a value is no decimal number in its range; with `Help` and the text to
+/// show where help or the version was asked for; and with `NoMemory`.
 pub fn read_words(alloc: Global, words: &[&str]) -> Result<Asked, WordsFault>
     ensures { IfOk result IsAskedInRange }
 {
     match zsched_command(alloc)?.try_get_matches_from(words) {
-        Ok(matches) => asked(&matches).ok_or(WordsFault::Bad),
+        Ok(matches) => asked(alloc, &matches),
         Err(error) => Err(refused(alloc, &error)),
     }
 }
 
-// The whole command, as `clap` takes it.
-fn zsched_command<'a>(alloc: Global) -> Result<Command<'a>, AllocError> {
-    Command::new(alloc, "zsched")
-        .about("Runs recurrence schedules on a virtual clock")
-        .subcommand_required(true)
-        .subcommand(plan_command(alloc)?)?
-        .subcommand(pool_command(alloc)?)
-}
-
-fn plan_command<'a>(alloc: Global) -> Result<Command<'a>, AllocError> {
-    let steps = number_option(alloc, "steps", "N", "10")
-        .value_parser(value_parser!(u64).range(0..=MOST_STEPS as i64))
-        .help("The most events to print, from 0 to 4096");
-    let from = far_option(alloc, "from", "M").help(
-        "The moment of the first event, in milliseconds from 0 to 4611686018427387903",
-    );
-    let took = far_option(alloc, "took", "M").help(
-        "How long after a planned start its event comes, in milliseconds from 0 to 4611686018427387903",
-    );
-    let input = far_option(alloc, "input", "N").help(
-        "The input of every event, a number from 0 to 4611686018427387903",
-    );
-    let word = number_option(alloc, "word", "W", "2147483648")
-        .value_parser(value_parser!(u32))
-        .help("The random word of every event, in all four lanes, from 0 to 4294967295");
-    Command::new(alloc, "plan")
-        .about("Reads one plan as JSON from standard input and prints its events, one line each")
-        .arg(steps)?
-        .arg(from)?
-        .arg(took)?
-        .arg(input)?
-        .arg(word)
-}
-
-fn pool_command<'a>(alloc: Global) -> Result<Command<'a>, AllocError> {
-    let workers = number_option(alloc, "workers", "N", "1")
-        .value_parser(value_parser!(u64).range(1..=MOST_WORKERS as i64))
-        .help("How many workers run the jobs, from 1 to 16");
-    let budget = number_option(alloc, "budget", "N", "100")
-        .value_parser(value_parser!(u64).range(0..=MOST_TICKETS as i64))
-        .help("How many retries all jobs may have together, from 0 to 4294967296");
-    let turns = number_option(alloc, "turns", "N", "1000000")
-        .value_parser(value_parser!(u64).range(0..=MOST_TURNS as i64))
-        .help("How many turns each worker takes at most, from 0 to 4294967296");
-    Command::new(alloc, "pool")
-        .about("Reads jobs as JSON from standard input, runs them and prints how each ended")
-        .arg(workers)?
-        .arg(budget)?
-        .arg(turns)
-}
-
-// An option `--NAME VALUE` with its default.
-fn number_option<'a>(alloc: Global, name: &'a str, value: &'a str, default: &'a str) -> Arg<'a> {
-    Arg::new(alloc, name)
-        .long(name)
-        .value_name(value)
-        .default_value(default)
-}
-
-// An option that takes what a moment or a duration may be, 0 where it is not given.
-fn far_option<'a>(alloc: Global, name: &'a str, value: &'a str) -> Arg<'a> {
-    number_option(alloc, name, value, "0").value_parser(value_parser!(u64).range(0..=FAR as i64))
-}
-
-// What the words ask for, or `None` where a value is missing or outside its range.
-fn asked(matches: &ArgMatches<'_>) -> Option<Asked>
-    ensures { IfSome result IsAskedInRange }
+// What the words ask for. `Bad` where a value is missing or outside its range.
+fn asked(alloc: Global, matches: &ArgMatches<'_>) -> Result<Asked, WordsFault>
+    ensures { IfOk result IsAskedInRange }
 {
-    let (name, options) = matches.subcommand()?;
+    let (name, options) = matches.subcommand().ok_or(WordsFault::Bad)?;
+    let origin = origin(alloc, options)?;
     match name {
-        "plan" => Some(Asked::Plan(plan_options(options)?)),
-        "pool" => Some(Asked::Pool(pool_options(options)?)),
-        _ => None,
+        "plan" => plan(alloc, options, origin),
+        "pool" => Ok(Asked::Pool(pool_options(options).ok_or(WordsFault::Bad)?, origin)),
+        _ => Err(WordsFault::Bad),
+    }
+}
+
+// Where the text is read from: standard input where no word or `-` is given.
+fn origin(alloc: Global, options: &ArgMatches<'_>) -> Result<Origin, AllocError> {
+    match options.get_str("file") {
+        None | Some("-") => Ok(Origin::StandardInput),
+        Some(name) => Ok(Origin::File(String::from_str(alloc, name)?)),
+    }
+}
+
+// A plan with a course of its own where inputs or words of events are given.
+fn plan(alloc: Global, options: &ArgMatches<'_>, origin: Origin) -> Result<Asked, WordsFault>
+    ensures { IfOk result IsAskedInRange }
+{
+    let plain = plan_options(options).ok_or(WordsFault::Bad)?;
+    if !options.contains_id("inputs") && !options.contains_id("words") {
+        return Ok(Asked::Plan(plain, origin));
+    }
+    let inputs = inputs(alloc, options, plain.input)?;
+    let words = words_of(alloc, options, plain.steps, plain.word)?;
+    match PlanCourse::new(plain.steps, plain.from, plain.took, inputs, words) {
+        Some(course) => Ok(Asked::Course(course, origin)),
+        None => Err(WordsFault::Bad),
     }
 }
 
@@ -119,6 +82,39 @@ fn plan_options(options: &ArgMatches<'_>) -> Option<PlanOptions>
     })
 }
 
+// The inputs of events: those that are given, or this one.
+fn inputs(alloc: Global, options: &ArgMatches<'_>, input: Millis) -> Result<Vec<Millis>, WordsFault>
+    ensures { IfOk result (λ inputs. AreInputs inputs.items) }
+{
+    let Some(given) = options.get_many::<u64>("inputs") else {
+        return Ok(Vec::from_slice(alloc, &[input])?);
+    };
+    let mut inputs = Vec::new(alloc);
+    for number in given {
+        let number = number.map_err(|_| WordsFault::Bad)?;
+        let input = Millis::new(number).ok_or(WordsFault::Bad)?;
+        if inputs.push(input).is_err() {
+            return Err(WordsFault::NoMemory);
+        }
+    }
+    Ok(inputs)
+}
+
+// The words of events: those of the seed that is given, or the same word at each.
+fn words_of(
+    alloc: Global,
+    options: &ArgMatches<'_>,
+    steps: u64,
+    word: u32,
+) -> Result<Vec<[u32; 4]>, AllocError>
+    ensures { IfOk result (λ words. AreWordsFor steps words.items) }
+{
+    match options.get_one::<u64>("words") {
+        Some(seed) => seeded_words(alloc, seed, steps.max(1)),
+        None => Vec::from_slice(alloc, &[[word; 4]]),
+    }
+}
+
 fn pool_options(options: &ArgMatches<'_>) -> Option<PoolOptions>
     ensures { IfSome result PoolIsInRange }
 {
@@ -138,7 +134,7 @@ fn pool_options(options: &ArgMatches<'_>) -> Option<PoolOptions>
 fn refused(alloc: Global, error: &Error) -> WordsFault {
     match error.kind() {
         ErrorKind::OutOfMemory => WordsFault::NoMemory,
-        ErrorKind::DisplayHelp => match error.to_string(alloc) {
+        ErrorKind::DisplayHelp | ErrorKind::DisplayVersion => match error.to_string(alloc) {
             Ok(text) => WordsFault::Help(text),
             Err(_) => WordsFault::NoMemory,
         },

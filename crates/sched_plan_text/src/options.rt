@@ -23,7 +23,7 @@ pub struct PlanOptions {
 }
 
 /// How a plan is stepped, with an input and words of its own for each event.
-#[derive(Drop)]
+#[derive(Debug, Drop)]
 pub struct PlanCourse {
     pub(crate) steps: u64,
     pub(crate) from: Moment,

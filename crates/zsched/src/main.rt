@@ -6,20 +6,17 @@ ghost use Rattle.std.specs.Process.{exit_status};
 ghost use Rattle.sched_plan_text.specs.PrintStatus.{print_status};
 
 use sched_cli::{
-    Asked, Counted, PlanOptions, PrintFault, WordsFault, print_plan, print_pool, read_words,
+    Asked, Counted, Origin, PrintFault, WordsFault, print_course, print_plan, print_pool,
+    read_words,
 };
+use std::env;
+use std::fs::File;
+use std::io::{ErrorKind, Read};
 use std::process::ExitCode;
-use std::{env, io};
 
 fn main(rt: HostRuntime) -> ExitCode {
     match asked(&rt) {
-        Ok(Asked::Plan(options)) => ended(&rt, plan(&rt, &options)),
-        Ok(Asked::Pool(options)) => {
-            let mut reader = Counted::new(rt.stdin());
-            let mut writer = Counted::new(rt.stdout());
-            let printed = print_pool(&rt, rt.alloc(), &mut reader, &mut writer, &options);
-            ended(&rt, printed)
-        }
+        Ok(asked) => ended(&rt, answer(&rt, &asked)),
         Err(WordsFault::Help(text)) => match print!(rt; "{text}") {
             Ok(()) => ExitCode::SUCCESS,
             Err(_) => ended(&rt, Err(PrintFault::WriteFailed)),
@@ -35,9 +32,7 @@ fn main(rt: HostRuntime) -> ExitCode {
 fn asked(rt: &HostRuntime) -> Result<Asked, WordsFault> {
     let words = match env::args(rt) {
         Ok(words) => words,
-        Err(error) if error.kind() == io::ErrorKind::OutOfMemory => return Err(
-            WordsFault::NoMemory,
-        ),
+        Err(error) if error.kind() == ErrorKind::OutOfMemory => return Err(WordsFault::NoMemory),
         Err(_) => return Err(WordsFault::Bad),
     };
     let mut owned = Vec::new(rt.alloc());
@@ -55,11 +50,27 @@ fn asked(rt: &HostRuntime) -> Result<Asked, WordsFault> {
     read_words(rt.alloc(), &texts)
 }
 
-// Prints the plan on standard input.
-fn plan(rt: &HostRuntime, options: &PlanOptions) -> Result<(), PrintFault> {
-    let mut reader = Counted::new(rt.stdin());
+// Does what is asked for, with the text from where it is. A file that can't be opened can't be read.
+fn answer(rt: &HostRuntime, asked: &Asked) -> Result<(), PrintFault> {
+    match asked.origin() {
+        Origin::StandardInput => answer_from(rt, rt.stdin(), asked),
+        Origin::File(name) => match File::open(rt, name) {
+            Ok(file) => answer_from(rt, file, asked),
+            Err(error) if error.kind() == ErrorKind::OutOfMemory => Err(PrintFault::NoMemory),
+            Err(_) => Err(PrintFault::ReadFailed),
+        },
+    }
+}
+
+// Does what is asked for with the text of this reader.
+fn answer_from<R: Read>(rt: &HostRuntime, reader: R, asked: &Asked) -> Result<(), PrintFault> {
+    let mut reader = Counted::new(reader);
     let mut writer = Counted::new(rt.stdout());
-    print_plan(rt.alloc(), &mut reader, &mut writer, options)
+    match asked {
+        Asked::Plan(options, _) => print_plan(rt.alloc(), &mut reader, &mut writer, options),
+        Asked::Course(course, _) => print_course(rt.alloc(), &mut reader, &mut writer, course),
+        Asked::Pool(options, _) => print_pool(rt, rt.alloc(), &mut reader, &mut writer, options),
+    }
 }
 
 // The status of what was printed, with its line on standard error where it stopped at a fault.

@@ -15,15 +15,15 @@ fn numbers(options: &PlanOptions) -> (u64, u64, u64, u64, u32) {
 
 fn plan_of(alloc: Global, words: &[&str]) -> Result<(u64, u64, u64, u64, u32), WordsFault> {
     match read_words(alloc, words)? {
-        Asked::Plan(options) => Ok(numbers(&options)),
-        Asked::Pool(_) => Err(WordsFault::Bad),
+        Asked::Plan(options, _) => Ok(numbers(&options)),
+        _ => Err(WordsFault::Bad),
     }
 }
 
 // The options of a pool in the order workers, budget, turns.
 fn pool_of(alloc: Global, words: &[&str]) -> Result<(u64, u64, u64), WordsFault> {
     match read_words(alloc, words)? {
-        Asked::Pool(options) => {
+        Asked::Pool(options, _) => {
             let PoolOptions {
                 workers,
                 budget,
@@ -31,7 +31,7 @@ fn pool_of(alloc: Global, words: &[&str]) -> Result<(u64, u64, u64), WordsFault>
             } = options;
             Ok((workers, budget, turns))
         }
-        Asked::Plan(_) => Err(WordsFault::Bad),
+        _ => Err(WordsFault::Bad),
     }
 }
 
@@ -164,10 +164,10 @@ fn what_is_no_task_is_a_bad_command_line(rt: HostRuntime) {
     let table: [&[&str]; 19] = [
         &[],
         &["zsched"],
-        &["zsched", "plan", "pool"],
+        &["zsched", "plans"],
         &["zsched", "plan", "--none"],
         &["zsched", "--steps", "1"],
-        &["zsched", "plan", "word"],
+        &["zsched", "plan", "file", "file"],
         &["zsched", "plan", "--steps"],
         &["zsched", "plan", "--steps", "4097"],
         &["zsched", "plan", "--steps", "-1"],
