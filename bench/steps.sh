@@ -34,11 +34,6 @@ per_step_allocated() {
     awk -v a="$few" -v b="$many" 'BEGIN { printf "%.2f", (b - a) / 800 }'
 }
 
-# instructions of a whole run
-instructions() {
-    valgrind --tool=callgrind --callgrind-out-file=/dev/null "$@" 2>&1 > /dev/null | awk '/Collected/ { print $NF }'
-}
-
 # instructions that one step takes; the lengths are whole rounds of sixteen events
 per_step_counted() {
     echo "$((($(instructions "$1" "$2" 960) - $(instructions "$1" "$2" 160)) / 800))"

@@ -220,7 +220,10 @@ hikebox_status hikebox_driver_free(hikebox_driver *driver);
 /* Makes a budget of `limit` tickets and puts its first pass into `pass`. HIKEBOX_FULL; _LIMIT_TOO_LARGE; _NO_MEMORY. */
 HIKEBOX_CHECKED hikebox_status hikebox_budget_fixed(uint64_t limit, hikebox_pass *pass);
 
-/* The same with a limit that may be raised. */
+/*
+ * The same with a limit that may be raised. Each pass that is refused a ticket uses a number up: when the limit is
+ * raised, there is a ticket less for each of them.
+ */
 HIKEBOX_CHECKED hikebox_status hikebox_budget_rising(uint64_t limit, hikebox_pass *pass);
 
 /*

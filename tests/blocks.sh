@@ -1,7 +1,7 @@
 #!/usr/bin/env bash
 # Looks up each block of Rust and of antt in README.md and docs/ in the crates: its lines have to stand, one below the
-# other and whatever their indentation, in one file of a crate that crates.txt lists, so that the gate proves them.
-# The blocks of docs/RUST.md are programs of another compiler, which tests/rust.sh runs.
+# other and whatever their indentation, in one file of a crate that crates.txt lists, so that the gate proves them, or in
+# rust/README.md, whose block tests/rust.sh runs, as it does those of docs/RUST.md and docs/FROM-TOWER.md.
 set -euo pipefail
 top=$(cd "$(dirname "${BASH_SOURCE[0]}")/.." && pwd)
 cd "$top"
@@ -12,11 +12,11 @@ for crate in $crates; do
 done
 pages=()
 for page in docs/*.md; do
-  [ "$page" = docs/RUST.md ] || pages+=("$page")
+  case $page in docs/RUST.md | docs/FROM-TOWER.md) ;; *) pages+=("$page") ;; esac
 done
 awk '
   function bare(line) { sub(/^[ \t]+/, "", line); sub(/[ \t]+$/, "", line); return line "\n" }
-  FNR == 1 { kind = ""; is_page = FILENAME ~ /\.md$/ }
+  FNR == 1 { kind = "" }
   !is_page { text[FILENAME] = text[FILENAME] bare($0); next }
   kind == "" && /^```(rust|antt)$/ { kind = "block"; block = "\n"; from = FNR; next }
   kind == "" && /^```/ { kind = "other"; next }
@@ -33,4 +33,4 @@ awk '
   END {
     if (wrong) exit 1
     print "tests/blocks.sh: " blocks " blocks of the documents stand in the crates"
-  }' "${files[@]}" README.md "${pages[@]}"
+  }' "${files[@]}" rust/README.md is_page=1 README.md "${pages[@]}"

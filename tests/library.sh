@@ -27,9 +27,16 @@ exported=$(nm -D --defined-only "$dist/libhikebox.so" | awk '{ print $NF }' | LC
 declared=$(sed -n 's/.*hikebox_status \(hikebox_[a-z_]*\)(.*/\1/p' "$top/include/hikebox.h" | LC_ALL=C sort)
 [ "$exported" = "$declared" ] || wrong "libhikebox.so has other calls than hikebox.h"
 
-# The example: two runs fail, and the third succeeds.
+# The example, with no warning, and by the lines of README.md and docs/C.md: two runs fail, and the third succeeds.
 printf 'run 1: 503\nrun 2: 503\nrun 3: 200\nwon after 3 runs, 2 retries granted\n2 tickets drawn of the budget\n' >"$work/want"
 "$work/retry" >"$work/out" && cmp -s "$work/out" "$work/want" || wrong "examples/c/retry.c: $(cat "$work/out")"
+mkdir "$work/page"
+ln -s "$top/examples" "$work/page/examples"
+ln -s "$(realpath "$dist")" "$work/page/dist"
+for page in README.md docs/C.md; do
+  line=$(grep '^cc examples/c/retry.c ' "$top/$page") || wrong "$page has no line that builds the example"
+  (cd "$work/page" && sh -c "$line") >"$work/out" && cmp -s "$work/out" "$work/want" || wrong "$page: $line: $(cat "$work/out")"
+done
 
 # Policies, step by step.
 python3 "$top/tests/random_policies.py" 300 18 >"$work/policies"

@@ -27,8 +27,7 @@ done
 
 echo "tests/python.sh: types"
 cd "$top/python"
-mypy --strict --cache-dir "$work/mypy" src
-MYPYPATH=src mypy --strict --cache-dir "$work/mypy" tests
+MYPYPATH=src mypy --strict --cache-dir "$work/mypy" src tests
 
 echo "tests/python.sh: tests"
 HIKEBOX_LIBRARY=$library PYTHONPATH=src \
@@ -43,8 +42,8 @@ cmp "$wheel" "$again" || fails "two builds of the wheel differ"
 tries_wheel() {
   local python=$1 fresh
   fresh=$(mktemp -d "$work/fresh.XXXXXX")
-  "$python" -m venv "$fresh/venv"
-  PIP_NO_INDEX=1 PIP_DISABLE_PIP_VERSION_CHECK=1 "$fresh/venv/bin/python" -m pip install -q "$wheel"
+  "$python" -m venv --without-pip "$fresh/venv"
+  PIP_NO_INDEX=1 PIP_DISABLE_PIP_VERSION_CHECK=1 "$python" -m pip --python "$fresh/venv/bin/python" install -q "$wheel"
   (
     cd "$fresh"
     env -u HIKEBOX_LIBRARY -u PYTHONPATH venv/bin/python -W error "$top/python/tests/smoke.py" "$fresh/venv"

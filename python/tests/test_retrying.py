@@ -5,6 +5,7 @@ from __future__ import annotations
 import asyncio
 import functools
 import gc
+import inspect
 import logging
 import pickle
 import sys
@@ -738,3 +739,9 @@ def test_the_note_is_printed() -> None:
         Retrying(recurs(0))(Scripted(7))
     except OSError as error:
         assert "hikebox: gave up after 1 attempt" in "".join(traceback.format_exception(error))
+
+
+def test_retry_takes_what_retrying_takes() -> None:
+    assert inspect.signature(retry).parameters == inspect.signature(Retrying).parameters
+    with pytest.raises(TypeError, match="attempts"):
+        retry(recurs(1), attempts=3)(print)  # type: ignore[call-arg]

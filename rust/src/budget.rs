@@ -3,7 +3,7 @@
 use crate::engine::{self, Handle, PassKind};
 use std::error::Error;
 use std::fmt;
-use std::sync::{Arc, Mutex};
+use std::sync::{Arc, Mutex, MutexGuard, PoisonError};
 
 /// A number of tickets that all threads of a program share: a retry needs one, and no ticket is drawn twice. It is cheap
 /// to clone; all clones are the same budget.
@@ -22,14 +22,25 @@ use std::sync::{Arc, Mutex};
 /// ```
 #[derive(Clone, Debug)]
 pub struct Budget {
-    root: Arc<Mutex<Handle<PassKind>>>,
+    root: Arc<Mutex<Root>>,
+}
+
+/// The first pass of a budget. Of one that may rise it is the only one: a draw that the engine refuses uses its number up,
+/// so it is asked for a ticket only where there is one, under the lock.
+#[derive(Debug)]
+struct Root {
+    pass: Handle<PassKind>,
+    /// The limit, where it may rise.
+    rising: Option<u64>,
 }
 
 /// The right to draw tickets of a [`Budget`], for one thread at a time. Dropped, it is given back with its tickets.
 #[derive(Debug)]
 pub struct Pass {
+    /// None of a budget that may rise.
     handle: Option<Handle<PassKind>>,
     budget: Budget,
+    tickets: u64,
 }
 
 /// Why a call on a budget is refused.
@@ -50,50 +61,66 @@ impl Budget {
     /// A budget of `limit` tickets, at most 4,294,967,296.
     pub fn new(limit: u64) -> Result<Self, BudgetError> {
         // SAFETY: `pass` is an empty handle.
-        Self::of(Handle::filled(|pass| unsafe { engine::hikebox_budget_fixed(limit, pass) }))
+        Self::of(Handle::filled(|pass| unsafe { engine::hikebox_budget_fixed(limit, pass) }), None)
     }
 
     /// A budget of `limit` tickets that [`Budget::raise`] may raise.
+    ///
+    /// ```
+    /// use hikebox::Budget;
+    ///
+    /// let budget = Budget::rising(0)?;
+    /// let mut pass = budget.pass()?;
+    /// assert!(pass.draw().is_none());
+    /// assert_eq!(budget.raise(5)?, 5);
+    /// assert!(pass.draw().is_some());
+    /// # Ok::<(), hikebox::BudgetError>(())
+    /// ```
     pub fn rising(limit: u64) -> Result<Self, BudgetError> {
         // SAFETY: `pass` is an empty handle.
-        Self::of(Handle::filled(|pass| unsafe { engine::hikebox_budget_rising(limit, pass) }))
+        Self::of(Handle::filled(|pass| unsafe { engine::hikebox_budget_rising(limit, pass) }), Some(limit))
     }
 
     /// Raises the limit to `to`, where it is below that, and answers the limit.
     pub fn raise(&self, to: u64) -> Result<u64, BudgetError> {
         let mut limit = 0;
+        let mut root = self.lock();
         // SAFETY: the handle holds a pass.
-        match self.with(|root| unsafe { engine::hikebox_pass_raise(root, to, &mut limit) }) {
-            engine::OK => Ok(limit),
+        match unsafe { engine::hikebox_pass_raise(root.pass.raw(), to, &mut limit) } {
+            engine::OK => {
+                root.rising = Some(limit);
+                Ok(limit)
+            }
             status => Err(BudgetError::of(status)),
         }
     }
 
     /// A pass of the budget, for a thread that draws by itself.
     pub fn pass(&self) -> Result<Pass, BudgetError> {
-        // SAFETY: the first handle holds a pass, and the second is empty.
-        let handle = Handle::filled(|part| self.with(|root| unsafe { engine::hikebox_pass_split(root, part) }));
-        Ok(Pass { handle: Some(handle.map_err(BudgetError::of)?), budget: self.clone() })
+        let mut handle = None;
+        if !self.rises() {
+            // SAFETY: the first handle holds a pass, and the second is empty.
+            let part = Handle::filled(|part| self.with(|root| unsafe { engine::hikebox_pass_split(root, part) }));
+            handle = Some(part.map_err(BudgetError::of)?);
+        }
+        Ok(Pass { handle, budget: self.clone(), tickets: 0 })
     }
 
     /// How many tickets were granted to retries that have ended and to passes that were given back.
     pub fn granted(&self) -> u64 {
-        let mut tickets = 0;
-        // SAFETY: the handle holds a pass.
-        self.with(|root| unsafe { engine::hikebox_pass_count(root, &mut tickets) });
-        tickets
+        self.lock().count()
     }
 
     /// Closes the budget, where no other clone of it, no pass and no retry is alive, and answers how many tickets were
     /// drawn of it; otherwise the budget comes back.
     pub fn close(self) -> Result<u64, Self> {
         let mut root = match Arc::try_unwrap(self.root) {
-            Ok(root) => root.into_inner().unwrap_or_else(|poisoned| poisoned.into_inner()),
+            Ok(root) => root.into_inner().unwrap_or_else(PoisonError::into_inner),
             Err(root) => return Err(Self { root }),
         };
         let mut tickets = 0;
         // SAFETY: the handle holds a pass.
-        match unsafe { engine::hikebox_pass_close(root.raw(), &mut tickets) } {
+        match unsafe { engine::hikebox_pass_close(root.pass.raw(), &mut tickets) } {
             engine::OK => Ok(tickets),
             _ => Err(Self { root: Arc::new(Mutex::new(root)) }),
         }
@@ -101,39 +128,71 @@ impl Budget {
 
     /// Lends the first pass to one call.
     pub(crate) fn with<T>(&self, call: impl FnOnce(*mut engine::Raw) -> T) -> T {
-        let mut root = self.root.lock().unwrap_or_else(|poisoned| poisoned.into_inner());
-        call(root.raw())
+        call(self.lock().pass.raw())
     }
 
-    fn of(root: Result<Handle<PassKind>, u32>) -> Result<Self, BudgetError> {
-        Ok(Self { root: Arc::new(Mutex::new(root.map_err(BudgetError::of)?)) })
+    /// Whether its limit may be raised.
+    pub(crate) fn rises(&self) -> bool {
+        self.lock().rising.is_some()
+    }
+
+    /// A ticket, drawn with the first pass.
+    pub(crate) fn draw(&self) -> Option<u64> {
+        self.lock().draw()
+    }
+
+    fn lock(&self) -> MutexGuard<'_, Root> {
+        self.root.lock().unwrap_or_else(PoisonError::into_inner)
+    }
+
+    fn of(pass: Result<Handle<PassKind>, u32>, rising: Option<u64>) -> Result<Self, BudgetError> {
+        let root = Root { pass: pass.map_err(BudgetError::of)?, rising };
+        Ok(Self { root: Arc::new(Mutex::new(root)) })
+    }
+}
+
+impl Root {
+    fn draw(&mut self) -> Option<u64> {
+        let limit = self.rising.unwrap_or(u64::MAX);
+        if self.count() < limit { draw(&mut self.pass) } else { None }
+    }
+
+    /// How many tickets were drawn with it and with those joined into it.
+    fn count(&mut self) -> u64 {
+        let mut tickets = 0;
+        // SAFETY: the handle holds a pass.
+        unsafe { engine::hikebox_pass_count(self.pass.raw(), &mut tickets) };
+        tickets
     }
 }
 
 impl Pass {
-    /// A ticket that no other draw got, or `None` where none is left; from then on always `None`. It takes no lock and no
-    /// memory, and never waits.
+    /// A ticket that no other draw got, or `None` where none is left. Of a budget that keeps its limit it is `None` from
+    /// then on, and a draw takes no lock and no memory, and never waits. Of one that may rise it takes the budget's lock.
     pub fn draw(&mut self) -> Option<u64> {
-        let mut ticket = 0;
-        let handle = self.handle.as_mut()?;
-        // SAFETY: the handle holds a pass.
-        match unsafe { engine::hikebox_pass_draw(handle.raw(), &mut ticket) } {
-            engine::OK => Some(ticket),
-            status => {
-                debug_assert_eq!(status, engine::NO_TICKET);
-                None
-            }
-        }
+        let ticket = match &mut self.handle {
+            Some(handle) => draw(handle),
+            None => self.budget.draw(),
+        };
+        self.tickets += u64::from(ticket.is_some());
+        ticket
     }
 
     /// How many tickets it drew.
-    pub fn count(&mut self) -> u64 {
-        let mut tickets = 0;
-        if let Some(handle) = self.handle.as_mut() {
-            // SAFETY: the handle holds a pass.
-            unsafe { engine::hikebox_pass_count(handle.raw(), &mut tickets) };
+    pub fn count(&self) -> u64 {
+        self.tickets
+    }
+}
+
+fn draw(pass: &mut Handle<PassKind>) -> Option<u64> {
+    let mut ticket = 0;
+    // SAFETY: the handle holds a pass.
+    match unsafe { engine::hikebox_pass_draw(pass.raw(), &mut ticket) } {
+        engine::OK => Some(ticket),
+        status => {
+            debug_assert_eq!(status, engine::NO_TICKET);
+            None
         }
-        tickets
     }
 }
 

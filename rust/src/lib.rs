@@ -56,4 +56,8 @@ mod pages {
 
     #[doc = include_str!("../../docs/RUST.md")]
     struct Guide;
+
+    #[cfg(feature = "tower")]
+    #[doc = include_str!("../../docs/FROM-TOWER.md")]
+    struct FromTower;
 }

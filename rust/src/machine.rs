@@ -31,8 +31,8 @@ pub struct Machine {
     apart: Option<Apart>,
 }
 
-/// A retry for which the budget has no pass left: the engine's retry draws on a budget of its own, which never refuses,
-/// and each of its tickets is drawn of the shared budget too.
+/// A retry for which the budget has no pass left, or has none since its limit may rise: the engine's retry draws on a
+/// budget of its own, which never refuses, and each of its tickets is drawn of the shared budget too.
 #[derive(Debug)]
 struct Apart {
     own: Handle<PassKind>,
@@ -95,16 +95,26 @@ const FAR: u64 = (1 << 62) - 1;
 impl Machine {
     /// A retry by the policy under the budget, which has not begun.
     pub fn new(policy: &Policy, budget: &Budget) -> Result<Self, BudgetError> {
+        let (handle, apart) = match Self::by_a_pass(policy, budget)? {
+            Some(handle) => (handle, None),
+            None => Self::apart(policy).map(|(handle, apart)| (handle, Some(apart)))?,
+        };
+        Ok(Self { handle: Some(handle), budget: budget.clone(), words: Words::new(), apart })
+    }
+
+    /// The engine's retry with a pass of the budget, where it has one for it.
+    fn by_a_pass(policy: &Policy, budget: &Budget) -> Result<Option<Handle<RetryKind>>, BudgetError> {
+        if budget.rises() {
+            return Ok(None);
+        }
         let handle = Handle::filled(|retry| {
             // SAFETY: the handles hold a policy and a pass, and `retry` is empty.
             policy.with(|policy| budget.with(|root| unsafe { engine::hikebox_retry_new(policy, root, retry) }))
         });
-        let (handle, apart) = match handle.map_err(BudgetError::of) {
-            Ok(handle) => (handle, None),
-            Err(BudgetError::TooManyPasses) => Self::apart(policy).map(|(handle, apart)| (handle, Some(apart)))?,
-            Err(fault) => return Err(fault),
-        };
-        Ok(Self { handle: Some(handle), budget: budget.clone(), words: Words::new(), apart })
+        match handle.map_err(BudgetError::of) {
+            Err(BudgetError::TooManyPasses) => Ok(None),
+            handle => handle.map(Some),
+        }
     }
 
     fn apart(policy: &Policy) -> Result<(Handle<RetryKind>, Apart), BudgetError> {
@@ -148,10 +158,7 @@ impl Machine {
         let Some(apart) = &mut self.apart else {
             return true;
         };
-        let mut ticket = 0;
-        // SAFETY: the handle holds a pass.
-        let status = self.budget.with(|root| unsafe { engine::hikebox_pass_draw(root, &mut ticket) });
-        apart.is_refused = status != engine::OK;
+        apart.is_refused = self.budget.draw().is_none();
         apart.granted += u64::from(!apart.is_refused);
         !apart.is_refused
     }

@@ -221,13 +221,7 @@ const A_CENTURY: u64 = 100 * 365 * 86_400;
 impl<E> RetryError<E> {
     /// The last error of the call, or `None` where no call was made.
     pub fn last(&self) -> Option<&E> {
-        match self {
-            Self::ScheduleDone(error)
-            | Self::BudgetRefused(error)
-            | Self::NotRetried(error)
-            | Self::Broken(_, error) => Some(error),
-            Self::NotBegun(_) => None,
-        }
+        self.as_ref().into_last()
     }
 
     /// The same, by value.
@@ -238,6 +232,17 @@ impl<E> RetryError<E> {
             | Self::NotRetried(error)
             | Self::Broken(_, error) => Some(error),
             Self::NotBegun(_) => None,
+        }
+    }
+
+    /// The same ending with a reference to its error.
+    pub fn as_ref(&self) -> RetryError<&E> {
+        match self {
+            Self::ScheduleDone(error) => RetryError::ScheduleDone(error),
+            Self::BudgetRefused(error) => RetryError::BudgetRefused(error),
+            Self::NotRetried(error) => RetryError::NotRetried(error),
+            Self::Broken(cause, error) => RetryError::Broken(*cause, error),
+            Self::NotBegun(fault) => RetryError::NotBegun(*fault),
         }
     }
 

@@ -1,6 +1,6 @@
 //! Budgets: worked examples, and threads that share one.
 
-use hikebox::{Budget, BudgetError};
+use hikebox::{retry, Budget, BudgetError, Policy, RetryError};
 use std::sync::atomic::{AtomicU64, Ordering};
 use std::thread;
 
@@ -45,6 +45,25 @@ fn a_rising_budget_rises_and_a_fixed_one_does_not() {
     assert_eq!(pass.draw(), Some(1));
     assert_eq!(budget.raise(4_294_967_297), Err(BudgetError::LimitTooLarge));
     assert_eq!(Budget::new(1).unwrap().raise(2), Err(BudgetError::Fixed));
+}
+
+#[test]
+fn what_a_rising_budget_refused_it_gives_once_it_was_raised() {
+    let policy: Policy = r#"{"recurs":3}"#.parse().unwrap();
+    let budget = Budget::rising(1).unwrap();
+    let fails = || retry(&policy, &budget, || Err::<(), _>(()));
+    for granted in [1, 1, 1] {
+        assert_eq!(fails(), Err(RetryError::BudgetRefused(())));
+        assert_eq!(budget.granted(), granted);
+    }
+    assert_eq!(budget.raise(5), Ok(5));
+    assert_eq!(fails(), Err(RetryError::ScheduleDone(())));
+    let mut pass = budget.pass().unwrap();
+    assert_eq!((pass.draw(), pass.draw(), pass.count()), (Some(4), None, 1));
+    assert_eq!(budget.raise(6), Ok(6));
+    assert_eq!((pass.draw(), pass.draw(), pass.count()), (Some(5), None, 2));
+    drop(pass);
+    assert_eq!(budget.close().unwrap(), 6);
 }
 
 #[test]

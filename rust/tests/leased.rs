@@ -85,6 +85,16 @@ fn a_lease_that_dies_is_lost_and_no_more() {
     assert_eq!(Leased::new(&file.0, "another", 1).draw().unwrap(), Some(0));
 }
 
+// The first text is as Python's json writes it, with its length and its CRC-32.
+#[test]
+fn a_file_of_the_python_package_goes_on() {
+    let file = Scratch::new("python");
+    fs::write(&file.0, "hikebox counts 1 21 2044294579\n{\"budget b\": [\"\", 7]}").unwrap();
+    assert_eq!(Leased::new(&file.0, "b", 10).lease(1).draw().unwrap(), Some(7));
+    let text = fs::read_to_string(&file.0).unwrap();
+    assert!(text.starts_with("hikebox counts 1 19 2643005063\n{\"budget b\":[\"\",8]}"), "{text}");
+}
+
 #[test]
 fn each_window_has_its_own_tickets() {
     let file = Scratch::new("windows");

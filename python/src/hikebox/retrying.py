@@ -8,6 +8,7 @@ import random as _random
 import time
 from types import TracebackType
 from typing import (
+    TYPE_CHECKING,
     Any,
     AsyncIterator,
     Awaitable,
@@ -41,22 +42,10 @@ Self = TypeVar("Self", bound="BaseRetrying")
 On = Union[Type[BaseException], Tuple[Type[BaseException], ...], Callable[[BaseException], bool]]
 Hook = Callable[[RetryState], Any]
 
+if TYPE_CHECKING:
+    from typing_extensions import Concatenate, ParamSpec
 
-_PARAMETERS = (
-    "policy",
-    "budget",
-    "on",
-    "on_result",
-    "code",
-    "at_least",
-    "before",
-    "after",
-    "before_sleep",
-    "fallback",
-    "sleep",
-    "clock",
-    "random",
-)
+    Parameters = ParamSpec("Parameters")
 
 
 class Tickets(Protocol):
@@ -136,7 +125,7 @@ class BaseRetrying:
 
     def copy(self: Self, **changes: Any) -> Self:
         """The same with these parameters in the place of its own, and counts of its own."""
-        return type(self)(**{**{name: getattr(self, name) for name in _PARAMETERS}, **changes})
+        return type(self)(**{**{own.name: getattr(self, own.name) for own in _PARAMETERS}, **changes})
 
     @property
     def statistics(self) -> Statistics:
@@ -167,6 +156,10 @@ class BaseRetrying:
     def __repr__(self) -> str:
         budget = f", budget={self.budget!r}" if self.budget is not None else ""
         return f"{type(self).__name__}({self.policy!r}{budget})"
+
+
+#: The parameters that say how to retry.
+_PARAMETERS = list(inspect.signature(BaseRetrying.__init__).parameters.values())[1:]
 
 
 class Retrying(BaseRetrying):
@@ -435,22 +428,20 @@ class _AsyncAttempts(_BaseAttempts):
         return self.begins()
 
 
-def retry(
-    policy: Union[Policy, str, bytes, Dict[str, Any]],
-    *,
-    budget: Union[Budget, Tickets, None] = None,
-    on: On = Exception,
-    on_result: Optional[Callable[[Any], bool]] = None,
-    code: Optional[Callable[[BaseException], int]] = None,
-    at_least: Optional[Callable[[BaseException], Optional[float]]] = None,
-    before: Optional[Hook] = None,
-    after: Optional[Hook] = None,
-    before_sleep: Optional[Hook] = None,
-    fallback: Optional[Hook] = None,
-    sleep: Optional[Callable[[float], Any]] = None,
-    clock: Callable[[], float] = time.monotonic,
-    random: Callable[[], float] = _random.random,
-) -> Callable[[Wrapped], Wrapped]:
+def _takes_what(
+    init: Callable[Concatenate[Any, Parameters], None],
+) -> Callable[[Callable[..., Result]], Callable[Parameters, Result]]:
+    """Gives a function the parameters of a class: a type checker reads them here, and all others in its signature."""
+
+    def give(fn: Any) -> Any:
+        fn.__signature__ = inspect.signature(fn).replace(parameters=_PARAMETERS)
+        return fn
+
+    return give
+
+
+@_takes_what(BaseRetrying.__init__)
+def retry(policy: Union[Policy, str, bytes, Dict[str, Any]], **how: Any) -> Callable[[Wrapped], Wrapped]:
     """Retries each call of a function or a coroutine function by a policy. It takes what `Retrying` takes.
 
     >>> from hikebox import exponential, recurs
@@ -471,22 +462,7 @@ def retry(
 
     def decorate(fn: Wrapped) -> Wrapped:
         kind = AsyncRetrying if _is_coroutine_function(fn) else Retrying
-        retrying = kind(
-            read,
-            budget=budget,
-            on=on,
-            on_result=on_result,
-            code=code,
-            at_least=at_least,
-            before=before,
-            after=after,
-            before_sleep=before_sleep,
-            fallback=fallback,
-            sleep=sleep,
-            clock=clock,
-            random=random,
-        )
-        return retrying.wraps(fn)
+        return kind(read, **how).wraps(fn)
 
     return decorate
 

@@ -1,0 +1,67 @@
+//! Retries by the crate `hikebox` beside the crates `retry` and `backoff`, and draws beside tower's budget: the least
+//! nanoseconds of many rounds, which take turns. No run waits.
+
+use hikebox::{Budget, Policy};
+use std::hint::black_box;
+use std::time::{Duration, Instant};
+
+const ROUNDS: u32 = 200;
+const CALLS: u32 = 200;
+const MOST: u64 = 1 << 32;
+
+fn main() {
+    for failures in [0, 3] {
+        retries(failures);
+    }
+    draws();
+}
+
+fn retries(failures: u32) {
+    let policy: Policy = r#"{"recurs":5}"#.parse().expect("a policy");
+    let budget = Budget::new(MOST).expect("a budget");
+    let [ours, retry, backoff] = least([
+        &mut || hikebox::retry(&policy, &budget, call(failures)).is_ok(),
+        &mut || retry::retry(retry::delay::NoDelay.take(5), call(failures)).is_ok(),
+        &mut || {
+            let mut call = call(failures);
+            backoff::retry(backoff::backoff::Zero {}, || call().map_err(backoff::Error::transient)).is_ok()
+        },
+    ]);
+    println!("{failures} failures and a success: hikebox {ours:.0} ns, retry {retry:.0} ns, backoff {backoff:.0} ns");
+}
+
+fn draws() {
+    let mut pass = Budget::new(MOST).and_then(|budget| budget.pass()).expect("a pass");
+    let budget = tower::retry::budget::Budget::new(Duration::from_secs(10), 1_000_000, 1.0);
+    let [ours, tower] = least([&mut || pass.draw().is_some(), &mut || {
+        budget.deposit();
+        budget.withdraw().is_ok()
+    }]);
+    println!("a draw: hikebox {ours:.1} ns, tower's deposit and withdraw {tower:.1} ns");
+}
+
+/// A call that fails so many times and then succeeds.
+fn call(failures: u32) -> impl FnMut() -> Result<u32, ()> {
+    let mut left = failures;
+    move || match left {
+        0 => Ok(black_box(1)),
+        _ => {
+            left -= 1;
+            Err(())
+        }
+    }
+}
+
+/// The least nanoseconds that one call of each takes. Each call has to succeed.
+fn least<const N: usize>(mut runs: [&mut dyn FnMut() -> bool; N]) -> [f64; N] {
+    let mut best = [f64::INFINITY; N];
+    for _ in 0..ROUNDS {
+        for (run, best) in runs.iter_mut().zip(&mut best) {
+            let began = Instant::now();
+            let succeeded = (0..CALLS).all(|_| run());
+            *best = best.min(began.elapsed().as_secs_f64() * 1e9 / f64::from(CALLS));
+            assert!(succeeded);
+        }
+    }
+    best
+}
