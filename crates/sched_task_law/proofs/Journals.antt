@@ -57,8 +57,8 @@ start_at : (s : Schedule) (h : List Event) → 0 < length h →
 start_at s [] some = absurd (omega arith)
 start_at s (e ∷ h) some = refl
 
-pub is_spent_some : (d : Driven) → 0 < length d.journal → schedule_is_done d ≡ is_done (decision_on d.plan d.journal)
-is_spent_some d some = done_at d.plan d.journal some
+pub is_done_some : (d : Driven) → 0 < length d.journal → schedule_is_done d ≡ is_done (decision_on d.plan d.journal)
+is_done_some d some = done_at d.plan d.journal some
 
 -- after a step the next start is that of its answer
 pub next_start_some : (d : Driven) → 0 < length d.journal → next_start_of d ≡ start_of (decision_on d.plan d.journal)

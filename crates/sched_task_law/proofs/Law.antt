@@ -23,7 +23,7 @@ use Rattle.sched_task_law.specs.Past.{Past, nothing_yet, decision_on, schedule_i
 use Rattle.sched_task_law.specs.Poll.{Happened, stays, cannot_begin, runs_on, cannot_run, ends, breaks, stops_done, stops_denied, recurs, asks, cannot_ask, falls, begun_by, finished, stepped, step_event, stop, stopped_by, after, CanRun, CanAsk, Steps, May, cancelled}
 use Rattle.sched_task_law.specs.Law.{Law, HasOneMore, IsDenied, Ended, may_leave_a_run}
 use Rattle.sched_task_law.proofs.Lists.{by_test, all_but_last-push, last_is-push, all_of, length_filter}
-use Rattle.sched_task_law.proofs.Journals.{inputs-push, called_inputs-push, called_inputs-same, recurrences-push, is_spent_some, next_start_some, start_some}
+use Rattle.sched_task_law.proofs.Journals.{inputs-push, called_inputs-push, called_inputs-same, recurrences-push, is_done_some, next_start_some, start_some}
 
 -- the events before a run were waited for
 abbrev Waits : Driven → List ℕ → Type 0
@@ -107,7 +107,7 @@ due_start v t can undenied undone idle some =
     let planned : waits_for v ≡ start_of (decision_on v.driver.plan v.driver.journal) =
     waits_start v can.unended undenied idle ∙ next_start_some v.driver some in
     some_and (start_of (decision_on v.driver.plan v.driver.journal)) (λ start. start ≤ t.now)
-    (start_some (decision_on v.driver.plan v.driver.journal) (sym (is_spent_some v.driver some) ∙ undone))
+    (start_some (decision_on v.driver.plan v.driver.journal) (sym (is_done_some v.driver some) ∙ undone))
     (subst (λ (o : Option ℕ). IfSome o (λ start. start ≤ t.now)) planned can.due)
 
 waits_idle : (kind : Kind) (v : Past) (t : Tick) → Law kind v → CanRun v t → v.denied ≡ false → schedule_is_done v.driver ≡ false →
@@ -216,7 +216,7 @@ goes_on-push d e undone before n some small =
       | inl earlier ↦ before n some earlier
       | inr last ↦ (
           let all : take n d.journal ≡ d.journal = take_all n d.journal last in
-          rw all (sym (is_spent_some d (omega arith)) ∙ undone))
+          rw all (sym (is_done_some d (omega arith)) ∙ undone))
     ])
 
 -- what was waited for stays so
@@ -303,7 +303,7 @@ refused_law kind v over law unended unfinal left ended = record {
 stop_unfinal : (kind : Kind) (how : How) → is_final kind (Some how) ≡ false → is_final kind (stop kind how) ≡ false
 stop_unfinal kind how unfinal = by_test (falls_back kind) (λ yes. rw yes refl) (λ isnt. rw isnt unfinal)
 
--- a stop ends a task as it says, save where a fallback is asked
+-- a stop ends a task as it says, unless a fallback is asked
 stop_ended : (kind : Kind) (v : Past) (how : How) → Ended kind v (Some how) → Ended kind v (stop kind how)
 stop_ended kind v how ended =
     by_test (falls_back kind)
