@@ -5,10 +5,10 @@ machine() {
     echo "$(uname -srm), $(nproc) cores, $(awk -F': ' '/model name/ { print $2; exit }' /proc/cpuinfo)"
 }
 
-# the least of seven runs, in nanoseconds
+# the least of seven runs, or of RUNS, in nanoseconds
 least() {
     local best=0 from to
-    for _ in 1 2 3 4 5 6 7; do
+    for _ in $(seq "${RUNS:-7}"); do
         from=$(date +%s%N)
         "$@" > /dev/null
         to=$(date +%s%N)

@@ -52,11 +52,13 @@ row() {
 }
 
 machine
-row draw 1 2000 50000000 "$work/bench_draw" 1
+# (many short runs: the least of them is less disturbed by other work than that of a few long ones)
+RUNS=60
+row draw 1 2000 2000000 "$work/bench_draw" 1
 for plan in spaced pair; do
-    row "retry $plan" 1000 2 2000 "$work/bench_retry" retry "$plan"
-    row "step $plan" 1000 2 2000 "$work/bench_retry" step "$plan"
-    row "wait $plan" 1000 2 20000 "$work/bench_retry" wait "$plan"
+    row "retry $plan" 1000 2 200 "$work/bench_retry" retry "$plan"
+    row "step $plan" 1000 2 200 "$work/bench_retry" step "$plan"
+    row "wait $plan" 1000 2 2000 "$work/bench_retry" wait "$plan"
 done
 HIKEBOX_LIBRARY=$HIKEBOX_LIB_DIR/libhikebox.so PYTHONPATH=python/src /usr/bin/python3 bench/python.py
 (cd rust && cargo run --release --offline --quiet --manifest-path ../bench/crates/Cargo.toml)

@@ -13,6 +13,7 @@ from __future__ import annotations
 
 import asyncio
 import gc
+import subprocess
 import sys
 import time
 from typing import Any, Callable, List
@@ -97,6 +98,12 @@ def tell(what: str, ours: Callable[[int], Any], theirs: Callable[[int], Any], at
     print(f"{what}: an attempt {own / 1000:.2f} us, of tenacity {other / 1000:.2f} us, ratio {own / other:.2f}")
 
 
+def imports(name: str) -> int:
+    """The least nanoseconds of processor time in which a new interpreter imports this."""
+    text = f"import time; began = time.process_time_ns(); import {name}; print(time.process_time_ns() - began)"
+    return min(int(subprocess.check_output([sys.executable, "-c", text])) for _ in range(20))
+
+
 def main() -> None:
     with open("/proc/cpuinfo") as file:
         model = next(line.split(":")[1].strip() for line in file if line.startswith("model name"))
@@ -131,8 +138,13 @@ def main() -> None:
 
     with Budget(2**32) as budget:
         print(f"a draw: {least(1000, calls(budget.draw))[0] / 1000:.2f} us")
-    built = least(100, calls(lambda: recurs(5) & exponential(1, 2).cap(1)))[0]
-    print(f"a policy of four nodes built: {built / 1000:.1f} us")
+    ours = calls(lambda: hikebox.Retrying(recurs(20) & exponential(1, 2).cap(30)))
+    stop, wait = tenacity.stop_after_attempt, tenacity.wait_exponential
+    theirs = calls(lambda: tenacity.Retrying(stop=stop(21), wait=wait(max=30)))
+    own, other = least(100, ours, theirs)
+    print(f"a policy and its Retrying made: {own / 1000:.1f} us, of tenacity {other / 1000:.1f} us")
+    own, other = imports("hikebox"), imports("tenacity")
+    print(f"the import: {own / 1e6:.1f} ms, of tenacity {other / 1e6:.1f} ms")
 
 
 if __name__ == "__main__":
