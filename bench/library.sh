@@ -61,4 +61,4 @@ for plan in spaced pair; do
     row "wait $plan" 1000 2 2000 "$work/bench_retry" wait "$plan"
 done
 HIKEBOX_LIBRARY=$HIKEBOX_LIB_DIR/libhikebox.so PYTHONPATH=python/src /usr/bin/python3 bench/python.py
-(cd rust && cargo run --release --offline --quiet --manifest-path ../bench/crates/Cargo.toml)
+(cd rust && cargo run --release --offline --quiet --manifest-path ../bench/rust/Cargo.toml)

@@ -27,6 +27,12 @@ exported=$(nm -D --defined-only "$dist/libhikebox.so" | awk '{ print $NF }' | LC
 declared=$(sed -n 's/.*hikebox_status \(hikebox_[a-z_]*\)(.*/\1/p' "$top/include/hikebox.h" | LC_ALL=C sort)
 [ "$exported" = "$declared" ] || wrong "libhikebox.so has other calls than hikebox.h"
 
+# The versions of glibc that README.md names.
+for pair in libhikebox.so=14 zsched=34; do
+  latest=$(readelf -V "$dist/${pair%=*}" | grep -oE 'GLIBC_2\.[0-9]+' | cut -d . -f 2 | sort -n | tail -n 1)
+  [ "$latest" = "${pair#*=}" ] || wrong "${pair%=*} asks for glibc 2.$latest"
+done
+
 # The example, with no warning, and by the lines of README.md and docs/C.md: two runs fail, and the third succeeds.
 printf 'run 1: 503\nrun 2: 503\nrun 3: 200\nwon after 3 runs, 2 retries granted\n2 tickets drawn of the budget\n' >"$work/want"
 "$work/retry" >"$work/out" && cmp -s "$work/out" "$work/want" || wrong "examples/c/retry.c: $(cat "$work/out")"
