@@ -24,7 +24,8 @@ abbrev pub Kept : {A : Type 0} → (Held → Result A Status → Type 0) → Hel
 Kept does u r v = (v ≡ u) × does u r
 
 -- this is done with what a handle holds, and told; an empty handle is refused
-abbrev pub OnHeld : {A : Type 0} → (Held → Result A Status → Held → Type 0) → Option Held → Option Held → (Result A Status → Type 0) → Type 0
+abbrev pub OnHeld : {A : Type 0} → (Held → Result A Status → Held → Type 0) → Option Held → Option Held →
+    (Result A Status → Type 0) → Type 0
 OnHeld does None w tells = (w ≡ None) × tells (Err Empty)
 OnHeld {A} does (Some u) w tells = (r : Result A Status) × (v : Held) × (w ≡ Some v) × does u r v × tells r
 
@@ -35,7 +36,8 @@ Makes made u code v = MatchBool (is_some u)
     ((r : Result (Box Held Global) Status) × made r × Puts u code v r)
 
 -- the same with what another handle holds
-abbrev pub MakesWith : (Held → Result (Box Held Global) Status → Held → Type 0) → Option Held → Option Held → Option Held → ℕ → Option Held → Type 0
+abbrev pub MakesWith : (Held → Result (Box Held Global) Status → Held → Type 0) → Option Held → Option Held →
+    Option Held → ℕ → Option Held → Type 0
 MakesWith does source left u code v = MatchBool (is_some u)
     ((left ≡ source) × Puts u code v (Err Full))
     (OnHeld does source left (Puts u code v))

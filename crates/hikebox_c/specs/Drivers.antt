@@ -16,7 +16,8 @@ IsWritten bytes code old new =
 
 -- a text is written where there is room for it, and its length in any case; a reason is told by its number
 abbrev pub TellsText : ℕ → List ℕ → List ℕ → ℕ → ℕ → Result (String Global) Status → Type 0
-TellsText code old new had has (Ok text) = (has ≡ length (string_bytes text)) × IsWritten (string_bytes text) code old new
+TellsText code old new had has (Ok text) =
+    (has ≡ length (string_bytes text)) × IsWritten (string_bytes text) code old new
 TellsText code old new had has (Err s) = (code ≡ code_of s) × (new ≡ old) × (has ≡ had)
 
 -- one more event, at this moment and with these words

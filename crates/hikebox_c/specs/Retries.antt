@@ -31,13 +31,16 @@ Reports report code (Err TooLarge) = (report ≢ 0) × (report ≤ 2) × (FAR < 
 Reports report code (Err _) = ⊥
 
 -- a poll with this report
-abbrev pub PollsWith : Tick → Result (Option Ran) Status → Option Held → Option Held → (Result Reply Status → Type 0) → Type 0
+abbrev pub PollsWith : Tick → Result (Option Ran) Status → Option Held → Option Held →
+    (Result Reply Status → Type 0) → Type 0
 PollsWith t (Ok report) u w tells = OnHeld (Polls t report) u w tells
 PollsWith t (Err s) u w tells = (w ≡ u) × tells (Err s)
 
+-- what is reported is told apart once the moment is in range, and before the handle is looked at
 abbrev pub PollsAt : ℕ → List ℕ → ℕ → ℕ → Option Held → Option Held → (Result Reply Status → Type 0) → Type 0
 PollsAt now words report code u w tells =
-    (r : Result (Option Ran) Status) × Reports report code r × PollsWith (record { now = now; words = words }) r u w tells
+    (r : Result (Option Ran) Status) × Reports report code r
+    × PollsWith (record { now = now; words = words }) r u w tells
 
 -- the pass of a retry is joined into another, and the retry's handle is empty
 abbrev pub RetryEnded : Held → Held → ℕ → Option Held → Option Held → Type 0

@@ -50,8 +50,10 @@ pub extern "C" fn hikebox_retry_poll(
     code: u64,
     next: &mut Reply,
 ) -> u32
-    ensures poll { now ≤ FAR → PollsAt now words.now report code retry.old.held retry.new.held (Tells result next.old next.new) }
-    ensures too_large { FAR < now → (retry.new.held ≡ retry.old.held) × Tells result next.old next.new (Err status.TooLarge) }
+    ensures poll { now ≤ FAR → PollsAt now words.now report code retry.old.held retry.new.held
+        (Tells result next.old next.new) }
+    ensures too_large { FAR < now → (retry.new.held ≡ retry.old.held)
+        × Tells result next.old next.new (Err status.TooLarge) }
 {
     let Ok(tick) = tick_at(now, words) else {
         return Status::TooLarge.code();

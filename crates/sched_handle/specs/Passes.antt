@@ -23,7 +23,8 @@ NotMade limit _ = ⊥
 -- a budget of this limit is made, with its first pass, or none for this reason
 abbrev pub MakesBudget : ℕ → Bool → Result (Box Held Global) Status → Type 0
 MakesBudget limit rises (Ok b) =
-    (s : Share) × (b.value ≡ Pass s) × (s.budget.terms ≡ terms limit rises) × (s.pass.has ≡ first_view (terms limit rises))
+    (s : Share) × (b.value ≡ Pass s) × (s.budget.terms ≡ terms limit rises)
+    × (s.pass.has ≡ first_view (terms limit rises))
 MakesBudget limit rises (Err s) = NotMade limit s
 
 -- a pass of the same budget, of which this is true
