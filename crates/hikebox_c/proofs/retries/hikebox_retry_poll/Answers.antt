@@ -23,11 +23,11 @@ returns-clause-poll c = λ _.
     let answer = c.poll-answer.result in
     let left = c.poll-answer.new.self in
     let at_tick : Polls c.in-Ok.tick report c.in-Some.held.value answer left =
-      rw (← c.deref_mut.ensures.value) c.poll-answer.ensures in
+    rw (← c.deref_mut.ensures.value) c.poll-answer.ensures in
     let polls =
-      subst (λ (t : Tick). Polls t report c.in-Some.held.value answer left)
-      (tick_is c.in-Ok.tick c.args.now c.args.words.now c.in-Ok.ensures.now c.in-Ok.ensures.words) at_tick in
+    subst (λ (t : Tick). Polls t report c.in-Some.held.value answer left)
+    (tick_is c.in-Ok.tick c.args.now c.args.words.now c.in-Ok.ensures.now c.in-Ok.ensures.words) at_tick in
     let said = tells answer c.tell.result c.args.next.now c.tell.new.place
-      c.tell.ensures.code c.tell.ensures.ok c.tell.ensures.err in
+    c.tell.ensures.code c.tell.ensures.ok c.tell.ensures.err in
     rw (← c.in-Some.ensures.held)
     (Ok report, c.in-Ok-reported.ensures, (answer, left, c.put.ensures, polls, said))
