@@ -60,13 +60,13 @@ runs example_retry
 [ "$status" = 1 ] && [ ! -s out ] && [ "$(cat err)" = 'Error: usage: example_retry FILE' ] ||
   fails "example_retry with no word: status $status"
 
-# Polls from boundary 0 to the one at 1000 ms, or past it, each after its boundary by less than 100 ms.
+# Polls from the first one to one at 1000 ms or later, none before its boundary.
 echo 'Here at once.' >note.txt
 runs example_repeat note.txt
 [ "$status" = 0 ] && [ "$(cat out)" = '14 bytes' ] && [ "$took" -ge 1000 ] && awk '
-  !/^boundary [0-9]+00: missed by [0-9][0-9]? ms$/ && $0 != "boundary 0: missed by 0 ms" { wrong = 1 }
-  NR == 1 && $0 != "boundary 0: missed by 0 ms" { wrong = 1 }
-  { boundary = $2 + 0; if (boundary < last) wrong = 1; last = boundary }
+  $0 != "polled at " $3 + 0 " ms, " $3 % 100 " ms past a boundary" { wrong = 1 }
+  NR == 1 ? $3 != 0 : $3 < last { wrong = 1 }
+  { last = $3 }
   END { exit wrong || NR < 2 || NR > 11 || last < 1000 }
 ' err || fails "example_repeat: status $status after $took ms"
 

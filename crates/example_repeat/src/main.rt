@@ -1,5 +1,5 @@
 //! `example_repeat FILE` polls a file's size at fixed boundaries, each 100 milliseconds after the one before, for a second.
-//! It prints the size polled last, and on standard error by how much each poll missed its boundary.
+//! It prints the size polled last, and on standard error how far past a boundary each poll came.
 #![tactic(auto)]
 
 use anyhow::{Context, Result, bail};
@@ -35,20 +35,21 @@ impl<'a, R: Files> Action for FileSize<'a, R> {
 
 const LENGTH: u64 = 100;
 
+// A poll at each boundary until a second has passed since the first poll. One that comes after the boundary that follows
+// its own has the next poll at once.
 fn each_boundary(alloc: Global) -> Result<Plan, PlanFault> {
     Plan::within(alloc, 1000, Plan::fixed(LENGTH)?)
 }
 
-// By how much each run missed its boundary. The boundaries are counted from the first run.
-fn print_misses<R: Eprint>(rt: &R, begun: &[Moment]) -> io::Result<()> {
+// When each poll came, in milliseconds since the first one, and how far past a boundary that is.
+fn print_polls<R: Eprint>(rt: &R, begun: &[Moment]) -> io::Result<()> {
     let Some(first) = begun.first() else {
         return Ok(());
     };
     for moment in begun {
         let passed = moment.get().saturating_sub(first.get());
         let missed = passed % LENGTH;
-        let boundary = passed - missed;
-        eprintln!(rt; "boundary {boundary}: missed by {missed} ms")?;
+        eprintln!(rt; "polled at {passed} ms, {missed} ms past a boundary")?;
     }
     Ok(())
 }
@@ -61,7 +62,7 @@ fn poll<R: Runtime + RandomSource + AllocGlobal + Wait>(rt: &R, path: &str) -> R
     let repeat = Repeat::new(alloc, call, driver);
     let timed = Timed::new(alloc, repeat, SystemClock::new(rt)?, MidWords);
     let mut repeat = block_on(rt, timed)?;
-    print_misses(rt, repeat.begun())?;
+    print_polls(rt, repeat.begun())?;
     match repeat.take_ending() {
         Some(RepeatEnding::ScheduleDone) => {}
         Some(RepeatEnding::Failed(fault)) => return Err(fault.value.into()),

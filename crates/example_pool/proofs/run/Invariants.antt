@@ -1,4 +1,4 @@
-use Rattle.sched_ticket.specs.Held.{IsOf}
+use Rattle.sched_pool.specs.Held.{IsOf}
 use Rattle.example_pool.proofs.run.Given as goal
 
 abbrev pub invariant-loop : goal.invariant-loop
