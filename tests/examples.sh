@@ -1,7 +1,7 @@
 #!/usr/bin/env bash
-# Runs the built examples on the system's clock: example_retry with a file that is made 300 ms after it was started, with
-# none and with no word; and what example_repeat and example_pool print on standard error. An example that is missing or
-# older than its sources is built first.
+# Runs the built examples on the system's clock: example_retry with a file that is made 300 ms after it was started,
+# with none and with no word; and what example_repeat and example_pool print on standard error. An example that is
+# missing or older than its sources is built first.
 set -euo pipefail
 top=$(cd "$(dirname "${BASH_SOURCE[0]}")/.." && pwd)
 work=$(mktemp -d)
@@ -25,8 +25,8 @@ runs() {
   took=$(($(millis) - begin))
 }
 
-# starts_before_its_file: example_retry, and its file 300 ms later; it fails where the file came 450 ms after the start or
-# later, which is beside the third retry
+# starts_before_its_file: example_retry, and its file 300 ms later; it fails where the file came 450 ms after the start
+# or later, which is near the third retry
 starts_before_its_file() {
   local begin late
   rm -f late.txt

@@ -1,5 +1,5 @@
-//! `example_repeat FILE` polls a file's size at fixed boundaries, each 100 milliseconds after the one before, for a second.
-//! It prints the size polled last, and on standard error how far past a boundary each poll came.
+//! `example_repeat FILE` polls a file's size at fixed boundaries, each 100 milliseconds after the one before, for a
+//! second. It prints the size polled last, and on standard error how far past a boundary each poll came.
 #![tactic(auto)]
 
 use anyhow::{Context, Result, bail};
@@ -35,8 +35,8 @@ impl<'a, R: Files> Action for FileSize<'a, R> {
 
 const LENGTH: u64 = 100;
 
-// A poll at each boundary until a second has passed since the first poll. One that comes after the boundary that follows
-// its own has the next poll at once.
+// A poll at each boundary until a second has passed since the first poll. One that comes after the boundary that
+// follows its own has the next poll at once.
 fn each_boundary(alloc: Global) -> Result<Plan, PlanFault> {
     Plan::within(alloc, 1000, Plan::fixed(LENGTH)?)
 }

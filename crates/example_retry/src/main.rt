@@ -1,5 +1,6 @@
-//! `example_retry FILE` prints a file, and waits for one that is not there yet: reading it is tried again after 100, 200,
-//! 400 and 800 milliseconds, each made up to a fifth shorter or longer. Where it was never read, it ends in the last error.
+//! `example_retry FILE` prints a file, and waits for one that is not there yet: reading it is tried again after 100,
+//! 200, 400 and 800 milliseconds, each made up to a fifth shorter or longer. Where it was never read, the program ends
+//! in the last error.
 #![tactic(auto)]
 
 use anyhow::{Context, Result, bail};
@@ -33,6 +34,7 @@ impl<'a, R: Files + AllocGlobal> Action for ReadFile<'a, R> {
     }
 }
 
+// Four more tries, each after twice the time, which is made up to a fifth shorter or longer.
 fn back_off(alloc: Global) -> Result<Plan, PlanFault> {
     let doubled = Plan::exponential(100, 2)?;
     let jittered = Plan::jitter(alloc, 0, 800, 1200, doubled)?;
