@@ -1,8 +1,8 @@
 #!/usr/bin/env bash
 # Compares every printed plan and pool of jobs in README.md and docs/ with what the program prints. A `sh` block with a
-# line `bin/zsched WORDS < plans/NAME.json`, or `< jobs/NAME.json`, is followed by a `text` block, its whole output; a
-# `json` block before it, under the same heading, is the file's text. It fails where one of them differs, and where no
-# document prints a plan or a pool of these folders.
+# line `bin/zsched WORDS < plans/NAME.json`, or `< jobs/NAME.json`, or with the file's name as its last word, is followed
+# by a `text` block, its whole output; a `json` block before it, under the same heading, is the file's text. It fails where
+# one of them differs, and where no document prints a plan or a pool of these folders.
 set -euo pipefail
 top=$(cd "$(dirname "${BASH_SOURCE[0]}")/.." && pwd)
 work=$(mktemp -d)
@@ -27,13 +27,13 @@ same_as() {
 takes_command() {
   local line=${1%%#*}
   case $line in
-    bin/zsched\ *\<*plans/*.json* | bin/zsched\ *\<*jobs/*.json*) ;;
+    bin/zsched\ *plans/*.json* | bin/zsched\ *jobs/*.json*) ;;
     *) return 0 ;;
   esac
   [ -z "$command" ] || fails "$document: no text follows $command"
   command=${line%"${line##*[! ]}"}
-  input=${line##*<}
-  input=${input// /}
+  input=${command##* }
+  input=${input#<}
   echo "$input" >>"$work/used"
   if [ -s "$work/json" ]; then
     cp "$work/json" "$work/block"
@@ -43,9 +43,10 @@ takes_command() {
 
 # compares what the command prints with the block
 compares_output() {
-  local words=${command#bin/zsched }
+  local words=${command#bin/zsched } from=/dev/null
+  case $words in *\<*) from=$input ;; esac
   read -r -a words <<<"${words%%<*}"
-  if ! "$top/bin/zsched" "${words[@]}" <"$top/$input" >"$work/out"; then
+  if ! (cd "$top" && bin/zsched "${words[@]}" <"$from") >"$work/out"; then
     fails "$document: $command: it ends with a fault"
   fi
   same_as "$work/out" "what $command prints"

@@ -78,6 +78,35 @@ wants 0 '5: 0 done\n' '' plan --from 5 --input 9
 helps --help
 helps plan --help
 helps pool --help
+wants 0 'zsched 1.0.0\n' '' --version
+
+# Each event has an input of its own, and words of its own: of the generator xoshiro128++ that is seeded with 7 the words
+# of the first three events begin with 408380677, 257245457 and 1962261138.
+input '"identity"'
+wants 0 '7: 3 next 7\n9: 5 next 9\n11: 5 next 11\n' '' plan --inputs 3,5 --steps 3 --from 7 --took 2
+input '{"jitter":[0,800,1200,{"spaced":1000}]}'
+wants 0 '0: 0 next 838\n838: 1 next 1661\n1661: 2 next 2643\n' '' plan --words 7 --steps 3
+wants 0 '' '' plan --words 7 --steps 0
+wants 2 '' 'zsched: bad command line\n' plan --inputs 3,
+wants 2 '' 'zsched: bad command line\n' plan --inputs 3 --input 3
+wants 2 '' 'zsched: bad command line\n' plan --words 7 --word 7
+wants 2 '' 'zsched: bad command line\n' plan --words 18446744073709551616
+
+# A text comes from standard input, also by the word -, or from a file, and is the same from each.
+for word in plan pool; do
+  case $word in plan) folder=plans ;; pool) folder=jobs ;; esac
+  for file in "$top/$folder"/*.json; do
+    cp "$file" "$work/in"
+    "$top/bin/zsched" $word <"$file" >"$work/printed"
+    wants 0 "$(sed 's/$/\\n/' "$work/printed" | tr -d '\n')" '' $word -
+    input ''
+    wants 0 "$(sed 's/$/\\n/' "$work/printed" | tr -d '\n')" '' $word "$file"
+  done
+  wants 4 '' 'zsched: read failed\n' $word "$work/none.json"
+  wants 4 '' 'zsched: read failed\n' $word "$work"
+  wants 4 '' 'zsched: read failed\n' $word ''
+  wants 2 '' 'zsched: bad command line\n' $word - -
+done
 wants 2 '' 'zsched: bad command line\n'
 wants 2 '' 'zsched: bad command line\n' plan --steps 4097
 wants 2 '' 'zsched: bad command line\n' plan --none

@@ -186,6 +186,10 @@ refuses 3 '{"meet":[{"fixed":0},"forever"]}' plan
 refuses 3 '{"meet":[' plan
 refuses 2 '' plan --steps 4097
 refuses 0 '' plan --help
+refuses 0 '' --version
+refuses 0 '' plan "$top/plans/three-times.json"
+refuses 4 '' plan "$top/plans/none.json"
+refuses 0 "$(cat "$top/plans/jittered-back-off.json")" plan --words 7 --inputs 3,5
 refuses 3 '[{"plan":{"recurs":3},"runs":[{"lost":7},{"won":-1}]}]' pool
 refuses 3 '[{"plan":"forever","runs":[]}]' pool
 refuses 2 '' pool --workers 17

@@ -31,7 +31,7 @@ fn plan_command<'a>(alloc: Global) -> Result<Command<'a>, AllocError> {
         .about("Reads one plan as JSON and prints what it decides after each call, one line each")
         .after_help(PLAN_EXAMPLES)
         .arg(file(alloc).help("The plan's file, or - for standard input"))?;
-    with_calls(alloc, with_chance(alloc, with_gifts(alloc, command)?)?)
+    with_chance(alloc, with_gifts(alloc, with_calls(alloc, command)?)?)
 }
 
 // The options of when calls are over.

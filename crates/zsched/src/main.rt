@@ -9,14 +9,27 @@ use sched_cli::{
     Asked, Counted, Origin, PrintFault, WordsFault, print_course, print_plan, print_pool,
     read_words,
 };
+use std::alloc::{AllocGlobal, Global};
 use std::env;
 use std::fs::File;
-use std::io::{ErrorKind, Read};
+use std::io::{ErrorKind, Read, Write};
 use std::process::ExitCode;
+use std::random::RandomSource;
+use std::sync::Wait;
+use std::thread::Threads;
 
 fn main(rt: HostRuntime) -> ExitCode {
     match asked(&rt) {
-        Ok(asked) => ended(&rt, answer(&rt, &asked)),
+        Ok(asked) => match asked.origin() {
+            Origin::StandardInput => ended(
+                &rt,
+                answer(&rt, rt.alloc(), rt.stdin(), rt.stdout(), &asked),
+            ),
+            Origin::File(name) => match open(&rt, name.as_str()) {
+                Ok(file) => ended(&rt, answer(&rt, rt.alloc(), file, rt.stdout(), &asked)),
+                Err(fault) => ended(&rt, Err(fault)),
+            },
+        },
         Err(WordsFault::Help(text)) => match print!(rt; "{text}") {
             Ok(()) => ExitCode::SUCCESS,
             Err(_) => ended(&rt, Err(PrintFault::WriteFailed)),
@@ -50,26 +63,32 @@ fn asked(rt: &HostRuntime) -> Result<Asked, WordsFault> {
     read_words(rt.alloc(), &texts)
 }
 
-// Does what is asked for, with the text from where it is. A file that can't be opened can't be read.
-fn answer(rt: &HostRuntime, asked: &Asked) -> Result<(), PrintFault> {
-    match asked.origin() {
-        Origin::StandardInput => answer_from(rt, rt.stdin(), asked),
-        Origin::File(name) => match File::open(rt, name) {
-            Ok(file) => answer_from(rt, file, asked),
-            Err(error) if error.kind() == ErrorKind::OutOfMemory => Err(PrintFault::NoMemory),
-            Err(_) => Err(PrintFault::ReadFailed),
-        },
+// The file of this name, to be read.
+fn open(rt: &HostRuntime, name: &str) -> Result<File, PrintFault> {
+    match File::open(rt, name) {
+        Ok(file) => Ok(file),
+        Err(error) if error.kind() == ErrorKind::OutOfMemory => Err(PrintFault::NoMemory),
+        Err(_) => Err(PrintFault::ReadFailed),
     }
 }
 
-// Does what is asked for with the text of this reader.
-fn answer_from<R: Read>(rt: &HostRuntime, reader: R, asked: &Asked) -> Result<(), PrintFault> {
+// Does what is asked for: reads a text and writes what is printed of it.
+fn answer<R, S: Read + Drop, W: Write + Drop>(
+    rt: &R,
+    alloc: Global,
+    reader: S,
+    writer: W,
+    asked: &Asked,
+) -> Result<(), PrintFault>
+where
+    R: Threads + Wait + RandomSource + AllocGlobal + Sync,
+{
     let mut reader = Counted::new(reader);
-    let mut writer = Counted::new(rt.stdout());
+    let mut writer = Counted::new(writer);
     match asked {
-        Asked::Plan(options, _) => print_plan(rt.alloc(), &mut reader, &mut writer, options),
-        Asked::Course(course, _) => print_course(rt.alloc(), &mut reader, &mut writer, course),
-        Asked::Pool(options, _) => print_pool(rt, rt.alloc(), &mut reader, &mut writer, options),
+        Asked::Plan(options, _) => print_plan(alloc, &mut reader, &mut writer, options),
+        Asked::Course(course, _) => print_course(alloc, &mut reader, &mut writer, course),
+        Asked::Pool(options, _) => print_pool(rt, alloc, &mut reader, &mut writer, options),
     }
 }
 
