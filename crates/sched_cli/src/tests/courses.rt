@@ -1,17 +1,31 @@
 //! Command lines that give inputs and words to each event.
 use crate::{Asked, Counted, WordsFault, print_course, read_words};
 use std::alloc::Global;
+use std::process::Abort;
 use std::test::Fail;
 
-// What is printed of the plan of this text, by a command line that gives it a course of its own.
-fn printed(alloc: Global, words: &[&str], text: &str) -> Result<Vec<u8>, Fail> {
+const LANE_0: &str = r#"{"jitter":[0,800,1200,{"spaced":1000}]}"#;
+
+const LANE_2: &str = r#"{"jitter":[2,500,1500,{"spaced":10}]}"#;
+
+const LANE_3: &str = r#"{"jitter":[3,800,1200,{"spaced":1000}]}"#;
+
+// Asserts what is printed of the plan of this text, by a command line that gives it a course of its own.
+fn prints(
+    rt: &impl Abort,
+    alloc: Global,
+    words: &[&str],
+    text: &str,
+    lines: &str,
+) -> Result<(), Fail> {
     let Asked::Course(course, _) = read_words(alloc, words)? else {
         return Err(Fail::from("no course"));
     };
     let mut reader = Counted::new(text.as_bytes());
     let mut writer = Counted::new(Vec::new(alloc));
     print_course(alloc, &mut reader, &mut writer, &course)?;
-    Ok(writer.into_inner())
+    assert_eq!(rt; writer.into_inner().as_slice(), lines.as_bytes());
+    Ok(())
 }
 
 #[test]
@@ -19,30 +33,17 @@ fn inputs_come_in_turn_and_the_last_repeats(rt: HostRuntime) -> Result<(), Fail>
     let words = [
         "zsched", "plan", "--inputs", "3,5", "--steps", "3", "--from", "7", "--took", "2",
     ];
-    let text = printed(rt.alloc(), &words, r#""identity""#)?;
-    assert_eq!(rt;
-        text.as_slice(),
-        b"7: 3 next 7\n9: 5 next 9\n11: 5 next 11\n"
-    );
-    Ok(())
+    let lines = "7: 3 next 7\n9: 5 next 9\n11: 5 next 11\n";
+    prints(&rt, rt.alloc(), &words, r#""identity""#, lines)
 }
 
 #[test]
 fn a_seed_gives_other_words_at_each_event(rt: HostRuntime) -> Result<(), Fail> {
     let words = ["zsched", "plan", "--words", "7", "--steps", "3"];
-    let lane_0 = r#"{"jitter":[0,800,1200,{"spaced":1000}]}"#;
-    let text = printed(rt.alloc(), &words, lane_0)?;
-    assert_eq!(rt;
-        text.as_slice(),
-        b"0: 0 next 838\n838: 1 next 1661\n1661: 2 next 2643\n"
-    );
-    let lane_3 = r#"{"jitter":[3,800,1200,{"spaced":1000}]}"#;
-    let text = printed(rt.alloc(), &words, lane_3)?;
-    assert_eq!(rt;
-        text.as_slice(),
-        b"0: 0 next 932\n932: 1 next 2029\n2029: 2 next 3130\n"
-    );
-    Ok(())
+    let lines = "0: 0 next 838\n838: 1 next 1661\n1661: 2 next 2643\n";
+    prints(&rt, rt.alloc(), &words, LANE_0, lines)?;
+    let lines = "0: 0 next 932\n932: 1 next 2029\n2029: 2 next 3130\n";
+    prints(&rt, rt.alloc(), &words, LANE_3, lines)
 }
 
 #[test]
@@ -56,23 +57,19 @@ fn inputs_go_with_one_word_and_a_seed_with_one_input(rt: HostRuntime) -> Result<
         "--steps",
         "2",
     ];
-    let text = printed(
+    prints(
+        &rt,
         rt.alloc(),
         &words,
-        r#"{"jitter":[2,500,1500,{"spaced":10}]}"#,
+        LANE_2,
+        "0: 0 next 5\n5: 1 next 10\n",
     )?;
-    assert_eq!(rt; text.as_slice(), b"0: 0 next 5\n5: 1 next 10\n");
     let words = [
         "zsched", "plan", "--words", "0", "--input", "6", "--steps", "1",
     ];
-    let text = printed(rt.alloc(), &words, r#""identity""#)?;
-    assert_eq!(rt; text.as_slice(), b"0: 6 next 0\n");
+    prints(&rt, rt.alloc(), &words, r#""identity""#, "0: 6 next 0\n")?;
     let words = ["zsched", "plan", "--words", "7", "--steps", "0"];
-    assert_eq!(rt;
-        printed(rt.alloc(), &words, r#""forever""#)?.as_slice(),
-        b""
-    );
-    Ok(())
+    prints(&rt, rt.alloc(), &words, LANE_0, "")
 }
 
 #[test]
