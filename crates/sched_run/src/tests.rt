@@ -17,10 +17,14 @@ use std::sync::Wait;
 mod calls;
 mod endings;
 mod guide;
+mod plays;
+mod polls;
 mod repeats;
 mod retries;
 mod retries_or;
+mod shows;
 mod steps;
+mod values;
 
 fn moment(rt: &impl Abort, at: u64) -> Moment {
     Moment::new(at).expect(rt, "the moment is in range")
@@ -30,19 +34,23 @@ fn millis(rt: &impl Abort, number: u64) -> Millis {
     Millis::new(number).expect(rt, "the number is in range")
 }
 
-fn won(rt: &impl Abort, code: u64) -> Ran {
-    Ran::Won(millis(rt, code))
+// How a run with this outcome went.
+fn ran_of(rt: &impl Abort, outcome: &Result<u64, u64>) -> Ran {
+    match outcome {
+        Ok(code) => Ran::Won(millis(rt, *code)),
+        Err(code) => Ran::Lost(millis(rt, *code)),
+    }
 }
 
-fn lost(rt: &impl Abort, code: u64) -> Ran {
-    Ran::Lost(millis(rt, code))
-}
-
-// An effect with these outcomes.
-fn scripted(rt: &impl Abort, alloc: Global, script: &[Ran]) -> Scripted
+// An effect whose runs succeed and fail with these codes.
+fn scripted(rt: &impl Abort, alloc: Global, outcomes: &[Result<u64, u64>]) -> Scripted
     ensures { result.runs ≡ [] }
 {
-    let script = script.to_vec(alloc).expect(rt, "there is memory");
+    let mut script = Vec::new(alloc);
+    for outcome in outcomes {
+        let pushed = script.push(ran_of(rt, outcome));
+        assert!(rt; pushed.is_ok(), "there is memory");
+    }
     Scripted::new(script).expect(rt, "the script has an outcome")
 }
 

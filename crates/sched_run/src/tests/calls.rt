@@ -18,11 +18,10 @@ impl Coded for Reply {
     }
 }
 
-// Why a call was not answered.
+// That a call was not answered: it may be made again after this.
 #[derive(Drop)]
 pub(super) struct Outage {
     after: Millis,
-    pub(super) reason: &'static str,
 }
 
 impl Coded for Outage {
@@ -36,11 +35,11 @@ impl Coded for Outage {
 // A call that is pending for some polls, and is then answered or not; `starves` says that memory is refused instead.
 #[derive(Drop)]
 pub(super) struct Calls {
-    pub(super) pending: u32,
-    pub(super) left: u32,
-    pub(super) outages: u32,
-    pub(super) starves: bool,
-    pub(super) runs: Vec<Ran>,
+    pending: u32,
+    left: u32,
+    outages: u32,
+    starves: bool,
+    runs: Vec<Ran>,
 }
 
 impl Calls {
@@ -55,6 +54,15 @@ impl Calls {
             starves: false,
             runs: Vec::new(alloc),
         }
+    }
+
+    // A call whose first poll says that memory is wanting.
+    pub(super) fn starving(alloc: Global) -> Calls
+        ensures { result.runs.items ≡ [] }
+    {
+        let mut calls = Calls::new(alloc, 0, 1);
+        calls.starves = true;
+        calls
     }
 }
 
@@ -84,10 +92,7 @@ impl Effect for Calls {
                 return Poll::Ready(Err(NoMemory));
             }
             self.outages -= 1;
-            return Poll::Ready(Ok(Err(Outage {
-                after,
-                reason: "timed out",
-            })));
+            return Poll::Ready(Ok(Err(Outage { after })));
         }
         if self.runs.push(Ran::Won(Millis::from(200))).is_err() {
             return Poll::Ready(Err(NoMemory));
@@ -107,11 +112,11 @@ impl Effect for Calls {
 // memory.
 #[derive(Drop)]
 pub(super) struct Cache {
-    pub(super) alloc: Global,
-    pub(super) pending: u32,
-    pub(super) holds: Option<Result<u32, Millis>>,
-    pub(super) asked: Option<(Millis, Val)>,
-    pub(super) answered: Option<Ran>,
+    alloc: Global,
+    pending: u32,
+    holds: Option<Result<u32, Millis>>,
+    asked: Option<(Millis, Val)>,
+    answered: Option<Ran>,
 }
 
 impl Cache {
@@ -157,10 +162,7 @@ impl Fallback<Calls> for Cache {
             }
             Some(Err(after)) => {
                 self.answered = Some(Ran::Lost(after));
-                Poll::Ready(Ok(Err(Outage {
-                    after,
-                    reason: "not cached",
-                })))
+                Poll::Ready(Ok(Err(Outage { after })))
             }
         }
     }
@@ -180,10 +182,21 @@ impl Fallback<Calls> for Cache {
 // A fallback for scripted effects that has its answer at once.
 #[derive(Drop)]
 pub(super) struct Spare {
-    pub(super) alloc: Global,
-    pub(super) code: Millis,
-    pub(super) asked: Option<(Millis, Val)>,
-    pub(super) answered: Option<Ran>,
+    alloc: Global,
+    code: Millis,
+    asked: Option<(Millis, Val)>,
+    answered: Option<Ran>,
+}
+
+impl Spare {
+    pub(super) fn new(alloc: Global, code: Millis) -> Spare {
+        Spare {
+            alloc,
+            code,
+            asked: None,
+            answered: None,
+        }
+    }
 }
 
 impl Fallback<Scripted> for Spare {

@@ -1,116 +1,91 @@
 use super::calls::{Cache, Calls, Spare};
+use super::plays::{finish_retry_or, play_retry_or};
+use super::shows::{Counts, Step, Told};
 use super::*;
 
 // The fallback is asked with the last failure and the schedule's last output, and its answer is the retry's.
 #[test]
 fn fallback_answers(rt: HostRuntime) {
-    let alloc = rt.alloc();
-    let (budget, pass) = budget(&rt, alloc, 100);
-    let spare = Spare {
-        alloc,
-        code: millis(&rt, 4),
-        asked: None,
-        answered: None,
-    };
-    let effect = scripted(&rt, alloc, &[lost(&rt, 9)]);
-    let driver = driver(&rt, alloc, Plan::recurs(0));
-    let retry = RetryOr::new(alloc, effect, driver, pass, &budget, spare);
-    let mut retry = finish(&rt, retry);
-    assert_eq!(rt; retry.over(), Some(How::ScheduleDone));
-    assert_eq!(rt; retry.granted(), 0);
-    match retry.take_ending() {
-        Some(RetryOrEnding::Fallen(Ok(item))) => assert_eq!(rt; item.code().get(), 4),
-        _ => assert!(rt; false, "another ending"),
-    }
-    assert!(rt; retry.take_ending().is_none(), "taken");
-    let (_, _, pass, spare) = retry.into_parts();
-    assert_eq!(rt; pass.count(), 0);
+    let effect = scripted(&rt, rt.alloc(), &[Err(9)]);
+    let both = (effect, Spare::new(rt.alloc(), millis(&rt, 4)));
+    let steps = [
+        Step::Over(How::ScheduleDone),
+        Step::Counts(Counts::of(1, 1, 0)),
+        Step::Tells(Told::Fallen(Ok(4))),
+    ];
+    let spare = finish_retry_or(&rt, both, Plan::recurs(0), 100, &steps);
     match spare.asked() {
-        Some((code, output)) => {
-            assert_eq!(rt; code.get(), 9);
-            number_of(&rt, alloc, Some(output), "0");
+        Some((fault, output)) => {
+            assert_eq!(rt; fault.get(), 9);
+            number_of(&rt, rt.alloc(), Some(output), "0");
         }
         None => assert!(rt; false, "not asked"),
     }
-    assert_eq!(rt; spare.answered(), Some(won(&rt, 4)));
+    assert_eq!(rt; spare.answered(), Some(ran_of(&rt, &Ok(4))));
+}
+
+// A retry of a call that fails once, with this fallback and no ticket.
+fn play_failed<R>(rt: &R, cache: Cache, steps: &[Step<'_>])
+where
+    R: RandomSource + AllocGlobal + Abort,
+{
+    let both = (Calls::new(rt.alloc(), 0, 1), cache);
+    play_retry_or(rt, both, Plan::spaced(100), 0, steps);
 }
 
 // It is asked by a poll of its own, as often as it is pending, and nothing is waited for meanwhile.
 #[test]
 fn fallback_takes_polls(rt: HostRuntime) {
-    let alloc = rt.alloc();
-    let (budget, pass) = budget(&rt, alloc, 0);
-    let cache = Cache::new(alloc, 1, Some(Err(millis(&rt, 3))));
-    let driver = driver(&rt, alloc, Plan::spaced(100));
-    let calls = Calls::new(alloc, 0, 1);
-    let mut retry = RetryOr::new(alloc, calls, driver, pass, &budget, cache);
-    assert!(rt; !poll(&rt, &mut retry, 10), "the budget has no ticket");
-    assert_eq!(rt; retry.over(), None);
-    assert_eq!(rt; retry.due(), None);
-    assert!(rt; !poll(&rt, &mut retry, 0), "asks");
-    assert!(rt; poll(&rt, &mut retry, 0), "answered");
-    assert_eq!(rt; retry.over(), Some(How::BudgetRefused));
-    assert_moments(&rt, retry.begun(), &[10]);
-    assert_eq!(rt; retry.effect().runs().len(), 1);
-    match retry.take_ending() {
-        Some(RetryOrEnding::Fallen(Err(outage))) => {
-            assert_eq!(rt; outage.reason, "not cached");
-            assert_eq!(rt; outage.code().get(), 3);
-        }
-        _ => assert!(rt; false, "another ending"),
-    }
+    let cache = Cache::new(rt.alloc(), 2, Some(Err(millis(&rt, 3))));
+    let steps = [
+        Step::Goes(10),
+        Step::Goes(0),
+        Step::Goes(0),
+        Step::Ends(0),
+        Step::Over(How::BudgetRefused),
+        Step::Begun(&[10]),
+        Step::Counts(Counts::of(1, 1, 0)),
+        Step::Tells(Told::Fallen(Err(3))),
+    ];
+    play_failed(&rt, cache, &steps);
 }
 
 // A fallback that wants memory breaks the retry.
 #[test]
 fn fallback_that_gives_nothing(rt: HostRuntime) {
-    let alloc = rt.alloc();
-    let (budget, pass) = budget(&rt, alloc, 0);
-    let cache = Cache::new(alloc, 0, None);
-    let calls = Calls::new(alloc, 0, 1);
-    let plan = driver(&rt, alloc, Plan::forever());
-    let mut retry = RetryOr::new(alloc, calls, plan, pass, &budget, cache);
-    assert!(rt; !poll(&rt, &mut retry, 0), "stopped");
-    assert!(rt; poll(&rt, &mut retry, 0), "broken");
-    assert_eq!(rt; retry.over(), Some(How::Broken(RunFault::NoMemory)));
-    match retry.take_ending() {
-        Some(RetryOrEnding::Broken(RunFault::NoMemory)) => {}
-        _ => assert!(rt; false, "another ending"),
-    }
+    let broken = How::Broken(RunFault::NoMemory);
+    let steps = [
+        Step::Goes(0),
+        Step::Ends(0),
+        Step::Over(broken),
+        Step::Tells(Told::Bare(broken)),
+    ];
+    play_failed(&rt, Cache::new(rt.alloc(), 0, None), &steps);
 }
 
 // One that is asked can be given up.
 #[test]
 fn cancel_while_the_fallback_is_asked(rt: HostRuntime) {
-    let alloc = rt.alloc();
-    let (budget, pass) = budget(&rt, alloc, 0);
-    let cache = Cache::new(alloc, 5, None);
-    let calls = Calls::new(alloc, 0, 1);
-    let plan = driver(&rt, alloc, Plan::forever());
-    let mut retry = RetryOr::new(alloc, calls, plan, pass, &budget, cache);
-    assert!(rt; !poll(&rt, &mut retry, 0), "stopped");
-    assert!(rt; !poll(&rt, &mut retry, 0), "asks");
-    retry.cancel();
-    assert_eq!(rt; retry.over(), Some(How::Cancelled));
-    assert!(rt; poll(&rt, &mut retry, 0), "over");
+    let steps = [
+        Step::Goes(0),
+        Step::Goes(0),
+        Step::Cancels,
+        Step::Over(How::Cancelled),
+        Step::Ends(0),
+    ];
+    play_failed(&rt, Cache::new(rt.alloc(), 5, None), &steps);
 }
 
 // A success needs no fallback.
 #[test]
 fn fallback_is_not_asked(rt: HostRuntime) {
-    let alloc = rt.alloc();
-    let (budget, pass) = budget(&rt, alloc, 1);
-    let cache = Cache::new(alloc, 0, None);
-    let calls = Calls::new(alloc, 1, 1);
-    let driver = driver(&rt, alloc, Plan::spaced(100));
-    let retry = RetryOr::new(alloc, calls, driver, pass, &budget, cache);
-    let mut retry = finish(&rt, retry);
-    assert_eq!(rt; retry.over(), Some(How::Won));
-    assert_moments(&rt, retry.begun(), &[0, 100]);
-    match retry.take_ending() {
-        Some(RetryOrEnding::Won(reply)) => assert_eq!(rt; reply.body, "fresh"),
-        _ => assert!(rt; false, "another ending"),
-    }
-    let (_, _, _, cache) = retry.into_parts();
+    let cache = Cache::new(rt.alloc(), 0, None);
+    let both = (Calls::new(rt.alloc(), 1, 1), cache);
+    let steps = [
+        Step::Over(How::Won),
+        Step::Begun(&[0, 100]),
+        Step::Tells(Told::Won(200)),
+    ];
+    let cache = finish_retry_or(&rt, both, Plan::spaced(100), 1, &steps);
     assert!(rt; cache.asked().is_none(), "not asked");
 }

@@ -1,0 +1,144 @@
+//! Tasks that are made, played by steps, and taken apart: their parts have the counts that they showed.
+//!
+//! Each is made in one function with its budget, since the borrow checker does not cover one that is handed out of a
+//! function beside the budget that it was lent.
+ghost use Rattle.std.specs.Prelude.{◌≡◌};
+
+use super::shows::{Counts, Shows, Step, play};
+use super::*;
+
+// A retry of this effect by this plan and this many tickets, polled by hand.
+pub(super) fn play_retry<R, X: Effect>(
+    rt: &R,
+    effect: X,
+    plan: Result<Plan, PlanFault>,
+    limit: u64,
+    steps: &[Step<'_>],
+)
+where
+    R: RandomSource + AllocGlobal + Abort,
+    requires { X.fresh effect }
+{
+    let alloc = rt.alloc();
+    let (budget, pass) = budget(rt, alloc, limit);
+    let driver = driver(rt, alloc, plan);
+    let mut retry = Retry::new(alloc, effect, driver, pass, &budget);
+    play(rt, &mut retry, steps);
+    let counts = retry.counts();
+    let (effect, driver, pass) = retry.into_parts();
+    assert_parts(rt, counts, &effect, &driver, pass.count());
+}
+
+// The same, at its end by a future before the first step.
+pub(super) fn finish_retry<R, X: Effect>(
+    rt: &R,
+    effect: X,
+    plan: Result<Plan, PlanFault>,
+    limit: u64,
+    steps: &[Step<'_>],
+)
+where
+    R: Wait + RandomSource + AllocGlobal + Abort,
+    requires { X.fresh effect }
+{
+    let alloc = rt.alloc();
+    let (budget, pass) = budget(rt, alloc, limit);
+    let driver = driver(rt, alloc, plan);
+    let mut retry = finish(rt, Retry::new(alloc, effect, driver, pass, &budget));
+    play(rt, &mut retry, steps);
+}
+
+// A retry of this effect with this fallback, by this plan and this many tickets, polled by hand. Answers the fallback.
+pub(super) fn play_retry_or<R, X: Effect, F: Fallback<X>>(
+    rt: &R,
+    both: (X, F),
+    plan: Result<Plan, PlanFault>,
+    limit: u64,
+    steps: &[Step<'_>],
+) -> F
+where
+    R: RandomSource + AllocGlobal + Abort,
+    requires { X.fresh both.0 }
+{
+    let alloc = rt.alloc();
+    let (effect, fallback) = both;
+    let (budget, pass) = budget(rt, alloc, limit);
+    let driver = driver(rt, alloc, plan);
+    let mut retry = RetryOr::new(alloc, effect, driver, pass, &budget, fallback);
+    play(rt, &mut retry, steps);
+    let counts = retry.counts();
+    let (effect, driver, pass, fallback) = retry.into_parts();
+    assert_parts(rt, counts, &effect, &driver, pass.count());
+    fallback
+}
+
+// The same, at its end by a future before the first step.
+pub(super) fn finish_retry_or<R, X: Effect, F: Fallback<X>>(
+    rt: &R,
+    both: (X, F),
+    plan: Result<Plan, PlanFault>,
+    limit: u64,
+    steps: &[Step<'_>],
+) -> F
+where
+    R: Wait + RandomSource + AllocGlobal + Abort,
+    requires { X.fresh both.0 }
+{
+    let alloc = rt.alloc();
+    let (effect, fallback) = both;
+    let (budget, pass) = budget(rt, alloc, limit);
+    let driver = driver(rt, alloc, plan);
+    let retry = RetryOr::new(alloc, effect, driver, pass, &budget, fallback);
+    let mut retry = finish(rt, retry);
+    play(rt, &mut retry, steps);
+    let (_, _, _, fallback) = retry.into_parts();
+    fallback
+}
+
+// A repeat of this effect by this plan, polled by hand.
+pub(super) fn play_repeat<R, X: Effect>(
+    rt: &R,
+    effect: X,
+    plan: Result<Plan, PlanFault>,
+    steps: &[Step<'_>],
+)
+where
+    R: RandomSource + AllocGlobal + Abort,
+    requires { X.fresh effect }
+{
+    let alloc = rt.alloc();
+    let driver = driver(rt, alloc, plan);
+    let mut repeat = Repeat::new(alloc, effect, driver);
+    play(rt, &mut repeat, steps);
+    let counts = repeat.counts();
+    let (effect, driver) = repeat.into_parts();
+    assert_parts(rt, counts, &effect, &driver, 0);
+}
+
+// The same, at its end by a future before the first step.
+pub(super) fn finish_repeat<R, X: Effect>(
+    rt: &R,
+    effect: X,
+    plan: Result<Plan, PlanFault>,
+    steps: &[Step<'_>],
+)
+where
+    R: Wait + RandomSource + AllocGlobal + Abort,
+    requires { X.fresh effect }
+{
+    let alloc = rt.alloc();
+    let driver = driver(rt, alloc, plan);
+    let mut repeat = finish(rt, Repeat::new(alloc, effect, driver));
+    play(rt, &mut repeat, steps);
+}
+
+fn assert_parts<X: Effect>(
+    rt: &impl Abort,
+    counts: Counts,
+    effect: &X,
+    driver: &Driver,
+    granted: u64,
+) {
+    let parts = Counts::of(effect.runs().len(), driver.journal().len(), granted);
+    assert_eq!(rt; parts, counts);
+}

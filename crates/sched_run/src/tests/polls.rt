@@ -1,0 +1,141 @@
+//! A run is polled once in each poll of its task.
+ghost use Rattle.std.specs.Prelude.{◌≡◌, [], None};
+
+use super::plays::{play_repeat, play_retry, play_retry_or};
+use super::shows::Step;
+use super::*;
+use futures::task::Context;
+use std::sync::Arc;
+use std::sync::atomic::{AtomicU64, Ordering};
+
+// An effect whose run never ends. It counts its polls.
+#[derive(Drop)]
+struct Stuck {
+    polls: Arc<AtomicU64, Global>,
+    runs: Vec<Ran>,
+}
+
+impl Stuck {
+    fn new(rt: &impl Abort, alloc: Global, polls: &Arc<AtomicU64, Global>) -> Stuck
+        ensures { result.runs.items ≡ [] }
+    {
+        Stuck {
+            polls: Arc::try_clone(polls).expect(rt, "there is memory"),
+            runs: Vec::new(alloc),
+        }
+    }
+}
+
+impl Effect for Stuck {
+    type Item = Code;
+
+    type Fault = Code;
+
+    ghost finished = { λ stuck. stuck.runs.items };
+
+    ghost fresh = { λ stuck. stuck.runs.items ≡ [] };
+
+    ghost unused = { λ stuck new. new };
+
+    fn poll_run(&mut self, _cx: &mut Context<'_>) -> Poll<Result<Result<Code, Code>, NoMemory>> {
+        self.polls.fetch_add(1, Ordering::SeqCst);
+        Poll::Pending
+    }
+
+    fn runs(&self) -> &[Ran] {
+        &self.runs
+    }
+}
+
+// A fallback that is not asked here.
+#[derive(Drop)]
+struct Barren;
+
+impl Fallback<Stuck> for Barren {
+    ghost asked = { λ _. None };
+
+    ghost answered = { λ _. None };
+
+    fn poll_fallback(
+        &mut self,
+        _fault: &Code,
+        _output: &Val,
+        _cx: &mut Context<'_>,
+    ) -> Poll<Result<Result<Code, Code>, NoMemory>> {
+        Poll::Ready(Err(NoMemory))
+    }
+
+    fn asked(&self) -> Option<(Millis, &Val)> {
+        None
+    }
+
+    fn answered(&self) -> Option<Ran> {
+        None
+    }
+}
+
+// A number of polls, of none so far.
+fn counter(rt: &impl Abort, alloc: Global) -> Arc<AtomicU64, Global> {
+    Arc::new(alloc, AtomicU64::new(0)).expect(rt, "there is memory")
+}
+
+// Three polls, each of which polls the effect that counts here, and once.
+fn each_once(polls: &AtomicU64) -> [Step<'_>; 6] {
+    [
+        Step::Goes(1),
+        Step::Polled(polls, 1),
+        Step::Goes(2),
+        Step::Polled(polls, 2),
+        Step::Goes(3),
+        Step::Polled(polls, 3),
+    ]
+}
+
+#[test]
+fn retry_polls_once(rt: HostRuntime) {
+    let polls = counter(&rt, rt.alloc());
+    let stuck = Stuck::new(&rt, rt.alloc(), &polls);
+    play_retry(&rt, stuck, Plan::forever(), 1, &each_once(&polls));
+}
+
+#[test]
+fn retry_or_polls_once(rt: HostRuntime) {
+    let polls = counter(&rt, rt.alloc());
+    let both = (Stuck::new(&rt, rt.alloc(), &polls), Barren);
+    play_retry_or(&rt, both, Plan::forever(), 1, &each_once(&polls));
+}
+
+#[test]
+fn repeat_polls_once(rt: HostRuntime) {
+    let polls = counter(&rt, rt.alloc());
+    let stuck = Stuck::new(&rt, rt.alloc(), &polls);
+    play_repeat(&rt, stuck, Plan::forever(), &each_once(&polls));
+}
+
+// The same of a future, whose task is a repeat.
+#[test]
+fn timed_polls_once(rt: HostRuntime) {
+    let alloc = rt.alloc();
+    let polls = counter(&rt, alloc);
+    let stuck = Stuck::new(&rt, alloc, &polls);
+    let repeat = Repeat::new(alloc, stuck, driver(&rt, alloc, Plan::forever()));
+    let clock = VirtualClock::at(moment(&rt, 0));
+    let mut timed = Timed::new(alloc, repeat, clock, MidWords);
+    future_polls(&rt, &mut timed, &polls, 1);
+    future_polls(&rt, &mut timed, &polls, 2);
+    future_polls(&rt, &mut timed, &polls, 3);
+}
+
+// A poll of the future leaves it pending, and the polls of its effect are then so many.
+fn future_polls<R, F: Future>(rt: &R, future: &mut F, polls: &AtomicU64, want: u64)
+where
+    R: RandomSource + AllocGlobal + Abort,
+    requires { F.can_poll future.old }
+    ensures { F.can_poll future.new }
+{
+    let mock = MockTask::new(rt).expect(rt, "there is memory");
+    match mock.poll(future) {
+        Poll::Pending => assert_eq!(rt; polls.load(Ordering::SeqCst), want),
+        Poll::Ready(_) => panic!(rt; "under way"),
+    }
+}
