@@ -7,8 +7,6 @@ mod faults;
 mod options;
 mod pools;
 mod seeded;
-#[cfg(test)]
-mod tests;
 mod words;
 
 pub use faults::WordsFault;

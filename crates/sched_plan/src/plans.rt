@@ -9,8 +9,6 @@ use std::marker::Model;
 use thiserror::Error;
 
 mod builders;
-#[cfg(test)]
-mod tests;
 
 /// The most nodes of a plan.
 pub const MOST_NODES: usize = 256;

@@ -13,8 +13,6 @@ pub mod laws;
 mod pass;
 mod quota;
 mod rule;
-#[cfg(test)]
-mod tests;
 mod view;
 
 pub use fault::{PassesOut, QuotaFault};

@@ -11,8 +11,6 @@ mod marks;
 mod outputs;
 mod states;
 mod steps;
-#[cfg(test)]
-mod tests;
 mod times;
 mod trees;
 mod turns;

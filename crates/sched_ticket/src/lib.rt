@@ -13,8 +13,6 @@ pub mod locked;
 mod naming;
 mod pass;
 mod rule;
-#[cfg(test)]
-mod tests;
 mod view;
 pub mod workers;
 

@@ -1,0 +1,172 @@
+use sched_cli::{Asked, PlanOptions, WordsFault, read_words};
+use std::alloc::Global;
+use std::process::Abort;
+use std::test::Fail;
+
+// What is read of a command line, whose words stand with a space between each two.
+fn read(alloc: Global, line: &str) -> Result<Asked, WordsFault> {
+    let words: Vec<&str> = line.split(' ').collect(alloc)?;
+    read_words(alloc, words.as_slice())
+}
+
+// The options in the order steps, from, took, input, word.
+fn numbers(options: &PlanOptions) -> (u64, u64, u64, u64, u32) {
+    (
+        options.steps,
+        options.from.get(),
+        options.took.get(),
+        options.input.get(),
+        options.word,
+    )
+}
+
+fn is_plan(
+    rt: &impl Abort,
+    alloc: Global,
+    line: &str,
+    want: (u64, u64, u64, u64, u32),
+) -> Result<(), Fail> {
+    let Asked::Plan(options, _) = read(alloc, line)? else {
+        return Err(Fail::from("a pool was asked for"));
+    };
+    assert_eq!(rt; numbers(&options), want, "{line}");
+    Ok(())
+}
+
+// The options of a pool in the order workers, budget, turns.
+fn is_pool(rt: &impl Abort, alloc: Global, line: &str, want: (u64, u64, u64)) -> Result<(), Fail> {
+    let Asked::Pool(options, _) = read(alloc, line)? else {
+        return Err(Fail::from("a plan was asked for"));
+    };
+    let numbers = (options.workers, options.budget, options.turns);
+    assert_eq!(rt; numbers, want, "{line}");
+    Ok(())
+}
+
+fn is_bad(rt: &impl Abort, alloc: Global, line: &str) {
+    let answer = read(alloc, line);
+    assert!(rt;
+        matches!(answer, Err(WordsFault::Bad)),
+        "{line}: {answer:?}"
+    );
+}
+
+// Each name, up to a comma or the end, stands in the help that the command line asks for.
+fn help_has(rt: &impl Abort, alloc: Global, line: &str, names: &str) -> Result<(), Fail> {
+    let Err(WordsFault::Help(text)) = read(alloc, line) else {
+        return Err(Fail::from("no help"));
+    };
+    for name in names.split(',') {
+        assert!(rt; text.as_str().contains(name), "{name} in {text}");
+    }
+    Ok(())
+}
+
+#[test]
+fn options_have_defaults(rt: HostRuntime) -> Result<(), Fail> {
+    let alloc = rt.alloc();
+    is_plan(&rt, alloc, "zsched plan", (10, 0, 0, 0, 2147483648))?;
+    is_plan(
+        &rt,
+        alloc,
+        "zsched plan --steps 0",
+        (0, 0, 0, 0, 2147483648),
+    )?;
+    Ok(())
+}
+
+#[test]
+fn each_option_has_its_own_value(rt: HostRuntime) -> Result<(), Fail> {
+    let line = "zsched plan --word 5 --input 4 --took=3 --from 2 --steps 1";
+    is_plan(&rt, rt.alloc(), line, (1, 2, 3, 4, 5))
+}
+
+#[test]
+fn the_ends_of_each_range_are_read(rt: HostRuntime) -> Result<(), Fail> {
+    let most = "zsched plan --steps 4096 --from 4611686018427387903 --took 4611686018427387903 \
+        --input 4611686018427387903 --word 4294967295";
+    let last = 4611686018427387903;
+    is_plan(&rt, rt.alloc(), most, (4096, last, last, last, 4294967295))?;
+    let least = "zsched plan --steps 0 --from 0 --took 0 --input 0 --word 0";
+    is_plan(&rt, rt.alloc(), least, (0, 0, 0, 0, 0))
+}
+
+#[test]
+fn a_pool_s_options_have_defaults(rt: HostRuntime) -> Result<(), Fail> {
+    let alloc = rt.alloc();
+    is_pool(&rt, alloc, "zsched pool", (1, 100, 1000000))?;
+    is_pool(&rt, alloc, "zsched pool --workers 2", (2, 100, 1000000))?;
+    Ok(())
+}
+
+#[test]
+fn each_option_of_a_pool_has_its_own_value(rt: HostRuntime) -> Result<(), Fail> {
+    let line = "zsched pool --turns 3 --budget=2 --workers 1";
+    is_pool(&rt, rt.alloc(), line, (1, 2, 3))
+}
+
+#[test]
+fn the_ends_of_a_pool_s_ranges_are_read(rt: HostRuntime) -> Result<(), Fail> {
+    let most = "zsched pool --workers 16 --budget 4294967296 --turns 4294967296";
+    is_pool(&rt, rt.alloc(), most, (16, 4294967296, 4294967296))?;
+    let least = "zsched pool --budget 0 --turns 0";
+    is_pool(&rt, rt.alloc(), least, (1, 0, 0))
+}
+
+// Command lines, with a bar between each two.
+const BAD_POOLS: &str =
+    "zsched plan --workers 1|zsched pool --steps 1|zsched pool --workers 0|zsched pool --workers 17|\
+     zsched pool --budget 4294967297|zsched pool --turns 4294967297|zsched pool --turns -1|zsched pool --turns";
+
+#[test]
+fn a_pool_with_a_bad_option_is_a_bad_command_line(rt: HostRuntime) {
+    for line in BAD_POOLS.split('|') {
+        is_bad(&rt, rt.alloc(), line);
+    }
+}
+
+const NO_TASKS: &str =
+    "zsched|zsched plans|zsched plan --none|zsched --steps 1|zsched plan file file";
+
+const BAD_STEPS: &str =
+    "zsched plan --steps|zsched plan --steps 4097|zsched plan --steps -1|zsched plan --steps 1.5|\
+     zsched plan --steps |zsched plan --steps ten|zsched plan --steps 1 --steps 2";
+
+const BAD_NUMBERS: &str =
+    "zsched plan --from 4611686018427387904|zsched plan --took 4611686018427387904|\
+     zsched plan --input 4611686018427387904|zsched plan --input 18446744073709551616|\
+     zsched plan --word 4294967296|zsched plan --word -1";
+
+#[test]
+fn what_is_no_task_is_a_bad_command_line(rt: HostRuntime) {
+    for lines in [NO_TASKS, BAD_STEPS, BAD_NUMBERS] {
+        for line in lines.split('|') {
+            is_bad(&rt, rt.alloc(), line);
+        }
+    }
+}
+
+#[test]
+fn no_word_is_a_bad_command_line(rt: HostRuntime) {
+    let answer = read_words(rt.alloc(), &[]);
+    assert!(rt; matches!(answer, Err(WordsFault::Bad)));
+}
+
+#[test]
+fn help_names_the_subcommand_and_each_option(rt: HostRuntime) -> Result<(), Fail> {
+    let alloc = rt.alloc();
+    help_has(&rt, alloc, "zsched --help", "plan,pool")?;
+    help_has(
+        &rt,
+        alloc,
+        "zsched plan --help",
+        "--steps,--from,--took,--input,--word,2147483648,[default: 10]",
+    )?;
+    help_has(
+        &rt,
+        alloc,
+        "zsched pool --help",
+        "--workers,--budget,--turns,[default: 1000000]",
+    )?;
+    Ok(())
+}

@@ -1,0 +1,290 @@
+use sched_plan::{Fold, Plan, PlanFault, Val};
+use sched_step::{Answer, State, initial, step};
+use sched_time::{FAR, Moment, NoMemory, Tick};
+use std::alloc::{AllocGlobal, Global};
+use std::process::Abort;
+use std::test::Fail;
+
+// What an event at this moment gives: its output, its start if the plan goes on, and the view of the state after it.
+type Wanted<'a> = (u64, &'a str, Option<u64>, &'a str);
+
+fn tick_at(rt: &impl Abort, at: u64) -> Tick {
+    Tick {
+        now: Moment::new(at).expect(rt, "the moment is in range"),
+        words: [2147483648; 4],
+    }
+}
+
+// One more event, for a state that fits the plan there.
+fn advanced(
+    rt: &impl Abort,
+    alloc: Global,
+    plan: &Plan,
+    state: &mut State,
+    at: u64,
+) -> Result<Answer, NoMemory> {
+    let tick = tick_at(rt, at);
+    assert!(rt; state.fits(plan, tick.now), "the state fits at {at}");
+    state.advance(alloc, plan, &tick, &Val::unit())
+}
+
+// The same beside the old state.
+fn stepped(
+    rt: &impl Abort,
+    alloc: Global,
+    plan: &Plan,
+    state: &State,
+    at: u64,
+) -> Result<(State, Answer), NoMemory> {
+    let tick = tick_at(rt, at);
+    assert!(rt; state.fits(plan, tick.now), "the state fits at {at}");
+    step(alloc, plan, state, &tick, &Val::unit())
+}
+
+fn renewed(rt: &impl Abort, plan: &Plan, state: &mut State) {
+    let far = Moment::new(FAR).expect(rt, "the moment is in range");
+    assert!(rt; state.fits(plan, far), "the state fits at the end");
+    state.renew(plan);
+}
+
+fn assert_view(rt: &impl Abort, alloc: Global, state: &State, want: &str) -> Result<(), NoMemory> {
+    let text = state.view(alloc)?.text(alloc)?;
+    assert_eq!(rt; text.as_str(), want);
+    Ok(())
+}
+
+fn assert_answer(
+    rt: &impl Abort,
+    alloc: Global,
+    answer: &Answer,
+    output: &str,
+    start: Option<u64>,
+) -> Result<(), NoMemory> {
+    let text = answer.output.text(alloc)?;
+    assert_eq!(rt; text.as_str(), output);
+    assert_eq!(rt; answer.decision.start().map(Moment::get), start);
+    Ok(())
+}
+
+// Takes an event. A refused step leaves the state as it was, and the same event is then taken.
+fn taken(
+    rt: &impl Abort,
+    alloc: Global,
+    plan: &Plan,
+    state: &mut State,
+    (at, before): (u64, &str),
+) -> Result<Answer, NoMemory> {
+    match advanced(rt, alloc, plan, state, at) {
+        Ok(answer) => Ok(answer),
+        Err(NoMemory) => taken_again(rt, alloc, plan, state, (at, before)),
+    }
+}
+
+fn taken_again(
+    rt: &impl Abort,
+    alloc: Global,
+    plan: &Plan,
+    state: &mut State,
+    (at, before): (u64, &str),
+) -> Result<Answer, NoMemory> {
+    assert_view(rt, alloc, state, before)?;
+    advanced(rt, alloc, plan, state, at)
+}
+
+// An event is answered as wanted. The text is that of the view before it.
+fn assert_event(
+    rt: &(impl Abort + AllocGlobal),
+    plan: &Plan,
+    state: &mut State,
+    before: &str,
+    (at, output, start, after): &Wanted<'_>,
+) -> Result<(), NoMemory> {
+    let answer = taken(rt, rt.alloc(), plan, state, (*at, before))?;
+    assert_answer(rt, rt.alloc(), &answer, *output, *start)?;
+    assert_view(rt, rt.alloc(), state, *after)
+}
+
+// Events at these moments are answered as wanted.
+fn assert_events(
+    rt: &(impl Abort + AllocGlobal),
+    plan: &Plan,
+    state: &mut State,
+    first: &str,
+    want: &[Wanted<'_>],
+) -> Result<(), NoMemory> {
+    let mut before = first;
+    for event in want {
+        assert_event(rt, plan, state, before, event)?;
+        before = event.3;
+    }
+    Ok(())
+}
+
+// Events at these moments are answered as wanted from the initial state on, and the renewed state is the initial one.
+fn assert_course(
+    rt: &(impl Abort + AllocGlobal),
+    plan: &Plan,
+    first: &str,
+    want: &[Wanted<'_>],
+) -> Result<(), NoMemory> {
+    let mut state = initial(rt.alloc(), plan)?;
+    assert_from(rt, plan, &mut state, first, want)
+}
+
+fn assert_from(
+    rt: &(impl Abort + AllocGlobal),
+    plan: &Plan,
+    state: &mut State,
+    first: &str,
+    want: &[Wanted<'_>],
+) -> Result<(), NoMemory> {
+    assert_view(rt, rt.alloc(), state, first)?;
+    assert_events(rt, plan, state, first, want)?;
+    renewed(rt, plan, state);
+    assert_view(rt, rt.alloc(), state, first)
+}
+
+// What a builder answers. The helpers take it as it is, so that a test need not look at it.
+type Built = Result<Plan, PlanFault>;
+
+fn follow(alloc: Global, first: Built, second: Built) -> Built {
+    Plan::follow(alloc, first?, second?)
+}
+
+fn meet(alloc: Global, first: Built, second: Built) -> Built {
+    Plan::meet(alloc, first?, second?)
+}
+
+fn within(alloc: Global, length: u64, built: Built) -> Built {
+    Plan::within(alloc, length, built?)
+}
+
+fn renew(alloc: Global, length: u64, built: Built) -> Built {
+    Plan::renew(alloc, length, built?)
+}
+
+fn listed(alloc: Global, built: Built) -> Built {
+    Plan::gather(alloc, Fold::List, built?)
+}
+
+// Two recurrences, then (one more, then every 50 milliseconds) beside every 20, for 200.
+fn crossings(alloc: Global) -> Built {
+    let inner = follow(alloc, Plan::recurs(1), Plan::spaced(50));
+    let side = within(alloc, 200, Plan::spaced(20));
+    follow(alloc, Plan::recurs(2), meet(alloc, inner, side))
+}
+
+#[test]
+fn crossings_move_only_their_side(rt: HostRuntime) -> Result<(), Fail> {
+    let alloc = rt.alloc();
+    let plan = crossings(alloc)?;
+    let first = "(0, (0, ((0, (0, 0)), ((), 0))))";
+    let want = [
+        (0, "0", Some(0), "(0, (1, ((0, (0, 0)), ((), 0))))"),
+        (5, "1", Some(5), "(0, (2, ((0, (0, 0)), ((), 0))))"),
+        (9, "(0, 0)", Some(29), "(1, (3, ((0, (1, 0)), (9, 1))))"),
+        (29, "(0, 1)", Some(79), "(1, (3, ((1, (2, 1)), (9, 2))))"),
+        (79, "(1, 2)", Some(129), "(1, (3, ((1, (2, 2)), (9, 3))))"),
+        (209, "(2, 3)", None, "(1, (3, ((1, (2, 3)), (9, 4))))"),
+    ];
+    assert_course(&rt, &plan, first, &want)?;
+    Ok(())
+}
+
+// The outputs of (one event, then the time since it) so far, from the first event on of rounds of 100 milliseconds.
+fn rounds(alloc: Global) -> Built {
+    let turns = follow(alloc, Plan::recurs(1), Plan::elapsed());
+    renew(alloc, 100, listed(alloc, turns))
+}
+
+#[test]
+fn round_begins_with_an_empty_list(rt: HostRuntime) -> Result<(), Fail> {
+    let alloc = rt.alloc();
+    let plan = rounds(alloc)?;
+    let first = "((), ([], (0, (0, ()))))";
+    let want = [
+        (7, "[]", Some(7), "(7, ([0], (0, (1, ()))))"),
+        (20, "[0]", Some(20), "(7, ([0, 0], (1, (2, 20))))"),
+        (106, "[0, 0]", Some(106), "(7, ([0, 0, 86], (1, (2, 20))))"),
+        (107, "[]", Some(107), "(107, ([0], (0, (1, ()))))"),
+        (110, "[0]", Some(110), "(107, ([0, 0], (1, (2, 110))))"),
+    ];
+    assert_course(&rt, &plan, first, &want)?;
+    Ok(())
+}
+
+fn assert_fits(rt: &impl Abort, plan: &Plan, state: &State, at: u64, want: bool) {
+    assert_eq!(rt; state.fits(plan, tick_at(rt, at).now), want);
+}
+
+fn takes(
+    rt: &impl Abort,
+    alloc: Global,
+    plan: &Plan,
+    state: &mut State,
+    at: u64,
+) -> Result<(), NoMemory> {
+    let _answer = advanced(rt, alloc, plan, state, at)?;
+    Ok(())
+}
+
+// The state of a `renew_idle` after events at 0 and 99.
+fn idle(rt: &impl Abort, alloc: Global, plan: &Plan) -> Result<State, NoMemory> {
+    let mut state = initial(alloc, plan)?;
+    takes(rt, alloc, plan, &mut state, 0)?;
+    takes(rt, alloc, plan, &mut state, 99)?;
+    Ok(state)
+}
+
+fn renew_idle(alloc: Global, length: u64, built: Built) -> Built {
+    Plan::renew_idle(alloc, length, built?)
+}
+
+fn assert_idle(rt: &impl Abort, alloc: Global, plan: &Plan, other: &Plan) -> Result<(), NoMemory> {
+    let state = idle(rt, alloc, plan)?;
+    assert_fits(rt, plan, &state, 99, true);
+    assert_fits(rt, plan, &state, 98, false);
+    assert_fits(rt, other, &state, 99, false);
+    assert_view(rt, alloc, &state, "(99, 2)")
+}
+
+#[test]
+fn kept_last_moment_is_not_after_the_next(rt: HostRuntime) -> Result<(), Fail> {
+    let alloc = rt.alloc();
+    let plan = renew_idle(alloc, 100, Plan::recurs(2))?;
+    let other = Plan::forever()?;
+    assert_idle(&rt, alloc, &plan, &other)?;
+    Ok(())
+}
+
+// The state after an event at 7.
+fn at_seven(rt: &impl Abort, alloc: Global, plan: &Plan) -> Result<State, NoMemory> {
+    let mut state = initial(alloc, plan)?;
+    takes(rt, alloc, plan, &mut state, 7)?;
+    Ok(state)
+}
+
+fn assert_next(rt: &impl Abort, alloc: Global, next: &(State, Answer)) -> Result<(), NoMemory> {
+    assert_answer(rt, alloc, &next.1, "[0]", Some(20))?;
+    assert_view(rt, alloc, &next.0, "(7, ([0, 0], (1, (2, 20))))")
+}
+
+// Steps beside the old state, which stays as it was.
+fn assert_beside(rt: &impl Abort, alloc: Global, plan: &Plan, old: &State) -> Result<(), NoMemory> {
+    let next = stepped(rt, alloc, plan, old, 20)?;
+    assert_next(rt, alloc, &next)?;
+    assert_view(rt, alloc, old, "(7, ([0], (0, (1, ()))))")
+}
+
+fn assert_beside_twice(rt: &impl Abort, alloc: Global, plan: &Plan) -> Result<(), NoMemory> {
+    let old = at_seven(rt, alloc, plan)?;
+    assert_beside(rt, alloc, plan, &old)?;
+    assert_beside(rt, alloc, plan, &old)
+}
+
+#[test]
+fn step_leaves_the_old_state_to_its_owner(rt: HostRuntime) -> Result<(), Fail> {
+    let plan = rounds(rt.alloc())?;
+    assert_beside_twice(&rt, rt.alloc(), &plan)?;
+    Ok(())
+}

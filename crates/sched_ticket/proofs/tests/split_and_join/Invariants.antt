@@ -1,5 +1,0 @@
-use Rattle.sched_ticket.specs.Held.{IsOf}
-use Rattle.sched_ticket.proofs.tests.split_and_join.Given as goal
-
-abbrev pub invariant-loop : goal.invariant-loop
-invariant-loop l = IsOf l.budget l.pass
