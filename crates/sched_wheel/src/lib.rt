@@ -4,7 +4,5 @@
 
 mod agenda;
 mod loops;
-#[cfg(test)]
-mod tests;
 
 pub use loops::{LoopStop, WheelLoop};

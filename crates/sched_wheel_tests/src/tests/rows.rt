@@ -1,24 +1,21 @@
-use super::*;
+use super::{Paced, assert_polled, moment, pausing, runs};
+use sched_task::{Clock, How, Task, VirtualClock};
+use sched_wheel::LoopStop;
+use std::test::Fail;
 
 #[test]
 fn no_task_takes_no_turn(rt: HostRuntime) {
     let mut tasks: [Paced; 0] = [];
     let mut clock = VirtualClock::at(moment(&rt, 0));
-    assert_eq!(rt;
-        WheelLoop::run(&rt, &mut tasks, &mut clock, &mut MidWords, 0),
-        Ok(0)
-    );
+    runs(&rt, &mut tasks, &mut clock, 0, Ok(0));
 }
 
 // Three polls and two waits.
 #[test]
 fn turns_are_polls_and_waits(rt: HostRuntime) {
-    let mut tasks = [Paced::new(rt.alloc(), 3, Some(millis(&rt, 100)))];
+    let mut tasks = [pausing(&rt, rt.alloc(), 3, 100)];
     let mut clock = VirtualClock::at(moment(&rt, 0));
-    assert_eq!(rt;
-        WheelLoop::run(&rt, &mut tasks, &mut clock, &mut MidWords, 9),
-        Ok(5)
-    );
+    runs(&rt, &mut tasks, &mut clock, 9, Ok(5));
     assert_eq!(rt; tasks[0].over(), Some(How::Won));
     assert_eq!(rt; clock.now().get(), 200);
     assert_polled(&rt, &tasks[0], &[0, 100, 200]);
@@ -27,15 +24,12 @@ fn turns_are_polls_and_waits(rt: HostRuntime) {
 // The third poll is left for a further call.
 #[test]
 fn a_further_call_goes_on(rt: HostRuntime) {
-    let mut tasks = [Paced::new(rt.alloc(), 3, Some(millis(&rt, 100)))];
+    let mut tasks = [pausing(&rt, rt.alloc(), 3, 100)];
     let mut clock = VirtualClock::at(moment(&rt, 0));
-    let stopped = WheelLoop::run(&rt, &mut tasks, &mut clock, &mut MidWords, 4);
-    assert_eq!(rt; stopped, Err(LoopStop::TurnsSpent));
+    let spent = Err(LoopStop::TurnsSpent);
+    runs(&rt, &mut tasks, &mut clock, 4, spent);
     assert_polled(&rt, &tasks[0], &[0, 100]);
-    assert_eq!(rt;
-        WheelLoop::run(&rt, &mut tasks, &mut clock, &mut MidWords, 1),
-        Ok(1)
-    );
+    runs(&rt, &mut tasks, &mut clock, 1, Ok(1));
     assert_polled(&rt, &tasks[0], &[0, 100, 200]);
 }
 
@@ -44,13 +38,10 @@ fn a_further_call_goes_on(rt: HostRuntime) {
 fn each_of_many_waits_for_its_own_moment(rt: HostRuntime) -> Result<(), Fail> {
     let mut tasks = Vec::with_capacity(rt.alloc(), 100)?;
     for pause in 1..=100 {
-        tasks.push(Paced::new(rt.alloc(), 2, Some(millis(&rt, pause))))?;
+        tasks.push(pausing(&rt, rt.alloc(), 2, pause))?;
     }
     let mut clock = VirtualClock::at(moment(&rt, 0));
-    assert_eq!(rt;
-        WheelLoop::run(&rt, &mut tasks, &mut clock, &mut MidWords, 1000),
-        Ok(300)
-    );
+    runs(&rt, &mut tasks, &mut clock, 1000, Ok(300));
     assert_eq!(rt; clock.now().get(), 100);
     for (pause, task) in (1..=100).zip(tasks.iter()) {
         assert_polled(&rt, task, &[0, pause]);
@@ -60,12 +51,9 @@ fn each_of_many_waits_for_its_own_moment(rt: HostRuntime) -> Result<(), Fail> {
 
 #[test]
 fn a_moment_may_be_the_last_one(rt: HostRuntime) {
-    let mut tasks = [Paced::new(rt.alloc(), 2, Some(millis(&rt, 4611686018427387903)))];
+    let mut tasks = [pausing(&rt, rt.alloc(), 2, 4611686018427387903)];
     let mut clock = VirtualClock::at(moment(&rt, 0));
-    assert_eq!(rt;
-        WheelLoop::run(&rt, &mut tasks, &mut clock, &mut MidWords, 9),
-        Ok(3)
-    );
+    runs(&rt, &mut tasks, &mut clock, 9, Ok(3));
     assert_polled(&rt, &tasks[0], &[0, 4611686018427387903]);
 }
 
@@ -78,16 +66,13 @@ fn a_task_that_is_never_over_spends_all_turns(rt: HostRuntime) {
     ];
     tasks[0].cancel();
     let mut clock = VirtualClock::at(moment(&rt, 3));
-    let stopped = WheelLoop::run(&rt, &mut tasks, &mut clock, &mut MidWords, 10);
-    assert_eq!(rt; stopped, Err(LoopStop::TurnsSpent));
+    let spent = Err(LoopStop::TurnsSpent);
+    runs(&rt, &mut tasks, &mut clock, 10, spent);
     assert_polled(&rt, &tasks[1], &[3; 10]);
     assert_polled(&rt, &tasks[0], &[]);
     assert_eq!(rt; tasks[0].over(), Some(How::Cancelled));
     tasks[1].cancel();
-    assert_eq!(rt;
-        WheelLoop::run(&rt, &mut tasks, &mut clock, &mut MidWords, 0),
-        Ok(0)
-    );
+    runs(&rt, &mut tasks, &mut clock, 0, Ok(0));
 }
 
 // A task that never waits does not keep another from its moment.
@@ -95,11 +80,11 @@ fn a_task_that_is_never_over_spends_all_turns(rt: HostRuntime) {
 fn tasks_take_turns(rt: HostRuntime) {
     let mut tasks = [
         Paced::new(rt.alloc(), 6, None),
-        Paced::new(rt.alloc(), 3, Some(millis(&rt, 0))),
+        pausing(&rt, rt.alloc(), 3, 0),
     ];
     let mut clock = VirtualClock::at(moment(&rt, 0));
-    let stopped = WheelLoop::run(&rt, &mut tasks, &mut clock, &mut MidWords, 6);
-    assert_eq!(rt; stopped, Err(LoopStop::TurnsSpent));
+    let spent = Err(LoopStop::TurnsSpent);
+    runs(&rt, &mut tasks, &mut clock, 6, spent);
     assert_polled(&rt, &tasks[0], &[0; 3]);
     assert_eq!(rt; tasks[1].over(), Some(How::Won));
 }

@@ -1,10 +1,12 @@
-use crate::{LoopStop, WheelLoop};
+//! Tasks that the loop drives, polls and waits counted.
 use futures::task::{Context, Poll};
-use sched_task::{Clock, How, MidWords, Task, VirtualClock};
+use sched_task::{Clock, How, MidWords, Task};
 use sched_time::{Millis, Moment, Tick};
-use std::alloc::Global;
+use sched_wheel::{LoopStop, WheelLoop};
+use std::alloc::{AllocGlobal, Global};
 use std::process::Abort;
-use std::test::Fail;
+use std::random::RandomSource;
+use std::sync::Wait;
 
 mod clocks;
 mod rows;
@@ -15,6 +17,23 @@ fn moment(rt: &impl Abort, at: u64) -> Moment {
 
 fn millis(rt: &impl Abort, duration: u64) -> Millis {
     Millis::new(duration).expect(rt, "the duration is in range")
+}
+
+// Asserts what the loop answers where it may take so many turns.
+fn runs<R, C: Clock>(
+    rt: &R,
+    tasks: &mut [Paced],
+    clock: &mut C,
+    turns: u64,
+    answer: Result<u64, LoopStop>,
+)
+where
+    R: Wait + RandomSource + AllocGlobal + Abort,
+{
+    assert_eq!(rt;
+        WheelLoop::run(rt, tasks, clock, &mut MidWords, turns),
+        answer
+    );
 }
 
 // The moments at which the task was polled.
@@ -33,6 +52,11 @@ struct Paced {
     due: Option<Moment>,
     over: Option<How>,
     moments: Vec<Moment>,
+}
+
+// The same, by the milliseconds that it waits.
+fn pausing(rt: &impl Abort, alloc: Global, polls: u64, pause: u64) -> Paced {
+    Paced::new(alloc, polls, Some(millis(rt, pause)))
 }
 
 impl Paced {

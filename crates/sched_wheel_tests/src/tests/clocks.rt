@@ -1,4 +1,9 @@
-use super::*;
+use super::{assert_polled, millis, moment, pausing, runs};
+use sched_task::Clock;
+use sched_time::{Millis, Moment};
+use std::alloc::Global;
+use std::process::Abort;
+use std::test::Fail;
 
 // Goes on by this much at each wait, whatever is waited for, and counts the waits.
 #[derive(Drop)]
@@ -28,32 +33,26 @@ impl Clock for Stepping {
 
 #[test]
 fn an_early_answer_is_waited_on(rt: HostRuntime) {
-    let mut tasks = [Paced::new(rt.alloc(), 3, Some(millis(&rt, 100)))];
+    let mut tasks = [pausing(&rt, rt.alloc(), 3, 100)];
     let mut clock = Stepping {
         at: moment(&rt, 0),
         step: millis(&rt, 1),
         waits: 0,
     };
-    assert_eq!(rt;
-        WheelLoop::run(&rt, &mut tasks, &mut clock, &mut MidWords, 1000),
-        Ok(203)
-    );
+    runs(&rt, &mut tasks, &mut clock, 1000, Ok(203));
     assert_eq!(rt; clock.waits, 200);
     assert_polled(&rt, &tasks[0], &[0, 100, 200]);
 }
 
 #[test]
 fn a_clock_may_jump_to_the_last_moment(rt: HostRuntime) {
-    let mut tasks = [Paced::new(rt.alloc(), 3, Some(millis(&rt, 100)))];
+    let mut tasks = [pausing(&rt, rt.alloc(), 3, 100)];
     let mut clock = Stepping {
         at: moment(&rt, 0),
         step: millis(&rt, 4611686018427387903),
         waits: 0,
     };
-    assert_eq!(rt;
-        WheelLoop::run(&rt, &mut tasks, &mut clock, &mut MidWords, 1000),
-        Ok(4)
-    );
+    runs(&rt, &mut tasks, &mut clock, 1000, Ok(4));
     assert_eq!(rt; clock.waits, 1);
     assert_polled(
         &rt,
@@ -114,18 +113,15 @@ impl Clock for Telling {
 #[test]
 fn a_clock_that_goes_back_is_waited_on(rt: HostRuntime) -> Result<(), Fail> {
     let mut tasks = [
-        Paced::new(rt.alloc(), 2, Some(millis(&rt, 100))),
-        Paced::new(rt.alloc(), 2, Some(millis(&rt, 200))),
+        pausing(&rt, rt.alloc(), 2, 100),
+        pausing(&rt, rt.alloc(), 2, 200),
     ];
     let mut clock = Telling::new(
         &rt,
         rt.alloc(),
         &[1000, 1000, 1000, 1150, 300, 1150, 1150, 1200, 1200],
     )?;
-    assert_eq!(rt;
-        WheelLoop::run(&rt, &mut tasks, &mut clock, &mut MidWords, 99),
-        Ok(7)
-    );
+    runs(&rt, &mut tasks, &mut clock, 99, Ok(7));
     for (until, want) in clock.waited.iter().zip([1100, 1100, 1200]) {
         assert_eq!(rt; until.get(), want);
     }
