@@ -1,7 +1,4 @@
 //! Tasks that are made, played by steps, and taken apart: their parts have the counts that they showed.
-//!
-//! Each is made in one function with its budget, since the borrow checker does not cover one that is handed out of a
-//! function beside the budget that it was lent.
 ghost use Rattle.std.specs.Prelude.{◌≡◌};
 
 use super::shows::{Counts, Shows, Step, play};
