@@ -20,23 +20,29 @@ fn numbers(options: &PlanOptions) -> (u64, u64, u64, u64, u32) {
     )
 }
 
+// The numbers of the plan that the command line asks for.
+fn plan_of(alloc: Global, line: &str) -> Result<(u64, u64, u64, u64, u32), Fail> {
+    let asked = read(alloc, line)?;
+    match &asked {
+        Asked::Plan(options, _) => Ok(numbers(options)),
+        _ => Err(Fail::from("another task was asked for")),
+    }
+}
+
 fn is_plan(
     rt: &impl Abort,
     alloc: Global,
     line: &str,
     want: (u64, u64, u64, u64, u32),
 ) -> Result<(), Fail> {
-    let Asked::Plan(options, _) = read(alloc, line)? else {
-        return Err(Fail::from("a pool was asked for"));
-    };
-    assert_eq!(rt; numbers(&options), want, "{line}");
+    assert_eq!(rt; plan_of(alloc, line)?, want, "{line}");
     Ok(())
 }
 
 // The options of a pool in the order workers, budget, turns.
 fn is_pool(rt: &impl Abort, alloc: Global, line: &str, want: (u64, u64, u64)) -> Result<(), Fail> {
     let Asked::Pool(options, _) = read(alloc, line)? else {
-        return Err(Fail::from("a plan was asked for"));
+        return Err(Fail::from("another task was asked for"));
     };
     let numbers = (options.workers, options.budget, options.turns);
     assert_eq!(rt; numbers, want, "{line}");
