@@ -10,7 +10,7 @@ work=$(mktemp -d)
 trap 'rm -rf "$work"' EXIT
 (cd crates/bench_board && rt run) >&2
 cp crates/bench_board/out/bench_board "$work/board"
-bin/zsched plan --steps 0 <<< '"forever"'
+bin/build zsched plan --steps 0 <<< '"forever"'
 cp crates/zsched/out/zsched "$work/zsched"
 
 machine

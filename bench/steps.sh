@@ -10,7 +10,7 @@ work=$(mktemp -d)
 trap 'rm -rf "$work"' EXIT
 (cd crates/bench_steps && rt run) >&2
 cp crates/bench_steps/out/bench_steps "$work/steps"
-bin/zsched plan --steps 0 <<< '"forever"'
+bin/build zsched plan --steps 0 <<< '"forever"'
 cp crates/zsched/out/zsched "$work/zsched"
 rustc -O -C target-cpu=x86-64 -o "$work/plain" bench/plain_steps.rs
 

@@ -11,7 +11,7 @@ trap 'rm -rf "$work"' EXIT
 failed=0
 rt=$(command -v rt || echo /opt/rattle/bin/rt)
 toolchain=$(dirname "$("$rt" doc)")/toolchain/bin
-"$top/bin/zsched" plan --steps 0 <"$top/plans/three-times.json"
+"$top/bin/build" zsched plan --steps 0 <"$top/plans/three-times.json"
 "$top/bin/build" refused_growths
 "$top/bin/build" refused_polls
 compiler=("$toolchain/clang" "-fuse-ld=$toolchain/ld.lld")

@@ -1,0 +1,356 @@
+/*
+ * hikebox.h: retry policies, retry budgets and retries, for programs in C and in any language that calls C.
+ *
+ * A policy is a recurrence schedule, read from the JSON that `zsched plan` reads. A driver steps a policy event
+ * by event. A budget bounds how many retries all threads of a program make together. A retry is a machine that
+ * the program steps: it says when to run the call and when to wait, and is told how each run went. The library
+ * has no clock, no thread, no callback and no random numbers of its own: the program gives it the moment, and
+ * four random words, at each step. examples/c/retry.c is a whole program.
+ *
+ *     while (hikebox_retry_poll(&retry, now(), words(), report, code, &next) == HIKEBOX_OK
+ *            && next.what != HIKEBOX_OVER) {
+ *         report = HIKEBOX_NO_REPORT;
+ *         if (next.what == HIKEBOX_RUN)
+ *             report = call(&code) ? HIKEBOX_WON : HIKEBOX_LOST;
+ *         else
+ *             sleep_until(next.until);
+ *     }
+ *
+ * Moments, durations and codes are whole numbers from 0 to HIKEBOX_FAR; moments and durations are in
+ * milliseconds. Which moment is 0 is the program's choice, as the start of the process; moments given to one
+ * driver or retry never fall.
+ *
+ * HANDLES. A policy, a driver, a pass and a retry are each held by a handle, a struct of one pointer that the
+ * program keeps and hands to each call by its address. A handle begins as HIKEBOX_INIT, which holds nothing. A
+ * call that makes something puts it into an empty handle, and from then on the handle owns it, until a call
+ * frees it or takes it away and leaves the handle empty. A call on an empty handle, on a handle of another kind
+ * (by a cast, or from a language that does not tell them apart) and a call that would fill a handle that holds
+ * something are refused by a status.
+ *
+ * STATUSES. Each call answers a hikebox_status. Where it is not HIKEBOX_OK nothing has changed: no handle,
+ * nothing that a handle holds, and no result (save where a call says otherwise). Each refusal has one status.
+ * Where several apply, the first one in the order of the call's own list is the answer; a status that no list
+ * names does not come from that call.
+ *
+ * WHAT THE PROGRAM OWES. Nothing checks these:
+ *  - Every pointer is to valid memory of its type, and not NULL, also where a length is 0; no two of a call's
+ *    pointers overlap; a length is at most that of the memory. `words` points to four numbers.
+ *  - A handle is HIKEBOX_INIT, or as a call of this library left it. It may be moved, but of two copies of one
+ *    handle only one is used from then on.
+ *  - A handle is used by one thread at a time. It may go to another thread, ordered by a lock, by the start or
+ *    the join of the thread, or by a sequentially consistent atomic. Different handles may be used by different
+ *    threads at once, also passes and retries of one budget: that is what a budget is for.
+ *  - Passes that are joined, and a retry and the pass that it is ended into, are of one budget.
+ *  - No call is made from a signal handler, or in the forked child of a process with threads.
+ *  - malloc, realloc and free are of one allocator, and align as the C standard says.
+ */
+#ifndef HIKEBOX_H
+#define HIKEBOX_H
+
+#include <stdbool.h>
+#include <stddef.h>
+#include <stdint.h>
+
+#ifdef __cplusplus
+extern "C" {
+#endif
+
+#if defined(__GNUC__)
+#define HIKEBOX_CHECKED __attribute__((warn_unused_result))
+#else
+#define HIKEBOX_CHECKED
+#endif
+
+/* The last moment, the longest duration and the greatest code: 2^62 - 1. */
+#define HIKEBOX_FAR UINT64_C(4611686018427387903)
+
+/* The most tickets of a budget: 2^32. */
+#define HIKEBOX_MOST_TICKETS UINT64_C(4294967296)
+
+/* The most passes of a budget that are made by splits, the first one included; and the most events of a journal. */
+#define HIKEBOX_MOST_PASSES 65536
+#define HIKEBOX_MOST_EVENTS 65536
+
+/* What a call answers. */
+typedef uint32_t hikebox_status;
+enum {
+    /* Done. */
+    HIKEBOX_OK = 0,
+
+    /* The handle holds nothing: nothing was put into it, or it was freed, or what it held was taken away. */
+    HIKEBOX_EMPTY = 1,
+    /* The handle holds something of another kind. It still does. */
+    HIKEBOX_WRONG_KIND = 2,
+    /* The handle that was to be filled holds something already. It still does. */
+    HIKEBOX_FULL = 3,
+    /* A growth was refused. */
+    HIKEBOX_NO_MEMORY = 4,
+    /* A moment, an input or a code is above HIKEBOX_FAR. */
+    HIKEBOX_TOO_LARGE = 5,
+    /* The bytes are more than the room for them. */
+    HIKEBOX_NO_ROOM = 6,
+
+    /* The text is not JSON, or not UTF-8. */
+    HIKEBOX_NOT_JSON = 10,
+    /* The JSON value, or a part of it that should be a policy, has not the form of one. */
+    HIKEBOX_NOT_A_POLICY = 11,
+    /* A parameter of a policy is outside its range. */
+    HIKEBOX_OUT_OF_RANGE = 12,
+    /* The policy is deeper than 32. */
+    HIKEBOX_TOO_DEEP = 13,
+    /* The policy has more than 256 nodes. */
+    HIKEBOX_TOO_MANY = 14,
+
+    /* The moment is before that of the event before. */
+    HIKEBOX_BACKWARDS = 20,
+    /* The journal holds HIKEBOX_MOST_EVENTS events. */
+    HIKEBOX_JOURNAL_FULL = 21,
+    /* There is no output, since no event came after the last reset. */
+    HIKEBOX_NO_OUTPUT = 22,
+    /* The output is no number. */
+    HIKEBOX_NOT_A_NUMBER = 23,
+
+    /* The limit is above HIKEBOX_MOST_TICKETS. */
+    HIKEBOX_LIMIT_TOO_LARGE = 30,
+    /* The budget keeps its limit. */
+    HIKEBOX_FIXED = 31,
+    /* The budget has no ticket for this pass. */
+    HIKEBOX_NO_TICKET = 32,
+    /* HIKEBOX_MOST_PASSES passes were made of the budget. */
+    HIKEBOX_TOO_MANY_PASSES = 33,
+    /* Another pass of the budget is held somewhere, or was freed. */
+    HIKEBOX_PASSES_OUT = 34,
+
+    /* The report is none of HIKEBOX_NO_REPORT, HIKEBOX_WON and HIKEBOX_LOST. */
+    HIKEBOX_NO_SUCH_REPORT = 40,
+    /* A run is reported, and none is under way. */
+    HIKEBOX_NO_RUN = 41
+};
+
+/* The handles. */
+typedef struct { void *held; } hikebox_policy;
+typedef struct { void *held; } hikebox_driver;
+typedef struct { void *held; } hikebox_pass;
+typedef struct { void *held; } hikebox_retry;
+
+/* A handle that holds nothing. */
+#define HIKEBOX_INIT { NULL }
+
+/* ---- Policies ---------------------------------------------------------------------------------------------------- */
+
+/* Where a text stops being JSON: its line and column, counted from 1; both 0 where that is not known. */
+typedef struct {
+    uint64_t line;
+    uint64_t column;
+} hikebox_place;
+
+/*
+ * Reads a policy from JSON, of which the `length` bytes at `json` are the whole text, and puts it into
+ * `policy`. `place` is written in any case: where the answer is HIKEBOX_NOT_JSON it says where, and otherwise
+ * it is 0, 0. HIKEBOX_FULL; HIKEBOX_NOT_JSON; of the value HIKEBOX_NOT_A_POLICY, _OUT_OF_RANGE, _TOO_DEEP,
+ * _TOO_MANY, the first fault as `zsched plan` finds it; HIKEBOX_NO_MEMORY, at any point.
+ */
+HIKEBOX_CHECKED hikebox_status hikebox_policy_read(const uint8_t *json, size_t length, hikebox_policy *policy,
+                                                   hikebox_place *place);
+
+/* Puts an equal policy into `copy`. HIKEBOX_FULL; _EMPTY; _WRONG_KIND; _NO_MEMORY. */
+HIKEBOX_CHECKED hikebox_status hikebox_policy_copy(hikebox_policy *policy, hikebox_policy *copy);
+
+/* How many nodes the policy has, at most 256, and how deep it is, at most 32. HIKEBOX_EMPTY; _WRONG_KIND. */
+HIKEBOX_CHECKED hikebox_status hikebox_policy_size(hikebox_policy *policy, uint64_t *nodes, uint64_t *depth);
+
+/* Frees the policy. HIKEBOX_EMPTY; _WRONG_KIND. */
+hikebox_status hikebox_policy_free(hikebox_policy *policy);
+
+/* ---- Drivers ----------------------------------------------------------------------------------------------------- */
+
+/* What a policy decides at an event. */
+typedef struct {
+    /* The start that is planned, or 0. */
+    uint64_t start;
+    /* Whether the policy goes on, at `start`. */
+    bool goes_on;
+} hikebox_decision;
+
+/* Puts a driver of the policy, before its first event, into `driver`; the policy stays. HIKEBOX_FULL; _EMPTY;
+ * _WRONG_KIND; _NO_MEMORY. */
+HIKEBOX_CHECKED hikebox_status hikebox_driver_new(hikebox_policy *policy, hikebox_driver *driver);
+
+/*
+ * Gives the policy one more event, at the moment `now`, with these random words and this input, also after one
+ * at which it did not go on; writes what it decides. HIKEBOX_TOO_LARGE; _EMPTY; _WRONG_KIND; _BACKWARDS;
+ * _JOURNAL_FULL; _NO_MEMORY.
+ */
+HIKEBOX_CHECKED hikebox_status hikebox_driver_next(hikebox_driver *driver, uint64_t now, const uint32_t words[4],
+                                                   uint64_t input, hikebox_decision *decision);
+
+/* What was decided at the last event; before the first one it does not go on, and `start` is 0.
+ * HIKEBOX_EMPTY; _WRONG_KIND. */
+HIKEBOX_CHECKED hikebox_status hikebox_driver_next_start(hikebox_driver *driver, hikebox_decision *decision);
+
+/* The output of the last event, where it is a number. HIKEBOX_EMPTY; _WRONG_KIND; _NO_OUTPUT; _NOT_A_NUMBER. */
+HIKEBOX_CHECKED hikebox_status hikebox_driver_last_number(hikebox_driver *driver, uint64_t *number);
+
+/*
+ * The output of the last event as text, as `zsched plan` prints it: `()`, a decimal number, `(a, b)` or `[a, b,
+ * c]`. Its bytes, with no zero byte after them, are written to `text`, which has room for `capacity`, and their
+ * number to `length`. HIKEBOX_EMPTY; _WRONG_KIND; _NO_OUTPUT; _NO_MEMORY; _NO_ROOM, and then `length` is the
+ * room that is needed.
+ */
+HIKEBOX_CHECKED hikebox_status hikebox_driver_last_text(hikebox_driver *driver, uint8_t *text, size_t capacity,
+                                                        size_t *length);
+
+/* How many events came since the driver was made, or since it was reset. HIKEBOX_EMPTY; _WRONG_KIND. */
+HIKEBOX_CHECKED hikebox_status hikebox_driver_events(hikebox_driver *driver, uint64_t *events);
+
+/* Back to before the first event, whatever the moment of the next one. HIKEBOX_EMPTY; _WRONG_KIND. */
+hikebox_status hikebox_driver_reset(hikebox_driver *driver);
+
+/* Frees the driver. HIKEBOX_EMPTY; _WRONG_KIND. */
+hikebox_status hikebox_driver_free(hikebox_driver *driver);
+
+/* ---- Budgets ----------------------------------------------------------------------------------------------------- */
+
+/*
+ * A budget is a number of tickets, from 0 on, of which each is drawn once; a retry needs one. A program holds
+ * it by its passes: each thread draws with a pass of its own. The budget lives as long as a pass of it. A draw
+ * takes no lock and no memory, and never waits.
+ */
+
+/* Makes a budget of `limit` tickets and puts its first pass into `pass`. HIKEBOX_FULL; _LIMIT_TOO_LARGE; _NO_MEMORY. */
+HIKEBOX_CHECKED hikebox_status hikebox_budget_fixed(uint64_t limit, hikebox_pass *pass);
+
+/*
+ * The same with a limit that may be raised. Each pass that is refused a ticket uses a number up: when the limit is
+ * raised, there is a ticket less for each of them.
+ */
+HIKEBOX_CHECKED hikebox_status hikebox_budget_rising(uint64_t limit, hikebox_pass *pass);
+
+/*
+ * Draws a ticket, and writes its number: one below the limit that no other draw of the budget got.
+ * HIKEBOX_EMPTY; _WRONG_KIND; _NO_TICKET: a pass that was told so once is told so for good.
+ */
+HIKEBOX_CHECKED hikebox_status hikebox_pass_draw(hikebox_pass *pass, uint64_t *ticket);
+
+/* Puts a new pass of the same budget, which has no ticket, into `part`. HIKEBOX_FULL; _EMPTY; _WRONG_KIND; _NO_MEMORY;
+ * _TOO_MANY_PASSES. */
+HIKEBOX_CHECKED hikebox_status hikebox_pass_split(hikebox_pass *pass, hikebox_pass *part);
+
+/*
+ * Joins `other`, which is of the same budget and is then empty, into `pass`, which has the tickets of both; where
+ * either was refused a ticket, it is refused. Of `pass`, then of `other`, HIKEBOX_EMPTY and _WRONG_KIND.
+ */
+HIKEBOX_CHECKED hikebox_status hikebox_pass_join(hikebox_pass *pass, hikebox_pass *other);
+
+/* Makes the limit of a rising budget the greater of itself and `to`, and writes it. HIKEBOX_EMPTY; _WRONG_KIND;
+ * _LIMIT_TOO_LARGE; _FIXED. */
+HIKEBOX_CHECKED hikebox_status hikebox_pass_raise(hikebox_pass *pass, uint64_t to, uint64_t *limit);
+
+/* How many tickets were drawn with this pass, and with those joined into it. HIKEBOX_EMPTY; _WRONG_KIND. */
+HIKEBOX_CHECKED hikebox_status hikebox_pass_count(hikebox_pass *pass, uint64_t *tickets);
+
+/*
+ * Closes the budget, where this pass stands for all its passes: frees it and writes how many tickets were drawn
+ * of it. HIKEBOX_EMPTY; _WRONG_KIND; _PASSES_OUT; _NO_MEMORY, which comes only where another pass was freed: then
+ * this one is freed, too.
+ */
+HIKEBOX_CHECKED hikebox_status hikebox_pass_close(hikebox_pass *pass, uint64_t *tickets);
+
+/* Frees the pass, with its tickets: the budget can't be closed then, and its other passes go on. HIKEBOX_EMPTY;
+ * _WRONG_KIND. */
+hikebox_status hikebox_pass_free(hikebox_pass *pass);
+
+/* ---- Retries ----------------------------------------------------------------------------------------------------- */
+
+/* How a run went, as the program reports it. */
+enum {
+    HIKEBOX_NO_REPORT = 0,
+    HIKEBOX_WON = 1,
+    HIKEBOX_LOST = 2
+};
+
+/* What the program is to do. */
+enum {
+    /* Poll: no run was begun yet. Only hikebox_retry_see answers it. */
+    HIKEBOX_POLL = 0,
+    /* Run the call, and report at the next poll how it went. A run is under way until then. */
+    HIKEBOX_RUN = 1,
+    /* Wait until the moment `until`, and poll. */
+    HIKEBOX_WAIT = 2,
+    /* Nothing: the retry is over. */
+    HIKEBOX_OVER = 3
+};
+
+/* How a retry ended. */
+enum {
+    /* It is not over. */
+    HIKEBOX_UNENDED = 0,
+    /* The last run succeeded. */
+    HIKEBOX_ENDED_WON = 1,
+    /* The last run failed, and the policy does not go on. */
+    HIKEBOX_ENDED_DONE = 2,
+    /* The last run failed, the policy goes on, and the budget has no ticket. */
+    HIKEBOX_ENDED_REFUSED = 3,
+    /* It was cancelled. */
+    HIKEBOX_ENDED_CANCELLED = 4,
+    /* It could not go on: a growth was refused, the journal is full, or the clock went back. */
+    HIKEBOX_ENDED_NO_MEMORY = 5,
+    HIKEBOX_ENDED_JOURNAL_FULL = 6,
+    HIKEBOX_ENDED_BACKWARDS = 7
+};
+
+/* What a retry is at. */
+typedef struct {
+    /* HIKEBOX_POLL, HIKEBOX_RUN, HIKEBOX_WAIT or HIKEBOX_OVER. */
+    uint32_t what;
+    /* How it ended: HIKEBOX_UNENDED, or one of HIKEBOX_ENDED_.. where it is over. */
+    uint32_t how;
+    /* The moment to wait for, where it waits; otherwise 0. */
+    uint64_t until;
+    /* How many retries it was granted: tickets drawn of the budget. */
+    uint64_t granted;
+    /* How many runs were reported. */
+    uint64_t runs;
+} hikebox_next;
+
+/*
+ * Puts a retry into `retry`, which has not begun. It has a copy of the policy, and a pass of its own, which is split
+ * off `pass`; both handles stay as they are. HIKEBOX_FULL; _EMPTY, of either; _WRONG_KIND, of the policy; _NO_MEMORY;
+ * _WRONG_KIND, of the pass; _TOO_MANY_PASSES.
+ */
+HIKEBOX_CHECKED hikebox_status hikebox_retry_new(hikebox_policy *policy, hikebox_pass *pass, hikebox_retry *retry);
+
+/*
+ * Steps the retry at the moment `now`, with these random words, and writes what is to be done. With HIKEBOX_WON
+ * or HIKEBOX_LOST the run under way ends so, with this code; it succeeded and the retry is over, or it failed,
+ * and the policy is stepped with the code as its input; where that goes on a ticket is drawn, and with one the
+ * retry waits for the start planned, or runs at once where that is now. With HIKEBOX_NO_REPORT the code counts
+ * for nothing, and a run begins where none is under way and `now` is not before the moment waited for. On a
+ * retry that is over nothing changes. HIKEBOX_TOO_LARGE, of the moment; _NO_SUCH_REPORT; _TOO_LARGE, of the code;
+ * _EMPTY; _WRONG_KIND; _NO_RUN. Where memory is wanting or the clock went back the answer is HIKEBOX_OK, and the
+ * retry is over.
+ */
+HIKEBOX_CHECKED hikebox_status hikebox_retry_poll(hikebox_retry *retry, uint64_t now, const uint32_t words[4],
+                                                  uint32_t report, uint64_t code, hikebox_next *next);
+
+/* What is to be done, without a step. HIKEBOX_EMPTY; _WRONG_KIND. */
+HIKEBOX_CHECKED hikebox_status hikebox_retry_see(hikebox_retry *retry, hikebox_next *next);
+
+/* Ends a retry that is not over as HIKEBOX_ENDED_CANCELLED, whatever run is under way. HIKEBOX_EMPTY; _WRONG_KIND. */
+hikebox_status hikebox_retry_cancel(hikebox_retry *retry);
+
+/*
+ * Frees the retry, whether it is over or not, and gives its pass back with the tickets that it was granted:
+ * joined into `pass`, which is of the same budget. HIKEBOX_EMPTY and _WRONG_KIND, of the retry first, then of
+ * the pass.
+ */
+HIKEBOX_CHECKED hikebox_status hikebox_retry_end(hikebox_retry *retry, hikebox_pass *pass);
+
+/* Frees the retry and its pass: the budget can't be closed then. HIKEBOX_EMPTY; _WRONG_KIND. */
+hikebox_status hikebox_retry_free(hikebox_retry *retry);
+
+#ifdef __cplusplus
+}
+#endif
+
+#endif
