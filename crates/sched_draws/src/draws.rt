@@ -37,7 +37,8 @@ pub trait Draws: Drop {
     ghost keeps: { (d : Self) (now : ℕ) (got : Bool) (e : Self) → drew d now got e → name e ≡ name d };
 
     // It was granted one more, or it was refused.
-    ghost counts: { (d : Self) (now : ℕ) (got : Bool) (e : Self) → drew d now got e → granted e ≡ count_after got (granted d) };
+    ghost counts: { (d : Self) (now : ℕ) (got : Bool) (e : Self) → drew d now got e
+        → granted e ≡ count_after got (granted d) };
 
     // Where it was refused, it says why.
     ghost denies: { (d : Self) (now : ℕ) (e : Self) → drew d now false e → refused e };
