@@ -1,3 +1,5 @@
 pub mod Counted
+pub mod Grants
+pub mod Freely
 pub mod Budgets
 pub mod Quotas

@@ -1,11 +1,12 @@
 -- What contracts see of what draws on a quota, and a draw of it.
 use Rattle.std.specs.Prelude.{◌≡◌, ℕ, ◌≤◌, ◌⊎◌, Bool, true, false, length, refl}
 use Rattle.std.proofs.Common.{inl, inr, arith, ap, subst, sym}
-use Rattle.sched_quota.specs.Held.{Name, Held}
+use Rattle.sched_quota.specs.Held.{Name, Held, IsOf}
 use Rattle.sched_quota.specs.Calls.{Turned, Drew, DrewNone, HasNoRoom}
 use Rattle.sched_quota.specs.declared.view.Terms.{Terms}
 use Rattle.sched_quota.specs.declared.view.View.{View}
 use Rattle.sched_draws.specs.Counted.{count_after}
+use Rattle.sched_draws.specs.Grants.{Grants, Lawful}
 
 -- a quota, and a pass of it
 pub record OfQuota : Type 0 where
@@ -21,6 +22,16 @@ QuotaDrew d now false e = (e.quota ≡ d.quota) × DrewNone d.quota.terms now d.
 abbrev pub NoneLeft : Terms → View → Type 0
 NoneLeft k v = HasNoRoom k v ⊎ (64 ≤ v.losses)
 
+abbrev pub quota_grants : Grants OfQuota
+quota_grants = record {
+  Name = Name;
+  name = λ d. d.quota;
+  granted = λ d. length d.pass.has.tickets;
+  drew = QuotaDrew;
+  refused = λ d. NoneLeft d.quota.terms d.pass.has;
+  stands = λ d. IsOf d.quota d.pass;
+}
+
 -- a pass that comes to a window keeps its tickets
 Turned-tickets : (k : Terms) (now : ℕ) (v u : View) → Turned k now v u → u.tickets ≡ v.tickets
 Turned-tickets k now v u turned = elim turned [
@@ -31,11 +42,11 @@ Turned-tickets k now v u turned = elim turned [
   ]
 ]
 
-pub QuotaDrew-keeps : (d : OfQuota) (now : ℕ) (got : Bool) (e : OfQuota) → QuotaDrew d now got e → e.quota ≡ d.quota
+QuotaDrew-keeps : (d : OfQuota) (now : ℕ) (got : Bool) (e : OfQuota) → QuotaDrew d now got e → e.quota ≡ d.quota
 QuotaDrew-keeps d now true e drew = drew.0
 QuotaDrew-keeps d now false e drew = drew.0
 
-pub QuotaDrew-counts : (d : OfQuota) (now : ℕ) (got : Bool) (e : OfQuota) → QuotaDrew d now got e →
+QuotaDrew-counts : (d : OfQuota) (now : ℕ) (got : Bool) (e : OfQuota) → QuotaDrew d now got e →
     length e.pass.has.tickets ≡ count_after got (length d.pass.has.tickets)
 QuotaDrew-counts d now true e drew =
     let won = drew.2.2 in
@@ -45,8 +56,16 @@ QuotaDrew-counts d now false e drew =
     let kept = Turned-tickets d.quota.terms now d.pass.has drew.1.0 drew.1.1 in
     rw (drew.1.2.tries.same, kept) refl
 
-pub QuotaDrew-denies : (d : OfQuota) (now : ℕ) (e : OfQuota) → QuotaDrew d now false e → NoneLeft e.quota.terms e.pass.has
+QuotaDrew-denies : (d : OfQuota) (now : ℕ) (e : OfQuota) → QuotaDrew d now false e →
+    NoneLeft e.quota.terms e.pass.has
 QuotaDrew-denies d now e drew = elim drew.1.2.reason [
   | inl full ↦ inl (subst (λ (q : Name). HasNoRoom q.terms e.pass.has) (sym drew.0) full)
   | inr lost ↦ inr (omega (arith, lost))
 ]
+
+pub quota_lawful : Lawful quota_grants
+quota_lawful = record {
+  keeps = QuotaDrew-keeps;
+  counts = QuotaDrew-counts;
+  denies = QuotaDrew-denies;
+}

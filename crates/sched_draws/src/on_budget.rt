@@ -48,27 +48,11 @@ impl<B: RefersTo<Budget>> OnBudget<B> {
 }
 
 impl<B: RefersTo<Budget>> Draws for OnBudget<B> {
-    ghost use Rattle.std.specs.Prelude.{◌<◌, length};
-    ghost use Rattle.sched_ticket.specs.Held.{Name as BudgetName};
-    ghost use Rattle.sched_draws.specs.Budgets.{BudgetDrew, BudgetDrew-keeps, BudgetDrew-counts, BudgetDrew-denies};
+    ghost use Rattle.sched_draws.specs.Budgets.{budget_grants, budget_lawful};
 
-    ghost Name = { BudgetName };
+    ghost grants = { budget_grants };
 
-    ghost name = { λ d. d.budget };
-
-    ghost granted = { λ d. length d.pass.has.tickets };
-
-    ghost drew = { λ d _ got e. BudgetDrew d got e };
-
-    ghost refused = { λ d. 0 < length d.pass.has.refusals };
-
-    ghost stands = { λ d. IsOf d.budget d.pass };
-
-    ghost keeps = { λ d _ got e drew. BudgetDrew-keeps d got e drew };
-
-    ghost counts = { λ d _ got e drew. BudgetDrew-counts d got e drew };
-
-    ghost denies = { λ d _ e drew. BudgetDrew-denies d e drew };
+    ghost lawful = { budget_lawful };
 
     fn draw(&mut self, _now: Moment) -> bool {
         match self.pass.draw(self.budget.target()) {

@@ -58,27 +58,11 @@ impl<Q: RefersTo<Quota>> OnQuota<Q> {
 }
 
 impl<Q: RefersTo<Quota>> Draws for OnQuota<Q> {
-    ghost use Rattle.std.specs.Prelude.{length};
-    ghost use Rattle.sched_quota.specs.Held.{Name as QuotaName};
-    ghost use Rattle.sched_draws.specs.Quotas.{QuotaDrew, NoneLeft, QuotaDrew-keeps, QuotaDrew-counts, QuotaDrew-denies};
+    ghost use Rattle.sched_draws.specs.Quotas.{quota_grants, quota_lawful};
 
-    ghost Name = { QuotaName };
+    ghost grants = { quota_grants };
 
-    ghost name = { λ d. d.quota };
-
-    ghost granted = { λ d. length d.pass.has.tickets };
-
-    ghost drew = { QuotaDrew };
-
-    ghost refused = { λ d. NoneLeft d.quota.terms d.pass.has };
-
-    ghost stands = { λ d. IsOf d.quota d.pass };
-
-    ghost keeps = { QuotaDrew-keeps };
-
-    ghost counts = { QuotaDrew-counts };
-
-    ghost denies = { QuotaDrew-denies };
+    ghost lawful = { quota_lawful };
 
     fn draw(&mut self, now: Moment) -> bool {
         match self.pass.draw(self.quota.target(), now) {

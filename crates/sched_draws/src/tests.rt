@@ -19,7 +19,7 @@ fn at(millis: u64) -> Moment
 
 // Which of three draws at one moment are granted.
 fn thrice<D: Draws>(drawing: &mut D, now: Moment) -> (bool, bool, bool)
-    ensures { D.name drawing.new ≡ D.name drawing.old }
+    ensures { D.grants.name drawing.new ≡ D.grants.name drawing.old }
 {
     let first = drawing.draw(now);
     let second = drawing.draw(now);

@@ -30,26 +30,11 @@ impl Unlimited {
 }
 
 impl Draws for Unlimited {
-    ghost use Rattle.std.specs.Prelude.{⊤, refl};
-    ghost use Rattle.sched_draws.specs.Counted.{FreelyDrew, FreelyDrew-counts, FreelyDrew-denies};
+    ghost use Rattle.sched_draws.specs.Freely.{free_grants, free_lawful};
 
-    ghost Name = { ⊤ };
+    ghost grants = { free_grants };
 
-    ghost name = { λ _. tt };
-
-    ghost granted = { λ d. d };
-
-    ghost drew = { λ d _ got e. FreelyDrew d got e };
-
-    ghost refused = { λ d. d ≡ 18446744073709551615 };
-
-    ghost stands = { λ _. ⊤ };
-
-    ghost keeps = { λ _ _ _ _ _. refl };
-
-    ghost counts = { λ d _ got e drew. FreelyDrew-counts d got e drew };
-
-    ghost denies = { λ d _ e drew. FreelyDrew-denies d e drew };
+    ghost lawful = { free_lawful };
 
     fn draw(&mut self, _now: Moment) -> bool {
         if self.granted < u64::MAX {
