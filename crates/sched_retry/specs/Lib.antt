@@ -1,4 +1,3 @@
-pub mod Codes
 pub mod Retrying
 pub mod Comes
 pub mod Ending

@@ -1,30 +1,29 @@
 //! One poll of an attempt.
 ghost use Rattle.futures.specs.Task.{Keeps};
-ghost use Rattle.sched_ticket.specs.Held.{IsOf};
 ghost use Rattle.sched_retry.specs.Comes.{Comes};
 
 use crate::endings::Ending;
 use futures::task::{Context, Poll};
+use sched_draws::Draws;
 use sched_effect::{Coded, Effect};
 use sched_task::RunFault;
 use sched_task_law::{Polled, Runner};
-use sched_ticket::{Budget, Pass};
 use sched_time::Tick;
 use std::alloc::Global;
 
 /// Polls the run under way, or begins one. A failure steps the schedule, and draws a ticket where it goes on.
 /// Answers the ending that this comes to, or `None` where the retry goes on.
-pub fn poll_attempt<X: Effect>(
+pub fn poll_attempt<X: Effect, D: Draws>(
     alloc: Global,
     runner: &mut Runner<X>,
-    pass: &mut Pass,
-    budget: &Budget,
+    drawing: &mut D,
     tick: &Tick,
     cx: &mut Context<'_>,
 ) -> Option<Ending<X::Item, X::Fault>>
-    requires { IsOf budget.now pass.old }
-    ensures of { IsOf budget.now pass.new }
-    ensures comes { Comes X.Item.coded X.Fault.coded runner.old pass.old tick.entry.now result runner.new pass.new }
+    requires { D.grants.stands drawing.old }
+    ensures stands { D.grants.stands drawing.new }
+    ensures comes { Comes D.grants X.Item.coded X.Fault.coded
+        runner.old drawing.old tick.entry.now result runner.new drawing.new }
     ensures kept { Keeps cx.old cx.new }
 {
     match runner.poll_run(tick, cx) {
@@ -35,10 +34,13 @@ pub fn poll_attempt<X: Effect>(
         Polled::Finished(Err(fault)) => match runner.step(alloc, tick, fault.code()) {
             Err(cause) => Some(Ending::Broken(cause)),
             Ok(None) => Some(Ending::ScheduleDone(fault)),
-            Ok(Some(_)) => match pass.draw(budget) {
-                Some(_) => None,
-                None => Some(Ending::BudgetRefused(fault)),
-            },
+            Ok(Some(_)) => {
+                if drawing.draw(tick.now) {
+                    None
+                } else {
+                    Some(Ending::BudgetRefused(fault))
+                }
+            }
         },
     }
 }

@@ -2,7 +2,6 @@
 ghost use Rattle.std.specs.Prelude.{◌≡◌, ◌+◌, ◌≤◌, true, false, [], length, ◌<◌, is_some, IfSome, IsSomeAnd, MatchBool};
 ghost use Rattle.futures.specs.Task.{Keeps};
 ghost use Rattle.sched_task.specs.Polls.{is_ready};
-ghost use Rattle.sched_ticket.specs.Held.{IsOf};
 ghost use Rattle.sched_task_law.specs.Kind.{retry};
 ghost use Rattle.sched_task_law.specs.Past.{nothing_yet, waits_for, bit};
 ghost use Rattle.sched_task_law.specs.Poll.{CanRun};
@@ -14,69 +13,63 @@ use crate::attempts::poll_attempt;
 use crate::endings::Ending;
 use crate::whole::Whole;
 use futures::task::{Context, Poll};
+use sched_draws::Draws;
 use sched_driver::Driver;
 use sched_effect::{Coded, Effect};
 use sched_task::{How, Task};
 use sched_task_law::Runner;
-use sched_ticket::{Budget, Pass};
 use sched_time::{Moment, Tick};
 use std::alloc::Global;
 use std::marker::Model;
 
-/// An effect that is run until it succeeds, again after each failure as its driver's schedule says, with a ticket of
-/// the budget for each retry.
+/// An effect that is run until it succeeds, again after each failure as its driver's schedule says, with a ticket for
+/// each retry.
 #[derive(Drop)]
-pub struct Retry<'a, X: Effect> {
+pub struct Retry<X: Effect, D: Draws> {
     runner: Runner<X>,
     over: Option<How>,
     ending: Option<Ending<X::Item, X::Fault>>,
-    pass: Pass,
-    budget: &'a Budget,
+    drawing: D,
+    had: u64,
 }
 
-impl<'a, X: Effect> Model for Retry<'a, X> {
+impl<X: Effect, D: Draws> Model for Retry<X, D> {
     ghost use Rattle.std.specs.Prelude.{is_some, IfSome};
     ghost use Rattle.sched_task_law.specs.Kind.{retry};
     ghost use Rattle.sched_task_law.specs.Law.{is_refused};
     ghost use Rattle.sched_retry.specs.Retrying.{Retrying, coded_retrying, retrying, RetryLaw};
 
-    ghost Value = { Retrying };
+    ghost Value = { Retrying D };
 
-    ghost coded = { coded_retrying };
+    ghost coded = { coded_retrying D.code };
 
     ghost use Rattle.sched_retry.specs.Ending.{EndingFits};
 
-    ghost view = { λ r. retrying r.runner r.over (is_refused r.over) r.pass r.budget.now (is_some r.ending) };
+    ghost view = { λ r. retrying D.grants r.runner r.over (is_refused r.over) r.drawing r.had (is_some r.ending) };
 
     ghost invariant = { λ r.
-        RetryLaw retry (retrying r.runner r.over (is_refused r.over) r.pass r.budget.now (is_some r.ending))
+        RetryLaw D.grants retry
+        (retrying D.grants r.runner r.over (is_refused r.over) r.drawing r.had (is_some r.ending))
         × IfSome r.ending (EndingFits X.Item.coded X.Fault.coded r.over r.runner.runs) };
 }
 
-impl<'a, X: Effect> Retry<'a, X> {
-    /// A retry that has not begun. It takes no memory.
-    pub fn new(
-        alloc: Global,
-        effect: X,
-        driver: Driver,
-        pass: Pass,
-        budget: &'a Budget,
-    ) -> Retry<'a, X>
+impl<X: Effect, D: Draws> Retry<X, D> {
+    /// A retry that has not begun, and that draws its tickets by this value. It takes no memory.
+    pub fn new(alloc: Global, effect: X, driver: Driver, drawing: D) -> Retry<X, D>
         requires journal { driver.journal ≡ [] }
         requires effect { X.fresh effect }
-        requires pass { pass.has.tickets ≡ [] }
-        requires of { IsOf budget.now pass }
         ensures past { result.past ≡ nothing_yet driver.plan }
-        ensures pass { result.pass ≡ pass }
-        ensures budget { result.budget ≡ budget.entry.now }
+        ensures drawing { result.drawing ≡ drawing }
+        ensures had { result.had ≡ D.grants.granted drawing }
         ensures untaken { result.untaken ≡ false }
     {
+        let had = drawing.granted();
         Retry {
             runner: Runner::new(alloc, effect, driver),
             over: None,
             ending: None,
-            pass,
-            budget,
+            drawing,
+            had,
         }
     }
 
@@ -86,7 +79,7 @@ impl<'a, X: Effect> Retry<'a, X> {
     /// failure steps the schedule; where that goes on, a ticket is drawn, and with one the retry waits for the start
     /// planned. A refused step or growth ends it as `Broken`.
     pub fn poll_at(&mut self, alloc: Global, tick: &Tick, cx: &mut Context<'_>) -> Poll<()>
-        ensures poll { RetryPoll retry self.old tick.entry.now (is_ready result) self.new }
+        ensures poll { RetryPoll D.grants retry self.old tick.entry.now (is_ready result) self.new }
         ensures answers { is_ready result ≡ is_some self.new.past.over }
         ensures kept { Keeps cx.old cx.new }
     {
@@ -102,13 +95,13 @@ impl<'a, X: Effect> Retry<'a, X> {
     // The same where it is not over and waits for no later moment.
     fn poll_now(&mut self, alloc: Global, tick: &Tick, cx: &mut Context<'_>) -> Poll<()>
         requires { CanRun self.old.past tick.now }
-        ensures poll { RetryPoll retry self.old tick.entry.now (is_ready result) self.new }
+        ensures poll { RetryPoll D.grants retry self.old tick.entry.now (is_ready result) self.new }
         ensures answers { is_ready result ≡ is_some self.new.past.over }
         ensures kept { Keeps cx.old cx.new }
     {
         let runner = &mut self.runner;
-        let pass = &mut self.pass;
-        match poll_attempt(alloc, runner, pass, self.budget, tick, cx) {
+        let drawing = &mut self.drawing;
+        match poll_attempt(alloc, runner, drawing, tick, cx) {
             None => Poll::Pending,
             Some(ending) => {
                 self.over = Some(ending.how());
@@ -144,7 +137,7 @@ impl<'a, X: Effect> Retry<'a, X> {
     /// How it ended, or `None` where it is not over. Whenever it is asked, the law of a retry holds.
     pub fn over(&self) -> Option<How>
         ensures over { result ≡ self.now.past.over }
-        ensures law { RetryLaw retry self.now }
+        ensures law { RetryLaw D.grants retry self.now }
     {
         self.over
     }
@@ -189,52 +182,53 @@ impl<'a, X: Effect> Retry<'a, X> {
         self.runner.begun()
     }
 
-    /// How many tickets it was granted: those of its pass. They are as many as the journal's events, less one where the
-    /// schedule was done or the budget refused a ticket.
+    /// How many tickets it was granted, without those of earlier retries. They are as many as the journal's events, less
+    /// one where the schedule was done or the budget refused a ticket.
     pub fn granted(&self) -> u64
         ensures granted { result ≡ self.now.past.granted }
-        ensures tickets { result ≡ length self.now.pass.has.tickets }
+        ensures tickets { self.now.had + result ≡ D.grants.granted self.now.drawing }
         ensures events { result + bit (is_stop self.now.past.over) ≡ length self.now.past.driver.journal }
     {
-        self.pass.count()
+        self.drawing.granted() - self.had
     }
 
-    /// The effect, the driver and the pass.
-    pub fn into_parts(self) -> (X, Driver, Pass)
-        ensures runs { X.finished result.0 ≡ self.entry.past.runs }
-        ensures driver { result.1 ≡ self.entry.past.driver }
-        ensures pass { result.2 ≡ self.entry.pass }
-        ensures of { IsOf self.entry.budget result.2 }
+    /// The effect, the driver, and what it drew by, with all its tickets.
+    pub fn into_parts(self) -> (X, Driver, D)
+        ensures runs { X.finished result.0 ≡ self.past.runs }
+        ensures driver { result.1 ≡ self.past.driver }
+        ensures drawing { result.2 ≡ self.drawing }
+        ensures stands { D.grants.stands result.2 }
     {
         let Retry {
             runner,
             over: _,
             ending: _,
-            pass,
-            budget: _,
+            drawing,
+            had: _,
         } = self;
         let (effect, driver, _) = runner.into_parts();
-        (effect, driver, pass)
+        (effect, driver, drawing)
     }
 
     /// All that it had: its parts with its beginnings, how it ended, and its ending where that was not taken.
-    pub fn into_whole(self) -> Whole<X>
-        ensures runs { X.finished result.effect ≡ self.entry.past.runs }
-        ensures driver { result.driver ≡ self.entry.past.driver }
-        ensures begun { result.begun.items ≡ self.entry.past.begun }
-        ensures over { result.over ≡ self.entry.past.over }
-        ensures untaken { is_some result.ending ≡ self.entry.untaken }
+    pub fn into_whole(self) -> Whole<X, D>
+        ensures runs { X.finished result.effect ≡ self.past.runs }
+        ensures driver { result.driver ≡ self.past.driver }
+        ensures begun { result.begun.items ≡ self.past.begun }
+        ensures over { result.over ≡ self.past.over }
+        ensures untaken { is_some result.ending ≡ self.untaken }
         ensures fits { IfSome result.ending (EndingFits X.Item.coded X.Fault.coded
-            self.entry.past.over self.entry.past.runs) }
-        ensures pass { result.pass ≡ self.entry.pass }
-        ensures law { RetryLaw retry self.entry }
+            self.past.over self.past.runs) }
+        ensures drawing { result.drawing ≡ self.drawing }
+        ensures had { result.had ≡ self.had }
+        ensures law { RetryLaw D.grants retry self }
     {
         let Retry {
             runner,
             over,
             ending,
-            pass,
-            budget: _,
+            drawing,
+            had,
         } = self;
         let (effect, driver, begun) = runner.into_parts();
         Whole {
@@ -243,12 +237,13 @@ impl<'a, X: Effect> Retry<'a, X> {
             begun,
             over,
             ending,
-            pass,
+            drawing,
+            had,
         }
     }
 }
 
-impl<'a, X: Effect> Task for Retry<'a, X> {
+impl<X: Effect, D: Draws> Task for Retry<X, D> {
     ghost use Rattle.std.specs.Prelude.{◌≡◌};
     ghost use Rattle.sched_task_law.specs.Kind.{retry};
     ghost use Rattle.sched_task_law.specs.Past.{waits_for as start_of, waits_for-over};
@@ -258,7 +253,7 @@ impl<'a, X: Effect> Task for Retry<'a, X> {
 
     ghost waits_for = { λ v. start_of v.past };
 
-    ghost one_poll = { RetryPoll retry };
+    ghost one_poll = { RetryPoll D.grants retry };
 
     ghost gives_up = { λ v u. u ≡ given_up v };
 

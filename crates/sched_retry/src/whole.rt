@@ -1,15 +1,15 @@
 //! A retry, taken apart.
 
 use crate::endings::Ending;
+use sched_draws::Draws;
 use sched_driver::Driver;
 use sched_effect::Effect;
 use sched_task::How;
-use sched_ticket::Pass;
 use sched_time::Moment;
 
 /// All that a retry had.
 #[derive(Drop)]
-pub struct Whole<X: Effect> {
+pub struct Whole<X: Effect, D: Draws> {
     /// The effect, with its finished runs.
     pub effect: X,
     /// The driver, with the journal of the failures.
@@ -20,6 +20,8 @@ pub struct Whole<X: Effect> {
     pub over: Option<How>,
     /// The ending, where it was over and the ending was not taken.
     pub ending: Option<Ending<X::Item, X::Fault>>,
-    /// The pass, with the tickets that it was granted.
-    pub pass: Pass,
+    /// What it drew by, with the tickets that it was granted.
+    pub drawing: D,
+    /// How many tickets that had been granted before.
+    pub had: u64,
 }
