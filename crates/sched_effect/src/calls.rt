@@ -1,11 +1,11 @@
 //! Effects made of an action.
 ghost use Rattle.std.specs.Prelude.{◌≡◌, ⊤, ◌++◌, [], Result};
 ghost use Rattle.futures.specs.Task.{Keeps};
-ghost use Rattle.sched_effect.specs.Runs.{ended_by, ran_by};
+ghost use Rattle.sched_effect.specs.Runs.{ended_by};
 ghost use Rattle.sched_effect.specs.Called.{RunOnce};
 
 use crate::effects::Effect;
-use crate::ran::{Coded, Ran};
+use crate::ran::{Coded, Ran, ran_of};
 use futures::task::{Context, Poll};
 use sched_time::NoMemory;
 use std::alloc::Global;
@@ -91,15 +91,5 @@ impl<A: Action> Effect for Call<A> {
 
     fn runs(&self) -> &[Ran] {
         &self.runs
-    }
-}
-
-// How a run went, by the codes of its item or its fault.
-fn ran_of<I: Coded, F: Coded>(run: &Result<I, F>) -> Ran
-    ensures { result ≡ ran_by I.coded F.coded run.now }
-{
-    match run {
-        Ok(item) => Ran::Won(item.code()),
-        Err(fault) => Ran::Lost(fault.code()),
     }
 }

@@ -6,6 +6,7 @@ mod calls;
 mod codes;
 mod effects;
 mod fallbacks;
+mod future_calls;
 mod ran;
 mod scripted;
 
@@ -13,5 +14,6 @@ pub use calls::{Action, Call};
 pub use codes::Tagged;
 pub use effects::Effect;
 pub use fallbacks::Fallback;
+pub use future_calls::{FutureAction, FutureCall};
 pub use ran::{Code, Coded, Ran};
 pub use scripted::Scripted;

@@ -1,5 +1,6 @@
 //! How a run went.
 ghost use Rattle.std.specs.Prelude.{◌≡◌, ℕ};
+ghost use Rattle.sched_effect.specs.Runs.{ran_by};
 
 use sched_time::Millis;
 
@@ -30,5 +31,15 @@ impl Coded for Code {
 
     fn code(&self) -> Millis {
         self.0
+    }
+}
+
+/// How a run went, by the codes of its item or its fault.
+pub(crate) fn ran_of<I: Coded, F: Coded>(run: &Result<I, F>) -> Ran
+    ensures { result ≡ ran_by I.coded F.coded run.now }
+{
+    match run {
+        Ok(item) => Ran::Won(item.code()),
+        Err(fault) => Ran::Lost(fault.code()),
     }
 }
