@@ -22,6 +22,6 @@ pub record Lawful {D : Type 0} (grants : Grants D) : Type 0 where
   pub keeps : (d : D) (now : ℕ) (got : Bool) (e : D) → grants.drew d now got e → grants.name e ≡ grants.name d
   -- it was granted one more, or it was refused
   pub counts : (d : D) (now : ℕ) (got : Bool) (e : D) → grants.drew d now got e →
-    grants.granted e ≡ count_after got (grants.granted d)
+      grants.granted e ≡ count_after got (grants.granted d)
   -- where it was refused, it says why
   pub denies : (d : D) (now : ℕ) (e : D) → grants.drew d now false e → grants.refused e
