@@ -3,8 +3,6 @@
 
 mod cells;
 mod drivers;
-#[cfg(test)]
-mod tests;
 
 pub use cells::{DriverCell, Guard};
 pub use drivers::{DriveFault, Driver, MOST_EVENTS};

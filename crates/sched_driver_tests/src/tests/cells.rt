@@ -1,0 +1,81 @@
+use super::*;
+use sched_driver::DriverCell;
+use std::sync::Wait;
+use std::thread;
+
+fn cell_of(alloc: Global, plan: Result<Plan, PlanFault>) -> Result<DriverCell, Fail> {
+    Ok(DriverCell::new(driver_of(alloc, plan)?))
+}
+
+// Asserts that one more event at this moment, through the cell, leads on to this start.
+fn steps(rt: &(impl Abort + Wait), alloc: Global, cell: &DriverCell, at: u64, start: u64) {
+    goes(rt, alloc, &mut cell.enter(rt), at, start);
+}
+
+// A driver of this plan with events at these moments.
+fn assert_is(rt: &impl Abort, driver: &Driver, plan: &Plan, moments: &[u64]) {
+    assert!(rt; driver.plan().same(plan));
+    assert_moments(rt, driver.journal(), moments);
+}
+
+// Such a driver in its cell, and out of it.
+fn assert_holds(
+    rt: &(impl Abort + Wait),
+    cell: DriverCell,
+    plan: Result<Plan, PlanFault>,
+    moments: &[u64],
+) -> Result<(), PlanFault> {
+    let plan = plan?;
+    assert_is(rt, &cell.enter(rt), &plan, moments);
+    assert_is(rt, &cell.into_driver(), &plan, moments);
+    Ok(())
+}
+
+#[test]
+fn two_cells_by_turns_keep_apart(rt: HostRuntime) -> Result<(), Fail> {
+    let alloc = rt.alloc();
+    let one = cell_of(alloc, spaced_recurs(alloc))?;
+    let other = cell_of(alloc, Plan::forever())?;
+    steps(&rt, alloc, &one, 50, 150);
+    steps(&rt, alloc, &other, 7, 7);
+    steps(&rt, alloc, &one, 150, 250);
+    steps(&rt, alloc, &other, 8, 8);
+    steps(&rt, alloc, &other, 9, 9);
+    assert_holds(&rt, one, spaced_recurs(alloc), &[50, 150])?;
+    assert_holds(&rt, other, Plan::forever(), &[7, 8, 9])?;
+    Ok(())
+}
+
+// Makes 100 events at 5, and tells whether all were taken.
+fn hundred(rt: &(impl Abort + Wait), alloc: Global, cell: &DriverCell) -> bool {
+    let mut taken = true;
+    for _ in 0..100 {
+        taken &= next(rt, alloc, &mut cell.enter(rt), 5).is_ok();
+    }
+    taken
+}
+
+// Asserts that the driver of `forever` in this cell shows 200 events at 5.
+fn assert_two_hundred(rt: &impl Abort, alloc: Global, cell: DriverCell) -> Result<(), NoMemory> {
+    let all = Shown {
+        moments: &[5; 200],
+        last: "199",
+        next_start: Some(5),
+        view: "200",
+    };
+    assert_shows(rt, alloc, &cell.into_driver(), &all)
+}
+
+#[test]
+fn two_threads_share_a_cell(rt: HostRuntime) -> Result<(), Fail> {
+    let alloc = rt.alloc();
+    let cell = cell_of(alloc, Plan::forever())?;
+    let both = thread::join(
+        &rt,
+        || hundred(&rt, alloc, &cell),
+        || hundred(&rt, alloc, &cell),
+    );
+    assert!(rt; both == (true, true));
+    assert_two_hundred(&rt, alloc, cell)?;
+    Ok(())
+}

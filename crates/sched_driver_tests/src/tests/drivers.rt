@@ -1,0 +1,151 @@
+use super::*;
+use sched_driver::{DriverCell, MOST_EVENTS};
+use std::sync::Wait;
+
+// Drives a new driver of three recurrences 100 milliseconds apart to its third start.
+fn drive(rt: &impl Abort, alloc: Global, driver: &mut Driver) -> Result<(), NoMemory> {
+    assert_fresh(rt, driver);
+    goes(rt, alloc, driver, 50, 150);
+    let floor = moment(rt, 50);
+    refuses(rt, alloc, driver, 49, DriveFault::Backwards { floor });
+    let once = Shown {
+        moments: &[50],
+        last: "(0, 0)",
+        next_start: Some(150),
+        view: "(1, 1)",
+    };
+    assert_shows(rt, alloc, driver, &once)?;
+    goes(rt, alloc, driver, 150, 250);
+    Ok(())
+}
+
+// What such a driver shows then, and after it was reset.
+fn reset(rt: &impl Abort, alloc: Global, driver: &mut Driver) -> Result<(), NoMemory> {
+    let twice = Shown {
+        moments: &[50, 150],
+        last: "(1, 1)",
+        next_start: Some(250),
+        view: "(2, 2)",
+    };
+    assert_shows(rt, alloc, driver, &twice)?;
+    let last = driver.last().expect(rt, "an output was given");
+    assert!(rt; last.same(&last.copy(alloc)?));
+    driver.reset();
+    assert_fresh(rt, driver);
+    goes(rt, alloc, driver, 10, 110);
+    Ok(())
+}
+
+// Asserts what it shows after that, and that its plan is still that one.
+fn assert_reset(rt: &impl Abort, alloc: Global, driver: &Driver) -> Result<(), Fail> {
+    let again = Shown {
+        moments: &[10],
+        last: "(0, 0)",
+        next_start: Some(110),
+        view: "(1, 1)",
+    };
+    assert_shows(rt, alloc, driver, &again)?;
+    assert_plan(rt, driver, spaced_recurs(alloc))
+}
+
+fn all_of_it(rt: &impl Abort, alloc: Global, driver: &mut Driver) -> Result<(), Fail> {
+    drive(rt, alloc, driver)?;
+    reset(rt, alloc, driver)?;
+    assert_reset(rt, alloc, driver)
+}
+
+// The same with one lock for each half, and with the driver out of its cell at the end.
+fn through_a_cell(rt: &(impl Abort + Wait), alloc: Global, driver: Driver) -> Result<(), Fail> {
+    let cell = DriverCell::new(driver);
+    drive(rt, alloc, &mut cell.enter(rt))?;
+    reset(rt, alloc, &mut cell.enter(rt))?;
+    assert_reset(rt, alloc, &cell.into_driver())
+}
+
+#[test]
+fn driver_steps_its_plan_and_begins_again(rt: HostRuntime) -> Result<(), Fail> {
+    let alloc = rt.alloc();
+    all_of_it(&rt, alloc, &mut driver_of(alloc, spaced_recurs(alloc))?)?;
+    all_of_it(&rt, alloc, &mut driver_of(alloc, copied(&rt, alloc))?)
+}
+
+#[test]
+fn cell_leads_to_its_driver(rt: HostRuntime) -> Result<(), Fail> {
+    let alloc = rt.alloc();
+    through_a_cell(&rt, alloc, driver_of(alloc, spaced_recurs(alloc))?)?;
+    through_a_cell(&rt, alloc, driver_of(alloc, copied(&rt, alloc))?)
+}
+
+fn nine(rt: &impl Abort) -> Val {
+    Val::num(9).expect(rt, "the number is in range")
+}
+
+// Asserts that one more event, with an input and words of its own, is done with this output.
+fn is_done(
+    rt: &impl Abort,
+    alloc: Global,
+    driver: &mut Driver,
+    output: &str,
+) -> Result<(), NoMemory> {
+    let tick = Tick {
+        now: moment(rt, 7),
+        words: [1, 2, 3, 4],
+    };
+    assert_eq!(rt; driver.next(alloc, tick, nine(rt)), Ok(Decision::Done));
+    assert!(rt; driver.next_start().is_none());
+    assert_last(rt, alloc, driver, output)
+}
+
+// Asserts that the journal has so many of these events.
+fn assert_kept(rt: &impl Abort, journal: &[Event], events: usize) {
+    assert_eq!(rt; journal.len(), events);
+    for event in journal {
+        assert_eq!(rt; event.now, moment(rt, 7));
+        assert_eq!(rt; event.words, [1, 2, 3, 4]);
+        assert!(rt; event.input.same(&nine(rt)));
+    }
+}
+
+// Asserts that each of two such events is done, and kept.
+fn is_done_twice(rt: &impl Abort, alloc: Global, driver: &mut Driver) -> Result<(), NoMemory> {
+    is_done(rt, alloc, driver, "0")?;
+    assert_kept(rt, driver.journal(), 1);
+    is_done(rt, alloc, driver, "1")?;
+    assert_kept(rt, driver.journal(), 2);
+    Ok(())
+}
+
+#[test]
+fn steps_after_done_and_keeps_what_it_was_given(rt: HostRuntime) -> Result<(), Fail> {
+    let alloc = rt.alloc();
+    is_done_twice(&rt, alloc, &mut driver_of(alloc, Plan::recurs(0))?)?;
+    Ok(())
+}
+
+// Asserts what the full journal of a driver of `forever` refuses.
+fn assert_full(rt: &impl Abort, alloc: Global, driver: &mut Driver) -> Result<(), NoMemory> {
+    refuses(rt, alloc, driver, 5, DriveFault::JournalFull);
+    let floor = moment(rt, 5);
+    refuses(rt, alloc, driver, 4, DriveFault::Backwards { floor });
+    assert_eq!(rt; driver.journal().len(), 65536);
+    assert_last(rt, alloc, driver, "65535")
+}
+
+// Fills the journal of such a driver, and resets it.
+fn fill(rt: &impl Abort, alloc: Global, driver: &mut Driver) -> Result<(), NoMemory> {
+    assert_eq!(rt; MOST_EVENTS, 65536);
+    for _ in 0..65536 {
+        goes(rt, alloc, driver, 5, 5);
+    }
+    assert_full(rt, alloc, driver)?;
+    driver.reset();
+    goes(rt, alloc, driver, 0, 0);
+    Ok(())
+}
+
+#[test]
+fn journal_ends_at_65536(rt: HostRuntime) -> Result<(), Fail> {
+    let alloc = rt.alloc();
+    fill(&rt, alloc, &mut driver_of(alloc, Plan::forever())?)?;
+    Ok(())
+}
