@@ -1,0 +1,4 @@
+pub mod Places
+pub mod PlanFaults
+pub mod Below
+pub mod Checked
