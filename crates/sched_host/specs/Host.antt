@@ -1,7 +1,9 @@
 -- What a host is to do for a retry, and one call on it.
-use Rattle.std.specs.Prelude.{◌≡◌, ℕ, ◌<◌, ◌≤◌, Bool, true, false, not, ◌&&◌, if◌then◌else◌, List, ◌++◌, Option, Some, None, is_some, IfSome, IsSomeAnd}
+use Rattle.std.specs.Prelude.{◌≡◌, ℕ, ◌<◌, ◌≤◌, Bool, true, false, not, ◌&&◌, if◌then◌else◌}
+use Rattle.std.specs.Prelude.{List, ◌++◌, Option, Some, None, is_some, IfSome, IsSomeAnd}
 use Rattle.sched_time.specs.declared.numbers.Tick.{Tick}
 use Rattle.sched_driver.specs.Driven.{next_start_of}
+use Rattle.sched_draws.specs.Grants.{Grants}
 use Rattle.sched_effect.specs.declared.ran.Ran.{Ran}
 use Rattle.sched_task.specs.declared.endings.How.{How}
 use Rattle.sched_task_law.specs.Kind.{retry}
@@ -33,9 +35,10 @@ Rests v now true = IsSomeAnd (waits_for v) (λ m. now < m)
 Rests v now false = IfSome (waits_for v) (λ m. m ≤ now)
 
 -- One poll of a retry, in which the runs that finish are those that the host told.
-pub record HostPoll (v : Retrying) (t : Tick) (told : List Ran) (u : Retrying) : Type 0 where
-  pub poll : RetryPoll retry v t (is_some u.past.over) u
-  pub runs : u.past.runs ≡ v.past.runs ++ told
+module _ {D : Type 0} (grants : Grants D) where
+  pub record HostPoll (v : Retrying D) (t : Tick) (told : List Ran) (u : Retrying D) : Type 0 where
+    pub poll : RetryPoll grants retry v t (is_some u.past.over) u
+    pub runs : u.past.runs ≡ v.past.runs ++ told
 
 -- what a host tells of a run is its code
 abbrev pub by_code : ℕ → ℕ

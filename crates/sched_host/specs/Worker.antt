@@ -20,5 +20,6 @@ SplitFails v w Fixed = ⊥
 -- a budget is not closed for this reason: the worker comes back as it was, or with its pass marked as one of several
 abbrev pub CloseFails : Share → CloseFault → Type 0
 CloseFails s (close.PassesOut t) =
-    (t.budget ≡ s.budget) × (t.pass.table ≡ s.pass.table) × ((t.pass.has ≡ s.pass.has) ⊎ (t.pass.has ≡ with_mark s.pass.has Shared))
+    (t.budget ≡ s.budget) × (t.pass.table ≡ s.pass.table)
+    × ((t.pass.has ≡ s.pass.has) ⊎ (t.pass.has ≡ with_mark s.pass.has Shared))
 CloseFails s close.NoMemory = Unit {0}

@@ -1,6 +1,6 @@
 //! Retries whose runs the host makes.
-ghost use Rattle.std.specs.Prelude.{◌≡◌, ◌<◌, [], ◌∷◌, ◌++◌, true, false, None, is_some, MatchBool, length};
-ghost use Rattle.sched_ticket.specs.Held.{IsOf};
+ghost use Rattle.std.specs.Prelude.{◌≡◌, ◌+◌, ◌<◌, [], ◌∷◌, ◌++◌, true, false, None};
+ghost use Rattle.std.specs.Prelude.{is_some, MatchBool};
 ghost use Rattle.sched_task_law.specs.Kind.{retry};
 ghost use Rattle.sched_task_law.specs.Past.{nothing_yet, is_under_way};
 ghost use Rattle.sched_retry.specs.Comes.{Comes};
@@ -8,15 +8,14 @@ ghost use Rattle.sched_retry.specs.Retrying.{RetryLaw, gives_up};
 ghost use Rattle.sched_host.specs.Host.{HostPoll, hears, next_of, Rests, by_code};
 
 use crate::runs::HostRuns;
+use sched_draws::Draws;
 use sched_driver::Driver;
 use sched_effect::Ran;
 use sched_retry::Ending;
 use sched_task::{How, RunFault};
-use sched_ticket::{Budget, Pass};
 use sched_time::{Millis, Moment, Tick};
 use std::alloc::Global;
 use std::marker::Model;
-use std::sync::Arc;
 
 /// What a host is to do for a retry.
 #[derive(Clone, Copy, Debug, PartialEq, Eq)]
@@ -31,53 +30,52 @@ pub enum Next {
     Over(How),
 }
 
-/// A call that a host runs until it succeeds, again after each failure as the driver's schedule says, with a ticket of the
-/// budget for each retry. The retry only says when to run it and when to wait, and is told how each run went.
+/// A call that a host runs until it succeeds, again after each failure as the driver's schedule says, with a ticket for
+/// each retry. The retry only says when to run it and when to wait, and is told how each run went.
 #[derive(Drop)]
-pub struct HostRetry {
+pub struct HostRetry<D: Draws> {
     runs: HostRuns,
     over: Option<How>,
-    pass: Pass,
-    budget: Arc<Budget>,
+    drawing: D,
+    had: u64,
 }
 
-impl Model for HostRetry {
+impl<D: Draws> Model for HostRetry<D> {
     ghost use Rattle.sched_task_law.specs.Kind.{retry};
     ghost use Rattle.sched_retry.specs.Retrying.{Retrying, coded_retrying, RetryLaw};
     ghost use Rattle.sched_host.specs.Hosted.{hosted};
 
-    ghost Value = { Retrying };
+    ghost Value = { Retrying D };
 
-    ghost coded = { coded_retrying };
+    ghost coded = { coded_retrying D.code };
 
-    ghost view = { λ r. hosted r.runs r.over r.pass r.budget.value };
+    ghost view = { λ r. hosted D.grants r.runs r.over r.drawing r.had };
 
-    ghost invariant = { λ r. RetryLaw retry (hosted r.runs r.over r.pass r.budget.value) };
+    ghost invariant = { λ r. RetryLaw D.grants retry (hosted D.grants r.runs r.over r.drawing r.had) };
 }
 
-impl HostRetry {
-    /// A retry that has not begun. It takes no memory.
-    pub fn new(alloc: Global, driver: Driver, pass: Pass, budget: Arc<Budget>) -> HostRetry
+impl<D: Draws> HostRetry<D> {
+    /// A retry that has not begun, and that draws its tickets by this value. It takes no memory.
+    pub fn new(alloc: Global, driver: Driver, drawing: D) -> HostRetry<D>
         requires journal { driver.journal ≡ [] }
-        requires pass { pass.has.tickets ≡ [] }
-        requires of { IsOf budget.value pass }
         ensures past { result.past ≡ nothing_yet driver.plan }
-        ensures pass { result.pass ≡ pass }
-        ensures budget { result.budget ≡ budget.value }
+        ensures drawing { result.drawing ≡ drawing }
+        ensures had { result.had ≡ D.grants.granted drawing }
         ensures untaken { result.untaken ≡ false }
     {
+        let had = drawing.granted();
         HostRetry {
             runs: HostRuns::new(alloc, driver),
             over: None,
-            pass,
-            budget,
+            drawing,
+            had,
         }
     }
 
     /// Begins a run at the tick, where none is under way, the retry is not over and waits for no later moment. Where
     /// there is no memory to note it, the retry ends as `Broken`.
     pub fn poll(&mut self, tick: &Tick)
-        ensures { HostPoll self.old tick.entry.now [] self.new }
+        ensures { HostPoll D.grants self.old tick.entry.now [] self.new }
     {
         if self.over.is_some() {
             return;
@@ -91,14 +89,15 @@ impl HostRetry {
         }
     }
 
-    /// Ends the run under way as it went, and answers whether there was one: of a retry that is over, or has no run under
-    /// way, nothing changes.
+    /// Ends the run under way as it went, and answers whether there was one: of a retry that is over, or has no run
+    /// under way, nothing changes.
     ///
     /// A success ends the retry. A failure steps the schedule; where that goes on, a ticket is drawn, and with one the
     /// retry waits for the start planned. A refused step ends it as `Broken`.
     pub fn report(&mut self, alloc: Global, tick: &Tick, ran: Ran) -> bool
         ensures heard { result ≡ hears self.old.past }
-        ensures told { MatchBool result (HostPoll self.old tick.entry.now (ran ∷ []) self.new) (self.new ≡ self.old) }
+        ensures told { MatchBool result
+            (HostPoll D.grants self.old tick.entry.now (ran ∷ []) self.new) (self.new ≡ self.old) }
     {
         if self.over.is_some() {
             return false;
@@ -107,8 +106,8 @@ impl HostRetry {
             return false;
         }
         let runs = &mut self.runs;
-        let pass = &mut self.pass;
-        match end_run(alloc, runs, pass, &self.budget, tick, ran) {
+        let drawing = &mut self.drawing;
+        match end_run(alloc, runs, drawing, tick, ran) {
             None => {}
             Some(ending) => self.over = Some(ending.how()),
         }
@@ -118,7 +117,7 @@ impl HostRetry {
     /// What the host is to do. Whenever it is asked, the law of a retry holds.
     pub fn next(&self) -> Next
         ensures next { result ≡ next_of self.now.past }
-        ensures law { RetryLaw retry self.now }
+        ensures law { RetryLaw D.grants retry self.now }
     {
         if let Some(how) = self.over {
             return Next::Over(how);
@@ -162,30 +161,29 @@ impl HostRetry {
         self.runs.driver()
     }
 
-    /// How many tickets it was granted: those of its pass.
+    /// How many tickets it was granted, without those of earlier retries.
     pub fn granted(&self) -> u64
         ensures granted { result ≡ self.now.past.granted }
-        ensures tickets { result ≡ length self.now.pass.has.tickets }
+        ensures tickets { self.now.had + result ≡ D.grants.granted self.now.drawing }
     {
-        self.pass.count()
+        self.drawing.granted() - self.had
     }
 
-    /// The driver, how the runs went, the pass and the budget.
-    pub fn into_parts(self) -> (Driver, Vec<Ran>, Pass, Arc<Budget>)
+    /// The driver, how the runs went, and what it drew by, with all its tickets.
+    pub fn into_parts(self) -> (Driver, Vec<Ran>, D)
         ensures driver { result.0 ≡ self.past.driver }
         ensures runs { result.1.items ≡ self.past.runs }
-        ensures pass { result.2 ≡ self.pass }
-        ensures budget { result.3.value ≡ self.budget }
-        ensures of { IsOf result.3.value result.2 }
+        ensures drawing { result.2 ≡ self.drawing }
+        ensures stands { D.grants.stands result.2 }
     {
         let HostRetry {
             runs,
             over: _,
-            pass,
-            budget,
+            drawing,
+            had: _,
         } = self;
         let (driver, runs) = runs.into_parts();
-        (driver, runs, pass, budget)
+        (driver, runs, drawing)
     }
 
     // Whether it waits for a moment after this one.
@@ -200,21 +198,21 @@ impl HostRetry {
     }
 }
 
-// Ends the run under way as it went. A failure steps the schedule, and draws a ticket where it goes on. Answers the ending
-// that this comes to, by codes, or `None` where the retry goes on.
-fn end_run(
+// Ends the run under way as it went. A failure steps the schedule, and draws a ticket where it goes on. Answers the
+// ending that this comes to, by codes, or `None` where the retry goes on.
+fn end_run<D: Draws>(
     alloc: Global,
     runs: &mut HostRuns,
-    pass: &mut Pass,
-    budget: &Budget,
+    drawing: &mut D,
     tick: &Tick,
     ran: Ran,
 ) -> Option<Ending<Millis, Millis>>
     requires under_way { is_under_way runs.old.runs runs.old.begun ≡ true }
-    requires of { IsOf budget.now pass.old }
-    ensures of { IsOf budget.now pass.new }
+    requires stands { D.grants.stands drawing.old }
+    ensures stands { D.grants.stands drawing.new }
     ensures told { runs.new.runs ≡ runs.old.runs ++ ran ∷ [] }
-    ensures comes { Comes by_code by_code runs.old pass.old tick.entry.now result runs.new pass.new }
+    ensures comes { Comes D.grants by_code by_code
+        runs.old drawing.old tick.entry.now result runs.new drawing.new }
 {
     runs.finish(ran);
     match &ran {
@@ -222,10 +220,13 @@ fn end_run(
         Ran::Lost(code) => match runs.step(alloc, tick, *code) {
             Err(cause) => Some(Ending::Broken(cause)),
             Ok(None) => Some(Ending::ScheduleDone(*code)),
-            Ok(Some(_)) => match pass.draw(budget) {
-                Some(_) => None,
-                None => Some(Ending::BudgetRefused(*code)),
-            },
+            Ok(Some(_)) => {
+                if drawing.draw(tick.now) {
+                    None
+                } else {
+                    Some(Ending::BudgetRefused(*code))
+                }
+            }
         },
     }
 }

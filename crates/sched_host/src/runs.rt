@@ -1,5 +1,6 @@
 //! The driver of a retry, with the runs that its host was told to begin and that it reported.
-ghost use Rattle.std.specs.Prelude.{◌≡◌, ◌++◌, [], ◌∷◌, true, false, None, if◌then◌else◌, is_none, IfOk, IfErr, OnOk, OnErr};
+ghost use Rattle.std.specs.Prelude.{◌≡◌, ◌++◌, [], ◌∷◌, true, false, None, if◌then◌else◌};
+ghost use Rattle.std.specs.Prelude.{is_none, IfOk, IfErr, OnOk, OnErr};
 ghost use Rattle.sched_plan.specs.Datum.{num};
 ghost use Rattle.sched_step.specs.StateOf.{event_of};
 ghost use Rattle.sched_driver.specs.Driven.{next_start_of, after};
@@ -16,8 +17,8 @@ use sched_time::{Millis, Moment, NoMemory, Tick};
 use std::alloc::Global;
 use std::marker::Model;
 
-/// A driver, how the reported runs went, and the moments at which runs were begun. While a run is under way there is room
-/// for its outcome.
+/// A driver, how the reported runs went, and the moments at which runs were begun. While a run is under way there is
+/// room for its outcome.
 #[derive(Drop)]
 pub(crate) struct HostRuns {
     driver: Driver,
@@ -84,7 +85,8 @@ impl HostRuns {
 
     /// The start planned last, where no run is under way.
     pub(crate) fn due(&self) -> Option<Moment>
-        ensures { result ≡ (if is_under_way self.now.runs self.now.begun then None else next_start_of self.now.driver) }
+        ensures { result ≡
+            (if is_under_way self.now.runs self.now.begun then None else next_start_of self.now.driver) }
     {
         if self.is_under_way() {
             None

@@ -1,5 +1,6 @@
 //! A budget as one worker holds it.
-ghost use Rattle.std.specs.Prelude.{◌≡◌, ◌+◌, ◌<◌, ◌≤◌, true, false, length, min, None, IfOk, IfErr, OnOk, IfSome, IfNone};
+ghost use Rattle.std.specs.Prelude.{◌≡◌, ◌+◌, ◌<◌, ◌≤◌, true, false, length, min, None};
+ghost use Rattle.std.specs.Prelude.{IfOk, IfErr, OnOk, IfSome, IfNone};
 ghost use Rattle.sched_ticket.specs.View.{terms, first_view, part_of, with_split, both};
 ghost use Rattle.sched_ticket.specs.Steps.{IsSound};
 ghost use Rattle.sched_ticket.specs.Held.{IsOf};
@@ -22,11 +23,9 @@ pub struct Worker {
 }
 
 impl Model for Worker {
-    ghost use Rattle.sched_host.specs.Share.{Share, coded_share};
+    ghost use Rattle.sched_host.specs.Share.{Share};
 
     ghost Value = { Share };
-
-    ghost coded = { coded_share };
 
     ghost use Rattle.sched_ticket.specs.Held.{IsOf};
 
@@ -113,8 +112,8 @@ impl Worker {
         self.pass.draw(&self.budget)
     }
 
-    /// A worker of the same budget, which has no ticket. `TooManyPasses` where 65,536 passes were counted of this budget,
-    /// and `NoMemory` where it has as many workers as can be counted. The tickets of this one stay.
+    /// A worker of the same budget, which has no ticket. `TooManyPasses` where 65,536 passes were counted of this
+    /// budget, and `NoMemory` where it has as many workers as can be counted. The tickets of this one stay.
     pub fn split(&mut self) -> Result<Worker, TicketFault>
         ensures budget { self.new.budget ≡ self.old.budget }
         ensures ok { IfOk result (λ w. (w.budget ≡ self.old.budget) × (w.pass.has ≡ part_of self.old.pass.has)) }
@@ -162,7 +161,8 @@ impl Worker {
         ensures count { IfOk result (λ n. n ≡ length self.pass.has.tickets) }
         ensures whole { OnOk result (IsWhole self.budget.terms self.pass.has) }
         ensures fixed { IfOk result (λ n. self.budget.terms.rises ≡ false →
-            (n ≡ min (n + length self.pass.has.refusals) self.budget.terms.limit) × AreBelow self.pass.has.tickets n) }
+            (n ≡ min (n + length self.pass.has.refusals) self.budget.terms.limit)
+            × AreBelow self.pass.has.tickets n) }
         ensures err { IfErr result (CloseFails self) }
     {
         let Worker { pass, budget } = self;
