@@ -7,6 +7,7 @@ use Rattle.sched_driver.specs.Driven.{next_start_of}
 use Rattle.sched_task.specs.declared.endings.How.{How}
 use Rattle.sched_task.specs.declared.endings.How.TheVariants.{Won, ScheduleDone, BudgetRefused, Failed, Cancelled, Broken}
 use Rattle.sched_ticket.specs.Held.{Name}
+use Rattle.sched_draws.specs.Budgets.{OfBudget, budget_grants}
 use Rattle.sched_task_law.specs.Kind.{Kind, retry}
 use Rattle.sched_task_law.specs.Past.{Past, schedule_is_done, is_under_way, waits_for}
 use Rattle.sched_task_law.specs.Poll.{Happened, stays, cannot_begin, runs_on, cannot_run, ends, breaks, stops_done, stops_denied, recurs, asks, cannot_ask, falls, May, after}
@@ -36,17 +37,20 @@ stays_over kind v t asks may over = absurd (none_is v.over may.unended over)
 stays_over kind v t cannot_ask may over = absurd (none_is v.over may.unended over)
 stays_over kind v t falls may over = absurd (none_is v.over may.unended over)
 
-pub polled : (b : Name) (v u : Retrying) (t : Tick) (ready : Bool) → IsJob b v → RetryPoll retry v t ready u → IsJob b u
+pub polled : (b : Name) (v u : Retrying OfBudget) (t : Tick) (ready : Bool) →
+    IsJob b v → RetryPoll budget_grants retry v t ready u → IsJob b u
 polled b v u t ready job poll = record {
   of = poll.budget ∙ job.of;
+  had = poll.had ∙ job.had;
   untaken = by_test (is_some v.past.over)
       (λ yes. poll.untaken ∙ rw yes (job.untaken ∙ ap (λ (w : Past). is_some w.over) (sym (poll.poll.leaves ∙ stays_over retry v.past t poll.poll.happened poll.poll.may yes))))
       (λ no. poll.untaken ∙ rw no poll.poll.ready_is);
 }
 
-pub cancels : (b : Name) (v : Retrying) → IsJob b v → IsJob b (gives_up v)
+pub cancels : (b : Name) (v : Retrying OfBudget) → IsJob b v → IsJob b (gives_up v)
 cancels b v job = record {
   of = job.of;
+  had = job.had;
   untaken = by_test (is_some v.past.over) (λ yes. rw yes (job.untaken ∙ yes ∙ sym yes)) (λ no. rw no refl);
 }
 
@@ -73,9 +77,14 @@ denied_by v (Some Failed) ended = absurd (let bad = ended.0 in cc)
 denied_by v (Some Cancelled) ended = (or_false v.denied (schedule_is_done v.driver) (ended refl)).0
 denied_by v (Some (Broken fault)) ended = (or_false v.denied (schedule_is_done v.driver) (ended.0 refl)).0
 
+-- the tickets of a pass that had none before are those that the retry was granted
+pub all_granted : (v : Retrying OfBudget) → v.had ≡ 0 → RetryLaw budget_grants retry v →
+    length v.drawing.pass.has.tickets ≡ v.past.granted
+all_granted v had law = omega (arith, law.granted, had)
+
 -- what is left of a retry says what it has done
-pub end_is : (v : Retrying) → RetryLaw retry v →
-    ended v.past.driver v.past.runs v.past.begun v.past.over (length v.pass.has.tickets) ≡ v.past
-end_is v law =
-    ap (λ n. ended v.past.driver v.past.runs v.past.begun v.past.over n) (sym law.granted)
+pub end_is : (v : Retrying OfBudget) → v.had ≡ 0 → RetryLaw budget_grants retry v →
+    ended v.past.driver v.past.runs v.past.begun v.past.over (length v.drawing.pass.has.tickets) ≡ v.past
+end_is v had law =
+    ap (λ n. ended v.past.driver v.past.runs v.past.begun v.past.over n) (all_granted v had law)
     ∙ ap (λ b. record v.past { denied = b }) (sym (denied_by v.past v.past.over law.law.ended))

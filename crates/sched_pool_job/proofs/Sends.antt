@@ -4,19 +4,19 @@ use Rattle.std.proofs.Crossing.{crosses}
 use Rattle.sched_driver.proofs.Sends.{driver_sends}
 use Rattle.sched_ticket.proofs.pass.Pass.TheSendSync as pass
 use Rattle.sched_ticket.proofs.budget.Budget.TheSendSync as budget
+use Rattle.sched_draws.specs.contracts.on_budget.OnBudget as OnBudget
 use Rattle.sched_task_law.specs.contracts.runner.Runner as Runner
-use Rattle.sched_retry.specs.contracts.endings.Ending as Ending
 use Rattle.sched_retry.specs.contracts.retry.Retry as Retry
 use Rattle.sched_pool_job.specs.contracts.jobs.Job as Job
-
-ending_sends : (I F : _) → IsSend I → IsSend F → IsSend (Ending.the_row I F)
-ending_sends I F i f = search (sendable, crosses) depth 60
 
 runner_sends : (X I F : _) (e ic fc : _) → IsSend X → IsSend (Runner.the_row X I F e ic fc)
 runner_sends X I F e ic fc x = search (sendable, crosses, driver_sends) depth 60
 
-retry_sends : (κ : _) (X I F : _) (e ic fc : _) → IsSend X → IsSend I → IsSend F → IsSend (Retry.the_row κ X I F e ic fc)
-retry_sends κ X I F e ic fc x i f = search (sendable, crosses, runner_sends, ending_sends, pass.the_send, budget.the_sync) depth 60
+drawing_sends : (B : _) (r : _) → IsSend B → IsSend (OnBudget.the_row B r)
+drawing_sends B r b = search (sendable, crosses, pass.the_send) depth 60
+
+retry_sends : (X D I F : _) (e ic fc d : _) → IsSend X → IsSend D → IsSend I → IsSend F → IsSend (Retry.the_row X D I F e ic fc d)
+retry_sends X D I F e ic fc d x sd i f = search (sendable, crosses, runner_sends) depth 60
 
 pub job_sends : (κ : _) (X N I F : _) (e ic fc n : _) → IsSend X → IsSend N → IsSend I → IsSend F → IsSend (Job.the_row κ X N I F e ic fc n)
-job_sends κ X N I F e ic fc n x sn i f = search (sendable, crosses, retry_sends) depth 60
+job_sends κ X N I F e ic fc n x sn i f = search (sendable, crosses, retry_sends, drawing_sends, budget.the_sync) depth 60

@@ -1,14 +1,22 @@
 -- What is true of a job whenever its lock is free, and of what it shows.
-use Rattle.std.specs.Prelude.{◌≡◌, ◌+◌, ◌<◌, None, is_some, IfSome}
+use Rattle.std.specs.Prelude.{◌≡◌, ℕ, ◌+◌, ◌<◌, None, is_some, IfSome}
+use Rattle.std.specs.Coded.{Coded, coded_ℕ}
 use Rattle.sched_ticket.specs.Held.{Name}
+use Rattle.sched_draws.specs.Budgets.{OfBudget}
+use Rattle.sched_draws.specs.declared.on_budget.OnBudget.{the_code}
 use Rattle.sched_task_law.specs.Past.{bit}
 use Rattle.sched_task_law.specs.Law.{is_stop}
 use Rattle.sched_retry.specs.Retrying.{Retrying}
 use Rattle.sched_pool_job.specs.declared.sights.Seen.{Seen}
 
--- the retry draws on this budget, and its ending is there where it is over
-pub record IsJob (budget : Name) (v : Retrying) : Type 0 where
-  pub of : v.budget ≡ budget
+-- the code of a budget with a pass of it, whatever refers to the budget
+abbrev pub coded_of_budget : Coded OfBudget
+coded_of_budget = the_code ℕ coded_ℕ
+
+-- the retry draws on this budget, its pass had no ticket before it, and its ending is there where it is over
+pub record IsJob (budget : Name) (v : Retrying OfBudget) : Type 0 where
+  pub of : v.drawing.budget ≡ budget
+  pub had : v.had ≡ 0
   pub untaken : v.untaken ≡ is_some v.past.over
 
 -- what a job shows

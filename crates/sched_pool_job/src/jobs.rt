@@ -10,10 +10,11 @@ ghost use Rattle.sched_pool_job.specs.Ends.{IsRefusedBy};
 use crate::ends::JobEnd;
 use crate::sights::Seen;
 use futures::task::{Context, Poll};
+use sched_draws::OnBudget;
 use sched_effect::Effect;
 use sched_retry::Retry;
 use sched_task::{How, Task};
-use sched_ticket::{Naming, Pass};
+use sched_ticket::{Budget, Naming, Pass};
 use sched_time::{Moment, Tick};
 use std::alloc::Global;
 use std::marker::{Model, PhantomData};
@@ -21,17 +22,18 @@ use std::marker::{Model, PhantomData};
 /// A retry that draws on the budget `N`, and whose ending is taken with the job alone.
 #[derive(Drop)]
 pub struct Job<'a, X: Effect, N: Naming> {
-    retry: Retry<'a, X>,
+    retry: Retry<X, OnBudget<&'a Budget>>,
     name: PhantomData<N>,
 }
 
 impl<'a, X: Effect, N: Naming> Model for Job<'a, X, N> {
+    ghost use Rattle.sched_draws.specs.Budgets.{OfBudget};
     ghost use Rattle.sched_retry.specs.Retrying.{Retrying, coded_retrying};
-    ghost use Rattle.sched_pool_job.specs.Jobs.{IsJob};
+    ghost use Rattle.sched_pool_job.specs.Jobs.{IsJob, coded_of_budget};
 
-    ghost Value = { Retrying };
+    ghost Value = { Retrying OfBudget };
 
-    ghost coded = { coded_retrying };
+    ghost coded = { coded_retrying coded_of_budget };
 
     ghost view = { λ j. j.retry };
 
@@ -39,9 +41,10 @@ impl<'a, X: Effect, N: Naming> Model for Job<'a, X, N> {
 }
 
 impl<'a, X: Effect, N: Naming> Job<'a, X, N> {
-    /// A job of this retry. It takes no memory.
-    pub fn new(retry: Retry<'a, X>) -> Job<'a, X, N>
-        requires of { retry.budget ≡ N.budget }
+    /// A job of this retry, whose pass had no ticket before it. It takes no memory.
+    pub fn new(retry: Retry<X, OnBudget<&'a Budget>>) -> Job<'a, X, N>
+        requires of { retry.drawing.budget ≡ N.budget }
+        requires had { retry.had ≡ 0 }
         requires untaken { retry.untaken ≡ is_some retry.past.over }
         ensures { result ≡ retry.entry }
     {
@@ -70,7 +73,7 @@ impl<'a, X: Effect, N: Naming> Job<'a, X, N> {
     /// Its end, and the pass with the tickets that it was granted.
     pub fn into_end(self) -> (JobEnd<X>, Pass)
         ensures end { result.0 ≡ self.entry.past }
-        ensures pass { result.1 ≡ self.entry.pass }
+        ensures pass { result.1 ≡ self.entry.drawing.pass }
         ensures of { IsOf N.budget result.1 }
         ensures granted { result.0.granted ≡ length result.1.has.tickets }
         ensures refused { IsRefusedBy result.1 result.0 }
@@ -85,13 +88,14 @@ impl<'a, X: Effect, N: Naming> Task for Job<'a, X, N> {
     ghost use Rattle.std.specs.Prelude.{◌≡◌};
     ghost use Rattle.sched_task_law.specs.Kind.{retry};
     ghost use Rattle.sched_task_law.specs.Past.{waits_for as start_of, waits_for-over};
+    ghost use Rattle.sched_draws.specs.Budgets.{budget_grants};
     ghost use Rattle.sched_retry.specs.Retrying.{RetryPoll, gives_up as given_up};
 
     ghost ended = { λ v. v.past.over };
 
     ghost waits_for = { λ v. start_of v.past };
 
-    ghost one_poll = { RetryPoll retry };
+    ghost one_poll = { RetryPoll budget_grants retry };
 
     ghost gives_up = { λ v u. u ≡ given_up v };
 
