@@ -1,8 +1,7 @@
 //! Retries with a fallback.
-ghost use Rattle.std.specs.Prelude.{◌≡◌, ◌<◌, ◌≤◌, false, [], length, is_some, IfSome, IsSomeAnd, MatchBool};
+ghost use Rattle.std.specs.Prelude.{◌≡◌, ◌+◌, ◌<◌, ◌≤◌, false, [], is_some, IfSome, IsSomeAnd, MatchBool};
 ghost use Rattle.futures.specs.Task.{Keeps};
 ghost use Rattle.sched_task.specs.Polls.{is_ready};
-ghost use Rattle.sched_ticket.specs.Held.{IsOf};
 ghost use Rattle.sched_task_law.specs.Past.{nothing_yet, waits_for};
 ghost use Rattle.sched_task_law.specs.Poll.{CanRun};
 ghost use Rattle.sched_retry_or.specs.Falling.{FallingLaw, FallingPoll, gives_up};
@@ -12,96 +11,94 @@ use crate::endings::RetryOrEnding;
 use crate::stopped::Stopped;
 use crate::stops::{ask, or_stopped};
 use futures::task::{Context, Poll};
+use sched_draws::Draws;
 use sched_driver::Driver;
 use sched_effect::{Coded, Effect, Fallback};
 use sched_retry::poll_attempt;
 use sched_task::{How, Task};
 use sched_task_law::Runner;
-use sched_ticket::{Budget, Pass};
 use sched_time::{Moment, Tick};
 use std::alloc::Global;
 use std::marker::Model;
 
-/// A retry that asks a fallback where its schedule is done or the budget has no ticket, and answers what that gives.
+/// A retry that asks a fallback where its schedule is done or it is refused a ticket, and answers what that gives.
 #[derive(Drop)]
-pub struct RetryOr<'a, X: Effect, F: Fallback<X>> {
+pub struct RetryOr<X: Effect, D: Draws, F: Fallback<X>> {
     runner: Runner<X>,
     over: Option<How>,
     stopped: Option<Stopped<X::Fault>>,
     ending: Option<RetryOrEnding<X::Item, X::Fault>>,
-    pass: Pass,
-    budget: &'a Budget,
+    drawing: D,
+    had: u64,
     fallback: F,
 }
 
-impl<'a, X: Effect, F: Fallback<X>> Model for RetryOr<'a, X, F> {
-    ghost use Rattle.std.specs.Prelude.{length, is_some, IfSome};
+impl<X: Effect, D: Draws, F: Fallback<X>> Model for RetryOr<X, D, F> {
+    ghost use Rattle.std.specs.Prelude.{◌-◌, is_some, IfSome};
     ghost use Rattle.sched_task_law.specs.Runner.{past_of};
     ghost use Rattle.sched_retry.specs.Retrying.{retrying};
     ghost use Rattle.sched_retry_or.specs.Falling.{Falling, coded_falling, FallingLaw, KeepsStop};
     ghost use Rattle.sched_retry_or.specs.Stops.{stops_refused};
 
-    ghost Value = { Falling };
+    ghost Value = { Falling D };
 
-    ghost coded = { coded_falling };
+    ghost coded = { coded_falling D.code };
 
     ghost use Rattle.sched_retry_or.specs.Ending.{RetryOrFits};
 
     ghost view = { λ r. record {
-      retrying = retrying r.runner r.over (stops_refused r.stopped) r.pass r.budget.now (is_some r.ending);
+      retrying = retrying D.grants r.runner r.over (stops_refused r.stopped) r.drawing r.had (is_some r.ending);
       asked = F.asked r.fallback;
       answered = F.answered r.fallback;
     } };
 
-    ghost invariant = { λ r. FallingLaw record {
-      retrying = retrying r.runner r.over (stops_refused r.stopped) r.pass r.budget.now (is_some r.ending);
+    ghost invariant = { λ r. FallingLaw D.grants record {
+      retrying = retrying D.grants r.runner r.over (stops_refused r.stopped) r.drawing r.had (is_some r.ending);
       asked = F.asked r.fallback;
       answered = F.answered r.fallback;
     }
         × IfSome r.ending (RetryOrFits X.Item.coded X.Fault.coded r.over r.runner.runs (F.answered r.fallback))
         × KeepsStop X.Fault.coded
-        (past_of r.runner r.over (stops_refused r.stopped) (length r.pass.has.tickets)) r.stopped };
+        (past_of r.runner r.over (stops_refused r.stopped) (D.grants.granted r.drawing - r.had)) r.stopped };
 }
 
-impl<'a, X: Effect, F: Fallback<X>> RetryOr<'a, X, F> {
-    /// A retry that has not begun, with its fallback. It takes no memory.
+impl<X: Effect, D: Draws, F: Fallback<X>> RetryOr<X, D, F> {
+    /// A retry that has not begun, that draws its tickets by this value, with its fallback. It takes no memory.
     pub fn new(
         alloc: Global,
         effect: X,
         driver: Driver,
-        pass: Pass,
-        budget: &'a Budget,
+        drawing: D,
         fallback: F,
-    ) -> RetryOr<'a, X, F>
+    ) -> RetryOr<X, D, F>
         requires journal { driver.journal ≡ [] }
         requires effect { X.fresh effect }
-        requires pass { pass.has.tickets ≡ [] }
-        requires of { IsOf budget.now pass }
         ensures past { result.retrying.past ≡ nothing_yet driver.plan }
-        ensures pass { result.retrying.pass ≡ pass }
-        ensures budget { result.retrying.budget ≡ budget.entry.now }
+        ensures drawing { result.retrying.drawing ≡ drawing }
+        ensures had { result.retrying.had ≡ D.grants.granted drawing }
         ensures untaken { result.retrying.untaken ≡ false }
         ensures asked { result.asked ≡ F.asked fallback }
         ensures answered { result.answered ≡ F.answered fallback }
     {
+        let had = drawing.granted();
         RetryOr {
             runner: Runner::new(alloc, effect, driver),
             over: None,
             stopped: None,
             ending: None,
-            pass,
-            budget,
+            drawing,
+            had,
             fallback,
         }
     }
 
     /// Polls the retry once at the tick, and is ready where it is over.
     ///
-    /// It is polled as `Retry` is, except that it does not end where the schedule is done or the budget has no ticket:
+    /// It is polled as `Retry` is, except that it does not end where the schedule is done or a ticket is refused:
     /// then each later poll asks the fallback once, with the last failure and the driver's last output, until it
     /// answers.
     pub fn poll_at(&mut self, alloc: Global, tick: &Tick, cx: &mut Context<'_>) -> Poll<()>
-        ensures poll { FallingPoll self.old tick.entry.now (is_ready result) self.new }
+        ensures poll { FallingPoll D.grants self.old tick.entry.now (is_ready result) self.new }
         ensures answers { is_ready result ≡ is_some self.new.retrying.past.over }
         ensures kept { Keeps cx.old cx.new }
     {
@@ -127,13 +124,13 @@ impl<'a, X: Effect, F: Fallback<X>> RetryOr<'a, X, F> {
     // The same where it is not over, asks no fallback and waits for no later moment.
     fn poll_now(&mut self, alloc: Global, tick: &Tick, cx: &mut Context<'_>) -> Poll<()>
         requires { CanRun self.old.retrying.past tick.now }
-        ensures poll { FallingPoll self.old tick.entry.now (is_ready result) self.new }
+        ensures poll { FallingPoll D.grants self.old tick.entry.now (is_ready result) self.new }
         ensures answers { is_ready result ≡ is_some self.new.retrying.past.over }
         ensures kept { Keeps cx.old cx.new }
     {
         let runner = &mut self.runner;
-        let pass = &mut self.pass;
-        let Some(ending) = poll_attempt(alloc, runner, pass, self.budget, tick, cx) else {
+        let drawing = &mut self.drawing;
+        let Some(ending) = poll_attempt(alloc, runner, drawing, tick, cx) else {
             return Poll::Pending;
         };
         let how = ending.how();
@@ -176,7 +173,7 @@ impl<'a, X: Effect, F: Fallback<X>> RetryOr<'a, X, F> {
     /// How it ended, or `None` where it is not over. Whenever it is asked, the law of a retry holds.
     pub fn over(&self) -> Option<How>
         ensures over { result ≡ self.now.retrying.past.over }
-        ensures law { FallingLaw self.now }
+        ensures law { FallingLaw D.grants self.now }
     {
         self.over
     }
@@ -222,38 +219,38 @@ impl<'a, X: Effect, F: Fallback<X>> RetryOr<'a, X, F> {
         self.runner.begun()
     }
 
-    /// How many tickets it was granted: those of its pass.
+    /// How many tickets it was granted, without those of earlier retries.
     pub fn granted(&self) -> u64
         ensures granted { result ≡ self.now.retrying.past.granted }
-        ensures tickets { result ≡ length self.now.retrying.pass.has.tickets }
+        ensures tickets { self.now.retrying.had + result ≡ D.grants.granted self.now.retrying.drawing }
     {
-        self.pass.count()
+        self.drawing.granted() - self.had
     }
 
-    /// The effect, the driver, the pass and the fallback.
-    pub fn into_parts(self) -> (X, Driver, Pass, F)
-        ensures runs { X.finished result.0 ≡ self.entry.retrying.past.runs }
-        ensures driver { result.1 ≡ self.entry.retrying.past.driver }
-        ensures pass { result.2 ≡ self.entry.retrying.pass }
-        ensures of { IsOf self.entry.retrying.budget result.2 }
-        ensures asked { F.asked result.3 ≡ self.entry.asked }
-        ensures answered { F.answered result.3 ≡ self.entry.answered }
+    /// The effect, the driver, what it drew by, with all its tickets, and the fallback.
+    pub fn into_parts(self) -> (X, Driver, D, F)
+        ensures runs { X.finished result.0 ≡ self.retrying.past.runs }
+        ensures driver { result.1 ≡ self.retrying.past.driver }
+        ensures drawing { result.2 ≡ self.retrying.drawing }
+        ensures stands { D.grants.stands result.2 }
+        ensures asked { F.asked result.3 ≡ self.asked }
+        ensures answered { F.answered result.3 ≡ self.answered }
     {
         let RetryOr {
             runner,
             over: _,
             stopped: _,
             ending: _,
-            pass,
-            budget: _,
+            drawing,
+            had: _,
             fallback,
         } = self;
         let (effect, driver, _) = runner.into_parts();
-        (effect, driver, pass, fallback)
+        (effect, driver, drawing, fallback)
     }
 }
 
-impl<'a, X: Effect, F: Fallback<X>> Task for RetryOr<'a, X, F> {
+impl<X: Effect, D: Draws, F: Fallback<X>> Task for RetryOr<X, D, F> {
     ghost use Rattle.std.specs.Prelude.{◌≡◌};
     ghost use Rattle.sched_task_law.specs.Past.{waits_for as start_of, waits_for-over};
     ghost use Rattle.sched_retry_or.specs.Falling.{FallingPoll, gives_up as given_up};
@@ -262,7 +259,7 @@ impl<'a, X: Effect, F: Fallback<X>> Task for RetryOr<'a, X, F> {
 
     ghost waits_for = { λ v. start_of v.retrying.past };
 
-    ghost one_poll = { FallingPoll };
+    ghost one_poll = { FallingPoll D.grants };
 
     ghost gives_up = { λ v u. u ≡ given_up v };
 
