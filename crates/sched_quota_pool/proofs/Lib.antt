@@ -1,0 +1,4 @@
+pub mod Passes
+pub mod Polls
+pub mod Noted
+pub mod Taken

@@ -1,0 +1,92 @@
+-- Retries that are taken back, one by one, and the close of their quota.
+use Rattle.std.proofs.Common.{◌≡◌, ℕ, ◌+◌, ◌≤◌, Bool, true, false, List, [], ◌∷◌, ◌++◌, map, length, Option, Some, None, refl, sym, ap, ◌∙◌, subst, arith, length-append}
+use Rattle.std.specs.Prelude.{All}
+use Rattle.std.proofs.lemmas.List.Elements.{All-nil, All-push}
+use Rattle.sched_ticket.specs.Lists.{total, times}
+use Rattle.sched_ticket.proofs.Sums.{total-append}
+use Rattle.sched_task.specs.declared.endings.How.{How}
+use Rattle.sched_task.specs.declared.endings.How.TheVariants.{Won, ScheduleDone, BudgetRefused, Failed, Cancelled, Broken}
+use Rattle.sched_quota.specs.Windows.{window_of}
+use Rattle.sched_quota.specs.View.{both}
+use Rattle.sched_quota.specs.Held.{Name, Held, IsOf}
+use Rattle.sched_quota.specs.Calls.{IsWhole}
+use Rattle.sched_quota.specs.declared.view.Terms.{Terms}
+use Rattle.sched_quota.specs.declared.view.View.{View}
+use Rattle.sched_task_law.specs.Kind.{retry}
+use Rattle.sched_task_law.specs.Past.{Past, schedule_is_done}
+use Rattle.sched_task_law.specs.Law.{Law, Ended, is_refused}
+use Rattle.sched_task_law.proofs.Law.{or_false}
+use Rattle.sched_jobs_json.specs.Job.{Job}
+use Rattle.sched_quota_pool.specs.Windows.{HaveSame, HasDistinct}
+use Rattle.sched_quota_pool.specs.Driven.{IsUnused}
+use Rattle.sched_quota_pool.specs.Ends.{ended, AreEndsOf}
+use Rattle.sched_quota_pool.specs.Batch.{AreRunOnQuota, AreTaken}
+use Rattle.sched_quota_pool.proofs.Noted.{joined_same, mapped_append, distinct_of_same}
+
+-- how a retry ended tells whether its quota refused it
+denied_by : (v : Past) (over : Option How) → Ended retry v over → v.denied ≡ is_refused over
+denied_by v None ended = (or_false v.denied (schedule_is_done v.driver) (ended refl)).0
+denied_by v (Some Won) ended = (or_false v.denied (schedule_is_done v.driver) ended.1).0
+denied_by v (Some ScheduleDone) ended = ended.1
+denied_by v (Some BudgetRefused) ended = ended
+denied_by v (Some Failed) ended = absurd (let bad = ended.0 in cc)
+denied_by v (Some Cancelled) ended = (or_false v.denied (schedule_is_done v.driver) (ended refl)).0
+denied_by v (Some (Broken fault)) ended = (or_false v.denied (schedule_is_done v.driver) (ended.0 refl)).0
+
+-- what is left of a retry says what it has done
+pub end_is : (v : Past) → Law retry v → ended v.driver v.runs v.begun v.over v.granted ≡ v
+end_is v law = ap (λ b. record v { denied = b }) (sym (denied_by v v.over law.ended))
+
+-- no retry was taken back yet
+pub none_taken : (quota : Name) (pass : Held) → IsOf quota pass → IsUnused pass.has → AreTaken quota [] pass []
+none_taken quota pass of unused = record {
+  laws = All-nil (Law retry);
+  of = of;
+  sum = ap length unused.tickets;
+  once = λ x. omega (arith, ap (times x) unused.tickets);
+  asked = ap length unused.requests;
+  noted = subst (λ (ts : List ℕ). HaveSame [] (map window_of ts)) (sym unused.tickets) (λ x. (λ h. h, λ h. h));
+}
+
+-- one more, with its pass
+pub one_taken : (quota : Name) (ends : List Past) (v : Past) (p own q : Held) (windows noted : List ℕ) →
+    AreTaken quota ends p windows → Law retry v → v.granted ≡ length own.has.tickets → length own.has.requests ≡ 1 →
+    HaveSame noted (map window_of own.has.tickets) → IsOf quota q → q.has ≡ both p.has own.has →
+    ((x : ℕ) → times x q.has.tickets ≤ 1) → AreTaken quota (ends ++ v ∷ []) q (windows ++ noted)
+one_taken quota ends v p own q windows noted taken law granted asked same of join once =
+    let f : Past → ℕ = λ w. w.granted in
+    let tickets : q.has.tickets ≡ p.has.tickets ++ own.has.tickets = ap (λ (w : View). w.tickets) join in
+    let requests : q.has.requests ≡ p.has.requests ++ own.has.requests = ap (λ (w : View). w.requests) join in
+    record {
+      laws = All-push (Law retry) ends v taken.laws law;
+      of = of;
+      sum = omega (arith, ap length tickets, length-append p.has.tickets own.has.tickets, taken.sum, granted, total-append f ends (v ∷ []));
+      once = once;
+      asked = omega (arith, ap length requests, length-append p.has.requests own.has.requests, taken.asked, asked, length-append ends (v ∷ []));
+      noted =
+          subst (λ (ts : List ℕ). HaveSame (windows ++ noted) (map window_of ts)) (sym tickets)
+          (subst (λ (ws : List ℕ). HaveSame (windows ++ noted) ws) (sym (mapped_append window_of p.has.tickets own.has.tickets))
+          (joined_same windows (map window_of p.has.tickets) noted (map window_of own.has.tickets) taken.noted same));
+    }
+
+as_many : (jobs : List Job) (ends : List Past) → AreEndsOf jobs ends → length ends ≡ length jobs
+as_many [] [] each = refl
+as_many [] (v ∷ ends) each = absurd each
+as_many (job ∷ jobs) [] each = absurd each
+as_many (job ∷ jobs) (v ∷ ends) each = omega (arith, as_many jobs ends each.1)
+
+-- the jobs that were taken back were run on the quota that was closed with their pass
+pub are_run : (jobs : List Job) (quota : Name) (k : Terms) (ends : List Past) (pass : Held) (windows : List ℕ) (granted count : ℕ) →
+    quota.terms ≡ k → AreEndsOf jobs ends → AreTaken quota ends pass windows → IsWhole quota.terms pass.has →
+    granted ≡ length pass.has.tickets → HasDistinct count windows → AreRunOnQuota jobs k ends granted count
+are_run jobs quota k ends pass windows granted count made each taken whole closed counted = record {
+  each = each;
+  laws = taken.laws;
+  sum = closed ∙ taken.sum;
+  all = pass.has;
+  tickets = sym closed;
+  once = taken.once;
+  requests = taken.asked ∙ as_many jobs ends each;
+  within = (subst (λ (t : Terms). IsWhole t pass.has) made whole).windows;
+  windows_are = distinct_of_same count windows (map window_of pass.has.tickets) counted taken.noted;
+}

@@ -1,0 +1,18 @@
+-- A quota's passes before and while the jobs run.
+use Rattle.std.specs.Prelude.{◌≡◌, [], length}
+use Rattle.sched_quota.specs.Held.{Name}
+use Rattle.sched_quota.specs.declared.view.View.{View}
+use Rattle.sched_draws.specs.Quotas.{OfQuota}
+use Rattle.sched_retry.specs.Retrying.{Retrying}
+
+-- a pass with which nothing was drawn and no request was counted
+pub record IsUnused (v : View) : Type 0 where
+  pub told : v.told ≡ 0
+  pub tickets : v.tickets ≡ []
+  pub requests : v.requests ≡ []
+
+-- a retry on this quota, with a pass that had no ticket before it and has counted one request
+pub record IsDriven (quota : Name) (v : Retrying OfQuota) : Type 0 where
+  pub of : v.drawing.quota ≡ quota
+  pub had : v.had ≡ 0
+  pub asked : length v.drawing.pass.has.requests ≡ 1

@@ -1,0 +1,4 @@
+pub mod Windows
+pub mod Driven
+pub mod Ends
+pub mod Batch
