@@ -9,7 +9,7 @@ use Rattle.sched_task.specs.declared.endings.How.{How}
 use Rattle.sched_task.specs.declared.endings.How.TheVariants.{Won, ScheduleDone, BudgetRefused, Cancelled, Broken}
 use Rattle.sched_task.specs.declared.endings.RunFault.TheVariants.{NoMemory, JournalFull, Backwards}
 use Rattle.sched_task_law.specs.Past.{Past}
-use Rattle.sched_pool_text.specs.PoolText.{job_text, pool_text}
+use Rattle.sched_pool_text.specs.PoolText.{job_text, pool_text, quota_text}
 
 -- a job that ended so after these runs, with so many tickets
 abbrev pub ended : Option How → List Ran → ℕ → Past
@@ -62,3 +62,11 @@ pub two_jobs : pool_text (ended (Some Won) (ran.Won 5 ∷ []) 0 ∷ ended (Some 
     codes "job 0: won 5, granted 0\njob 1: schedule done, failure 8, granted 1\ngranted 1 of 4294967296\n"
 unfolding digits
 two_jobs = refl
+
+pub no_job_on_a_quota : quota_text [] 0 0 ≡ codes "granted 0 in 0 windows\n"
+unfolding digits
+no_job_on_a_quota = refl
+
+pub one_job_on_a_quota : quota_text (ended (Some BudgetRefused) (ran.Lost 7 ∷ []) 12 ∷ []) 12 3 ≡ codes "job 0: budget refused, failure 7, granted 12\ngranted 12 in 3 windows\n"
+unfolding digits
+one_job_on_a_quota = refl

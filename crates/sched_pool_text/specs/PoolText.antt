@@ -49,3 +49,12 @@ total_text granted limit = codes "granted " ++ decimal granted ++ codes " of " +
 -- what is printed of the jobs, the tickets that were granted, and the budget
 abbrev pub pool_text : List Past → ℕ → ℕ → List ℕ
 pool_text ends granted limit = lines_from 0 ends ++ total_text granted limit
+
+-- `granted T in W windows`
+abbrev pub windows_text : ℕ → ℕ → List ℕ
+windows_text granted windows =
+    codes "granted " ++ decimal granted ++ codes " in " ++ decimal windows ++ codes " windows\n"
+
+-- what is printed of jobs on a quota, the tickets that were granted, and in how many windows
+abbrev pub quota_text : List Past → ℕ → ℕ → List ℕ
+quota_text ends granted windows = lines_from 0 ends ++ windows_text granted windows

@@ -5,4 +5,4 @@ mod lines;
 #[cfg(test)]
 mod tests;
 
-pub use lines::{job_line, push_line, push_total};
+pub use lines::{job_line, push_line, push_total, push_windows};

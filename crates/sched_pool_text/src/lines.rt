@@ -1,5 +1,5 @@
 ghost use Rattle.std.specs.Prelude.{◌≡◌, ◌++◌, string_bytes, IfOk, OnOk};
-ghost use Rattle.sched_pool_text.specs.PoolText.{last_code, ending_text, line_text, total_text};
+ghost use Rattle.sched_pool_text.specs.PoolText.{last_code, ending_text, line_text, total_text, windows_text};
 
 use sched_effect::Ran;
 use sched_task::{How, RunFault};
@@ -44,6 +44,14 @@ pub fn push_total(lines: &mut String, granted: u64, limit: u64) -> Result<(), No
     ensures { OnOk result (string_bytes lines.new ≡ string_bytes lines.old ++ total_text granted limit) }
 {
     write!(lines, "granted {granted} of {limit}\n")?;
+    Ok(())
+}
+
+/// Adds the line of the total of a quota at the end: `granted T in W windows`. Fails only with `NoMemory`.
+pub fn push_windows(lines: &mut String, granted: u64, windows: usize) -> Result<(), NoMemory>
+    ensures { OnOk result (string_bytes lines.new ≡ string_bytes lines.old ++ windows_text granted windows) }
+{
+    write!(lines, "granted {granted} in {windows} windows\n")?;
     Ok(())
 }
 

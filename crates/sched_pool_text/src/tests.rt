@@ -1,5 +1,5 @@
 //! Tests of the lines, against texts written down.
-use crate::{job_line, push_total};
+use crate::{job_line, push_total, push_windows};
 use sched_effect::Ran;
 use sched_task::{How, RunFault};
 use sched_time::Millis;
@@ -59,6 +59,17 @@ fn the_total_is_the_last_line(rt: HostRuntime) -> Result<(), Fail> {
     assert_eq!(rt;
         lines.as_str(),
         "job 0: cancelled, granted 0\ngranted 0 of 4294967296\n"
+    );
+    Ok(())
+}
+
+#[test]
+fn the_total_of_a_quota_tells_its_windows(rt: HostRuntime) -> Result<(), Fail> {
+    let mut lines = job_line(rt.alloc(), 0, Some(How::Cancelled), &[], 0)?;
+    push_windows(&mut lines, 4294967296, 3000000000)?;
+    assert_eq!(rt;
+        lines.as_str(),
+        "job 0: cancelled, granted 0\ngranted 4294967296 in 3000000000 windows\n"
     );
     Ok(())
 }
