@@ -95,10 +95,10 @@ refused fault d place v (own _ is all) = is
 refused fault d place v (below _ a _ item rest next first) = refused fault a rest v first
 
 -- what was found is read on from, and a fault is that of the whole
-found_first : {A B : Type 0} (r : Reading A) (next : A → Reading B) (x : A) → r.answer ≡ Ok x → (then_read r next).answer ≡ (next x).answer
+pub found_first : {A B : Type 0} (r : Reading A) (next : A → Reading B) (x : A) → r.answer ≡ Ok x → (then_read r next).answer ≡ (next x).answer
 found_first r next x is = rw is refl
 
-fault_first : {A B : Type 0} (r : Reading A) (next : A → Reading B) (fault : ReadFault) → r.answer ≡ Err fault → (then_read r next).answer ≡ Err fault
+pub fault_first : {A B : Type 0} (r : Reading A) (next : A → Reading B) (fault : ReadFault) → r.answer ≡ Err fault → (then_read r next).answer ≡ Err fault
 fault_first r next fault is = rw is refl
 
 -- a fault of the first plan that is refused is that of the node

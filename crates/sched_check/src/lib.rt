@@ -2,8 +2,11 @@
 #![tactic(auto)]
 
 mod below;
+mod items;
+mod jobs;
 mod places;
 mod plans;
 
+pub use jobs::{JobsChecked, check_jobs};
 pub use places::{Fault, Step};
 pub use plans::{PlanChecked, check_plan};
