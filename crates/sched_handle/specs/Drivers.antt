@@ -1,5 +1,6 @@
 -- What the calls on a driver do.
-use Rattle.std.specs.Prelude.{◌≡◌, ◌≢◌, ℕ, ◌<◌, ◌≤◌, [], length, string_bytes, Some, None, Result, Ok, Err, String}
+use Rattle.std.specs.Prelude.{◌≡◌, ◌≢◌, ℕ, ◌<◌, ◌≤◌, [], length, string_bytes, Some, None}
+use Rattle.std.specs.Prelude.{Result, Ok, Err, String}
 use Rattle.std.specs.Global.{Global}
 use Rattle.sched_time.specs.Decision.{start_of}
 use Rattle.sched_time.specs.declared.numbers.Tick.{Tick}
@@ -17,7 +18,8 @@ use Rattle.sched_handle.specs.declared.held.Held.TheVariants.{Driver}
 use Rattle.sched_handle.specs.declared.held.Kind.TheVariants as kind
 use Rattle.sched_handle.specs.declared.replies.Decided.{Decided}
 use Rattle.sched_handle.specs.declared.status.Status.{Status}
-use Rattle.sched_handle.specs.declared.status.Status.TheVariants.{WrongKind, Backwards, JournalFull, NoMemory, NoOutput, NotANumber}
+use Rattle.sched_handle.specs.declared.status.Status.TheVariants.{WrongKind, Backwards, JournalFull, NoMemory}
+use Rattle.sched_handle.specs.declared.status.Status.TheVariants.{NoOutput, NotANumber}
 
 -- an event is refused for this reason
 abbrev pub NextRefuses : Driven → ℕ → Status → Type 0
@@ -33,7 +35,8 @@ decided d = decided_of (start_of (answer d.plan d.journal).decision)
 -- one more event of a driver
 abbrev pub DriverNexts : Driven → Tick → ℕ → Result Decided Status → Held → Type 0
 DriverNexts d t input (Ok x) v =
-    HasRoom d t.now × (v ≡ Driver (after d (event_of t (num input)))) × (x ≡ decided (after d (event_of t (num input))))
+    HasRoom d t.now × (v ≡ Driver (after d (event_of t (num input))))
+    × (x ≡ decided (after d (event_of t (num input))))
 DriverNexts d t input (Err s) v = (v ≡ Driver d) × NextRefuses d t.now s
 
 -- one more event: of what is no driver nothing changes

@@ -16,4 +16,5 @@ Fills (Err s) u code v = (v ≡ u) × (code ≡ code_of s)
 -- what a handle holds is freed where it is of this kind
 abbrev pub Frees : Kind → Option Held → ℕ → Option Held → Type 0
 Frees k None code v = (v ≡ None) × (code ≡ 1)
-Frees k (Some u) code v = ((kind_of u ≡ k) × (v ≡ None) × (code ≡ 0)) ⊎ ((kind_of u ≢ k) × (v ≡ Some u) × (code ≡ 2))
+Frees k (Some u) code v =
+    ((kind_of u ≡ k) × (v ≡ None) × (code ≡ 0)) ⊎ ((kind_of u ≢ k) × (v ≡ Some u) × (code ≡ 2))

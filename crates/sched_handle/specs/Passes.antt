@@ -12,7 +12,8 @@ use Rattle.sched_handle.specs.declared.held.Held.{Held}
 use Rattle.sched_handle.specs.declared.held.Held.TheVariants.{Room, Pass}
 use Rattle.sched_handle.specs.declared.held.Kind.TheVariants as kind
 use Rattle.sched_handle.specs.declared.status.Status.{Status}
-use Rattle.sched_handle.specs.declared.status.Status.TheVariants.{NoMemory, LimitTooLarge, Fixed, NoTicket, TooManyPasses, PassesOut}
+use Rattle.sched_handle.specs.declared.status.Status.TheVariants.{NoMemory, LimitTooLarge, Fixed, NoTicket}
+use Rattle.sched_handle.specs.declared.status.Status.TheVariants.{TooManyPasses, PassesOut}
 
 -- a budget of this limit is not made for this reason
 abbrev pub NotMade : ℕ → Status → Type 0
@@ -41,7 +42,9 @@ Draws (Pass s) r v = PassDraws s r v
 Draws u r v = OtherKind u r v
 
 abbrev pub PassSplits : Share → Result (Box Held Global) Status → Held → Type 0
-PassSplits s (Ok b) v = IsPassOf s v (λ t. t.pass.has ≡ with_split s.pass.has) × IsPassOf s b.value (λ t. t.pass.has ≡ part_of s.pass.has)
+PassSplits s (Ok b) v =
+    IsPassOf s v (λ t. t.pass.has ≡ with_split s.pass.has)
+    × IsPassOf s b.value (λ t. t.pass.has ≡ part_of s.pass.has)
 PassSplits s (Err TooManyPasses) v = IsPassOf s v (λ t. SplitRefused s.pass.has t.pass.has)
 PassSplits s (Err NoMemory) v = IsPassOf s v (λ t. t.pass.has ≡ s.pass.has)
 PassSplits s (Err _) v = ⊥
@@ -75,9 +78,11 @@ AreOfOneBudget u v = (s t : Share) → u ≡ Some (Pass s) → v ≡ Some (Pass 
 
 -- one pass has what both had
 abbrev pub Joins : Held → Held → Held → Type 0
-Joins u v w = (s t : Share) → u ≡ Pass s → v ≡ Pass t → IsPassOf s w (λ x. x.pass.has ≡ both s.pass.has t.pass.has)
+Joins u v w =
+    (s t : Share) → u ≡ Pass s → v ≡ Pass t → IsPassOf s w (λ x. x.pass.has ≡ both s.pass.has t.pass.has)
 
--- the budget of a pass is closed, or not: what comes back is as it was, but that the pass may be marked as one of several
+-- the budget of a pass is closed, or not: what comes back is as it was, but that the pass may be marked as one of
+-- several
 abbrev pub PassCloses : Share → Result ℕ Status → Held → Type 0
 PassCloses s (Ok n) v = (v ≡ Room) × (n ≡ length s.pass.has.tickets) × IsWhole s.budget.terms s.pass.has
 PassCloses s (Err PassesOut) v = (t : Share) × (v ≡ Pass t) × CloseFails s (close.PassesOut t)

@@ -8,6 +8,7 @@ use Rattle.sched_effect.specs.declared.ran.Ran.{Ran}
 use Rattle.sched_task.specs.declared.endings.How.{How}
 use Rattle.sched_task.specs.declared.endings.How.TheVariants as how
 use Rattle.sched_task.specs.declared.endings.RunFault.TheVariants as fault
+use Rattle.sched_draws.specs.Budgets.{OfBudget, budget_grants}
 use Rattle.sched_ticket.specs.View.{part_of, with_split}
 use Rattle.sched_ticket.specs.Calls.{SplitRefused}
 use Rattle.sched_task_law.specs.Past.{Past, nothing_yet}
@@ -46,9 +47,11 @@ reply_to (next.Over h) granted runs = record { what = 3; how = how_number h; unt
 abbrev pub reply_of : Past → Reply
 reply_of v = reply_to (next_of v) v.granted (length v.runs)
 
--- a retry that has not begun, of this policy and with this pass of the budget
+-- a retry that has not begun, of this policy and with a part of this pass, which has no ticket
 abbrev pub IsFresh : Schedule → Share → Held → Type 0
-IsFresh plan s v = (r : Retrying) × (v ≡ Retry r) × (r.past ≡ nothing_yet plan) × (r.budget ≡ s.budget) × (r.pass.has ≡ part_of s.pass.has)
+IsFresh plan s v =
+    (r : Retrying OfBudget) × (v ≡ Retry r) × (r.past ≡ nothing_yet plan) × (r.had ≡ 0)
+    × (r.drawing.budget ≡ s.budget) × (r.drawing.pass.has ≡ part_of s.pass.has)
 
 -- a retry of a policy is made with a pass
 abbrev pub PassRetries : Schedule → Share → Result (Box Held Global) Status → Held → Type 0
@@ -70,10 +73,12 @@ Retries (Policy plan) u r v = OtherRetries u r v
 Retries policy u r v = OtherKind u r v
 
 -- a poll, after a report where there is one
-abbrev pub RetryPolls : Tick → Option Ran → Retrying → Result Reply Status → Held → Type 0
-RetryPolls t None r (Ok x) v = (u : Retrying) × (v ≡ Retry u) × HostPoll r t [] u × (x ≡ reply_of u.past)
+abbrev pub RetryPolls : Tick → Option Ran → Retrying OfBudget → Result Reply Status → Held → Type 0
+RetryPolls t None r (Ok x) v =
+    (u : Retrying OfBudget) × (v ≡ Retry u) × HostPoll budget_grants r t [] u × (x ≡ reply_of u.past)
 RetryPolls t (Some ran) r (Ok x) v =
-    (m u : Retrying) × (v ≡ Retry u) × HostPoll r t (ran ∷ []) m × HostPoll m t [] u × (x ≡ reply_of u.past)
+    (m u : Retrying OfBudget) × (v ≡ Retry u) × HostPoll budget_grants r t (ran ∷ []) m
+    × HostPoll budget_grants m t [] u × (x ≡ reply_of u.past)
 RetryPolls t (Some ran) r (Err NoRun) v = (hears r.past ≡ false) × (v ≡ Retry r)
 RetryPolls t report r (Err _) v = ⊥
 
@@ -83,7 +88,7 @@ Polls t report u x v = OtherKind u x v
 
 -- what a retry is at
 abbrev pub Sees : Held → Result Reply Status → Type 0
-Sees u (Ok x) = (r : Retrying) × (u ≡ Retry r) × (x ≡ reply_of r.past)
+Sees u (Ok x) = (r : Retrying OfBudget) × (u ≡ Retry r) × (x ≡ reply_of r.past)
 Sees u (Err s) = IsOther kind.Retry u s
 
 -- a retry that is not over ends as cancelled
@@ -93,8 +98,12 @@ Cancels u x v = OtherKind u x v
 
 -- the pass of a retry, with all its tickets
 abbrev pub GivesBack : Held → Held → Type 0
-GivesBack u v = (r : Retrying) × (t : Share) × (u ≡ Retry r) × (v ≡ Pass t) × (t.budget ≡ r.budget) × (t.pass ≡ r.pass)
+GivesBack u v =
+    (r : Retrying OfBudget) × (t : Share) × (u ≡ Retry r) × (v ≡ Pass t)
+    × (t.budget ≡ r.drawing.budget) × (t.pass ≡ r.drawing.pass)
 
 -- handles of a retry and of a pass of its budget
 abbrev pub IsOfItsBudget : Option Held → Option Held → Type 0
-IsOfItsBudget u v = (r : Retrying) (s : Share) → u ≡ Some (Retry r) → v ≡ Some (Pass s) → r.budget ≡ s.budget
+IsOfItsBudget u v =
+    (r : Retrying OfBudget) (s : Share) → u ≡ Some (Retry r) → v ≡ Some (Pass s) →
+    r.drawing.budget ≡ s.budget

@@ -2,9 +2,12 @@
 ghost use Rattle.std.specs.Prelude.{◌≡◌};
 ghost use Rattle.sched_handle.specs.Held.{kind_of};
 
+use sched_draws::OnBudget;
 use sched_driver::Driver;
 use sched_host::{HostRetry, Worker};
 use sched_plan::Plan;
+use sched_ticket::Budget;
+use std::sync::Arc;
 
 /// What a handle holds.
 #[derive(Drop)]
@@ -18,7 +21,7 @@ pub enum Held {
     /// A pass, with its budget.
     Pass(Worker),
     /// A retry.
-    Retry(HostRetry),
+    Retry(HostRetry<OnBudget<Arc<Budget>>>),
 }
 
 /// Which kind of thing a handle holds.

@@ -1,5 +1,5 @@
-//! What a host that isn't written in Rattle holds of us: a pointer to a policy, a driver, a pass or a retry, and what each
-//! call on it does.
+//! What a host that isn't written in Rattle holds of us: a pointer to a policy, a driver, a pass or a retry, and what
+//! each call on it does.
 #![tactic(auto)]
 
 mod drivers;

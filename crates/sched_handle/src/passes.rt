@@ -1,7 +1,8 @@
 //! Calls on passes.
 ghost use Rattle.std.specs.Prelude.{◌≡◌, ◌≢◌, true, false, IfOk, IfErr, IfSome, IfNone};
 ghost use Rattle.sched_handle.specs.Held.{kind_of};
-ghost use Rattle.sched_handle.specs.Passes.{MakesBudget, Draws, Splits, Raises, CountsTickets, IsShareOf, Joins, Closes};
+ghost use Rattle.sched_handle.specs.Passes.{MakesBudget, Draws, Splits, Raises, CountsTickets};
+ghost use Rattle.sched_handle.specs.Passes.{IsShareOf, Joins, Closes};
 ghost use Rattle.sched_handle.specs.declared.held.Held.TheVariants as what;
 ghost use Rattle.sched_handle.specs.declared.held.Kind.TheVariants as kind;
 ghost use Rattle.sched_handle.specs.declared.status.Status.TheVariants as status;

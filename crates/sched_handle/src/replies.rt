@@ -95,8 +95,8 @@ pub fn tell<T: Copy + Drop>(answer: Result<T, Status>, place: &mut T) -> u32
     }
 }
 
-/// Puts the text's bytes into the room, and their number into `size`. `NoRoom` where there are more, and then no byte is
-/// written.
+/// Puts the text's bytes into the room, and their number into `size`. `NoRoom` where there are more, and then no byte
+/// is written.
 pub fn put_text(text: &str, room: &mut [u8], size: &mut usize) -> Result<(), Status>
     ensures size { size.new ≡ length text.now }
     ensures ok { OnOk result (room.new ≡ text.now ++ drop (length text.now) room.old) }

@@ -7,13 +7,15 @@ ghost use Rattle.sched_handle.specs.declared.held.Kind.TheVariants as kind;
 use crate::held::Held;
 use crate::replies::Reply;
 use crate::status::Status;
+use sched_draws::OnBudget;
 use sched_effect::Ran;
 use sched_host::{HostRetry, Next, Worker};
 use sched_task::{How, RunFault};
-use sched_ticket::TicketFault;
+use sched_ticket::{Budget, TicketFault};
 use sched_time::Tick;
 use std::alloc::Global;
 use std::mem;
+use std::sync::Arc;
 
 impl Held {
     /// A retry that has not begun, of a copy of the policy, with a pass that is split off.
@@ -29,7 +31,8 @@ impl Held {
                 match worker.split() {
                     Ok(part) => {
                         let (pass, budget) = part.into_parts();
-                        let retry = HostRetry::new(alloc, driver, pass, budget);
+                        let drawing = OnBudget::new(pass, budget);
+                        let retry = HostRetry::new(alloc, driver, drawing);
                         let _ = mem::replace(&mut *room, Held::Retry(retry));
                         Ok(room)
                     }
@@ -103,7 +106,8 @@ impl Held {
     {
         match self {
             Held::Retry(retry) => {
-                let (_, _, pass, budget) = retry.into_parts();
+                let (_, _, drawing) = retry.into_parts();
+                let (pass, budget) = drawing.into_parts();
                 Held::Pass(Worker::of_parts(pass, budget))
             }
             Held::Room => Held::Room,
@@ -115,7 +119,7 @@ impl Held {
 }
 
 // What the retry is at, as C sees it.
-fn reply(retry: &HostRetry) -> Reply
+fn reply(retry: &HostRetry<OnBudget<Arc<Budget>>>) -> Reply
     ensures { result ≡ reply_of retry.now.past }
 {
     let granted = retry.granted();
