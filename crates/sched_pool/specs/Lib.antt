@@ -5,6 +5,8 @@ pub use Rattle.sched_ticket.specs.View
 pub use Rattle.sched_ticket.specs.Steps
 pub use Rattle.sched_ticket.specs.Calls
 pub use Rattle.sched_ticket.specs.Held
+pub use Rattle.sched_draws.specs.Grants
+pub use Rattle.sched_draws.specs.Budgets
 pub use Rattle.sched_task_law.specs.Kind
 pub use Rattle.sched_task_law.specs.Past
 pub use Rattle.sched_task_law.specs.Law

@@ -6,6 +6,7 @@ ghost use Rattle.sched_pool.specs.Boards.{Boarded, RefusesAdd, RefusesShares, Sh
 
 use crate::faults::{AddFault, AddRefused, ShareFault};
 use sched_claim::{Claimed, Claims, Share};
+use sched_draws::OnBudget;
 use sched_effect::Effect;
 use sched_pool_job::{Job, Seen};
 use sched_retry::Retry;
@@ -70,11 +71,12 @@ impl<'a, X: Effect, N: Naming> Board<'a, X, N> {
         self.jobs.len()
     }
 
-    /// Adds a retry that was not polled, and answers its number. A refusal hands it back and leaves the board as it
-    /// was: `Sealed` where the jobs were shared out, `BoardFull` where there are 4,096 jobs, `NoMemory` where a growth
-    /// was refused.
-    pub fn add(&mut self, retry: Retry<'a, X>) -> Result<usize, AddRefused<'a, X>>
-        requires of { retry.budget ≡ N.budget }
+    /// Adds a retry that was not polled and whose pass has no ticket yet, and answers its number. A refusal hands it
+    /// back and leaves the board as it was: `Sealed` where the jobs were shared out, `BoardFull` where there are 4,096
+    /// jobs, `NoMemory` where a growth was refused.
+    pub fn add(&mut self, retry: Retry<X, OnBudget<&'a Budget>>) -> Result<usize, AddRefused<'a, X>>
+        requires of { retry.drawing.budget ≡ N.budget }
+        requires had { retry.had ≡ 0 }
         requires new { retry.past ≡ nothing_yet retry.past.driver.plan }
         ensures number { IfOk result (λ job. job ≡ self.old.jobs) }
         ensures open { OnOk result ((self.old.claims ≡ None) × (self.old.jobs < 4096)) }

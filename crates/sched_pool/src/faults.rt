@@ -1,7 +1,9 @@
 //! What a board refuses.
 
+use sched_draws::OnBudget;
 use sched_effect::Effect;
 use sched_retry::Retry;
+use sched_ticket::Budget;
 use std::fmt;
 use thiserror::Error;
 
@@ -24,7 +26,7 @@ pub enum AddFault {
 #[error("{fault}")]
 pub struct AddRefused<'a, X: Effect> {
     /// The retry.
-    pub retry: Retry<'a, X>,
+    pub retry: Retry<X, OnBudget<&'a Budget>>,
     /// Why it was not taken.
     pub fault: AddFault,
 }

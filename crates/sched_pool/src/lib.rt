@@ -22,6 +22,7 @@ pub use ends::PoolEnd;
 pub use faults::{AddFault, AddRefused, ShareFault};
 pub use runs::PoolStop;
 pub use sched_claim::{Claimed, Share};
+pub use sched_draws::{Draws, OnBudget};
 pub use sched_driver::Driver;
 pub use sched_effect::{Action, Call, Code, Coded, Effect, Ran, Scripted, Tagged};
 pub use sched_plan::{Plan, PlanFault};

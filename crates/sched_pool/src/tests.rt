@@ -45,16 +45,17 @@ fn losing<'a>(
     budget: &'a Budget,
     pass: &mut Pass,
     recurs: u64,
-) -> Retry<'a, Scripted>
+) -> Retry<Scripted, OnBudget<&'a Budget>>
     requires { IsOf budget.now pass.old }
     ensures of { IsOf budget.now pass.new }
-    ensures budget { result.budget ≡ budget.entry.now }
+    ensures budget { result.drawing.budget ≡ budget.entry.now }
+    ensures had { result.had ≡ 0 }
     ensures new { result.past ≡ nothing_yet result.past.driver.plan }
 {
     let part = pass.split(budget).expect(rt, "passes are left");
     let effect = scripted(rt, alloc, &[lost(rt, 7)]);
     let driver = driver(rt, alloc, Plan::recurs(recurs));
-    Retry::new(alloc, effect, driver, part, budget)
+    Retry::new(alloc, effect, driver, OnBudget::new(part, budget))
 }
 
 // A board of so many of them.

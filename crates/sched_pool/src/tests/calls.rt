@@ -94,10 +94,11 @@ fn calling<'a>(
     budget: &'a Budget,
     pass: &mut Pass,
     outages: u32,
-) -> Retry<'a, Call>
+) -> Retry<Call, OnBudget<&'a Budget>>
     requires { IsOf budget.now pass.old }
     ensures of { IsOf budget.now pass.new }
-    ensures budget { result.budget ≡ budget.entry.now }
+    ensures budget { result.drawing.budget ≡ budget.entry.now }
+    ensures had { result.had ≡ 0 }
     ensures new { result.past ≡ nothing_yet result.past.driver.plan }
 {
     let part = pass.split(budget).expect(rt, "passes are left");
@@ -107,7 +108,7 @@ fn calling<'a>(
         runs: Vec::new(alloc),
     };
     let driver = driver(rt, alloc, Plan::recurs(2));
-    Retry::new(alloc, call, driver, part, budget)
+    Retry::new(alloc, call, driver, OnBudget::new(part, budget))
 }
 
 // The body of the reply, or the reason of the last outage.

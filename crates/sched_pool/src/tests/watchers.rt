@@ -130,7 +130,7 @@ where
         runs: Vec::new(alloc),
     };
     let driver = driver(rt, alloc, Plan::forever());
-    let added = board.add(Retry::new(alloc, stuck, driver, part, budget));
+    let added = board.add(Retry::new(alloc, stuck, driver, OnBudget::new(part, budget)));
     assert!(rt; added.is_ok());
     let mut share = one_share(rt, alloc, &mut board);
     let mut station = station(rt, 1);
