@@ -15,6 +15,7 @@ use std::random::RandomSource;
 use std::sync::Wait;
 
 mod calls;
+mod draws;
 mod endings;
 mod guide;
 mod plays;

@@ -19,7 +19,7 @@ fn retry_a_call(rt: HostRuntime) {
     let driver = driver(&rt, alloc, back_off(alloc));
     let calls = Calls::new(alloc, 1, 9);
     let cache = Cache::new(alloc, 0, Some(Ok(203)));
-    let retry = RetryOr::new(alloc, calls, driver, pass, &budget, cache);
+    let retry = RetryOr::new(alloc, calls, driver, OnBudget::new(pass, &budget), cache);
     let mut retry = finish(&rt, retry);
     assert_eq!(rt; retry.over(), Some(How::BudgetRefused));
     assert_eq!(rt; retry.granted(), 4);
@@ -28,6 +28,6 @@ fn retry_a_call(rt: HostRuntime) {
         Some(RetryOrEnding::Fallen(Ok(reply))) => assert_eq!(rt; reply.body, "cached"),
         _ => assert!(rt; false, "another ending"),
     }
-    let (_, _, pass, _) = retry.into_parts();
-    assert_eq!(rt; pass.count(), 4);
+    let (_, _, drawing, _) = retry.into_parts();
+    assert_eq!(rt; drawing.granted(), 4);
 }

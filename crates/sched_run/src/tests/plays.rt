@@ -16,14 +16,37 @@ where
     R: RandomSource + AllocGlobal + Abort,
     requires { X.fresh effect }
 {
+    let (budget, pass) = budget(rt, rt.alloc(), limit);
+    play_drawing(rt, effect, plan, OnBudget::new(pass, &budget), steps);
+}
+
+// The same, by what draws its tickets. Answers that.
+pub(super) fn play_drawing<R, X: Effect, D: Draws>(
+    rt: &R,
+    effect: X,
+    plan: Result<Plan, PlanFault>,
+    drawing: D,
+    steps: &[Step<'_>],
+) -> D
+where
+    R: RandomSource + AllocGlobal + Abort,
+    requires { X.fresh effect }
+{
     let alloc = rt.alloc();
-    let (budget, pass) = budget(rt, alloc, limit);
+    let had = drawing.granted();
     let driver = driver(rt, alloc, plan);
-    let mut retry = Retry::new(alloc, effect, driver, pass, &budget);
+    let mut retry = Retry::new(alloc, effect, driver, drawing);
     play(rt, &mut retry, steps);
     let counts = retry.counts();
-    let (effect, driver, pass) = retry.into_parts();
-    assert_parts(rt, counts, &effect, &driver, pass.count());
+    let (effect, driver, drawing) = retry.into_parts();
+    assert_parts(
+        rt,
+        counts,
+        &effect,
+        &driver,
+        drawing.granted().saturating_sub(had),
+    );
+    drawing
 }
 
 // The same, at its end by a future before the first step.
@@ -41,7 +64,8 @@ where
     let alloc = rt.alloc();
     let (budget, pass) = budget(rt, alloc, limit);
     let driver = driver(rt, alloc, plan);
-    let mut retry = finish(rt, Retry::new(alloc, effect, driver, pass, &budget));
+    let drawing = OnBudget::new(pass, &budget);
+    let mut retry = finish(rt, Retry::new(alloc, effect, driver, drawing));
     play(rt, &mut retry, steps);
 }
 
@@ -57,16 +81,40 @@ where
     R: RandomSource + AllocGlobal + Abort,
     requires { X.fresh both.0 }
 {
+    let (budget, pass) = budget(rt, rt.alloc(), limit);
+    let drawing = OnBudget::new(pass, &budget);
+    let (_, fallback) = play_drawing_or(rt, both, plan, drawing, steps);
+    fallback
+}
+
+// The same, by what draws its tickets. Answers that too.
+pub(super) fn play_drawing_or<R, X: Effect, D: Draws, F: Fallback<X>>(
+    rt: &R,
+    both: (X, F),
+    plan: Result<Plan, PlanFault>,
+    drawing: D,
+    steps: &[Step<'_>],
+) -> (D, F)
+where
+    R: RandomSource + AllocGlobal + Abort,
+    requires { X.fresh both.0 }
+{
     let alloc = rt.alloc();
     let (effect, fallback) = both;
-    let (budget, pass) = budget(rt, alloc, limit);
+    let had = drawing.granted();
     let driver = driver(rt, alloc, plan);
-    let mut retry = RetryOr::new(alloc, effect, driver, pass, &budget, fallback);
+    let mut retry = RetryOr::new(alloc, effect, driver, drawing, fallback);
     play(rt, &mut retry, steps);
     let counts = retry.counts();
-    let (effect, driver, pass, fallback) = retry.into_parts();
-    assert_parts(rt, counts, &effect, &driver, pass.count());
-    fallback
+    let (effect, driver, drawing, fallback) = retry.into_parts();
+    assert_parts(
+        rt,
+        counts,
+        &effect,
+        &driver,
+        drawing.granted().saturating_sub(had),
+    );
+    (drawing, fallback)
 }
 
 // The same, at its end by a future before the first step.
@@ -85,7 +133,8 @@ where
     let (effect, fallback) = both;
     let (budget, pass) = budget(rt, alloc, limit);
     let driver = driver(rt, alloc, plan);
-    let retry = RetryOr::new(alloc, effect, driver, pass, &budget, fallback);
+    let drawing = OnBudget::new(pass, &budget);
+    let retry = RetryOr::new(alloc, effect, driver, drawing, fallback);
     let mut retry = finish(rt, retry);
     play(rt, &mut retry, steps);
     let (_, _, _, fallback) = retry.into_parts();

@@ -45,7 +45,7 @@ pub(super) trait Shows: Task {
     fn told(&mut self) -> Option<Told>;
 }
 
-impl<'a, X: Effect> Shows for Retry<'a, X> {
+impl<X: Effect, D: Draws> Shows for Retry<X, D> {
     fn begun(&self) -> &[Moment] {
         Retry::begun(self)
     }
@@ -77,7 +77,7 @@ fn told_of<I: Coded + Drop, F: Coded + Drop>(ending: Ending<I, F>) -> Told {
     }
 }
 
-impl<'a, X: Effect, F: Fallback<X>> Shows for RetryOr<'a, X, F> {
+impl<X: Effect, D: Draws, F: Fallback<X>> Shows for RetryOr<X, D, F> {
     fn begun(&self) -> &[Moment] {
         RetryOr::begun(self)
     }

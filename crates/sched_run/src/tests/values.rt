@@ -61,7 +61,8 @@ where
     let alloc = rt.alloc();
     let (budget, pass) = budget(rt, alloc, limit);
     let driver = driver(rt, alloc, Plan::recurs(recurs));
-    let retry = Retry::new(alloc, Call::new(alloc, tries), driver, pass, &budget);
+    let drawing = OnBudget::new(pass, &budget);
+    let retry = Retry::new(alloc, Call::new(alloc, tries), driver, drawing);
     value_of(finish(rt, retry).take_ending())
 }
 
@@ -146,7 +147,8 @@ where
         answered: None,
     };
     let calls = Call::new(alloc, tries);
-    let retry = RetryOr::new(alloc, calls, driver, pass, &budget, hundred);
+    let drawing = OnBudget::new(pass, &budget);
+    let retry = RetryOr::new(alloc, calls, driver, drawing, hundred);
     value_of_or(finish(rt, retry).take_ending())
 }
 
