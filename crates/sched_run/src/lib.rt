@@ -18,7 +18,9 @@ pub use futures::task::{Context, Poll};
 pub use rand_core::Rng;
 pub use sched_draws::{Draws, OnBudget, OnQuota, RefersTo, Unlimited};
 pub use sched_driver::{DriveFault, Driver, Event};
-pub use sched_effect::{Action, Call, Code, Coded, Effect, Fallback, Ran, Scripted, Tagged};
+pub use sched_effect::{
+    Action, Call, Code, Coded, Effect, Fallback, FutureAction, FutureCall, Ran, Scripted, Tagged,
+};
 pub use sched_plan::{Fold, Plan, PlanFault, Test, Val};
 pub use sched_quota::{
     Pass as QuotaPass, PassesOut as QuotaPassesOut, Quota, QuotaFault, Terms, Usage,

@@ -14,6 +14,7 @@ use std::process::Abort;
 use std::random::RandomSource;
 use std::sync::Wait;
 
+mod answers;
 mod calls;
 mod draws;
 mod endings;
