@@ -1,17 +1,18 @@
 -- A job keeps its ending through polls and cancels, and what it shows is so.
-use Rattle.std.proofs.Common.{◌≡◌, ◌<◌, ◌||◌, Bool, true, List, [], ◌∷◌, length, Option, Some, None, is_some, IfSome, refl, sym, ap, ◌∙◌, arith}
+use Rattle.std.proofs.Common.{◌≡◌, ◌<◌, ◌||◌, ℕ, Bool, true, List, [], ◌∷◌, length, Option, Some, None, is_some, IfSome, refl, sym, ap, ◌∙◌, subst, arith}
 use Rattle.sched_time.specs.declared.numbers.Tick.{Tick}
 use Rattle.sched_plan.specs.Schedule.{Schedule}
 use Rattle.sched_plan.specs.declared.history.Event.{Event}
-use Rattle.sched_driver.specs.Driven.{next_start_of}
+use Rattle.sched_driver.specs.Driven.{Driven, next_start_of}
+use Rattle.sched_effect.specs.declared.ran.Ran.{Ran}
 use Rattle.sched_task.specs.declared.endings.How.{How}
 use Rattle.sched_task.specs.declared.endings.How.TheVariants.{Won, ScheduleDone, BudgetRefused, Failed, Cancelled, Broken}
-use Rattle.sched_ticket.specs.Held.{Name}
+use Rattle.sched_ticket.specs.Held.{Name, Held}
 use Rattle.sched_draws.specs.Budgets.{OfBudget, budget_grants}
 use Rattle.sched_task_law.specs.Kind.{Kind, retry}
 use Rattle.sched_task_law.specs.Past.{Past, schedule_is_done, is_under_way, waits_for}
 use Rattle.sched_task_law.specs.Poll.{Happened, stays, cannot_begin, runs_on, cannot_run, ends, breaks, stops_done, stops_denied, recurs, asks, cannot_ask, falls, May, after}
-use Rattle.sched_task_law.specs.Law.{Ended}
+use Rattle.sched_task_law.specs.Law.{Law, Ended}
 use Rattle.sched_task_law.proofs.Law.{or_false}
 use Rattle.sched_task_law.proofs.Lists.{by_test}
 use Rattle.sched_task_law.proofs.Fields.{none_of}
@@ -77,14 +78,19 @@ denied_by v (Some Failed) ended = absurd (let bad = ended.0 in cc)
 denied_by v (Some Cancelled) ended = (or_false v.denied (schedule_is_done v.driver) (ended refl)).0
 denied_by v (Some (Broken fault)) ended = (or_false v.denied (schedule_is_done v.driver) (ended.0 refl)).0
 
--- the tickets of a pass that had none before are those that the retry was granted
-pub all_granted : (v : Retrying OfBudget) → v.had ≡ 0 → RetryLaw budget_grants retry v →
-    length v.drawing.pass.has.tickets ≡ v.past.granted
-all_granted v had law = omega (arith, law.granted, had)
-
--- what is left of a retry says what it has done
+-- what is left of a retry says what it has done: the tickets of a pass that had none before are those granted
 pub end_is : (v : Retrying OfBudget) → v.had ≡ 0 → RetryLaw budget_grants retry v →
     ended v.past.driver v.past.runs v.past.begun v.past.over (length v.drawing.pass.has.tickets) ≡ v.past
 end_is v had law =
-    ap (λ n. ended v.past.driver v.past.runs v.past.begun v.past.over n) (all_granted v had law)
+    ap (λ n. ended v.past.driver v.past.runs v.past.begun v.past.over n) (omega (arith, law.granted, had))
     ∙ ap (λ b. record v.past { denied = b }) (sym (denied_by v.past v.past.over law.law.ended))
+
+-- and keeps its law
+pub law_left : (v : Retrying OfBudget) (drawing : OfBudget) (pass : Held) (driver : Driven) (runs : List Ran) (begun : List ℕ)
+    (over : Option How) (granted : ℕ) → RetryLaw budget_grants retry v → v.had ≡ 0 →
+    drawing ≡ v.drawing → pass ≡ drawing.pass → granted ≡ length pass.has.tickets →
+    driver ≡ v.past.driver → runs ≡ v.past.runs → begun ≡ v.past.begun → over ≡ v.past.over →
+    Law retry (ended driver runs begun over granted)
+law_left v drawing pass driver runs begun over granted law had is_drawing is_pass is_granted is_driver is_runs is_begun is_over =
+    rw (is_driver, is_runs, is_begun, is_over, is_granted, is_pass, is_drawing)
+    (subst (λ (p : Past). Law retry p) (sym (end_is v had law)) law.law)

@@ -1,17 +1,15 @@
-use Rattle.std.proofs.Common.{◌∙◌, sym, subst}
-use Rattle.sched_task_law.specs.Kind.{retry}
-use Rattle.sched_task_law.specs.Past.{Past}
-use Rattle.sched_task_law.specs.Law.{Law}
-use Rattle.sched_pool_job.proofs.Kept.{end_is}
+use Rattle.std.proofs.Common.{◌∙◌}
+use Rattle.sched_pool_job.proofs.Kept.{law_left}
 use Rattle.sched_pool_job.proofs.ends.JobEnd.of_retry.Goals as goal
 
--- what is left keeps the law of the retry
 pub invariant_of-end : goal.invariant_of-end
 invariant_of-end g c =
-    let e = c.into_whole-effect.ensures in
-    let law = subst (λ (v : Past). Law retry v) (sym (end_is c.args.task c.requires.had e.law)) e.law.law in
-    rw (e.driver, e.runs, e.begun, e.over, c.count-granted.ensures.count, c.into_parts-pass.ensures.pass, e.drawing)
-    (law, e.untaken ∙ c.requires.untaken, e.fits)
+    let e = c.into_whole-effect.ensures in (
+      law_left c.args.task _ _ _ _ _ _ _ e.law c.requires.had e.drawing c.into_parts-pass.ensures.pass c.count-granted.ensures.count
+          e.driver e.runs e.begun e.over,
+      rw e.over (e.untaken ∙ c.requires.untaken),
+      rw (e.over, e.runs) e.fits,
+    )
 
 pub returns-clause-law : goal.returns-clause-law
 returns-clause-law g c = (invariant_of-end g c).0
