@@ -4,6 +4,7 @@ ghost use Rattle.sched_ticket.specs.Held.{IsOf};
 ghost use Rattle.sched_task_law.specs.Past.{nothing_yet};
 
 use crate::batches::BatchFault;
+use sched_draws::OnBudget;
 use sched_driver::Driver;
 use sched_effect::Scripted;
 use sched_jobs_json::JobRead;
@@ -46,10 +47,11 @@ fn retry_of<'a>(
     job: &JobRead,
     budget: &'a Budget,
     pass: &mut Pass,
-) -> Result<Retry<'a, Scripted>, BatchFault>
+) -> Result<Retry<Scripted, OnBudget<&'a Budget>>, BatchFault>
     requires { IsOf budget.now pass.old }
     ensures past { IfOk result (λ retry. retry.past ≡ nothing_yet job.now.plan) }
-    ensures budget { IfOk result (λ retry. retry.budget ≡ budget.entry.now) }
+    ensures budget { IfOk result (λ retry. retry.drawing.budget ≡ budget.entry.now) }
+    ensures had { IfOk result (λ retry. retry.had ≡ 0) }
     ensures of { IsOf budget.now pass.new }
     ensures tickets { pass.new.has.tickets ≡ pass.old.has.tickets }
 {
@@ -62,5 +64,6 @@ fn retry_of<'a>(
     let Ok(own) = pass.split(budget) else {
         return Err(BatchFault::Mixed);
     };
-    Ok(Retry::new(alloc, effect, driver, own, budget))
+    let drawing = OnBudget::new(own, budget);
+    Ok(Retry::new(alloc, effect, driver, drawing))
 }
