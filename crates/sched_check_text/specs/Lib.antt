@@ -1,0 +1,3 @@
+pub mod PlaceText
+pub mod Reporting
+pub mod Checking
