@@ -1,0 +1,83 @@
+//! Which windows give tickets.
+use super::{AMPLE, prints};
+use std::test::Fail;
+
+// It loses three times, and tries again 100 ms after each failure.
+const SPACED_100: &str =
+    r#"{"plan":{"spaced":100},"runs":[{"lost":7},{"lost":7},{"lost":7},{"won":1}]}"#;
+
+// It loses always, and tries again at once.
+const FOREVER: &str = r#"[{"plan":"forever","runs":[{"lost":7}]}]"#;
+
+#[test]
+fn no_job_asks_for_no_ticket(rt: HostRuntime) -> Result<(), Fail> {
+    prints(&rt, "[]", (5, 1000, 100), AMPLE, "granted 0 in 0 windows\n")?;
+    prints(&rt, "[]", (0, 0, 1), 0, "granted 0 in 0 windows\n")
+}
+
+// The failures of the job lie at 0, 100 and 200: of windows of 100 ms each in its own, the border in the later one.
+// Windows of 101 ms have the first two in the first, which has one ticket.
+#[test]
+fn each_window_has_its_own_reserve(rt: HostRuntime) -> Result<(), Fail> {
+    let jobs = format!(in rt.alloc(); "[{SPACED_100}]")?;
+    let won = "job 0: won 1, granted 3\ngranted 3 in 3 windows\n";
+    prints(&rt, &jobs, (1, 0, 100), AMPLE, won)?;
+    let refused = "job 0: budget refused, failure 7, granted 1\ngranted 1 in 1 windows\n";
+    prints(&rt, &jobs, (1, 0, 101), AMPLE, refused)?;
+    let won = "job 0: won 1, granted 3\ngranted 3 in 2 windows\n";
+    prints(&rt, &jobs, (2, 0, 101), AMPLE, won)?;
+    let won = "job 0: won 1, granted 3\ngranted 3 in 1 windows\n";
+    prints(&rt, &jobs, (3, 0, 201), AMPLE, won)
+}
+
+// The first job draws the one ticket of each window before the second, which is refused at 0 and is over.
+#[test]
+fn what_a_window_has_is_for_all_jobs(rt: HostRuntime) -> Result<(), Fail> {
+    let jobs = format!(in rt.alloc(); "[{SPACED_100},{SPACED_100}]")?;
+    let one = "job 0: won 1, granted 3\njob 1: budget refused, failure 7, granted 0\n\
+        granted 3 in 3 windows\n";
+    prints(&rt, &jobs, (1, 0, 100), AMPLE, one)?;
+    let both = "job 0: won 1, granted 3\njob 1: won 1, granted 3\ngranted 6 in 3 windows\n";
+    prints(&rt, &jobs, (2, 0, 100), AMPLE, both)
+}
+
+// One job fails at 0 alone, the other at 0 and at 250, which is of the third window.
+#[test]
+fn a_window_without_a_ticket_is_not_counted(rt: HostRuntime) -> Result<(), Fail> {
+    let jobs = r#"[
+        {"plan":{"spaced":100},"runs":[{"lost":7},{"won":1}]},
+        {"plan":{"spaced":250},"runs":[{"lost":8},{"lost":9},{"won":2}]}]"#;
+    let text = "job 0: won 1, granted 1\njob 1: won 2, granted 2\ngranted 3 in 2 windows\n";
+    prints(&rt, jobs, (2, 0, 100), AMPLE, text)
+}
+
+#[test]
+fn no_reserve_and_no_share_give_nothing(rt: HostRuntime) -> Result<(), Fail> {
+    let text = "job 0: budget refused, failure 7, granted 0\ngranted 0 in 0 windows\n";
+    prints(&rt, FOREVER, (0, 0, 100), AMPLE, text)
+}
+
+// The greatest share is a thousand tickets for the one request, the greatest reserve more than the journal has room for.
+#[test]
+fn the_ends_of_the_ranges(rt: HostRuntime) -> Result<(), Fail> {
+    let text = "job 0: budget refused, failure 7, granted 1000\ngranted 1000 in 1 windows\n";
+    prints(&rt, FOREVER, (0, 1000000, 100), AMPLE, text)?;
+    let text = "job 0: broken, journal full, granted 65536\ngranted 65536 in 1 windows\n";
+    prints(&rt, FOREVER, (4294967296, 0, 1), AMPLE, text)
+}
+
+// Its second failure lies 5000 windows after the first, and is served in window 3600, as the third in 7200.
+#[test]
+fn a_long_wait_leaves_windows_out(rt: HostRuntime) -> Result<(), Fail> {
+    let jobs = r#"[{"plan":{"spaced":5000},"runs":[{"lost":7},{"lost":7},{"lost":7},{"won":1}]}]"#;
+    let text = "job 0: won 1, granted 3\ngranted 3 in 3 windows\n";
+    prints(&rt, jobs, (1, 0, 1), AMPLE, text)
+}
+
+#[test]
+fn turns_that_are_spent_leave_a_job_unended(rt: HostRuntime) -> Result<(), Fail> {
+    let text = "job 0: not over, granted 0\ngranted 0 in 0 windows\n";
+    prints(&rt, FOREVER, (5, 1000, 100), 0, text)?;
+    let text = "job 0: not over, granted 2\ngranted 2 in 1 windows\n";
+    prints(&rt, FOREVER, (5, 1000, 100), 2, text)
+}
