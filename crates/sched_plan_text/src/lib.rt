@@ -6,8 +6,6 @@ mod faults;
 mod options;
 mod printing;
 mod streams;
-#[cfg(test)]
-mod tests;
 mod whole;
 
 pub use counts::Counted;

@@ -1,4 +1,4 @@
-use crate::PrintFault;
+use sched_plan_text::PrintFault;
 use std::test::Fail;
 
 #[test]

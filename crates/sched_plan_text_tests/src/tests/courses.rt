@@ -1,5 +1,5 @@
 //! Plans whose events have inputs and words of their own.
-use crate::{Counted, PlanCourse, print_course};
+use sched_plan_text::{Counted, PlanCourse, print_course};
 use sched_time::{Millis, Moment};
 use std::alloc::{AllocError, Global};
 use std::process::Abort;

@@ -1,8 +1,8 @@
 //! Whole texts of plans of every node, worked out by hand.
-use super::printings::{options, prints, refuses, shows, with_input};
+use super::printings::{options, prints, prints_text, refuses, refuses_text, shows, with_input};
 use super::texts::under;
-use crate::PrintFault;
-use std::alloc::Global;
+use sched_plan_text::PrintFault;
+use std::alloc::{AllocError, Global};
 use std::process::Abort;
 use std::test::Fail;
 
@@ -297,23 +297,21 @@ fn changed_delays(rt: HostRuntime) -> Result<(), Fail> {
     Ok(())
 }
 
-#[test]
-fn words_pick_a_ratio(rt: HostRuntime) -> Result<(), Fail> {
-    let table = [
-        (0u32, "0: 0 next 800\n"),
-        (2147483648, "0: 0 next 1000\n"),
-        (4294967295, "0: 0 next 1199\n"),
-    ];
-    for (word, line) in table {
-        let options = with_input(1, 0, 0, 0, word).ok_or("out of range")?;
-        for lane in 0..4u64 {
-            let text = format!(in rt.alloc();
-                "{{\"jitter\":[{lane},800,1200,{{\"spaced\":1000}}]}}"
-            )?;
-            prints(&rt, rt.alloc(), text.as_bytes(), &options, line);
-        }
+// Asserts the line of a jittered plan in each lane, where all lanes have this word.
+fn picks(rt: &impl Abort, alloc: Global, word: u32, line: &str) -> Result<(), Fail> {
+    let options = with_input(1, 0, 0, 0, word).ok_or("out of range")?;
+    for lane in 0..4u64 {
+        let text = format!(in alloc; "{{\"jitter\":[{lane},800,1200,{{\"spaced\":1000}}]}}")?;
+        prints(rt, alloc, text.as_bytes(), &options, line);
     }
     Ok(())
+}
+
+#[test]
+fn words_pick_a_ratio(rt: HostRuntime) -> Result<(), Fail> {
+    picks(&rt, rt.alloc(), 0, "0: 0 next 800\n")?;
+    picks(&rt, rt.alloc(), 2147483648, "0: 0 next 1000\n")?;
+    picks(&rt, rt.alloc(), 4294967295, "0: 0 next 1199\n")
 }
 
 #[test]
@@ -454,17 +452,21 @@ fn numbers_outside_their_ranges_are_refused(rt: HostRuntime) -> Result<(), Fail>
     refuse_all(&rt, rt.alloc(), &texts, PrintFault::NotAPlan)
 }
 
+// The same line, so many times.
+fn lines_of(alloc: Global, line: &str, times: u64) -> Result<String, AllocError> {
+    let mut lines = String::new(alloc);
+    for _ in 0..times {
+        lines.push_str(line)?;
+    }
+    Ok(lines)
+}
+
 #[test]
 fn nodes_over_one_plan_are_32_deep(rt: HostRuntime) -> Result<(), Fail> {
     let alloc = rt.alloc();
     let options = options(10, 0, 0).ok_or("out of range")?;
-    let deepest = under(alloc, "nothing", 31)?;
-    let mut lines = String::new(alloc);
-    for _ in 0..10 {
-        lines.push_str("0: () next 0\n")?;
-    }
-    prints(&rt, alloc, deepest.as_bytes(), &options, lines.as_str());
-    let deeper = under(alloc, "nothing", 32)?;
-    refuses(&rt, alloc, deeper.as_bytes(), &options, PrintFault::TooDeep);
-    Ok(())
+    let lines = lines_of(alloc, "0: () next 0\n", 10);
+    prints_text(&rt, alloc, under(alloc, "nothing", 31), &options, lines)?;
+    let deeper = under(alloc, "nothing", 32);
+    refuses_text(&rt, alloc, deeper, &options, PrintFault::TooDeep)
 }

@@ -1,7 +1,7 @@
 //! Printings of plans, with what each answers and writes.
-use crate::{Counted, MOST_STEPS, PlanOptions, PrintFault, print_plan};
+use sched_plan_text::{Counted, MOST_STEPS, PlanOptions, PrintFault, print_plan};
 use sched_time::{Millis, Moment};
-use std::alloc::Global;
+use std::alloc::{AllocError, Global};
 use std::io::{Read, Write};
 use std::process::Abort;
 use std::test::Fail;
@@ -87,5 +87,30 @@ pub(crate) fn shows(
 ) -> Result<(), Fail> {
     let options = options(steps, from, took).ok_or("out of range")?;
     prints(rt, alloc, text.as_bytes(), &options, lines);
+    Ok(())
+}
+
+/// Asserts that a text that was built is printed as lines that were built.
+pub(crate) fn prints_text(
+    rt: &impl Abort,
+    alloc: Global,
+    text: Result<String, AllocError>,
+    options: &PlanOptions,
+    lines: Result<String, AllocError>,
+) -> Result<(), Fail> {
+    let text = text?;
+    prints(rt, alloc, text.as_bytes(), options, lines?.as_str());
+    Ok(())
+}
+
+/// Asserts that a text that was built is refused with this fault.
+pub(crate) fn refuses_text(
+    rt: &impl Abort,
+    alloc: Global,
+    text: Result<String, AllocError>,
+    options: &PlanOptions,
+    fault: PrintFault,
+) -> Result<(), Fail> {
+    refuses(rt, alloc, text?.as_bytes(), options, fault);
     Ok(())
 }
