@@ -10,7 +10,7 @@ ghost use Rattle.std.specs.Prelude.{◌≡◌, [], IfSome};
 use futures::task::{Context, Doorbell, Poll, Queue};
 use sched_driver::Driver;
 use sched_plan::{Plan, PlanFault, Val};
-use sched_run::{Ran, Retry, Scripted};
+use sched_run::{OnBudget, Ran, Retry, Scripted};
 use sched_ticket::Budget;
 use sched_time::{FAR, Millis, Moment, Tick};
 use std::alloc::Global;
@@ -103,7 +103,8 @@ fn retry(alloc: Global, driver: Driver, cx: &mut Context<'_>) -> Option<u64>
     requires { driver.journal ≡ [] }
 {
     let (budget, pass) = Budget::new(alloc, ROUND).ok()?;
-    let mut retry = Retry::new(alloc, failing(alloc)?, driver, pass, &budget);
+    let drawing = OnBudget::new(pass, &budget);
+    let mut retry = Retry::new(alloc, failing(alloc)?, driver, drawing);
     for turn in 0..ROUND {
         let _ = retry.poll_at(alloc, &tick(turn)?, cx);
     }
@@ -127,7 +128,8 @@ fn wait(alloc: Global, driver: Driver, cx: &mut Context<'_>) -> Option<u64>
     requires { driver.journal ≡ [] }
 {
     let (budget, pass) = Budget::new(alloc, 1).ok()?;
-    let mut retry = Retry::new(alloc, failing(alloc)?, driver, pass, &budget);
+    let drawing = OnBudget::new(pass, &budget);
+    let mut retry = Retry::new(alloc, failing(alloc)?, driver, drawing);
     let now = tick(0)?;
     let mut count: u64 = 0;
     for _ in 0..ROUND {

@@ -5,8 +5,8 @@
 
 use anyhow::{Context, Result, bail};
 use sched_run::{
-    Action, Budget, Call, Driver, Ending, Plan, PlanFault, Retry, SystemClock, SystemWords, Tagged,
-    Timed, block_on,
+    Action, Budget, Call, Driver, Ending, OnBudget, Plan, PlanFault, Retry, SystemClock,
+    SystemWords, Tagged, Timed, block_on,
 };
 use std::alloc::{AllocGlobal, Global};
 use std::random::RandomSource;
@@ -47,7 +47,7 @@ fn read<R: Runtime + RandomSource + AllocGlobal + Wait>(rt: &R, path: &str) -> R
     let (budget, pass) = Budget::new(alloc, 10)?;
     let driver = Driver::new(alloc, back_off(alloc)?)?;
     let call = Call::new(alloc, ReadFile { rt, path });
-    let retry = Retry::new(alloc, call, driver, pass, &budget);
+    let retry = Retry::new(alloc, call, driver, OnBudget::new(pass, &budget));
     let timed = Timed::new(alloc, retry, SystemClock::new(rt)?, SystemWords::new(rt)?);
     let mut retry = block_on(rt, timed)?;
     let retries = retry.granted();
