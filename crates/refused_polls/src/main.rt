@@ -15,7 +15,7 @@ use counted::Counted;
 use futures::task::{Context, Doorbell, Poll, Queue};
 use sched_driver::Driver;
 use sched_plan::Plan;
-use sched_run::{Call, How, Ran, Repeat, Retry, RetryOr, Scripted, Task};
+use sched_run::{Call, How, OnBudget, Ran, Repeat, Retry, RetryOr, Scripted, Task};
 use sched_ticket::Budget;
 use sched_time::{Millis, Moment, Tick};
 use shown::Shown;
@@ -73,7 +73,7 @@ fn poll_retry(rt: &HostRuntime, cx: &mut Context<'_>) -> Option<()> {
     let effect = scripted(alloc, &[lost(), lost(), lost(), lost(), lost(), won()])?;
     let driver = spaced(alloc, 9)?;
     let (budget, pass) = Budget::new(alloc, 9).ok()?;
-    let mut retry = Retry::new(alloc, effect, driver, pass, &budget);
+    let mut retry = Retry::new(alloc, effect, driver, OnBudget::new(pass, &budget));
     poll_all(rt, "retry", &mut retry, cx)
 }
 
@@ -83,8 +83,8 @@ fn poll_retry_or(rt: &HostRuntime, cx: &mut Context<'_>) -> Option<()> {
     let effect = scripted(alloc, &[lost()])?;
     let driver = spaced(alloc, 4)?;
     let (budget, pass) = Budget::new(alloc, 9).ok()?;
-    let spare = Spare::new(alloc);
-    let mut retry = RetryOr::new(alloc, effect, driver, pass, &budget, spare);
+    let drawing = OnBudget::new(pass, &budget);
+    let mut retry = RetryOr::new(alloc, effect, driver, drawing, Spare::new(alloc));
     poll_all(rt, "retry_or", &mut retry, cx)
 }
 
@@ -102,7 +102,7 @@ fn poll_call(rt: &HostRuntime, cx: &mut Context<'_>) -> Option<()> {
     let effect = Call::new(alloc, Counted::new(5));
     let driver = spaced(alloc, 9)?;
     let (budget, pass) = Budget::new(alloc, 9).ok()?;
-    let mut retry = Retry::new(alloc, effect, driver, pass, &budget);
+    let mut retry = Retry::new(alloc, effect, driver, OnBudget::new(pass, &budget));
     poll_all(rt, "call", &mut retry, cx)
 }
 
@@ -143,7 +143,7 @@ fn poll<T: Task>(alloc: Global, task: &mut T, turn: u64, cx: &mut Context<'_>) -
     }
 }
 
-// What a task shows of its driver and its pass.
+// What a task shows of its driver and its tickets.
 fn show_driver(
     rt: &HostRuntime,
     name: &str,

@@ -2,10 +2,10 @@
 
 use crate::spare::Spare;
 use sched_driver::Driver;
-use sched_run::{Effect, Ran, Repeat, Retry, RetryOr, Scripted};
+use sched_run::{Draws, Effect, Ran, Repeat, Retry, RetryOr, Scripted};
 use sched_time::Moment;
 
-/// What a task shows of its driver, its pass and its runs.
+/// What a task shows of its driver, its tickets and its runs.
 pub trait Shown {
     /// The driver.
     fn driver(&self) -> &Driver;
@@ -20,7 +20,7 @@ pub trait Shown {
     fn runs(&self) -> &[Ran];
 }
 
-impl<'a, X: Effect> Shown for Retry<'a, X> {
+impl<X: Effect, D: Draws> Shown for Retry<X, D> {
     fn driver(&self) -> &Driver {
         Retry::driver(self)
     }
@@ -38,7 +38,7 @@ impl<'a, X: Effect> Shown for Retry<'a, X> {
     }
 }
 
-impl<'a> Shown for RetryOr<'a, Scripted, Spare> {
+impl<D: Draws> Shown for RetryOr<Scripted, D, Spare> {
     fn driver(&self) -> &Driver {
         RetryOr::driver(self)
     }
