@@ -8,6 +8,7 @@ ghost use Rattle.sched_ticket.specs.Held.{IsOf};
 ghost use Rattle.sched_task_law.specs.Past.{nothing_yet};
 
 use futures::task::{Context, Poll};
+use sched_draws::OnBudget;
 use sched_driver::Driver;
 use sched_effect::{Code, Effect, Ran};
 use sched_plan::Plan;
@@ -108,7 +109,8 @@ where
     let mut board: Board<Toil, N> = Board::new(alloc, &budget);
     for _ in 0..JOBS {
         let own = pass.split(&budget).ok()?;
-        board.add(retry(alloc, own, &budget, runs)?).ok()?;
+        let drawing = OnBudget::new(own, &budget);
+        board.add(retry(alloc, drawing, runs)?).ok()?;
     }
     let stations = stations(alloc, workers)?;
     let end = board
@@ -118,18 +120,22 @@ where
 }
 
 // A retry that fails so many times.
-fn retry<'a>(alloc: Global, pass: Pass, budget: &'a Budget, runs: u32) -> Option<Retry<'a, Toil>>
-    requires of { IsOf budget.now pass }
-    requires none { pass.has.tickets ≡ [] }
+fn retry<'a>(
+    alloc: Global,
+    drawing: OnBudget<&'a Budget>,
+    runs: u32,
+) -> Option<Retry<Toil, OnBudget<&'a Budget>>>
+    requires none { drawing.pass.has.tickets ≡ [] }
     ensures past { IfSome result (λ retry. retry.past ≡ nothing_yet retry.past.driver.plan) }
-    ensures budget { IfSome result (λ retry. retry.budget ≡ budget.entry.now) }
+    ensures drawing { IfSome result (λ retry. retry.drawing ≡ drawing.entry) }
+    ensures had { IfSome result (λ retry. retry.had ≡ 0) }
 {
     let plan = Plan::recurs(u64::from(runs).saturating_sub(1)).ok()?;
     let driver = Driver::new(alloc, plan).ok()?;
     let effect = Toil {
         runs: Vec::new(alloc),
     };
-    Some(Retry::new(alloc, effect, driver, pass, budget))
+    Some(Retry::new(alloc, effect, driver, drawing))
 }
 
 fn stations(alloc: Global, workers: usize) -> Option<Vec<Station<VirtualClock, MidWords>>> {

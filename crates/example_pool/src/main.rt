@@ -8,8 +8,8 @@ ghost use Rattle.sched_pool.specs.Held.{IsOf};
 
 use anyhow::{Context, Result, bail};
 use sched_pool::{
-    Action, Board, Budget, Call, Driver, Naming, OpenGate, Pass, Plan, PlanFault, Retry, Station,
-    SystemClock, SystemWords,
+    Action, Board, Budget, Call, Driver, Naming, OnBudget, OpenGate, Pass, Plan, PlanFault, Retry,
+    Station, SystemClock, SystemWords,
 };
 use std::alloc::{AllocGlobal, Global};
 use std::io;
@@ -89,7 +89,7 @@ where
         let own = pass.split(&budget)?;
         let driver = Driver::new(alloc, back_off(alloc)?)?;
         let call = Call::new(alloc, Ask { rt, service });
-        let retry = Retry::new(alloc, call, driver, own, &budget);
+        let retry = Retry::new(alloc, call, driver, OnBudget::new(own, &budget));
         board.add(retry).map_err(|refused| refused.fault)?;
     }
     let mut stations = Vec::new(alloc);
