@@ -1,36 +1,20 @@
 -- What printing a plan does to the bytes left and the bytes taken, whatever bytes come.
 use Rattle.std.specs.Prelude.{◌≡◌, ℕ, ◌⊎◌, List, Option, Some, Result, Ok, Err, IsUtf8}
 use Rattle.std.specs.Io.KnownBytes.{Appends, Keeps}
-use Rattle.serde_json.specs.Data.{Data}
 use Rattle.serde_json.specs.Read.{read}
 use Rattle.serde_json.specs.View.{view}
 use Rattle.serde_json.specs.declared.value.Value.{Value}
 use Rattle.sched_plan.specs.Schedule.{Schedule}
 use Rattle.sched_plan.specs.declared.plans.PlanFault.TheVariants as refused
-use Rattle.sched_json.specs.PlanOf.{plan_of}
-use Rattle.sched_json.specs.declared.faults.ReadFault.{ReadFault}
 use Rattle.sched_json.specs.declared.faults.ReadFault.TheVariants as reading
+pub use Rattle.sched_json.specs.Texts.{Spells, SpellsPlan, SpellsFault, SpellsNothing}
 use Rattle.sched_plan_text.specs.PlanText.{plan_text}
 use Rattle.sched_plan_text.specs.Whole.{IsWholeInput, StopsReading, WritesFront}
 use Rattle.sched_plan_text.specs.Course.{Course}
 use Rattle.sched_plan_text.specs.declared.faults.PrintFault.{PrintFault}
-use Rattle.sched_plan_text.specs.declared.faults.PrintFault.TheVariants.{ReadFailed, TooLong, NotJson, NotAPlan, OutOfRange, TooDeep, TooMany, NoMemory, NotStarted, WriteFailed, Unfinished, Mixed}
-
--- the bytes are a JSON text, of a value of which P is true
-abbrev pub Spells : List ℕ → (Data → Type 0) → Type 0
-Spells bytes P = (v : Data) × IsUtf8 bytes × (read bytes ≡ Some v) × P v
-
--- the bytes spell this plan
-abbrev pub SpellsPlan : List ℕ → Schedule → Type 0
-SpellsPlan bytes s = Spells bytes (λ v. plan_of v ≡ Ok s)
-
--- the bytes spell a value that is no plan, for this fault
-abbrev pub SpellsFault : List ℕ → ReadFault → Type 0
-SpellsFault bytes fault = Spells bytes (λ v. plan_of v ≡ Err fault)
-
--- the bytes are no JSON text
-abbrev pub SpellsNothing : List ℕ → Type 0
-SpellsNothing bytes = IsUtf8 bytes → (v : Data) → read bytes ≡ Some v → ⊥
+use Rattle.sched_plan_text.specs.declared.faults.PrintFault.TheVariants.{ReadFailed, TooLong, NotJson, NotAPlan}
+use Rattle.sched_plan_text.specs.declared.faults.PrintFault.TheVariants.{OutOfRange, TooDeep, TooMany, NoMemory}
+use Rattle.sched_plan_text.specs.declared.faults.PrintFault.TheVariants.{NotStarted, WriteFailed, Unfinished, Mixed}
 
 -- what bytes are read as
 abbrev pub ReadsValue : List ℕ → Result Value PrintFault → Type 0
@@ -73,7 +57,9 @@ IsPlanInput left left' P = IsInput left left' (λ bytes. (s : Schedule) × Spell
 -- The printing of a plan: at Ok the whole text was written of the plan that was read; at a fault of reading nothing was
 -- written, and the input is at fault as the answer says; at a failed write a front of that text was written; and so too
 -- where memory was refused, unless nothing was written.
-abbrev pub Prints : Course → Option (List ℕ) → Option (List ℕ) → Option (List ℕ) → Option (List ℕ) → Result (Unit {0}) PrintFault → Type 0
+abbrev pub Prints :
+    Course → Option (List ℕ) → Option (List ℕ) → Option (List ℕ) → Option (List ℕ) →
+    Result (Unit {0}) PrintFault → Type 0
 Prints o left left' taken taken' (Ok _) = IsPlanInput left left' (λ s. Appends taken taken' (plan_text s o))
 Prints o left left' taken taken' (Err ReadFailed) = StopsReading ReadFailed left left' × Keeps taken taken'
 Prints o left left' taken taken' (Err TooLong) = StopsReading TooLong left left' × Keeps taken taken'
