@@ -117,6 +117,27 @@ fn three_retries_by_one_pass(rt: HostRuntime) {
     assert_eq!(rt; budget.close(pass).ok(), Some(5));
 }
 
+// A retry of an effect that fails each time, by the one ticket of a budget that no other refers to.
+fn with_its_budget(rt: &impl Abort, alloc: Global) -> Retry<Scripted, OnBudget<Arc<Budget>>> {
+    let (budget, pass) = budget(rt, alloc, 1);
+    let budget = Arc::new(alloc, budget).expect(rt, "there is memory");
+    let drawing = OnBudget::new(pass, budget);
+    let effect = scripted(rt, alloc, &[Err(7)]);
+    Retry::new(alloc, effect, driver(rt, alloc, Plan::recurs(9)), drawing)
+}
+
+// It outlives the function that made it, and its budget is closed in another one.
+#[test]
+fn retry_by_an_arc(rt: HostRuntime) {
+    let retry = finish(&rt, with_its_budget(&rt, rt.alloc()));
+    assert_eq!(rt; retry.over(), Some(How::BudgetRefused));
+    assert_eq!(rt; retry.granted(), 1);
+    let (_, _, drawing) = retry.into_parts();
+    let (pass, budget) = drawing.into_parts();
+    let budget = Arc::into_inner(budget).expect(&rt, "no other refers to it");
+    assert_eq!(rt; budget.close(pass).ok(), Some(1));
+}
+
 // A retry of an effect that fails once, polled twice at this moment. Answers whether it has won, and what drew.
 fn retried<R, D: Draws>(rt: &R, drawing: D, at: u64) -> (bool, D)
 where
