@@ -1,3 +1,4 @@
 pub mod Fours
 pub mod PoolLines
 pub mod PoolFaults
+pub mod QuotaFaults

@@ -3,7 +3,7 @@ use Rattle.std.proofs.Common.{◌≡◌, ℕ, ◌+◌, List, [], ◌∷◌, ◌+
 use Rattle.std.proofs.lemmas.List.{append-nil}
 use Rattle.std.proofs.KnownBytes.{Appends-nil}
 use Rattle.sched_task_law.specs.Past.{Past}
-use Rattle.sched_pool_text.specs.PoolText.{job_text, lines_from, total_text, pool_text}
+use Rattle.sched_pool_text.specs.PoolText.{job_text, lines_from}
 use Rattle.sched_plan_text.specs.Printing.{WritesText}
 use Rattle.sched_plan_text.specs.Whole.{IsFront, WritesFront, WritesAllBut, StopsWriting}
 use Rattle.sched_plan_text.specs.declared.faults.PrintFault.{PrintFault}
@@ -17,18 +17,19 @@ pub record IsPrintedTo (ends : List Past) (n : ℕ) (pending : List ℕ) (old ne
   pub split : lines_from 0 ends ≡ front ++ lines_from n (drop n ends)
   pub wrote : WritesAllBut old new front pending
 
-module _ (ends : List Past) (granted limit n : ℕ) (old mid : Option (List ℕ)) (pending : List ℕ) (printed : IsPrintedTo ends n pending old mid) where
+-- the text is the lines of the jobs, and this last one
+module _ (ends : List Past) (last : List ℕ) (n : ℕ) (old mid : Option (List ℕ)) (pending : List ℕ) (printed : IsPrintedTo ends n pending old mid) where
   -- the lines so far are a front of the text
-  front_of_pool : IsFront printed.front (pool_text ends granted limit)
+  front_of_pool : IsFront printed.front (lines_from 0 ends ++ last)
   front_of_pool =
-      IsFront-trans printed.front (lines_from 0 ends) (pool_text ends granted limit)
-      (lines_from n (drop n ends), printed.split) (total_text granted limit, refl)
+      IsFront-trans printed.front (lines_from 0 ends) (lines_from 0 ends ++ last)
+      (lines_from n (drop n ends), printed.split) (last, refl)
 
   -- where printing stops between two lines, a front of the text is written
-  pub pool_stopped : WritesFront old mid (pool_text ends granted limit)
+  pub pool_stopped : WritesFront old mid (lines_from 0 ends ++ last)
   pool_stopped =
       let wrote = printed.wrote in
-      (wrote.0, IsFront-trans wrote.0 printed.front (pool_text ends granted limit) (pending, wrote.1) front_of_pool, wrote.2)
+      (wrote.0, IsFront-trans wrote.0 printed.front (lines_from 0 ends ++ last) (pending, wrote.1) front_of_pool, wrote.2)
 
   module _ (v : Past) (at : drop n ends ≡ v ∷ drop (n + 1) ends) (more : List ℕ) (more_is : more ≡ pending ++ job_text n v) where
     -- the lines up to this one
@@ -50,19 +51,19 @@ module _ (ends : List Past) (granted limit n : ℕ) (old mid : Option (List ℕ)
 
     -- where a write fails, a front of the text is written
     pub pool_stopped_in_line : (new : Option (List ℕ)) (fault : PrintFault) → StopsWriting fault mid new more →
-        WritesText old new (pool_text ends granted limit) (Err fault)
+        WritesText old new (lines_from 0 ends ++ last) (Err fault)
     pool_stopped_in_line new fault stop =
-        front_of_text old new (printed.front ++ job_text n v) (pool_text ends granted limit) fault
-        (IsFront-trans (printed.front ++ job_text n v) (lines_from 0 ends) (pool_text ends granted limit)
-        (lines_from (n + 1) (drop (n + 1) ends), split_more) (total_text granted limit, refl))
+        front_of_text old new (printed.front ++ job_text n v) (lines_from 0 ends ++ last) fault
+        (IsFront-trans (printed.front ++ job_text n v) (lines_from 0 ends) (lines_from 0 ends ++ last)
+        (lines_from (n + 1) (drop (n + 1) ends), split_more) (last, refl))
         (stops old mid (printed.front ++ job_text n v) more wrote_more new fault stop)
 
-  -- after the last job and the total, all of the text is written but what is pending
-  pub pool_ends : drop n ends ≡ [] → (more : List ℕ) → more ≡ pending ++ total_text granted limit → WritesAllBut old mid (pool_text ends granted limit) more
+  -- after the last job and the last line, all of the text is written but what is pending
+  pub pool_ends : drop n ends ≡ [] → (more : List ℕ) → more ≡ pending ++ last → WritesAllBut old mid (lines_from 0 ends ++ last) more
   pool_ends none more more_is =
       let all : lines_from 0 ends ≡ printed.front = printed.split ∙ ap (λ vs. printed.front ++ lines_from n vs) none ∙ append-nil printed.front in
-      subst (λ front. WritesAllBut old mid (front ++ total_text granted limit) more) (sym all)
-      (grows old mid printed.front pending printed.wrote (total_text granted limit) more more_is)
+      subst (λ front. WritesAllBut old mid (front ++ last) more) (sym all)
+      (grows old mid printed.front pending printed.wrote last more more_is)
 
 -- before the first job
 pub pool_begins : (ends : List Past) (pending : List ℕ) (w : Option (List ℕ)) → pending ≡ [] → IsPrintedTo ends 0 pending w w

@@ -2,6 +2,7 @@ use Rattle.std.specs.Prelude.{◌≡◌, ℕ, ◌≤◌, ◌<◌, ◌^◌, ◌�
 use Rattle.sched_time.specs.declared.numbers.TheConstants.{FAR}
 use Rattle.sched_plan_text.specs.Course.{Course, course_of}
 use Rattle.sched_plan_text.specs.declared.options.PlanOptions.{PlanOptions}
+use Rattle.sched_cli.specs.Quotas.{QuotaIsInRange}
 use Rattle.sched_cli.specs.Seeded.{fours, seeded}
 use Rattle.sched_cli.specs.declared.options.PoolOptions.{PoolOptions}
 use Rattle.sched_cli.specs.declared.options.Origin.{Origin}
@@ -46,9 +47,11 @@ abbrev pub IsAskedInRange : Asked → Type 0
 IsAskedInRange (asked.Plan options origin) = AreInRange options
 IsAskedInRange (asked.Course course origin) = IsCourseInRange (course_of course)
 IsAskedInRange (asked.Pool options origin) = PoolIsInRange options
+IsAskedInRange (asked.Quota options origin) = QuotaIsInRange options
 
 -- where the text comes from
 abbrev pub origin_of : Asked → Origin
 origin_of (asked.Plan options origin) = origin
 origin_of (asked.Course course origin) = origin
 origin_of (asked.Pool options origin) = origin
+origin_of (asked.Quota options origin) = origin

@@ -1,5 +1,6 @@
 //! The commands of the program, as `clap` takes them.
 use crate::options::{MOST_TICKETS, MOST_TURNS, MOST_WORKERS};
+use crate::quota_words::quota_option;
 use clap::{Arg, Command, value_parser};
 use sched_plan_text::MOST_STEPS;
 use sched_time::FAR;
@@ -14,7 +15,8 @@ const PLAN_EXAMPLES: &str = "Examples:
 
 const POOL_EXAMPLES: &str = "Examples:
   zsched pool jobs/three-calls.json
-  zsched pool --workers 4 --budget 2 - < jobs/three-calls.json";
+  zsched pool --workers 4 --budget 2 - < jobs/three-calls.json
+  zsched pool --quota 1/500/100 jobs/three-calls.json";
 
 /// The whole command.
 pub(crate) fn zsched_command<'a>(alloc: Global) -> Result<Command<'a>, AllocError> {
@@ -100,7 +102,8 @@ fn pool_command<'a>(alloc: Global) -> Result<Command<'a>, AllocError> {
         .arg(file(alloc).help("The jobs' file, or - for standard input"))?
         .arg(workers.help_heading("Workers"))?
         .arg(turns.help_heading("Workers"))?
-        .arg(budget.help_heading("Retries"))
+        .arg(budget.help_heading("Retries"))?
+        .arg(quota_option(alloc)?.help_heading("Retries"))
 }
 
 // Where the text is read from.

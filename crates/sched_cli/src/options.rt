@@ -1,5 +1,6 @@
 ghost use Rattle.std.specs.Prelude.{◌≤◌};
 
+use crate::quotas::QuotaOptions;
 use sched_plan_text::{PlanCourse, PlanOptions};
 
 /// The most workers of a pool.
@@ -20,6 +21,8 @@ pub enum Asked {
     Course(PlanCourse, Origin),
     /// Run jobs on one budget, and print how each ended.
     Pool(PoolOptions, Origin),
+    /// Run jobs on one quota, and print how each ended.
+    Quota(QuotaOptions, Origin),
 }
 
 impl Asked {
@@ -31,7 +34,10 @@ impl Asked {
         ensures { result.now ≡ origin_of self.now }
     {
         match self {
-            Asked::Plan(_, origin) | Asked::Course(_, origin) | Asked::Pool(_, origin) => origin,
+            Asked::Plan(_, origin)
+            | Asked::Course(_, origin)
+            | Asked::Pool(_, origin)
+            | Asked::Quota(_, origin) => origin,
         }
     }
 }

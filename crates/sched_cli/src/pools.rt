@@ -70,9 +70,9 @@ where
     }
 }
 
-// The jobs that the bytes spell.
+/// The jobs that the bytes spell.
 #[tactic(auto, using(crate::proofs::PoolFaults::jobs_in_no_value, crate::proofs::PoolFaults::jobs_refused))]
-fn jobs_in(alloc: Global, bytes: &[u8]) -> Result<Vec<JobRead>, PrintFault>
+pub(crate) fn jobs_in(alloc: Global, bytes: &[u8]) -> Result<Vec<JobRead>, PrintFault>
     ensures jobs { ReadsJobs bytes.now result }
     ensures few { IfOk result (λ jobs. vec_len jobs ≤ 4096) }
 {

@@ -4,6 +4,7 @@ ghost use Rattle.sched_cli.specs.Options.{AreInRange, AreInputs, AreWordsFor, Po
 use crate::commands::zsched_command;
 use crate::faults::WordsFault;
 use crate::options::{Asked, MOST_TICKETS, MOST_TURNS, MOST_WORKERS, Origin, PoolOptions};
+use crate::quota_words::quota_options;
 use crate::seeded::seeded_words;
 use clap::error::ErrorKind;
 use clap::{ArgMatches, Error};
@@ -33,7 +34,7 @@ fn asked(alloc: Global, matches: &ArgMatches<'_>) -> Result<Asked, WordsFault>
     let origin = origin(alloc, options)?;
     match name {
         "plan" => plan(alloc, options, origin),
-        "pool" => Ok(Asked::Pool(pool_options(options).ok_or(WordsFault::Bad)?, origin)),
+        "pool" => pool(options, origin),
         _ => Err(WordsFault::Bad),
     }
 }
@@ -112,6 +113,22 @@ fn words_of(
     match options.get_one::<u64>("words") {
         Some(seed) => seeded_words(alloc, seed, steps.max(1)),
         None => Vec::from_slice(alloc, &[[word; 4]]),
+    }
+}
+
+// A pool on a quota where one is given, or else on a budget.
+fn pool(options: &ArgMatches<'_>, origin: Origin) -> Result<Asked, WordsFault>
+    ensures { IfOk result IsAskedInRange }
+{
+    match options.get_str("quota") {
+        Some(text) => {
+            let quota = quota_options(options, text).ok_or(WordsFault::Bad)?;
+            Ok(Asked::Quota(quota, origin))
+        }
+        None => {
+            let budget = pool_options(options).ok_or(WordsFault::Bad)?;
+            Ok(Asked::Pool(budget, origin))
+        }
     }
 }
 

@@ -5,3 +5,4 @@ mod fakes;
 mod fault_lines;
 mod origins;
 mod printed_pools;
+mod quotas;

@@ -14,7 +14,7 @@ use std::marker::Model;
 // The numbers of a window: the ticket `n` is of the window `n / NUMBERS`.
 const NUMBERS: u64 = 4294967296;
 
-/// A pass of a quota, with its quota, that notes the windows of its tickets. Contracts see it as the pass and the quota.
+/// A pass of a quota, with its quota, that notes the windows of its tickets. Contracts see it as both.
 #[derive(Drop)]
 pub struct Tally<Q: RefersTo<Quota>> {
     pass: Pass,

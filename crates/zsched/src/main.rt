@@ -7,7 +7,7 @@ ghost use Rattle.sched_plan_text.specs.PrintStatus.{print_status};
 
 use sched_cli::{
     Asked, Counted, Origin, PrintFault, WordsFault, print_course, print_plan, print_pool,
-    read_words,
+    print_quota_pool, read_words,
 };
 use std::alloc::{AllocGlobal, Global};
 use std::env;
@@ -89,6 +89,7 @@ where
         Asked::Plan(options, _) => print_plan(alloc, &mut reader, &mut writer, options),
         Asked::Course(course, _) => print_course(alloc, &mut reader, &mut writer, course),
         Asked::Pool(options, _) => print_pool(rt, alloc, &mut reader, &mut writer, options),
+        Asked::Quota(options, _) => print_quota_pool(rt, alloc, &mut reader, &mut writer, options),
     }
 }
 

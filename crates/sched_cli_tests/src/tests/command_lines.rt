@@ -172,7 +172,7 @@ fn help_names_the_subcommand_and_each_option(rt: HostRuntime) -> Result<(), Fail
         &rt,
         alloc,
         "zsched pool --help",
-        "--workers,--budget,--turns,[default: 1000000]",
+        "--workers,--budget,--quota,--turns,[default: 1000000]",
     )?;
     Ok(())
 }

@@ -57,7 +57,7 @@ fn no_reserve_and_no_share_give_nothing(rt: HostRuntime) -> Result<(), Fail> {
     prints(&rt, FOREVER, (0, 0, 100), AMPLE, text)
 }
 
-// The greatest share is a thousand tickets for the one request, the greatest reserve more than the journal has room for.
+// The greatest share is a thousand tickets for the one request, the greatest reserve more than a journal has room for.
 #[test]
 fn the_ends_of_the_ranges(rt: HostRuntime) -> Result<(), Fail> {
     let text = "job 0: budget refused, failure 7, granted 1000\ngranted 1000 in 1 windows\n";

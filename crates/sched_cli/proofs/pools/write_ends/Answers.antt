@@ -2,7 +2,7 @@ use Rattle.std.proofs.Common.{◌≡◌, ◌∷◌, ◌+◌, ◌++◌, ap, sym, 
 use Rattle.std.proofs.lemmas.List.{drop_more, drop_all}
 use Rattle.std.proofs.lemmas.Result.{err_from_is_err_and}
 use Rattle.sched_task_law.specs.Past.{Past}
-use Rattle.sched_pool_text.specs.PoolText.{line_text, job_text}
+use Rattle.sched_pool_text.specs.PoolText.{line_text, job_text, total_text}
 use Rattle.sched_plan_text.proofs.Written.{closes}
 use Rattle.sched_cli.proofs.PoolLines.{pool_stopped, pool_goes_on, pool_stopped_in_line, pool_ends}
 use Rattle.sched_cli.proofs.pools.write_ends.Goals as goal
@@ -11,7 +11,7 @@ pub returns-in_err-push_line-clause-text : goal.returns-in_err-push_line-clause-
 returns-in_err-push_line-clause-text g c =
     let p = err_from_is_err_and c.from_residual.result c.from_residual.ensures.1 in
     rw (p.1, p.2)
-    (pool_stopped c.args.ends.now c.args.granted c.args.limit c.loop-number.number _ _ _ c.loop-number.invariant.printed)
+    (pool_stopped c.args.ends.now (total_text c.args.granted c.args.limit) c.loop-number.number _ _ _ c.loop-number.invariant.printed)
 
 pub returns-in_err-put_long-clause-text : goal.returns-in_err-put_long-clause-text
 returns-in_err-put_long-clause-text g c =
@@ -22,7 +22,7 @@ returns-in_err-put_long-clause-text g c =
     (λ i. line_text n (c.how.ensures.how i) ((c.runs.ensures ∙ c.effect.ensures) i) (c.granted.ensures.granted i)) in
     let at : drop n c.args.ends.now ≡ v ∷ drop (n + 1) c.args.ends.now = drop_more c.args.ends.now n v (omega arith) ∙ ap (λ (x : Past). x ∷ drop (n + 1) c.args.ends.now) (sym c.index-ends-number.is) in
     rw (p.1, p.2)
-    (pool_stopped_in_line c.args.ends.now c.args.granted c.args.limit n _ _ _ c.loop-number.invariant.printed v at _
+    (pool_stopped_in_line c.args.ends.now (total_text c.args.granted c.args.limit) n _ _ _ c.loop-number.invariant.printed v at _
     (c.in_ok-push_line.ensures ∙ ap (λ l. string_bytes c.loop-number.lines ++ l) line)
     _ c.in_err-put_long.field-0.0 c.in_err-put_long.ensures.bytes)
 
@@ -35,7 +35,7 @@ loop-number-preserved g c =
     let at : drop n c.args.ends.now ≡ v ∷ drop (n + 1) c.args.ends.now = drop_more c.args.ends.now n v (omega arith) ∙ ap (λ (x : Past). x ∷ drop (n + 1) c.args.ends.now) (sym c.index-ends-number.is) in
     record {
       printed =
-          pool_goes_on c.args.ends.now c.args.granted c.args.limit n _ _ _ c.loop-number.invariant.printed v at _
+          pool_goes_on c.args.ends.now (total_text c.args.granted c.args.limit) n _ _ _ c.loop-number.invariant.printed v at _
           (c.in_ok-push_line.ensures ∙ ap (λ l. string_bytes c.loop-number.lines ++ l) line)
           _ _ c.in_ok-put_long.ensures.bytes;
       counts = c.in_ok-put_long.ensures.counts ∙ c.loop-number.invariant.counts;
@@ -45,12 +45,12 @@ pub returns-in_err-push_total-clause-text : goal.returns-in_err-push_total-claus
 returns-in_err-push_total-clause-text g c =
     let p = err_from_is_err_and c.from_residual-in_err-push_total.result c.from_residual-in_err-push_total.ensures.1 in
     rw (p.1, p.2)
-    (pool_stopped c.args.ends.now c.args.granted c.args.limit c.loop-number.number _ _ _ c.loop-number.invariant.printed)
+    (pool_stopped c.args.ends.now (total_text c.args.granted c.args.limit) c.loop-number.number _ _ _ c.loop-number.invariant.printed)
 
 pub returns-clause-text : goal.returns-clause-text
 returns-clause-text g c =
     closes _ _ _ c.as_bytes.result.now
-    (pool_ends c.args.ends.now c.args.granted c.args.limit c.loop-number.number _ _ _ c.loop-number.invariant.printed
+    (pool_ends c.args.ends.now (total_text c.args.granted c.args.limit) c.loop-number.number _ _ _ c.loop-number.invariant.printed
     (drop_all c.loop-number.number c.args.ends.now (omega arith))
     _ (c.as_bytes.ensures.value ∙ c.in_ok-push_total.ensures))
     _ c.put_all.result c.put_all.ensures.bytes
