@@ -188,6 +188,36 @@ for budget in 0 5 10000; do
   wants_shared 4096 $budget pool --workers 16 --budget $budget
 done
 
+# On a quota: four requests add two tickets to a reserve of two; a failure at 100 is of the window that begins there.
+input "$four"
+share=
+for number in 0 1 2 3; do
+  share+="job $number: budget refused, failure 7, granted 1\n"
+done
+wants 0 "${share}granted 4 in 1 windows\n" '' pool --quota 2/500/1000
+wants 0 "${all_done}granted 12 in 1 windows\n" '' pool --quota=4294967296/1000000/4611686018427387903 --workers 1
+wants 0 "${all_refused}granted 0 in 0 windows\n" '' pool --quota 0/249/1
+wants 6 "${not_over}granted 0 in 0 windows\n" 'zsched: not finished\n' pool --quota 2/500/1000 --turns 0
+input '[{"plan":{"spaced":100},"runs":[{"lost":7},{"lost":7},{"lost":7},{"won":1}]}]'
+wants 0 'job 0: won 1, granted 3\ngranted 3 in 3 windows\n' '' pool --quota 1/0/100
+wants 0 'job 0: budget refused, failure 7, granted 1\ngranted 1 in 1 windows\n' '' pool --quota 1/0/101
+wants 0 'job 0: budget refused, failure 7, granted 1\ngranted 1 in 1 windows\n' '' pool --quota 0/1000000/100
+input '[{"plan":"forever","runs":[{"lost":7}]}]'
+wants 0 'job 0: budget refused, failure 7, granted 1000\ngranted 1000 in 1 windows\n' '' pool --quota 0/1000000/100
+input '[]'
+wants 0 'granted 0 in 0 windows\n' '' pool --quota 5/1000/100
+for terms in '' 1 1/2 1/2/3/4 1/2/ /2/3 a/2/3 1/b/3 1/2/c -1/2/3 1.5/2/3 ' 1/2/3' 4294967297/2/3 1/1000001/3 1/2/0 \
+  1/2/4611686018427387904 18446744073709551616/2/3; do
+  wants 2 '' 'zsched: bad command line\n' pool --quota "$terms"
+done
+wants 2 '' 'zsched: bad command line\n' pool --quota
+wants 2 '' 'zsched: bad command line\n' pool --quota 1/2/3 --quota 1/2/3
+wants 2 '' 'zsched: bad command line\n' pool --quota 1/2/3 --budget 100
+wants 2 '' 'zsched: bad command line\n' pool --quota 1/2/3 --workers 2
+wants 2 '' 'zsched: bad command line\n' plan --quota 1/2/3
+input '{}'
+wants 3 '' 'zsched: not a plan\n' pool --quota 1/2/3
+
 # Of a bad text the first fault is told: the array, the number of jobs, and of each job in turn its members, the number
 # of its runs, each run, and its plan.
 past_far=4611686018427387904

@@ -55,16 +55,16 @@ refuses() {
   echo "tests/refused_memory.sh: zsched $*: $((growth - 1)) growths refused in turn"
 }
 
-# breaks_one: one job is broken by want of memory, all others end as they do without a refusal, and the total is the sum
-# of the lines
+# breaks_one TAIL: one job is broken by want of memory, all others end as they do without a refusal, and the total is the
+# sum of the lines, with this tail
 breaks_one() {
-  awk '
+  awk -v tail="$1" '
     NR == FNR { whole[FNR] = $0; granted[FNR] = $NF; lines = FNR; next }
     FNR == lines { total = $0; next }
     { sum += $NF }
     $0 ~ "^job " (FNR - 1) ": broken, no memory, granted [0-9]+$" && $NF <= granted[FNR] { broken++; next }
     $0 != whole[FNR] { wrong = 1 }
-    END { exit wrong || broken != 1 || FNR != lines || total != "granted " (sum + 0) " of 100" }
+    END { exit wrong || broken != 1 || FNR != lines || total != "granted " (sum + 0) tail }
   ' "$work/out.whole" "$work/out"
 }
 
@@ -89,7 +89,7 @@ refuses_pool() {
     elif [ "$status" = 7 ] && cmp -s "$work/err" "$work/not_started" && [ ! -s "$work/out" ] &&
       { [ "$workers" != 1 ] || [ "$growth" = "$started" ]; }; then
       not_started=$((not_started + 1))
-    elif [ "$status" = 6 ] && cmp -s "$work/err" "$work/not_finished" && breaks_one; then
+    elif [ "$status" = 6 ] && cmp -s "$work/err" "$work/not_finished" && breaks_one " of 100"; then
       broken=$((broken + 1))
     elif [ "$status" = 0 ] && [ ! -s "$work/err" ] && cmp -s "$work/out" "$work/out.whole"; then
       same=$((same + 1))
@@ -102,6 +102,35 @@ refuses_pool() {
     wrong none "$status" "zsched pool --workers $workers"
   echo "tests/refused_memory.sh: zsched pool --workers $workers: $((growth - 1)) growths refused in turn:" \
     "no memory $no_memory, not started $not_started, a broken job $broken, no change $same"
+}
+
+# refuses_quota INPUT: each growth of a pool whose jobs are all over on a quota of 100 tickets a window, in the first. One
+# growth, where the loop's queue ends after its last poll, may change nothing.
+refuses_quota() {
+  local growth=0 no_memory=0 broken=0 same=0 status
+  local run=("$top/crates/zsched/out/zsched" pool --quota 100/0/1000)
+  printf '%s' "$1" >"$work/in"
+  with_refused 0 "${run[@]}" <"$work/in" || wrong none $? "zsched pool --quota"
+  cp "$work/out" "$work/out.whole"
+  while :; do
+    growth=$((growth + 1))
+    status=0
+    with_refused "$growth" "${run[@]}" <"$work/in" || status=$?
+    [ -s "$work/refused" ] || break
+    if [ "$status" = 5 ] && cmp -s "$work/err" "$work/no_memory" && is_front; then
+      no_memory=$((no_memory + 1))
+    elif [ "$status" = 6 ] && cmp -s "$work/err" "$work/not_finished" && breaks_one " in 1 windows"; then
+      broken=$((broken + 1))
+    elif [ "$status" = 0 ] && [ ! -s "$work/err" ] && cmp -s "$work/out" "$work/out.whole"; then
+      same=$((same + 1))
+    else
+      wrong "$growth" "$status" "zsched pool --quota"
+    fi
+  done
+  [ "$status" = 0 ] && [ ! -s "$work/err" ] && cmp -s "$work/out" "$work/out.whole" && [ "$no_memory" -gt 0 ] &&
+    [ "$broken" -gt 0 ] && [ "$same" -le 1 ] || wrong none "$status" "zsched pool --quota"
+  echo "tests/refused_memory.sh: zsched pool --quota: $((growth - 1)) growths refused in turn:" \
+    "no memory $no_memory, a broken job $broken, no change $same"
 }
 
 # Each growth of a program that makes a refused call again: where one was refused, the line with the fault is the line
@@ -193,12 +222,15 @@ refuses 0 "$(cat "$top/plans/jittered-back-off.json")" plan --words 7 --inputs 3
 refuses 3 '[{"plan":{"recurs":3},"runs":[{"lost":7},{"won":-1}]}]' pool
 refuses 3 '[{"plan":"forever","runs":[]}]' pool
 refuses 2 '' pool --workers 17
+refuses 2 '' pool --quota 1/2/0
 job='{"plan":{"recurs":3},"runs":[{"lost":7}]}'
 for workers in 1 2; do
   refuses_pool $workers "[$job,$job,$job,$job]"
   refuses_pool $workers "$(cat "$top/jobs/three-calls.json")"
   refuses_pool $workers '[{"plan":{"gather":["list",{"recurs":3}]},"runs":[{"lost":7}]},{"plan":"forever","runs":[{"won":1}]}]'
 done
+refuses_quota "[$job,$job,$job,$job]"
+refuses_quota "$(cat "$top/jobs/three-calls.json")"
 refuses_calls
 refuses_polls
 exit "$failed"
