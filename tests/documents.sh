@@ -1,5 +1,5 @@
 #!/usr/bin/env bash
-# Compares every printed plan and pool of jobs in README.md and docs/ with what the program prints. A `sh` block with a
+# Compares every printed plan, pool and check in README.md and docs/ with what the program prints. A `sh` block with a
 # line `bin/zsched WORDS < plans/NAME.json`, or `< jobs/NAME.json`, or with the file's name as its last word, is followed
 # by a `text` block, its whole output; a `json` block before it, under the same heading, is the file's text. It fails where
 # one of them differs, and where no document prints a plan or a pool of these folders.

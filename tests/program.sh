@@ -78,6 +78,7 @@ wants 0 '5: 0 done\n' '' plan --from 5 --input 9
 helps --help
 helps plan --help
 helps pool --help
+helps check --help
 wants 0 'zsched 1.0.0\n' '' --version
 
 # Each event has an input of its own, and words of its own: of the generator xoshiro128++ that is seeded with 7 the words
@@ -115,6 +116,7 @@ wants 2 '' 'zsched: bad command line\n' pool --workers 17
 wants 2 '' 'zsched: bad command line\n' pool --budget 4294967297
 wants 2 '' 'zsched: bad command line\n' pool --turns 4294967297
 wants 2 '' 'zsched: bad command line\n' pool --steps 1
+wants 2 '' 'zsched: bad command line\n' check --steps 1
 wants 2 '' 'zsched: bad command line\n' plan --from $'\xff'
 { printf '"forever"'; head -c 1048568 /dev/zero | tr '\0' ' '; } >"$work/in"
 wants 3 '' 'zsched: input too long\n' plan
@@ -261,20 +263,61 @@ wants 0 'granted 0 of 100\n' '' pool
 printf ' ' >>"$work/in"
 wants 3 '' 'zsched: input too long\n' pool
 
+# What a text is, or the place of its first fault with what is wanted there. The line on standard error and the status
+# are those of `plan` and `pool`.
+for file in "$top"/plans/*.json "$top"/jobs/*.json; do
+  "$top/bin/zsched" check "$file" >"$work/told"
+  cp "$file" "$work/in"
+  wants 0 "$(sed 's/$/\\n/' "$work/told")" '' check
+  wants 0 "$(sed 's/$/\\n/' "$work/told")" '' check -
+done
+wants 0 'plan: 4 nodes, depth 3, goes on at most 5 times\n' '' check "$top/plans/back-off.json"
+wants 0 'jobs: 3 jobs, 6 runs\n' '' check "$top/jobs/three-calls.json"
+wants 4 '' 'zsched: read failed\n' check "$work/none.json"
+wants 2 '' 'zsched: bad command line\n' check - -
+input '"forever"'
+wants 0 'plan: 1 node, depth 1\n' '' check
+input '[]'
+wants 0 'jobs: 0 jobs, 0 runs\n' '' check
+input '{"recurs":3'
+wants 3 'not JSON: line 1, column 11\n' 'zsched: not JSON\n' check
+input '7'
+wants 3 'top: a plan is a string or an object of one member\n' 'zsched: not a plan\n' check
+input '{"meet":[{"recurs":1},{"cap":[1,{"exponental":[100,2]}]}]}'
+wants 3 'meet[1].cap[1]: no node is called "exponental"; did you mean "exponential"?\n' 'zsched: not a plan\n' check
+input '{"first":{"fixed":0}}'
+wants 3 "first: \"fixed\" is spelt {\"fixed\":D}, D from 1 to $((past_far - 1))\n" 'zsched: number out of range\n' check
+printf '{"first":%s}' "$deep" >"$work/in"
+wants 3 'first: a plan is at most 32 deep\n' 'zsched: too deep\n' check
+printf '%s' "$wide" >"$work/in"
+wants 3 'top: a plan has at most 256 nodes\n' 'zsched: too many nodes\n' check
+input "[$lost,$lost,$lost,{\"plan\":7,\"runs\":[]}]"
+wants 3 '[3].runs: 1 to 64 runs are wanted, 0 found\n' 'zsched: number out of range\n' check
+input "[$lost,7]"
+wants 3 '[1]: a job is {"plan":PLAN,"runs":[RUN,..]}\n' 'zsched: not a plan\n' check
+input "[{\"plan\":7,\"runs\":[{\"won\":1},{\"won\":$past_far}]}]"
+wants 3 "[0].runs[1]: a run is {\"won\":CODE} or {\"lost\":CODE}, CODE from 0 to $((past_far - 1))\n" \
+  'zsched: number out of range\n' check
+input "[$lost,{\"plan\":{\"join\":[\"forever\",null]},\"runs\":[{\"won\":1}]}]"
+wants 3 '[1].plan.join[1]: a plan is a string or an object of one member\n' 'zsched: not a plan\n' check
+{ printf '[]'; head -c 1048575 /dev/zero | tr '\0' ' '; } >"$work/in"
+wants 3 '' 'zsched: input too long\n' check
+
 # Standard input that is a folder can't be read, but a bad command line is refused before anything is.
 rm "$work/in"
 mkdir "$work/in"
 wants 4 '' 'zsched: read failed\n' plan
 wants 4 '' 'zsched: read failed\n' pool
+wants 4 '' 'zsched: read failed\n' check
 wants 2 '' 'zsched: bad command line\n' plan --none
 wants 2 '' 'zsched: bad command line\n' pool --workers 17
 rmdir "$work/in"
 
 # A full device can't be written.
 printf 'zsched: write failed\n' >"$work/err.want"
-for word in plan pool; do
+for word in plan pool check; do
   got=0
-  case $word in plan) input '"forever"' ;; pool) input '[]' ;; esac
+  case $word in plan | check) input '"forever"' ;; pool) input '[]' ;; esac
   "$top/bin/zsched" $word <"$work/in" >/dev/full 2>"$work/err" || got=$?
   [ "$got" = 4 ] && cmp -s "$work/err" "$work/err.want" ||
     { echo "tests/program.sh: zsched $word: a write that fails: status $got" >&2; failed=1; }

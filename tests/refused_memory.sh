@@ -223,6 +223,11 @@ refuses 3 '[{"plan":{"recurs":3},"runs":[{"lost":7},{"won":-1}]}]' pool
 refuses 3 '[{"plan":"forever","runs":[]}]' pool
 refuses 2 '' pool --workers 17
 refuses 2 '' pool --quota 1/2/0
+refuses 0 "$(cat "$top/plans/back-off.json")" check
+refuses 0 "$(cat "$top/jobs/three-calls.json")" check
+refuses 3 '{"meet":[{"recurs":1},{"cap":[1,{"exponental":[100,2]}]}]}' check
+refuses 3 '[{"plan":{"fixed":0},"runs":[{"won":1}]}]' check
+refuses 3 '{"meet":[' check
 job='{"plan":{"recurs":3},"runs":[{"lost":7}]}'
 for workers in 1 2; do
   refuses_pool $workers "[$job,$job,$job,$job]"

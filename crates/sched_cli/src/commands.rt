@@ -1,4 +1,5 @@
 //! The commands of the program, as `clap` takes them.
+use crate::check::check_command;
 use crate::options::{MOST_TICKETS, MOST_TURNS, MOST_WORKERS};
 use crate::quota_words::quota_option;
 use clap::{Arg, Command, value_parser};
@@ -25,7 +26,8 @@ pub(crate) fn zsched_command<'a>(alloc: Global) -> Result<Command<'a>, AllocErro
         .version(VERSION)
         .subcommand_required(true)
         .subcommand(plan_command(alloc)?)?
-        .subcommand(pool_command(alloc)?)
+        .subcommand(pool_command(alloc)?)?
+        .subcommand(check_command(alloc)?)
 }
 
 fn plan_command<'a>(alloc: Global) -> Result<Command<'a>, AllocError> {
@@ -107,7 +109,7 @@ fn pool_command<'a>(alloc: Global) -> Result<Command<'a>, AllocError> {
 }
 
 // Where the text is read from.
-fn file<'a>(alloc: Global) -> Arg<'a> {
+pub(crate) fn file<'a>(alloc: Global) -> Arg<'a> {
     Arg::new(alloc, "file")
         .value_name("FILE")
         .default_value("-")

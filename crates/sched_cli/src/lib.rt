@@ -1,7 +1,8 @@
 //! What the program `zsched` reads and writes: its command line, and what it prints of pools; and what it prints of
-//! plans.
+//! plans and tells of texts.
 #![tactic(auto)]
 
+mod check;
 mod commands;
 mod faults;
 mod options;
@@ -17,6 +18,7 @@ pub use options::{Asked, MOST_TICKETS, MOST_TURNS, MOST_WORKERS, Origin, PoolOpt
 pub use pools::print_pool;
 pub use quota_pools::print_quota_pool;
 pub use quotas::QuotaOptions;
+pub use sched_check_text::print_check;
 pub use sched_plan_text::{
     Counted, LONGEST_INPUT, MOST_STEPS, PlanCourse, PlanOptions, PrintFault, Sink, Source,
     print_course, print_plan,

@@ -23,6 +23,8 @@ pub enum Asked {
     Pool(PoolOptions, Origin),
     /// Run jobs on one quota, and print how each ended.
     Quota(QuotaOptions, Origin),
+    /// Say what a text is, a plan or jobs, or where it is wrong.
+    Check(Origin),
 }
 
 impl Asked {
@@ -37,7 +39,8 @@ impl Asked {
             Asked::Plan(_, origin)
             | Asked::Course(_, origin)
             | Asked::Pool(_, origin)
-            | Asked::Quota(_, origin) => origin,
+            | Asked::Quota(_, origin)
+            | Asked::Check(origin) => origin,
         }
     }
 }

@@ -35,6 +35,7 @@ fn asked(alloc: Global, matches: &ArgMatches<'_>) -> Result<Asked, WordsFault>
     match name {
         "plan" => plan(alloc, options, origin),
         "pool" => pool(options, origin),
+        "check" => Ok(Asked::Check(origin)),
         _ => Err(WordsFault::Bad),
     }
 }

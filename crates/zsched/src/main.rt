@@ -6,8 +6,8 @@ ghost use Rattle.std.specs.Process.{exit_status};
 ghost use Rattle.sched_plan_text.specs.PrintStatus.{print_status};
 
 use sched_cli::{
-    Asked, Counted, Origin, PrintFault, WordsFault, print_course, print_plan, print_pool,
-    print_quota_pool, read_words,
+    Asked, Counted, Origin, PrintFault, WordsFault, print_check, print_course, print_plan,
+    print_pool, print_quota_pool, read_words,
 };
 use std::alloc::{AllocGlobal, Global};
 use std::env;
@@ -90,6 +90,7 @@ where
         Asked::Course(course, _) => print_course(alloc, &mut reader, &mut writer, course),
         Asked::Pool(options, _) => print_pool(rt, alloc, &mut reader, &mut writer, options),
         Asked::Quota(options, _) => print_quota_pool(rt, alloc, &mut reader, &mut writer, options),
+        Asked::Check(_) => print_check(alloc, &mut reader, &mut writer),
     }
 }
 

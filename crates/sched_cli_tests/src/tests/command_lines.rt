@@ -161,7 +161,7 @@ fn no_word_is_a_bad_command_line(rt: HostRuntime) {
 #[test]
 fn help_names_the_subcommand_and_each_option(rt: HostRuntime) -> Result<(), Fail> {
     let alloc = rt.alloc();
-    help_has(&rt, alloc, "zsched --help", "plan,pool")?;
+    help_has(&rt, alloc, "zsched --help", "plan,pool,check")?;
     help_has(
         &rt,
         alloc,
