@@ -1,7 +1,7 @@
 -- What comes of writing what is told.
-use Rattle.std.proofs.Common.{◌≡◌, ◌≢◌, ◌⊎◌, inl, inr, ℕ, List, [], Option, Some, Result, Ok, Err, MatchResult, refl, sym, ap, ◌∙◌, subst}
+use Rattle.std.proofs.Common.{◌≡◌, ◌≢◌, inl, inr, ℕ, List, Option, Result, Ok, Err, MatchResult, refl, sym, ap, ◌∙◌, subst}
 use Rattle.std.specs.Io.KnownBytes.{Appends}
-use Rattle.sched_plan_text.specs.Whole.{IsWholeInput, StopsWriting, WritesFront, count_of_reads, count_of_writes}
+use Rattle.sched_plan_text.specs.Whole.{IsWholeInput, StopsWriting, count_of_reads, count_of_writes}
 use Rattle.sched_plan_text.specs.Refusal.{refusal_of}
 use Rattle.sched_plan_text.specs.declared.faults.PrintFault.{PrintFault}
 use Rattle.sched_plan_text.specs.declared.faults.PrintFault.TheVariants.{ReadFailed, TooLong, NotJson, NotAPlan, OutOfRange, TooDeep, TooMany, NoMemory, NotStarted, WriteFailed, Unfinished, Mixed}

@@ -1,5 +1,5 @@
 -- What is told follows from what was checked.
-use Rattle.std.proofs.Common.{◌≡◌, ℕ, List, Bool, true, false, Option, Some, None, Result, Ok, Err, IfOk, IsUtf8, string_bytes, is_some, refl, sym}
+use Rattle.std.proofs.Common.{◌≡◌, ℕ, List, true, false, Some, Result, Ok, Err, IfOk, IsUtf8, is_some, sym}
 use Rattle.std.proofs.lemmas.Bool.{false≢true}
 use Rattle.serde_json.specs.Data.{Data, null, boolean, number, string, array, object}
 use Rattle.serde_json.specs.Find.{as_array}

@@ -1,5 +1,5 @@
 -- What checking does to the bytes left and the bytes taken, whatever bytes come.
-use Rattle.std.specs.Prelude.{◌≡◌, ℕ, ◌⊎◌, List, Option, Result, Ok, Err}
+use Rattle.std.specs.Prelude.{◌≡◌, ℕ, ◌⊎◌, List, Option, Result, Err}
 use Rattle.std.specs.Io.KnownBytes.{Appends, Keeps}
 use Rattle.sched_plan_text.specs.Whole.{StopsReading, WritesFront}
 use Rattle.sched_plan_text.specs.Printing.{IsInput}

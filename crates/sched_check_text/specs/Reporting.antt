@@ -1,5 +1,5 @@
 -- What is told of a text.
-use Rattle.std.specs.Prelude.{◌≡◌, ℕ, List, Option, Some, Result, Ok, Err, string_bytes}
+use Rattle.std.specs.Prelude.{◌≡◌, ℕ, List, Some, Result, Ok, Err, string_bytes}
 use Rattle.serde_json.specs.Data.{Data, array}
 use Rattle.sched_plan_text.specs.Printing.{Spells, SpellsNothing}
 use Rattle.sched_plan_text.specs.Refusal.{refusal_of}

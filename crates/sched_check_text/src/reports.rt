@@ -5,9 +5,9 @@ ghost use Rattle.sched_check_text.specs.Reporting.{IsReport, Reports, ReportsPla
 ghost use Rattle.sched_check.specs.Places.{place_of};
 ghost use Rattle.sched_check_text.specs.PlaceText.{fault_text};
 
-use crate::goes::most_goes;
 use crate::hints::{push_jobs_hint, push_plan_hint};
 use crate::places::push_place;
+use sched_bound::most_goes;
 use sched_check::{Fault, JobsChecked, PlanChecked, check_jobs, check_plan};
 use sched_jobs_json::JobRead;
 use sched_json::ReadFault;

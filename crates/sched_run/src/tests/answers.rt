@@ -5,7 +5,7 @@ use super::*;
 use futures::Future;
 use futures::task::Context;
 
-// An answer that comes at a later poll.
+// An answer that comes at a later poll, and asks for that.
 #[derive(Drop)]
 struct Answer {
     pending_polls: u64,
@@ -15,10 +15,10 @@ struct Answer {
 impl Future for Answer {
     type Output = Result<Code, Code>;
 
-    fn poll(&mut self, _cx: &mut Context<'_>) -> Poll<Result<Code, Code>> {
+    fn poll(&mut self, cx: &mut Context<'_>) -> Poll<Result<Code, Code>> {
         if self.pending_polls > 0 {
             self.pending_polls -= 1;
-            return Poll::Pending;
+            return cx.yield_now();
         }
         Poll::Ready(self.outcome)
     }

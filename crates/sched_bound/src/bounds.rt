@@ -1,9 +1,17 @@
-//! How often a plan goes on at most.
+//! Bounds that a plan's nodes give.
+ghost use Rattle.std.specs.Prelude.{◌≡◌, IfSome};
+ghost use Rattle.sched_bound.specs.Bound.{bound_of, two_bound, GoesOnAtMost};
+
 use sched_plan::{Leaf, One, Plan, PlanShape, Two};
 use sched_time::FAR;
 
-/// A number of events at which the plan goes on at most, whatever comes, where its nodes give one.
-pub fn most_goes(plan: &Plan) -> Option<u64> {
+/// A number of events at which the plan goes on at most, whatever comes, where its nodes give one: at each later event
+/// of a history it is done.
+#[tactic(auto, using(crate::proofs::BoundLaw::known_bound))]
+pub fn most_goes(plan: &Plan) -> Option<u64>
+    ensures value { result ≡ bound_of plan.now }
+    ensures law { IfSome result (GoesOnAtMost plan.now) }
+{
     match plan.shape() {
         PlanShape::Leaf(Leaf::Recurs(count)) => Some(count.get()),
         PlanShape::Leaf(Leaf::Lone(_)) => Some(1),
@@ -15,7 +23,9 @@ pub fn most_goes(plan: &Plan) -> Option<u64> {
 }
 
 // The same of a node over two plans, by what their nodes give.
-fn of_two(node: Two, first: Option<u64>, second: Option<u64>) -> Option<u64> {
+fn of_two(node: Two, first: Option<u64>, second: Option<u64>) -> Option<u64>
+    ensures { result ≡ two_bound node first second }
+{
     match (node, first, second) {
         (Two::Meet | Two::Feed, Some(first), Some(second)) => Some(first.min(second)),
         (Two::Meet | Two::Feed, Some(most), None) => Some(most),
