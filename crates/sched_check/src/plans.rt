@@ -23,8 +23,8 @@ pub enum PlanChecked<'a> {
     Fault(Fault<'a>),
 }
 
-/// The plan that a JSON value spells, or the first fault found, which is that of `read_plan`, and the place of the value
-/// that has it: of the plans in the value the first that is refused though the plans below it are read.
+/// The plan that a JSON value spells, or the first fault found, which is that of `read_plan`, and the place of the
+/// value that has it: of the plans in the value the first that is refused though the plans below it are read.
 pub fn check_plan(alloc: Global, value: &Value) -> Result<PlanChecked<'_>, NoMemory>
     ensures { IfOk result (PlanIsChecked (view value.now)) }
 {
