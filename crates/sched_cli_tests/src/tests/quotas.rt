@@ -22,8 +22,9 @@ fn read(alloc: Global, line: &str) -> Result<Asked, WordsFault> {
 
 // The options of the pool on a quota that the command line asks for.
 fn quota_of(alloc: Global, line: &str) -> Result<QuotaOptions, Fail> {
-    match read(alloc, line)? {
-        Asked::Quota(options, _) => Ok(options),
+    let asked = read(alloc, line)?;
+    match &asked {
+        Asked::Quota(options, _) => Ok(*options),
         _ => Err(Fail::from("another task was asked for")),
     }
 }
@@ -35,8 +36,14 @@ fn is_quota(
     line: &str,
     want: (u64, u64, u64, u64),
 ) -> Result<(), Fail> {
-    let QuotaOptions { terms, turns } = quota_of(alloc, line)?;
-    let numbers = (terms.reserve, terms.share, terms.period.get(), turns);
+    let options = quota_of(alloc, line)?;
+    let terms = options.terms;
+    let numbers = (
+        terms.reserve,
+        terms.share,
+        terms.period.get(),
+        options.turns,
+    );
     assert_eq!(rt; numbers, want, "{line}");
     Ok(())
 }
