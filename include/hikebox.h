@@ -1,11 +1,12 @@
 /*
- * hikebox.h: retry policies, retry budgets and retries, for programs in C and in any language that calls C.
+ * hikebox.h: retry policies, retry budgets and quotas, and retries, for programs in C and in any language that calls C.
  *
  * A policy is a recurrence schedule, read from the JSON that `zsched plan` reads. A driver steps a policy event
- * by event. A budget bounds how many retries all threads of a program make together. A retry is a machine that
- * the program steps: it says when to run the call and when to wait, and is told how each run went. The library
- * has no clock, no thread, no callback and no random numbers of its own: the program gives it the moment, and
- * four random words, at each step. examples/c/retry.c is a whole program.
+ * by event. A budget bounds how many retries all threads of a program make together; a quota bounds them in each
+ * window of time, and refills with traffic. A retry is a machine that the program steps: it says when to run the
+ * call and when to wait, and is told how each run went. The library has no clock, no thread, no callback and no
+ * random numbers of its own: the program gives it the moment, and four random words, at each step.
+ * examples/c/retry.c is a whole program.
  *
  *     while (hikebox_retry_poll(&retry, now(), words(), report, code, &next) == HIKEBOX_OK
  *            && next.what != HIKEBOX_OVER) {
@@ -20,12 +21,12 @@
  * milliseconds. Which moment is 0 is the program's choice, as the start of the process; moments given to one
  * driver or retry never fall.
  *
- * HANDLES. A policy, a driver, a pass and a retry are each held by a handle, a struct of one pointer that the
- * program keeps and hands to each call by its address. A handle begins as HIKEBOX_INIT, which holds nothing. A
- * call that makes something puts it into an empty handle, and from then on the handle owns it, until a call
- * frees it or takes it away and leaves the handle empty. A call on an empty handle, on a handle of another kind
- * (by a cast, or from a language that does not tell them apart) and a call that would fill a handle that holds
- * something are refused by a status.
+ * HANDLES. A policy, a driver, a pass of a budget or of a quota and a retry are each held by a handle, a struct of
+ * one pointer that the program keeps and hands to each call by its address. A handle begins as HIKEBOX_INIT, which
+ * holds nothing. A call that makes something puts it into an empty handle, and from then on the handle owns it,
+ * until a call frees it or takes it away and leaves the handle empty. A call on an empty handle, on a handle of
+ * another kind (by a cast, or from a language that does not tell them apart) and a call that would fill a handle
+ * that holds something are refused by a status.
  *
  * STATUSES. Each call answers a hikebox_status. Where it is not HIKEBOX_OK nothing has changed: no handle,
  * nothing that a handle holds, and no result (save where a call says otherwise). Each refusal has one status.
@@ -39,8 +40,8 @@
  *    handle only one is used from then on.
  *  - A handle is used by one thread at a time. It may go to another thread, ordered by a lock, by the start or
  *    the join of the thread, or by a sequentially consistent atomic. Different handles may be used by different
- *    threads at once, also passes and retries of one budget: that is what a budget is for.
- *  - Passes that are joined, and a retry and the pass that it is ended into, are of one budget.
+ *    threads at once, also passes and retries of one budget or of one quota: that is what these are for.
+ *  - Passes that are joined, and a retry and the pass that it is ended into, are of one budget or of one quota.
  *  - No call is made from a signal handler, or in the forked child of a process with threads.
  *  - malloc, realloc and free are of one allocator, and align as the C standard says.
  */
@@ -64,8 +65,11 @@ extern "C" {
 /* The last moment, the longest duration and the greatest code: 2^62 - 1. */
 #define HIKEBOX_FAR UINT64_C(4611686018427387903)
 
-/* The most tickets of a budget: 2^32. */
+/* The most tickets of a budget, and the greatest reserve of a quota: 2^32. */
 #define HIKEBOX_MOST_TICKETS UINT64_C(4294967296)
+
+/* The greatest share of a quota, in thousandths of a ticket a request: 1000 tickets. */
+#define HIKEBOX_MOST_SHARE UINT64_C(1000000)
 
 /* The most passes of a budget that are made by splits, the first one included; and the most events of a journal. */
 #define HIKEBOX_MOST_PASSES 65536
@@ -85,7 +89,7 @@ enum {
     HIKEBOX_FULL = 3,
     /* A growth was refused. */
     HIKEBOX_NO_MEMORY = 4,
-    /* A moment, an input or a code is above HIKEBOX_FAR. */
+    /* A moment, an input, a code or a period is above HIKEBOX_FAR. */
     HIKEBOX_TOO_LARGE = 5,
     /* The bytes are more than the room for them. */
     HIKEBOX_NO_ROOM = 6,
@@ -107,30 +111,42 @@ enum {
     HIKEBOX_JOURNAL_FULL = 21,
     /* There is no output, since no event came after the last reset. */
     HIKEBOX_NO_OUTPUT = 22,
-    /* The output is no number. */
+    /* The output, or the input of an event, is no number. */
     HIKEBOX_NOT_A_NUMBER = 23,
+    /* The journal has no event of this number. */
+    HIKEBOX_NO_EVENT = 24,
 
     /* The limit is above HIKEBOX_MOST_TICKETS. */
     HIKEBOX_LIMIT_TOO_LARGE = 30,
     /* The budget keeps its limit. */
     HIKEBOX_FIXED = 31,
-    /* The budget has no ticket for this pass. */
+    /* The budget has no ticket for this pass, or the window of a quota has none now. */
     HIKEBOX_NO_TICKET = 32,
-    /* HIKEBOX_MOST_PASSES passes were made of the budget. */
+    /* HIKEBOX_MOST_PASSES passes were made of the budget; or the pass of a quota has no part to give. */
     HIKEBOX_TOO_MANY_PASSES = 33,
-    /* Another pass of the budget is held somewhere, or was freed. */
+    /* Another pass of the budget or of the quota is held somewhere, or was freed. */
     HIKEBOX_PASSES_OUT = 34,
+    /* The quota's reserve is above HIKEBOX_MOST_TICKETS. */
+    HIKEBOX_RESERVE_TOO_LARGE = 35,
+    /* The quota's share is above HIKEBOX_MOST_SHARE. */
+    HIKEBOX_SHARE_TOO_LARGE = 36,
+    /* The quota's period is 0. */
+    HIKEBOX_PERIOD_TOO_SHORT = 37,
 
     /* The report is none of HIKEBOX_NO_REPORT, HIKEBOX_WON and HIKEBOX_LOST. */
     HIKEBOX_NO_SUCH_REPORT = 40,
     /* A run is reported, and none is under way. */
-    HIKEBOX_NO_RUN = 41
+    HIKEBOX_NO_RUN = 41,
+    /* The retry draws on something else: on a quota or on nothing where it is ended into a budget's pass, on a budget
+     * or on nothing where it is ended into a quota's. */
+    HIKEBOX_DRAWS_ELSEWHERE = 42
 };
 
 /* The handles. */
 typedef struct { void *held; } hikebox_policy;
 typedef struct { void *held; } hikebox_driver;
 typedef struct { void *held; } hikebox_pass;
+typedef struct { void *held; } hikebox_quota;
 typedef struct { void *held; } hikebox_retry;
 
 /* A handle that holds nothing. */
@@ -152,6 +168,17 @@ typedef struct {
  */
 HIKEBOX_CHECKED hikebox_status hikebox_policy_read(const uint8_t *json, size_t length, hikebox_policy *policy,
                                                    hikebox_place *place);
+
+/*
+ * Says what is wrong with a text that hikebox_policy_read refuses, and where, in the words of `zsched check`: the place
+ * of the first fault, `top` or the steps to it, and what is wanted there, as
+ *     meet[1].cap[1]: no node is called "exponental"; did you mean "exponential"?
+ * or `not JSON: line 2, column 7`. Of a text that is a policy the text is empty. Its bytes, in UTF-8 with no zero byte
+ * after them, are written to `text`, which has room for `capacity`, and their number to `length`. HIKEBOX_NO_MEMORY;
+ * _NO_ROOM, and then `length` is the room that is needed.
+ */
+HIKEBOX_CHECKED hikebox_status hikebox_policy_fault(const uint8_t *json, size_t json_length, uint8_t *text,
+                                                    size_t capacity, size_t *length);
 
 /* Puts an equal policy into `copy`. HIKEBOX_FULL; _EMPTY; _WRONG_KIND; _NO_MEMORY. */
 HIKEBOX_CHECKED hikebox_status hikebox_policy_copy(hikebox_policy *policy, hikebox_policy *copy);
@@ -202,6 +229,22 @@ HIKEBOX_CHECKED hikebox_status hikebox_driver_last_text(hikebox_driver *driver, 
 
 /* How many events came since the driver was made, or since it was reset. HIKEBOX_EMPTY; _WRONG_KIND. */
 HIKEBOX_CHECKED hikebox_status hikebox_driver_events(hikebox_driver *driver, uint64_t *events);
+
+/* An event of a journal. */
+typedef struct {
+    /* Its moment. */
+    uint64_t now;
+    /* Its input. */
+    uint64_t input;
+    /* Its random words. */
+    uint32_t words[4];
+} hikebox_event;
+
+/*
+ * The event of this number, counted from 0, of those that hikebox_driver_events counts. HIKEBOX_EMPTY; _WRONG_KIND;
+ * _NO_EVENT; _NOT_A_NUMBER, of its input: each event that came by hikebox_driver_next has a number.
+ */
+HIKEBOX_CHECKED hikebox_status hikebox_driver_event(hikebox_driver *driver, uint64_t index, hikebox_event *event);
 
 /* Back to before the first event, whatever the moment of the next one. HIKEBOX_EMPTY; _WRONG_KIND. */
 hikebox_status hikebox_driver_reset(hikebox_driver *driver);
@@ -260,6 +303,79 @@ HIKEBOX_CHECKED hikebox_status hikebox_pass_close(hikebox_pass *pass, uint64_t *
  * _WRONG_KIND. */
 hikebox_status hikebox_pass_free(hikebox_pass *pass);
 
+/* ---- Quotas ------------------------------------------------------------------------------------------------------ */
+
+/*
+ * A quota cuts time into windows of `period` milliseconds, counted from moment 0. In each window it gives out at most
+ * `reserve` tickets, and `share` thousandths of a ticket for each request that was counted in it so far, rounded down;
+ * never more than HIKEBOX_MOST_TICKETS. What a window has left is lost with it. The program counts each request once,
+ * before its first run, by hikebox_quota_deposit. It holds the quota by its passes, as it does a budget.
+ *
+ * A deposit, a draw and a look open the window of their moment for all passes, at most 3600 past the latest one. From
+ * then on it is the latest: a call with an earlier moment is of the latest window. The last window is the one with the
+ * number 2999999999, and does not end.
+ */
+
+/* What is known of a window of a quota. */
+typedef struct {
+    /* Which window it is, from 0 on. */
+    uint64_t window;
+    /* The requests that were counted in it. */
+    uint64_t asked;
+    /* The tickets that it has given out. */
+    uint64_t given;
+    /* The tickets that it may yet give for the requests counted. */
+    uint64_t left;
+} hikebox_usage;
+
+/*
+ * Makes a quota and puts its first pass into `quota`. HIKEBOX_FULL; _RESERVE_TOO_LARGE; _SHARE_TOO_LARGE;
+ * _PERIOD_TOO_SHORT; _TOO_LARGE, of the period; _NO_MEMORY.
+ */
+HIKEBOX_CHECKED hikebox_status hikebox_quota_new(uint64_t reserve, uint64_t share, uint64_t period,
+                                                 hikebox_quota *quota);
+
+/* Counts a request in the window of `now`, or in the latest one where that is later. Past the last window none is
+ * counted. HIKEBOX_TOO_LARGE; _EMPTY; _WRONG_KIND. */
+HIKEBOX_CHECKED hikebox_status hikebox_quota_deposit(hikebox_quota *quota, uint64_t now);
+
+/*
+ * Draws a ticket of the window of `now`, or of the latest one where that is later, and writes its number, which no
+ * other draw of the quota got; the number divided by 2^32 is that of the window. HIKEBOX_TOO_LARGE; _EMPTY;
+ * _WRONG_KIND; _NO_TICKET: the window has given out as many as its requests allow, or 64 other draws came first. The
+ * pass may draw again: with more requests and in later windows there are more tickets.
+ */
+HIKEBOX_CHECKED hikebox_status hikebox_quota_draw(hikebox_quota *quota, uint64_t now, uint64_t *ticket);
+
+/* Writes what the window of `now`, or the latest one where that is later, was asked, has given and has left.
+ * HIKEBOX_TOO_LARGE; _EMPTY; _WRONG_KIND. */
+HIKEBOX_CHECKED hikebox_status hikebox_quota_seen(hikebox_quota *quota, uint64_t now, hikebox_usage *usage);
+
+/*
+ * Puts a new pass of the same quota, which has no ticket, into `part`. The first pass has 2^62 parts; a split gives
+ * 2^20 of them where the pass has more, or else one, and a join gives them back. HIKEBOX_FULL; _EMPTY; _WRONG_KIND;
+ * _NO_MEMORY; _TOO_MANY_PASSES: the pass has one part.
+ */
+HIKEBOX_CHECKED hikebox_status hikebox_quota_split(hikebox_quota *quota, hikebox_quota *part);
+
+/* Joins `other`, which is of the same quota and is then empty, into `quota`, which has the tickets of both. Of `quota`,
+ * then of `other`, HIKEBOX_EMPTY and _WRONG_KIND. */
+HIKEBOX_CHECKED hikebox_status hikebox_quota_join(hikebox_quota *quota, hikebox_quota *other);
+
+/* How many tickets were drawn with this pass, and with those joined into it. HIKEBOX_EMPTY; _WRONG_KIND. */
+HIKEBOX_CHECKED hikebox_status hikebox_quota_count(hikebox_quota *quota, uint64_t *tickets);
+
+/*
+ * Closes the quota, where this pass has all its parts: frees it and writes how many tickets were drawn of it, in all
+ * windows. HIKEBOX_EMPTY; _WRONG_KIND; _PASSES_OUT; _NO_MEMORY, which comes only where another pass was freed: then
+ * this one is freed, too.
+ */
+HIKEBOX_CHECKED hikebox_status hikebox_quota_close(hikebox_quota *quota, uint64_t *tickets);
+
+/* Frees the pass, with its tickets: the quota can't be closed then, and its other passes go on. HIKEBOX_EMPTY;
+ * _WRONG_KIND. */
+hikebox_status hikebox_quota_free(hikebox_quota *quota);
+
 /* ---- Retries ----------------------------------------------------------------------------------------------------- */
 
 /* How a run went, as the program reports it. */
@@ -289,7 +405,7 @@ enum {
     HIKEBOX_ENDED_WON = 1,
     /* The last run failed, and the policy does not go on. */
     HIKEBOX_ENDED_DONE = 2,
-    /* The last run failed, the policy goes on, and the budget has no ticket. */
+    /* The last run failed, the policy goes on, and the budget or the quota has no ticket. */
     HIKEBOX_ENDED_REFUSED = 3,
     /* It was cancelled. */
     HIKEBOX_ENDED_CANCELLED = 4,
@@ -307,7 +423,8 @@ typedef struct {
     uint32_t how;
     /* The moment to wait for, where it waits; otherwise 0. */
     uint64_t until;
-    /* How many retries it was granted: tickets drawn of the budget. */
+    /* How many retries it was granted: tickets drawn of the budget or of the quota, or counted where it draws on
+     * nothing. */
     uint64_t granted;
     /* How many runs were reported. */
     uint64_t runs;
@@ -319,6 +436,17 @@ typedef struct {
  * _WRONG_KIND, of the pass; _TOO_MANY_PASSES.
  */
 HIKEBOX_CHECKED hikebox_status hikebox_retry_new(hikebox_policy *policy, hikebox_pass *pass, hikebox_retry *retry);
+
+/*
+ * The same with a pass that is split off a quota's. The retry draws at the moment of the poll, and deposits nothing.
+ * HIKEBOX_FULL; _EMPTY, of either; _WRONG_KIND, of the policy; _NO_MEMORY; _WRONG_KIND, of the pass; _TOO_MANY_PASSES.
+ */
+HIKEBOX_CHECKED hikebox_status hikebox_retry_on_quota(hikebox_policy *policy, hikebox_quota *quota,
+                                                      hikebox_retry *retry);
+
+/* The same with no pass: each retry that the policy goes on to is granted. It is freed by hikebox_retry_free.
+ * HIKEBOX_FULL; _EMPTY; _WRONG_KIND; _NO_MEMORY. */
+HIKEBOX_CHECKED hikebox_status hikebox_retry_unlimited(hikebox_policy *policy, hikebox_retry *retry);
 
 /*
  * Steps the retry at the moment `now`, with these random words, and writes what is to be done. With HIKEBOX_WON
@@ -336,17 +464,31 @@ HIKEBOX_CHECKED hikebox_status hikebox_retry_poll(hikebox_retry *retry, uint64_t
 /* What is to be done, without a step. HIKEBOX_EMPTY; _WRONG_KIND. */
 HIKEBOX_CHECKED hikebox_status hikebox_retry_see(hikebox_retry *retry, hikebox_next *next);
 
+/*
+ * How many events the journal of the retry has: one for each failure with which its policy was stepped, with the moment,
+ * the words and the code of that poll. HIKEBOX_EMPTY; _WRONG_KIND.
+ */
+HIKEBOX_CHECKED hikebox_status hikebox_retry_events(hikebox_retry *retry, uint64_t *events);
+
+/* The event of this number, counted from 0, of those. HIKEBOX_EMPTY; _WRONG_KIND; _NO_EVENT; _NOT_A_NUMBER, as above. */
+HIKEBOX_CHECKED hikebox_status hikebox_retry_event(hikebox_retry *retry, uint64_t index, hikebox_event *event);
+
 /* Ends a retry that is not over as HIKEBOX_ENDED_CANCELLED, whatever run is under way. HIKEBOX_EMPTY; _WRONG_KIND. */
 hikebox_status hikebox_retry_cancel(hikebox_retry *retry);
 
 /*
  * Frees the retry, whether it is over or not, and gives its pass back with the tickets that it was granted:
  * joined into `pass`, which is of the same budget. HIKEBOX_EMPTY and _WRONG_KIND, of the retry first, then of
- * the pass.
+ * the pass; _DRAWS_ELSEWHERE, where the retry draws on no budget.
  */
 HIKEBOX_CHECKED hikebox_status hikebox_retry_end(hikebox_retry *retry, hikebox_pass *pass);
 
-/* Frees the retry and its pass: the budget can't be closed then. HIKEBOX_EMPTY; _WRONG_KIND. */
+/* The same of a retry that draws on a quota, into a pass of that quota. HIKEBOX_EMPTY and _WRONG_KIND, of the retry
+ * first, then of the pass; _DRAWS_ELSEWHERE, where the retry draws on no quota. */
+HIKEBOX_CHECKED hikebox_status hikebox_retry_end_on_quota(hikebox_retry *retry, hikebox_quota *quota);
+
+/* Frees the retry and its pass, where it has one: the budget or the quota can't be closed then. HIKEBOX_EMPTY;
+ * _WRONG_KIND. */
 hikebox_status hikebox_retry_free(hikebox_retry *retry);
 
 #ifdef __cplusplus

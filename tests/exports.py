@@ -14,12 +14,21 @@ RATTLE = {
     "&mut usize": ["size_t *"],
     "&mut Place": ["hikebox_place *"],
     "&mut Decided": ["hikebox_decision *"],
+    "&mut Noted": ["hikebox_event *"],
     "&mut Reply": ["hikebox_next *"],
+    "&mut Usage": ["hikebox_usage *"],
     "u64": ["uint64_t"],
     "u32": ["uint32_t"],
     "alloc: Global": [],
 }
-STRUCTS = {"Place": "hikebox_place", "Decided": "hikebox_decision", "Reply": "hikebox_next"}
+STRUCTS = {
+    "Place": "hikebox_place",
+    "Decided": "hikebox_decision",
+    "Noted": "hikebox_event",
+    "Reply": "hikebox_next",
+    "Usage": "hikebox_usage",
+}
+FIELDS = {"u64": "uint64_t", "u32": "uint32_t", "[u32; 4]": "uint32_t[4]"}
 
 
 def without_comments(text):
@@ -34,7 +43,7 @@ def declared():
         for parameter in parameters.split(","):
             kind, _, array = re.fullmatch(r"\s*(.*?[\s*])(\w+)(\[\d+\])?\s*", parameter, re.S).groups()
             kind = " ".join((kind + ("*" if array else "")).replace("*", " * ").split())
-            types.append(re.sub(r"hikebox_(policy|driver|pass|retry) \*", "handle *", kind))
+            types.append(re.sub(r"hikebox_(policy|driver|pass|quota|retry) \*", "handle *", kind))
         calls[name] = types
     return calls
 
@@ -51,18 +60,14 @@ def exported():
     return calls
 
 
-def fields(text, pattern, types):
-    return [(types.get(kind, kind), name) for kind, name in re.findall(pattern, text)]
-
-
 def structs():
     header = without_comments((TOP / "include/hikebox.h").read_text())
     replies = without_comments((TOP / "crates/sched_handle/src/replies.rt").read_text())
     for rattle, c in STRUCTS.items():
         here = re.search(r"typedef struct \{([^}]*)\} " + c + ";", header).group(1)
         there = re.search(r"#\[repr\(C\)\]\s*#\[derive\([^)]*\)\]\s*pub struct " + rattle + r" \{([^}]*)\}", replies).group(1)
-        is_c = re.findall(r"(\w+) (\w+);", here)
-        is_rattle = [({"u64": "uint64_t", "u32": "uint32_t"}.get(kind, kind), name) for name, kind in re.findall(r"pub (\w+): (\w+)", there)]
+        is_c = [(kind + array, name) for kind, name, array in re.findall(r"(\w+) (\w+)((?:\[\d+\])?);", here)]
+        is_rattle = [(FIELDS.get(kind, kind), name) for name, kind in re.findall(r"pub (\w+): (\[.*?\]|\w+)", there)]
         yield c, is_c, is_rattle
 
 

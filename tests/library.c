@@ -3,6 +3,10 @@
 //   retry BUDGET RUN..                runs a retry of the policy on standard input, whose runs end as the words say
 //                                     (won:1, lost:7, the last one repeated), and prints `zsched pool`'s line of it
 //   handles                           empty handles, full ones, those of another kind, and second frees
+//   quotas                            quotas: windows, their borders and passes, and retries on a quota and on nothing
+//   fault                             says what is wrong with the policy on standard input, as `zsched check` does
+//   faults                            texts that are no policy, each with its fault, its place and what is wanted there
+//   journals                          the events of a driver and of a retry
 //   draw THREADS TICKETS              threads draw all tickets of a budget, and each is drawn once
 //   calls                             each call at least once; one that is refused for want of memory is made again
 #include <hikebox.h>
@@ -33,6 +37,15 @@ static void holds_at(int line, bool holds) {
 static hikebox_status read_policy(const char *json, hikebox_policy *policy) {
     hikebox_place place;
     return hikebox_policy_read((const uint8_t *)json, strlen(json), policy, &place);
+}
+
+static hikebox_status say_fault(const char *json, uint8_t *text, size_t capacity, size_t *length) {
+    return hikebox_policy_fault((const uint8_t *)json, strlen(json), text, capacity, length);
+}
+
+static bool is_event(const hikebox_event *event, uint64_t now, uint64_t input, uint32_t word) {
+    return event->now == now && event->input == input && event->words[0] == word && event->words[1] == word + 1 &&
+           event->words[2] == word + 2 && event->words[3] == word + 3;
 }
 
 static void read_input(void) {
@@ -105,15 +118,108 @@ static int retry(char **words, int count) {
     return wrong;
 }
 
+static int fault(void) {
+    static uint8_t text[1 << 20];
+    size_t length;
+    read_input();
+    wants(say_fault(input, text, sizeof text, &length), HIKEBOX_OK);
+    printf("%.*s\n", (int)length, (char *)text);
+    return wrong;
+}
+
+// Each place and each hint was worked out by hand.
+static int faults(void) {
+    static const char *const table[][2] = {
+        {"{\"recurs\":3}", ""},
+        {"", "not JSON: line 1, column 0"},
+        {"[\n{\"plan\":]", "not JSON: line 2, column 9"},
+        {"[]", "top: a plan is a string or an object of one member"},
+        {"{\"fixed\":0}", "top: \"fixed\" is spelt {\"fixed\":D}, D from 1 to 4611686018427387903"},
+        {"{\"meet\":[\"forever\",{\"cap\":[5,{\"exponental\":[1,2]}]}]}",
+         "meet[1].cap[1]: no node is called \"exponental\"; did you mean \"exponential\"?"},
+        {"{\"first\":{\"join\":[{\"lone\":-1},7]}}",
+         "first.join[0]: \"lone\" is spelt {\"lone\":D}, D from 0 to 4611686018427387903"},
+    };
+    uint8_t text[128];
+    size_t length;
+    for (size_t at = 0; at < sizeof table / sizeof *table; at++) {
+        size_t wanted = strlen(table[at][1]);
+        memset(text, '#', sizeof text);
+        if (wanted > 0) {
+            wants(say_fault(table[at][0], text, wanted - 1, &length), HIKEBOX_NO_ROOM);
+            holds(length == wanted && text[0] == '#');
+        }
+        wants(say_fault(table[at][0], text, wanted, &length), HIKEBOX_OK);
+        holds(length == wanted && memcmp(text, table[at][1], wanted) == 0 && text[wanted] == '#');
+    }
+    return wrong;
+}
+
+static int journals(void) {
+    hikebox_policy policy = HIKEBOX_INIT;
+    hikebox_driver driver = HIKEBOX_INIT;
+    hikebox_pass pass = HIKEBOX_INIT;
+    hikebox_retry machine = HIKEBOX_INIT;
+    hikebox_decision decision;
+    hikebox_next next;
+    hikebox_event event = {1, 2, {3, 4, 5, 6}};
+    uint64_t count;
+    static const uint32_t first[4] = {10, 11, 12, 13}, second[4] = {20, 21, 22, 23}, third[4] = {30, 31, 32, 33};
+    wants(read_policy("{\"meet\":[{\"recurs\":2},{\"spaced\":100}]}", &policy), HIKEBOX_OK);
+    wants(hikebox_driver_new(&policy, &driver), HIKEBOX_OK);
+    wants(hikebox_driver_event(&driver, 0, &event), HIKEBOX_NO_EVENT);
+    wants(hikebox_driver_next(&driver, 5, first, 7, &decision), HIKEBOX_OK);
+    wants(hikebox_driver_next(&driver, 5, second, HIKEBOX_FAR, &decision), HIKEBOX_OK);
+    wants(hikebox_driver_next(&driver, 4, third, 0, &decision), HIKEBOX_BACKWARDS);
+    wants(hikebox_driver_event(&driver, 2, &event), HIKEBOX_NO_EVENT);
+    wants(hikebox_driver_event(&driver, UINT64_MAX, &event), HIKEBOX_NO_EVENT);
+    holds(is_event(&event, 1, 2, 3));
+    wants(hikebox_driver_event(&driver, 0, &event), HIKEBOX_OK);
+    holds(is_event(&event, 5, 7, 10));
+    wants(hikebox_driver_event(&driver, 1, &event), HIKEBOX_OK);
+    holds(is_event(&event, 5, HIKEBOX_FAR, 20));
+    wants(hikebox_driver_reset(&driver), HIKEBOX_OK);
+    wants(hikebox_driver_event(&driver, 0, &event), HIKEBOX_NO_EVENT);
+    // Two failures step the policy of a retry; the success that follows does not, nor does a poll without a report.
+    wants(hikebox_budget_fixed(9, &pass), HIKEBOX_OK);
+    wants(hikebox_retry_new(&policy, &pass, &machine), HIKEBOX_OK);
+    wants(hikebox_retry_events(&machine, &count), HIKEBOX_OK);
+    holds(count == 0);
+    wants(hikebox_retry_poll(&machine, 0, no_words, HIKEBOX_NO_REPORT, 0, &next), HIKEBOX_OK);
+    wants(hikebox_retry_event(&machine, 0, &event), HIKEBOX_NO_EVENT);
+    wants(hikebox_retry_poll(&machine, 10, first, HIKEBOX_LOST, 503, &next), HIKEBOX_OK);
+    wants(hikebox_retry_poll(&machine, 110, no_words, HIKEBOX_NO_REPORT, 0, &next), HIKEBOX_OK);
+    wants(hikebox_retry_poll(&machine, 115, second, HIKEBOX_LOST, 504, &next), HIKEBOX_OK);
+    wants(hikebox_retry_poll(&machine, 215, no_words, HIKEBOX_NO_REPORT, 0, &next), HIKEBOX_OK);
+    wants(hikebox_retry_poll(&machine, 216, third, HIKEBOX_WON, 200, &next), HIKEBOX_OK);
+    holds(next.what == HIKEBOX_OVER && next.runs == 3);
+    wants(hikebox_retry_events(&machine, &count), HIKEBOX_OK);
+    holds(count == 2);
+    wants(hikebox_retry_event(&machine, 0, &event), HIKEBOX_OK);
+    holds(is_event(&event, 10, 503, 10));
+    wants(hikebox_retry_event(&machine, 1, &event), HIKEBOX_OK);
+    holds(is_event(&event, 115, 504, 20));
+    wants(hikebox_retry_event(&machine, 2, &event), HIKEBOX_NO_EVENT);
+    holds(is_event(&event, 115, 504, 20));
+    wants(hikebox_retry_free(&machine), HIKEBOX_OK);
+    wants(hikebox_pass_free(&pass), HIKEBOX_OK);
+    wants(hikebox_driver_free(&driver), HIKEBOX_OK);
+    wants(hikebox_policy_free(&policy), HIKEBOX_OK);
+    return wrong;
+}
+
 // Every call on a handle of every kind and on an empty one. Each kind is tried as each other one.
 static int handles(void) {
     hikebox_policy policy = HIKEBOX_INIT, copy = HIKEBOX_INIT, other_policy = HIKEBOX_INIT;
     hikebox_driver driver = HIKEBOX_INIT;
     hikebox_pass pass = HIKEBOX_INIT, part = HIKEBOX_INIT, other_pass = HIKEBOX_INIT;
-    hikebox_retry machine = HIKEBOX_INIT, other_machine = HIKEBOX_INIT;
+    hikebox_quota quota = HIKEBOX_INIT, other_quota = HIKEBOX_INIT;
+    hikebox_retry machine = HIKEBOX_INIT, other_machine = HIKEBOX_INIT, quota_machine = HIKEBOX_INIT;
+    hikebox_usage usage = {6, 6, 6, 6};
     hikebox_place place = {7, 7};
     hikebox_decision decision = {5, true};
     hikebox_next next = {9, 9, 9, 9, 9};
+    hikebox_event event = {1, 2, {3, 4, 5, 6}};
     uint64_t number = 77, other = 78;
     size_t length = 79;
     uint8_t text[8] = "unread";
@@ -124,8 +230,11 @@ static int handles(void) {
     wants(hikebox_policy_copy(&policy, &other_policy), HIKEBOX_OK);
     wants(hikebox_pass_split(&pass, &other_pass), HIKEBOX_OK);
     wants(hikebox_retry_new(&policy, &other_pass, &other_machine), HIKEBOX_OK);
-    void *kinds[] = {&policy, &driver, &pass, &machine, &part};
-    enum { POLICY, DRIVER, PASS, RETRY, NOTHING, KINDS };
+    wants(hikebox_quota_new(1, 0, 10, &quota), HIKEBOX_OK);
+    wants(hikebox_quota_split(&quota, &other_quota), HIKEBOX_OK);
+    wants(hikebox_retry_on_quota(&policy, &quota, &quota_machine), HIKEBOX_OK);
+    void *kinds[] = {&policy, &driver, &pass, &quota, &machine, &part};
+    enum { POLICY, DRIVER, PASS, QUOTA, RETRY, NOTHING, KINDS };
     for (int kind = 0; kind < KINDS; kind++) {
         void *handle = kinds[kind];
         hikebox_status refused = kind == NOTHING ? HIKEBOX_EMPTY : HIKEBOX_WRONG_KIND;
@@ -135,6 +244,8 @@ static int handles(void) {
             wants(hikebox_policy_size(handle, &number, &other), refused);
             wants(hikebox_driver_new(handle, (hikebox_driver *)&spare), refused);
             wants(hikebox_retry_new(handle, &other_pass, (hikebox_retry *)&spare), refused);
+            wants(hikebox_retry_on_quota(handle, &other_quota, (hikebox_retry *)&spare), refused);
+            wants(hikebox_retry_unlimited(handle, (hikebox_retry *)&spare), refused);
             wants(hikebox_policy_free(handle), refused);
         }
         if (kind != DRIVER) {
@@ -143,6 +254,7 @@ static int handles(void) {
             wants(hikebox_driver_last_number(handle, &number), refused);
             wants(hikebox_driver_last_text(handle, text, sizeof text, &length), refused);
             wants(hikebox_driver_events(handle, &number), refused);
+            wants(hikebox_driver_event(handle, 0, &event), refused);
             wants(hikebox_driver_reset(handle), refused);
             wants(hikebox_driver_free(handle), refused);
         }
@@ -158,11 +270,27 @@ static int handles(void) {
             wants(hikebox_retry_new(&other_policy, handle, (hikebox_retry *)&spare), refused);
             wants(hikebox_retry_end(&other_machine, handle), refused);
         }
+        if (kind != QUOTA) {
+            wants(hikebox_quota_deposit(handle, 0), refused);
+            wants(hikebox_quota_draw(handle, 0, &number), refused);
+            wants(hikebox_quota_seen(handle, 0, &usage), refused);
+            wants(hikebox_quota_split(handle, (hikebox_quota *)&spare), refused);
+            wants(hikebox_quota_join(handle, &other_quota), refused);
+            wants(hikebox_quota_join(&other_quota, handle), refused);
+            wants(hikebox_quota_count(handle, &number), refused);
+            wants(hikebox_quota_close(handle, &number), refused);
+            wants(hikebox_quota_free(handle), refused);
+            wants(hikebox_retry_on_quota(&other_policy, handle, (hikebox_retry *)&spare), refused);
+            wants(hikebox_retry_end_on_quota(&quota_machine, handle), refused);
+        }
         if (kind != RETRY) {
             wants(hikebox_retry_poll(handle, 0, no_words, HIKEBOX_NO_REPORT, 0, &next), refused);
             wants(hikebox_retry_see(handle, &next), refused);
+            wants(hikebox_retry_events(handle, &number), refused);
+            wants(hikebox_retry_event(handle, 0, &event), refused);
             wants(hikebox_retry_cancel(handle), refused);
             wants(hikebox_retry_end(handle, &other_pass), refused);
+            wants(hikebox_retry_end_on_quota(handle, &other_quota), refused);
             wants(hikebox_retry_free(handle), refused);
         }
         holds(spare.held == NULL);
@@ -175,14 +303,24 @@ static int handles(void) {
         wants(hikebox_budget_rising(1, handle), HIKEBOX_FULL);
         wants(hikebox_pass_split(&other_pass, handle), HIKEBOX_FULL);
         wants(hikebox_retry_new(&other_policy, &other_pass, handle), HIKEBOX_FULL);
+        wants(hikebox_quota_new(1, 0, 0, handle), HIKEBOX_FULL);
+        wants(hikebox_quota_split(&other_quota, handle), HIKEBOX_FULL);
+        wants(hikebox_retry_on_quota(&other_policy, &other_quota, handle), HIKEBOX_FULL);
+        wants(hikebox_retry_unlimited(&other_policy, handle), HIKEBOX_FULL);
         holds(place.line == 0 && place.column == 0);
     }
     wants(hikebox_retry_end(&other_machine, &other_pass), HIKEBOX_OK);
     wants(hikebox_pass_join(&pass, &other_pass), HIKEBOX_OK);
+    wants(hikebox_retry_end_on_quota(&quota_machine, &other_quota), HIKEBOX_OK);
+    wants(hikebox_quota_join(&quota, &other_quota), HIKEBOX_OK);
     wants(hikebox_policy_free(&other_policy), HIKEBOX_OK);
     // Nothing was lost and no result was written.
     holds(number == 77 && other == 78 && length == 79 && decision.start == 5 && next.what == 9 && next.granted == 9);
-    holds(strcmp((char *)text, "unread") == 0);
+    holds(strcmp((char *)text, "unread") == 0 && usage.window == 6 && usage.left == 6);
+    holds(is_event(&event, 1, 2, 3));
+    wants(hikebox_quota_close(&quota, &number), HIKEBOX_OK);
+    holds(number == 0);
+    wants(hikebox_quota_free(&quota), HIKEBOX_EMPTY);
     wants(hikebox_policy_size(&policy, &number, &other), HIKEBOX_OK);
     holds(number == 1 && other == 1);
     wants(hikebox_driver_events(&driver, &number), HIKEBOX_OK);
@@ -265,6 +403,220 @@ static int handles(void) {
     return wrong;
 }
 
+// The number of the first ticket of a window.
+static uint64_t first_of(uint64_t window) {
+    return window << 32;
+}
+
+static void sees_at(int line, hikebox_quota *quota, uint64_t now, hikebox_usage wanted) {
+    hikebox_usage got;
+    wants_at(line, hikebox_quota_seen(quota, now, &got), HIKEBOX_OK);
+    holds_at(line, got.window == wanted.window && got.asked == wanted.asked && got.given == wanted.given
+                       && got.left == wanted.left);
+}
+#define sees(quota, now, ...) sees_at(__LINE__, quota, now, (hikebox_usage){__VA_ARGS__})
+
+static void draws_at(int line, hikebox_quota *quota, uint64_t now, uint64_t wanted) {
+    uint64_t ticket = 0;
+    wants_at(line, hikebox_quota_draw(quota, now, &ticket), HIKEBOX_OK);
+    holds_at(line, ticket == wanted);
+}
+#define draws(quota, now, wanted) draws_at(__LINE__, quota, now, wanted)
+
+static void closes_at(int line, hikebox_quota *quota, uint64_t wanted) {
+    uint64_t tickets = 0;
+    wants_at(line, hikebox_quota_close(quota, &tickets), HIKEBOX_OK);
+    holds_at(line, tickets == wanted);
+}
+#define closes(quota, wanted) closes_at(__LINE__, quota, wanted)
+
+// What a quota may be made with.
+static void terms(void) {
+    hikebox_quota quota = HIKEBOX_INIT;
+    uint64_t tickets = HIKEBOX_MOST_TICKETS, share = HIKEBOX_MOST_SHARE, far = HIKEBOX_FAR;
+    wants(hikebox_quota_new(tickets + 1, share + 1, 0, &quota), HIKEBOX_RESERVE_TOO_LARGE);
+    wants(hikebox_quota_new(tickets + 1, share, far + 1, &quota), HIKEBOX_RESERVE_TOO_LARGE);
+    wants(hikebox_quota_new(tickets, share + 1, 0, &quota), HIKEBOX_SHARE_TOO_LARGE);
+    wants(hikebox_quota_new(tickets, share + 1, far + 1, &quota), HIKEBOX_SHARE_TOO_LARGE);
+    wants(hikebox_quota_new(tickets, share, 0, &quota), HIKEBOX_PERIOD_TOO_SHORT);
+    wants(hikebox_quota_new(tickets, share, far + 1, &quota), HIKEBOX_TOO_LARGE);
+    holds(quota.held == NULL);
+    wants(hikebox_quota_new(tickets, share, far, &quota), HIKEBOX_OK);
+    sees(&quota, far - 1, 0, 0, 0, HIKEBOX_MOST_TICKETS);
+    sees(&quota, far, 1, 0, 0, HIKEBOX_MOST_TICKETS);
+    closes(&quota, 0);
+}
+
+// Windows of 100 ms, each of 2 tickets and half a ticket a request; then no reserve, no share, and windows far apart.
+static void windows(void) {
+    hikebox_quota quota = HIKEBOX_INIT;
+    uint64_t ticket = 77;
+    wants(hikebox_quota_new(2, 500, 100, &quota), HIKEBOX_OK);
+    sees(&quota, 0, 0, 0, 0, 2);
+    draws(&quota, 0, 0);
+    draws(&quota, 99, 1);
+    wants(hikebox_quota_draw(&quota, 99, &ticket), HIKEBOX_NO_TICKET);
+    wants(hikebox_quota_deposit(&quota, 99), HIKEBOX_OK);
+    wants(hikebox_quota_draw(&quota, 99, &ticket), HIKEBOX_NO_TICKET);
+    holds(ticket == 77);
+    wants(hikebox_quota_deposit(&quota, 0), HIKEBOX_OK);
+    sees(&quota, 50, 0, 2, 2, 1);
+    draws(&quota, 99, 2);
+    sees(&quota, 99, 0, 2, 3, 0);
+    draws(&quota, 100, first_of(1));
+    draws(&quota, 99, first_of(1) + 1);
+    wants(hikebox_quota_draw(&quota, 199, &ticket), HIKEBOX_NO_TICKET);
+    sees(&quota, 0, 1, 0, 2, 0);
+    wants(hikebox_quota_deposit(&quota, 250), HIKEBOX_OK);
+    sees(&quota, 200, 2, 1, 0, 2);
+    draws(&quota, 300, first_of(3));
+    wants(hikebox_quota_draw(&quota, HIKEBOX_FAR + 1, &ticket), HIKEBOX_TOO_LARGE);
+    closes(&quota, 6);
+    wants(hikebox_quota_new(0, 1000, 10, &quota), HIKEBOX_OK);
+    wants(hikebox_quota_draw(&quota, 5, &ticket), HIKEBOX_NO_TICKET);
+    wants(hikebox_quota_deposit(&quota, 5), HIKEBOX_OK);
+    draws(&quota, 5, 0);
+    wants(hikebox_quota_draw(&quota, 5, &ticket), HIKEBOX_NO_TICKET);
+    closes(&quota, 1);
+    wants(hikebox_quota_new(1, 0, 10, &quota), HIKEBOX_OK);
+    for (int request = 0; request < 5; request++) wants(hikebox_quota_deposit(&quota, 9), HIKEBOX_OK);
+    draws(&quota, 9, 0);
+    wants(hikebox_quota_draw(&quota, 9, &ticket), HIKEBOX_NO_TICKET);
+    draws(&quota, 10, first_of(1));
+    closes(&quota, 2);
+    // The first call opens its window wherever it is, and each later one at most 3600 past the latest.
+    wants(hikebox_quota_new(1, 0, 1, &quota), HIKEBOX_OK);
+    draws(&quota, 5000, first_of(5000));
+    draws(&quota, 10000, first_of(8600));
+    draws(&quota, 10000, first_of(10000));
+    closes(&quota, 3);
+    wants(hikebox_quota_new(1, 0, 1, &quota), HIKEBOX_OK);
+    draws(&quota, HIKEBOX_FAR, first_of(2999999999));
+    closes(&quota, 1);
+    // The moment is looked at before the handle.
+    wants(hikebox_quota_deposit(&quota, HIKEBOX_FAR + 1), HIKEBOX_TOO_LARGE);
+    wants(hikebox_quota_draw(&quota, HIKEBOX_FAR + 1, &ticket), HIKEBOX_TOO_LARGE);
+    holds(ticket == 77);
+}
+
+// Passes of a quota: splits down to one part, joins, and when it is closed.
+static void passes(void) {
+    hikebox_quota quota = HIKEBOX_INIT, part = HIKEBOX_INIT, least = HIKEBOX_INIT, none = HIKEBOX_INIT;
+    uint64_t tickets = 77;
+    wants(hikebox_quota_new(9, 0, 10, &quota), HIKEBOX_OK);
+    wants(hikebox_quota_split(&quota, &part), HIKEBOX_OK);
+    wants(hikebox_quota_split(&part, &least), HIKEBOX_OK);
+    wants(hikebox_quota_split(&least, &none), HIKEBOX_TOO_MANY_PASSES);
+    holds(none.held == NULL);
+    draws(&quota, 0, 0);
+    draws(&part, 0, 1);
+    draws(&least, 0, 2);
+    draws(&least, 0, 3);
+    wants(hikebox_quota_count(&least, &tickets), HIKEBOX_OK);
+    holds(tickets == 2);
+    wants(hikebox_quota_close(&quota, &tickets), HIKEBOX_PASSES_OUT);
+    wants(hikebox_quota_join(&part, &least), HIKEBOX_OK);
+    wants(hikebox_quota_count(&least, &tickets), HIKEBOX_EMPTY);
+    wants(hikebox_quota_count(&part, &tickets), HIKEBOX_OK);
+    holds(tickets == 3);
+    wants(hikebox_quota_join(&quota, &part), HIKEBOX_OK);
+    closes(&quota, 4);
+    // A budget's 65,536 passes are no bound here.
+    wants(hikebox_quota_new(1, 0, 10, &quota), HIKEBOX_OK);
+    for (int times = 0; times < 70000; times++) {
+        wants(hikebox_quota_split(&quota, &part), HIKEBOX_OK);
+        wants(hikebox_quota_join(&quota, &part), HIKEBOX_OK);
+    }
+    wants(hikebox_quota_split(&quota, &part), HIKEBOX_OK);
+    wants(hikebox_quota_free(&part), HIKEBOX_OK);
+    wants(hikebox_quota_close(&quota, &tickets), HIKEBOX_PASSES_OUT);
+    draws(&quota, 0, 0);
+    wants(hikebox_quota_free(&quota), HIKEBOX_OK);
+}
+
+// One failed run, begun at `from` and over at `to`: what is to be done then, and what was granted so far.
+static void fails_at(int line, hikebox_retry *machine, uint64_t from, uint64_t to, uint32_t what, uint64_t granted) {
+    hikebox_next next;
+    wants_at(line, hikebox_retry_poll(machine, from, no_words, HIKEBOX_NO_REPORT, 0, &next), HIKEBOX_OK);
+    holds_at(line, next.what == HIKEBOX_RUN);
+    wants_at(line, hikebox_retry_poll(machine, to, no_words, HIKEBOX_LOST, 7, &next), HIKEBOX_OK);
+    holds_at(line, next.what == what && next.granted == granted);
+}
+#define fails(machine, from, to, what, granted) fails_at(__LINE__, machine, from, to, what, granted)
+
+// How a retry ended, after so many runs.
+static void ended_at(int line, hikebox_retry *machine, uint32_t how, uint64_t runs) {
+    hikebox_next next;
+    wants_at(line, hikebox_retry_see(machine, &next), HIKEBOX_OK);
+    holds_at(line, next.what == HIKEBOX_OVER && next.how == how && next.runs == runs);
+}
+#define ended(machine, how, runs) ended_at(__LINE__, machine, how, runs)
+
+// Retries on a quota draw at the moment of the poll; those on nothing are granted all; each ends where it draws.
+static void drawings(void) {
+    hikebox_policy policy = HIKEBOX_INIT, often = HIKEBOX_INIT;
+    hikebox_quota quota = HIKEBOX_INIT, no_quota = HIKEBOX_INIT;
+    hikebox_pass pass = HIKEBOX_INIT, no_pass = HIKEBOX_INIT;
+    hikebox_retry machine = HIKEBOX_INIT, free_machine = HIKEBOX_INIT, on_budget = HIKEBOX_INIT;
+    uint64_t tickets;
+    wants(read_policy("{\"meet\":[{\"recurs\":3},{\"spaced\":60}]}", &policy), HIKEBOX_OK);
+    wants(read_policy("{\"recurs\":3}", &often), HIKEBOX_OK);
+    wants(hikebox_quota_new(1, 0, 100, &quota), HIKEBOX_OK);
+    wants(hikebox_retry_on_quota(&policy, &quota, &machine), HIKEBOX_OK);
+    fails(&machine, 0, 99, HIKEBOX_WAIT, 1);
+    fails(&machine, 159, 160, HIKEBOX_WAIT, 2);
+    fails(&machine, 220, 230, HIKEBOX_WAIT, 3);
+    fails(&machine, 290, 299, HIKEBOX_OVER, 3);
+    ended(&machine, HIKEBOX_ENDED_DONE, 4);
+    sees(&quota, 299, 2, 0, 1, 0);
+    wants(hikebox_retry_end_on_quota(&machine, &quota), HIKEBOX_OK);
+    wants(hikebox_quota_count(&quota, &tickets), HIKEBOX_OK);
+    holds(machine.held == NULL && tickets == 3);
+    // A second one is refused in the window that has given its ticket, and a later one draws again.
+    wants(hikebox_retry_on_quota(&often, &quota, &machine), HIKEBOX_OK);
+    fails(&machine, 290, 290, HIKEBOX_OVER, 0);
+    ended(&machine, HIKEBOX_ENDED_REFUSED, 1);
+    wants(hikebox_retry_end_on_quota(&machine, &quota), HIKEBOX_OK);
+    wants(hikebox_retry_on_quota(&often, &quota, &machine), HIKEBOX_OK);
+    fails(&machine, 300, 300, HIKEBOX_RUN, 1);
+    // Ends into what a retry does not draw on.
+    wants(hikebox_budget_fixed(1, &pass), HIKEBOX_OK);
+    wants(hikebox_retry_new(&often, &pass, &on_budget), HIKEBOX_OK);
+    wants(hikebox_retry_unlimited(&often, &free_machine), HIKEBOX_OK);
+    wants(hikebox_retry_end(&machine, &no_pass), HIKEBOX_EMPTY);
+    wants(hikebox_retry_end(&machine, (hikebox_pass *)&quota), HIKEBOX_WRONG_KIND);
+    wants(hikebox_retry_end(&machine, &pass), HIKEBOX_DRAWS_ELSEWHERE);
+    wants(hikebox_retry_end(&free_machine, &pass), HIKEBOX_DRAWS_ELSEWHERE);
+    wants(hikebox_retry_end_on_quota(&on_budget, &no_quota), HIKEBOX_EMPTY);
+    wants(hikebox_retry_end_on_quota(&on_budget, (hikebox_quota *)&pass), HIKEBOX_WRONG_KIND);
+    wants(hikebox_retry_end_on_quota(&on_budget, &quota), HIKEBOX_DRAWS_ELSEWHERE);
+    wants(hikebox_retry_end_on_quota(&free_machine, &quota), HIKEBOX_DRAWS_ELSEWHERE);
+    wants(hikebox_retry_end_on_quota(&machine, &quota), HIKEBOX_OK);
+    wants(hikebox_retry_end(&on_budget, &pass), HIKEBOX_OK);
+    closes(&quota, 4);
+    wants(hikebox_pass_close(&pass, &tickets), HIKEBOX_OK);
+    for (uint64_t granted = 1; granted <= 3; granted++) fails(&free_machine, 0, 0, HIKEBOX_RUN, granted);
+    fails(&free_machine, 0, 0, HIKEBOX_OVER, 3);
+    ended(&free_machine, HIKEBOX_ENDED_DONE, 4);
+    wants(hikebox_retry_free(&free_machine), HIKEBOX_OK);
+    // A retry that is freed keeps its pass.
+    wants(hikebox_quota_new(1, 0, 100, &quota), HIKEBOX_OK);
+    wants(hikebox_retry_on_quota(&often, &quota, &machine), HIKEBOX_OK);
+    wants(hikebox_retry_free(&machine), HIKEBOX_OK);
+    wants(hikebox_quota_close(&quota, &tickets), HIKEBOX_PASSES_OUT);
+    wants(hikebox_quota_free(&quota), HIKEBOX_OK);
+    wants(hikebox_policy_free(&often), HIKEBOX_OK);
+    wants(hikebox_policy_free(&policy), HIKEBOX_OK);
+}
+
+static int quotas(void) {
+    terms();
+    windows();
+    passes();
+    drawings();
+    return wrong;
+}
+
 static uint8_t *drawn;
 
 static void *draw_all(void *handle) {
@@ -323,13 +675,20 @@ static int calls(void) {
     hikebox_policy policy = HIKEBOX_INIT, copy = HIKEBOX_INIT;
     hikebox_driver driver = HIKEBOX_INIT;
     hikebox_pass pass = HIKEBOX_INIT, part = HIKEBOX_INIT, sole = HIKEBOX_INIT;
+    hikebox_quota quota = HIKEBOX_INIT, quota_part = HIKEBOX_INIT;
     hikebox_retry machine = HIKEBOX_INIT;
+    hikebox_usage usage;
     hikebox_decision decision;
     hikebox_next next;
+    hikebox_event event;
     uint64_t number, other;
-    uint8_t text[64];
+    uint8_t text[128];
     size_t length;
     static const char json[] = "{\"gather\":[\"list\",{\"meet\":[{\"recurs\":2},{\"spaced\":10}]}]}";
+    again(say_fault("{\"first\":{\"recurs\":-1}}", text, sizeof text, &length));
+    holds(length == 70 && memcmp(text, "first: \"recurs\" is spelt {\"recurs\":N}, N from 0 to", 50) == 0);
+    again(say_fault(json, text, sizeof text, &length));
+    holds(length == 0);
     again(read_policy(json, &policy));
     again(hikebox_policy_copy(&policy, &copy));
     again(hikebox_policy_size(&copy, &number, &other));
@@ -343,6 +702,8 @@ static int calls(void) {
     holds(length == 16 && memcmp(text, "[(0, 0), (1, 1)]", 16) == 0);
     again(hikebox_driver_events(&driver, &number));
     holds(number == 3);
+    again(hikebox_driver_event(&driver, 2, &event));
+    holds(event.now == 20);
     again(hikebox_driver_reset(&driver));
     again(hikebox_budget_rising(3, &pass));
     again(hikebox_pass_split(&pass, &part));
@@ -354,6 +715,8 @@ static int calls(void) {
     run_once(&copy, &pass);
     again(hikebox_retry_new(&policy, &pass, &machine));
     again(hikebox_retry_see(&machine, &next));
+    again(hikebox_retry_events(&machine, &number));
+    holds(number == 0);
     again(hikebox_retry_cancel(&machine));
     again(hikebox_retry_see(&machine, &next));
     holds(next.what == HIKEBOX_OVER && next.how == HIKEBOX_ENDED_CANCELLED);
@@ -361,6 +724,24 @@ static int calls(void) {
     again(hikebox_pass_count(&pass, &number));
     again(hikebox_pass_close(&pass, &other));
     holds(number == other);
+    again(hikebox_quota_new(1, 1000, 10, &quota));
+    again(hikebox_quota_split(&quota, &quota_part));
+    again(hikebox_quota_deposit(&quota_part, 0));
+    again(hikebox_quota_draw(&quota_part, 0, &number));
+    again(hikebox_quota_seen(&quota_part, 0, &usage));
+    holds(number == 0 && usage.asked == 1 && usage.given == 1 && usage.left == 1);
+    again(hikebox_retry_on_quota(&policy, &quota, &machine));
+    again(hikebox_retry_end_on_quota(&machine, &quota));
+    again(hikebox_quota_join(&quota, &quota_part));
+    again(hikebox_quota_count(&quota, &number));
+    again(hikebox_quota_close(&quota, &other));
+    holds(number == 1 && other == 1);
+    again(hikebox_quota_new(1, 0, 10, &quota));
+    again(hikebox_retry_on_quota(&policy, &quota, &machine));
+    again(hikebox_retry_free(&machine));
+    again(hikebox_quota_free(&quota));
+    again(hikebox_retry_unlimited(&policy, &machine));
+    again(hikebox_retry_free(&machine));
     again(hikebox_budget_fixed(1, &sole));
     again(hikebox_retry_new(&policy, &sole, &machine));
     again(hikebox_retry_free(&machine));
@@ -377,6 +758,10 @@ int main(int count, char **words) {
     if (!strcmp(what, "plan") && count == 7) return plan(words + 2);
     if (!strcmp(what, "retry") && count > 3) return retry(words + 2, count - 2);
     if (!strcmp(what, "handles")) return handles();
+    if (!strcmp(what, "quotas")) return quotas();
+    if (!strcmp(what, "fault")) return fault();
+    if (!strcmp(what, "faults")) return faults();
+    if (!strcmp(what, "journals")) return journals();
     if (!strcmp(what, "draw") && count == 4) return draw(words + 2);
     if (!strcmp(what, "calls")) return calls();
     return 100;

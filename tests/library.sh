@@ -44,6 +44,14 @@ for page in README.md docs/C.md; do
   (cd "$work/page" && sh -c "$line") >"$work/out" && cmp -s "$work/out" "$work/want" || wrong "$page: $line: $(cat "$work/out")"
 done
 
+# The block of docs/C.md, in a function that has what it names.
+{
+  printf '#include <hikebox.h>\nuint64_t now(void);\nint program(hikebox_policy policy);\nint program(hikebox_policy policy) {\n'
+  sed -n '/^```c$/,/^```$/p' "$top/docs/C.md" | grep -v '^```'
+  printf 'return 0;\n}\n'
+} >"$work/page.c"
+cc "${flags[@]}" -c -o "$work/page.o" "$work/page.c" || wrong "docs/C.md: its block is not compiled"
+
 # Policies, step by step.
 python3 "$top/tests/random_policies.py" 300 18 >"$work/policies"
 count=0 refused=0
@@ -57,6 +65,9 @@ while IFS=$'\t' read -r options policy; do
   if [ "$status" != 0 ]; then
     refused=$((refused + 1))
     [ "$said" -ge 10 ] && [ "$said" -le 14 ] || wrong "plan $policy: status $said where zsched's is $status"
+    printf '%s' "$policy" | "$zsched" check >"$work/want" 2>/dev/null || true
+    printf '%s' "$policy" | "$work/linked" fault >"$work/out" && cmp -s "$work/out" "$work/want" ||
+      wrong "fault $policy: $(cat "$work/out"), wanted $(cat "$work/want")"
   elif [ "$said" != 0 ] || ! cmp -s "$work/out" "$work/want"; then
     wrong "plan $policy $options: status $said, $(diff "$work/out" "$work/want" | head -n 3)"
   fi
@@ -80,9 +91,11 @@ ends 5 '{"recurs":0}' '[{"won":1}]' won:1
 ends 5 '"forever"' '[{"lost":1},{"lost":2},{"lost":3},{"won":4}]' lost:1 lost:2 lost:3 won:4
 
 for program in linked loaded; do
-  "$work/$program" handles || wrong "$program handles"
+  for words in handles quotas faults journals; do
+    "$work/$program" "$words" || wrong "$program $words"
+  done
   "$work/$program" draw 16 10000000 || wrong "$program draw"
-  for words in handles calls 'draw 4 20000'; do
+  for words in handles quotas faults journals calls 'draw 4 20000'; do
     # shellcheck disable=SC2086
     valgrind --quiet --leak-check=full --show-leak-kinds=all --error-exitcode=9 "$work/$program" $words >"$work/out" ||
       wrong "valgrind $program $words"

@@ -87,17 +87,20 @@ breaks_one() {
   ' "$work/out.whole" "$work/out"
 }
 
-# refuses_pool WORKERS INPUT: each growth of a pool whose jobs are all over with a budget of 100. With one worker a thread
-# is not started only where the last growth before its start is refused, and one growth, where the worker's queue ends
-# after its last poll, changes nothing; with more it varies which growth is which.
-refuses_pool() {
-  local workers=$1 input=$2 growth=0 no_memory=0 not_started=0 broken=0 same=0 status started
-  local run=("$top/crates/zsched/out/zsched" pool --workers "$workers")
+# refuses_jobs WORKERS TAIL INPUT WORD..: each growth of a pool whose jobs are all over, with this tail of its last line
+# and so many threads started for workers. With none or one, one growth may change nothing, where the queue of the
+# loop or of the worker ends after its last poll, and a thread is not started only where the last growth before its
+# start is refused; with more it varies which growth is which.
+refuses_jobs() {
+  local workers=$1 tail=$2 input=$3 growth=0 no_memory=0 not_started=0 broken=0 same=0 status=0 started
+  shift 3
+  local run=("$top/crates/zsched/out/zsched" pool "$@") name="zsched pool $*"
   printf '%s' "$input" >"$work/in"
-  with_refused 0 "${run[@]}" <"$work/in" || wrong none $? "zsched pool --workers $workers"
+  with_refused 0 "${run[@]}" <"$work/in" || wrong none $? "$name"
   cp "$work/out" "$work/out.whole"
+  : >"$work/err.whole"
   started=$(cat "$work/starts")
-  [ "$(wc -l <"$work/starts")" = "$workers" ] || wrong none "threads $started" "zsched pool --workers $workers"
+  [ "$(wc -l <"$work/starts")" = "$workers" ] || wrong none "threads $started" "$name"
   while :; do
     growth=$((growth + 1))
     status=0
@@ -106,50 +109,20 @@ refuses_pool() {
     if [ "$status" = 5 ] && cmp -s "$work/err" "$work/no_memory" && is_front; then
       no_memory=$((no_memory + 1))
     elif [ "$status" = 7 ] && cmp -s "$work/err" "$work/not_started" && [ ! -s "$work/out" ] &&
-      { [ "$workers" != 1 ] || [ "$growth" = "$started" ]; }; then
+      { [ "$workers" -gt 1 ] || [ "$growth" = "$started" ]; }; then
       not_started=$((not_started + 1))
-    elif [ "$status" = 6 ] && cmp -s "$work/err" "$work/not_finished" && breaks_one " of 100"; then
+    elif [ "$status" = 6 ] && cmp -s "$work/err" "$work/not_finished" && breaks_one "$tail"; then
       broken=$((broken + 1))
-    elif [ "$status" = 0 ] && [ ! -s "$work/err" ] && cmp -s "$work/out" "$work/out.whole"; then
+    elif is_whole 0; then
       same=$((same + 1))
     else
-      wrong "$growth" "$status" "zsched pool --workers $workers"
+      wrong "$growth" "$status" "$name"
     fi
   done
-  [ "$status" = 0 ] && [ ! -s "$work/err" ] && cmp -s "$work/out" "$work/out.whole" && [ "$no_memory" -gt 0 ] &&
-    [ "$not_started" -gt 0 ] && [ "$broken" -gt 0 ] && { [ "$workers" != 1 ] || [ "$same" -le 1 ]; } ||
-    wrong none "$status" "zsched pool --workers $workers"
-  echo "tests/refused_memory.sh: zsched pool --workers $workers: $((growth - 1)) growths refused in turn:" \
+  is_whole 0 && [ "$no_memory" -gt 0 ] && [ "$broken" -gt 0 ] && { [ "$workers" = 0 ] || [ "$not_started" -gt 0 ]; } &&
+    { [ "$workers" -gt 1 ] || [ "$same" -le 1 ]; } || wrong none "$status" "$name"
+  echo "tests/refused_memory.sh: $name: $((growth - 1)) growths refused in turn:" \
     "no memory $no_memory, not started $not_started, a broken job $broken, no change $same"
-}
-
-# refuses_quota INPUT: each growth of a pool whose jobs are all over on a quota of 100 tickets a window, in the first. One
-# growth, where the loop's queue ends after its last poll, may change nothing.
-refuses_quota() {
-  local growth=0 no_memory=0 broken=0 same=0 status
-  local run=("$top/crates/zsched/out/zsched" pool --quota 100/0/1000)
-  printf '%s' "$1" >"$work/in"
-  with_refused 0 "${run[@]}" <"$work/in" || wrong none $? "zsched pool --quota"
-  cp "$work/out" "$work/out.whole"
-  while :; do
-    growth=$((growth + 1))
-    status=0
-    with_refused "$growth" "${run[@]}" <"$work/in" || status=$?
-    [ -s "$work/refused" ] || break
-    if [ "$status" = 5 ] && cmp -s "$work/err" "$work/no_memory" && is_front; then
-      no_memory=$((no_memory + 1))
-    elif [ "$status" = 6 ] && cmp -s "$work/err" "$work/not_finished" && breaks_one " in 1 windows"; then
-      broken=$((broken + 1))
-    elif [ "$status" = 0 ] && [ ! -s "$work/err" ] && cmp -s "$work/out" "$work/out.whole"; then
-      same=$((same + 1))
-    else
-      wrong "$growth" "$status" "zsched pool --quota"
-    fi
-  done
-  [ "$status" = 0 ] && [ ! -s "$work/err" ] && cmp -s "$work/out" "$work/out.whole" && [ "$no_memory" -gt 0 ] &&
-    [ "$broken" -gt 0 ] && [ "$same" -le 1 ] || wrong none "$status" "zsched pool --quota"
-  echo "tests/refused_memory.sh: zsched pool --quota: $((growth - 1)) growths refused in turn:" \
-    "no memory $no_memory, a broken job $broken, no change $same"
 }
 
 # Each growth of a program that makes a refused call again: where one was refused, the line with the fault is the line
@@ -248,13 +221,15 @@ refuses_spared 3 '{"meet":[{"recurs":1},{"cap":[1,{"exponental":[100,2]}]}]}' ch
 refuses 3 '[{"plan":{"fixed":0},"runs":[{"won":1}]}]' check
 refuses 3 '{"meet":[' check
 job='{"plan":{"recurs":3},"runs":[{"lost":7}]}'
+three_calls=$(cat "$top/jobs/three-calls.json")
 for workers in 1 2; do
-  refuses_pool $workers "[$job,$job,$job,$job]"
-  refuses_pool $workers "$(cat "$top/jobs/three-calls.json")"
-  refuses_pool $workers '[{"plan":{"gather":["list",{"recurs":3}]},"runs":[{"lost":7}]},{"plan":"forever","runs":[{"won":1}]}]'
+  for input in "[$job,$job,$job,$job]" "$three_calls" \
+    '[{"plan":{"gather":["list",{"recurs":3}]},"runs":[{"lost":7}]},{"plan":"forever","runs":[{"won":1}]}]'; do
+    refuses_jobs $workers ' of 100' "$input" --workers $workers
+  done
 done
-refuses_quota "[$job,$job,$job,$job]"
-refuses_quota "$(cat "$top/jobs/three-calls.json")"
+refuses_jobs 0 ' in 1 windows' "[$job,$job,$job,$job]" --quota 100/0/1000
+refuses_jobs 0 ' in 1 windows' "$three_calls" --quota 100/0/1000
 refuses_calls
 refuses_polls
 exit "$failed"

@@ -26,10 +26,16 @@ class Dying:
         self.left = number
 
     def take(self, *words: Any) -> Any:
+        return self._dying(self.store.take, words)
+
+    def take_of_quota(self, *words: Any) -> Any:
+        return self._dying(self.store.take_of_quota, words)
+
+    def _dying(self, take: Any, words: Any) -> Any:
         self.left -= 1
         if self.left == 0 and self.point == "asked":
             os.kill(os.getpid(), signal.SIGKILL)
-        granted = self.store.take(*words)
+        granted = take(*words)
         if self.left == 0 and self.point == "granted":
             os.kill(os.getpid(), signal.SIGKILL)
         return granted

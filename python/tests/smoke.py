@@ -45,6 +45,11 @@ def main() -> None:
         thread.join()
     assert sum(granted) == 1000 == budget.close(), granted
 
+    quota = hikebox.Quota(reserve=10, share=0.5, per=100_000)
+    retrying = retrying.copy(budget=quota)
+    assert [retrying(int, "x") for _ in range(4)] == [10, 1, 0, 1]
+    assert quota.seen().asked == 4 and quota.close() == 12
+
     @hikebox.retry(hikebox.recurs(3) & hikebox.spaced(0.001), on=KeyError)
     async def later(left: List[int] = [2]) -> str:
         left[0] -= 1

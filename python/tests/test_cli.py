@@ -117,6 +117,27 @@ def test_a_budget(tmp_path: Path) -> None:
     assert hikebox("run", "--budget", "x", "--", "false")[0] == 2
 
 
+def test_a_quota_over_all_runs(tmp_path: Path) -> None:
+    command = counting(tmp_path, "exit 7")
+    # one, and half of one for each run: a run that succeeds counts too
+    quota = f"1/0.5/1000000@{tmp_path}/quota"
+    words = ["run", "-v", "--quota", quota, "--policy", "recurs(9)", "--"]
+    assert hikebox(*words, *command)[0] == 7
+    assert runs(tmp_path) == 2
+    for _ in range(2):
+        assert hikebox(*words, "true")[0] == 0
+    # four runs give two tickets beside the one that was drawn
+    assert "the budget had no ticket" in hikebox(*words, *command)[2]
+    assert runs(tmp_path) == 2 + 3
+    damaged = tmp_path / "damaged"
+    damaged.write_text("something else")
+    assert hikebox("run", "--quota", f"9/1/60@{damaged}", "--", *command)[0] == 7
+    assert runs(tmp_path) == 2 + 3 + 1
+    for bad in ("x", "1/1/60", "1/1@f", "1/x/60@f", "-1/1/60@f", "1/-1/60@f", "1/1/0@f", "1/1/1/60@f"):
+        assert hikebox("run", f"--quota={bad}", "--", "false")[0] == 2, bad
+    assert hikebox("run", "--quota", quota, "--budget", "1", "--", "false")[0] == 2
+
+
 def test_input_and_output(tmp_path: Path) -> None:
     command = counting(tmp_path, "cat; exit 1", "cat; exit 0")
     assert hikebox("run", "--policy", "recurs(1)", "--", *command, text="a\nb\n")[1] == "a\nb\n"

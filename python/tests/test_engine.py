@@ -11,7 +11,7 @@ import pytest
 from conftest import TOP
 
 from hikebox import _engine
-from hikebox._engine import Handle, Machine, Pass, PolicyHandle
+from hikebox._engine import Handle, Machine, Pass, PolicyHandle, QuotaPass
 from hikebox.errors import EngineError
 
 HEADER = TOP / "include" / "hikebox.h"
@@ -28,7 +28,8 @@ TYPES: Dict[str, Any] = {
     "hikebox_place *": (ctypes.POINTER(_engine.Place),),
     "hikebox_decision *": (ctypes.POINTER(_engine.Decision),),
     "hikebox_next *": (ctypes.POINTER(_engine.Next),),
-    **{f"hikebox_{kind} *": (ctypes.POINTER(Handle),) for kind in ("policy", "driver", "pass", "retry")},
+    "hikebox_usage *": (ctypes.POINTER(_engine.Usage),),
+    **{f"hikebox_{kind} *": (ctypes.POINTER(Handle),) for kind in ("policy", "driver", "pass", "quota", "retry")},
 }
 
 CTYPES: Dict[str, Any] = {"uint64_t": c_uint64, "uint32_t": ctypes.c_uint32, "bool": ctypes.c_bool}
@@ -43,6 +44,8 @@ def header() -> str:
 def test_the_signatures_are_those_of_the_header() -> None:
     declared: Dict[str, Tuple[Any, ...]] = {}
     for name, parameters in re.findall(r"hikebox_status (hikebox_\w+)\((.*?)\);", header(), flags=re.S):
+        if name not in _engine.SIGNATURES:
+            continue
         found: List[Any] = []
         for parameter in parameters.split(","):
             words = " ".join(parameter.split())
@@ -54,17 +57,28 @@ def test_the_signatures_are_those_of_the_header() -> None:
         assert declared[name] == kinds, name
 
 
+def fields(body: str) -> List[Tuple[str, str]]:
+    """The type and the name of each field of a struct."""
+    found = re.findall(r"(uint64_t|uint32_t|bool) ([\w, ]+);", body)
+    return [(word, name.strip()) for word, names in found for name in names.split(",")]
+
+
 def test_the_structures_are_those_of_the_header() -> None:
     found = dict(
-        (name, re.findall(r"(uint64_t|uint32_t|bool) (\w+);", body))
+        (name, fields(body))
         for body, name in re.findall(r"typedef struct \{(.*?)\} (hikebox_\w+);", header(), flags=re.S)
     )
-    for name, kind in (("place", _engine.Place), ("decision", _engine.Decision), ("next", _engine.Next)):
+    kinds: Dict[str, Any] = {"place": _engine.Place, "decision": _engine.Decision}
+    kinds.update({"next": _engine.Next, "usage": _engine.Usage})
+    for name, kind in kinds.items():
         assert [(field, CTYPES[word]) for word, field in found[f"hikebox_{name}"]] == list(kind._fields_)
 
 
 def test_the_numbers_are_those_of_the_header() -> None:
-    numbers = dict(re.findall(r"HIKEBOX_(\w+) = (\d+)", header()))
+    text = header()
+    numbers = dict(re.findall(r"HIKEBOX_(\w+) = (\d+)", text))
+    most = dict(re.findall(r"#define HIKEBOX_MOST_(\w+) (?:UINT64_C\()?(\d+)", text))
+    assert (int(most["TICKETS"]), int(most["SHARE"])) == (_engine.MOST_TICKETS, _engine.MOST_SHARE)
     for name in (
         ["OK", "NO_MEMORY", "TOO_LARGE", "NOT_JSON", "NOT_A_POLICY", "OUT_OF_RANGE", "TOO_DEEP", "TOO_MANY"]
         + ["BACKWARDS", "JOURNAL_FULL", "LIMIT_TOO_LARGE", "FIXED", "NO_TICKET", "TOO_MANY_PASSES", "PASSES_OUT"]
@@ -128,6 +142,59 @@ def test_a_retry_as_a_machine() -> None:
     assert drawn.close() is None
     machine.end(drawn)
     assert drawn.close() == 1
+
+
+def test_a_retry_on_a_quota_as_a_machine() -> None:
+    machine, policy, drawn = Machine(), read(b'{"spaced":100}'), QuotaPass.of_quota(1, 500, 1000)
+    drawn.deposit(5_010)
+    assert drawn.seen(5_010) == (5, 1, 0, 1)
+    assert machine.begin_on_quota(policy, drawn)
+    assert machine.poll(5_010, _engine.NO_REPORT, 0) == _engine.RUN
+    assert machine.poll(5_020, _engine.LOST, 7) == _engine.WAIT and machine.next.until == 5_120
+    assert machine.poll(5_120, _engine.NO_REPORT, 0) == _engine.RUN
+    assert machine.poll(5_999, _engine.LOST, 7) == _engine.OVER
+    assert (machine.next.how, machine.next.granted, machine.next.runs) == (3, 1, 2)
+    assert drawn.close() is None
+    machine.end_on_quota(drawn)
+    assert drawn.draw(5_999) is None and drawn.draw(6_000) == 6 * 2**32
+    assert drawn.count() == 2 == drawn.close()
+
+
+def test_a_retry_on_nothing_as_a_machine() -> None:
+    machine, policy = Machine(), read(b'"forever"')
+    machine.begin_unlimited(policy)
+    assert machine.poll(0, _engine.NO_REPORT, 0) == _engine.RUN
+    for retries in range(1, 1000):
+        assert machine.poll(retries, _engine.LOST, 0) == _engine.RUN
+        assert machine.next.granted == retries
+    with pytest.raises(EngineError) as caught:
+        machine.end(Pass.of_budget(1, False))
+    assert caught.value.status == 42
+    with pytest.raises(EngineError) as caught:
+        machine.end_on_quota(QuotaPass.of_quota(1, 0, 1))
+    assert caught.value.status == 42
+    machine.free()
+    machine.free()
+
+
+def test_a_retry_ends_on_what_it_draws_on_alone() -> None:
+    policy, quota, budget = read(b'{"recurs":2}'), QuotaPass.of_quota(1, 0, 1), Pass.of_budget(3, False)
+    machine = Machine()
+    assert machine.begin_on_quota(policy, quota)
+    with pytest.raises(EngineError) as caught:
+        machine.end(budget)
+    assert caught.value.status == 42
+    machine.end_on_quota(quota)
+    assert machine.begin(policy, budget)
+    with pytest.raises(EngineError) as caught:
+        machine.end_on_quota(quota)
+    assert caught.value.status == 42
+    machine.end(budget)
+    assert (quota.close(), budget.close()) == (0, 0)
+    library = _engine._library
+    assert library.hikebox_quota_draw(policy.at, 0, byref(c_uint64())) == 2
+    assert library.hikebox_quota_draw(quota.at, 0, byref(c_uint64())) == 1
+    assert library.hikebox_quota_deposit(quota.at, 2**62) == 5
 
 
 def test_a_pass_that_was_freed_keeps_the_budget_open() -> None:

@@ -12,7 +12,7 @@ from typing import Any, Dict, Iterator, List, Tuple
 
 import pytest
 
-from hikebox import Budget, Retrying, exponential, recurs, spaced, stop
+from hikebox import Budget, Quota, Retrying, Usage, exponential, recurs, spaced, stop
 from hikebox.http import parse_retry_after, retry_after
 from hikebox.testing import VirtualClock
 
@@ -208,6 +208,26 @@ def test_a_budget_over_all_requests(server: Server, clock: VirtualClock) -> None
         assert [one.get(server.url).status_code for _ in range(3)] == [503] * 3
         assert len(server.requests) == 3 + 4
     assert budget.count == 4
+
+
+def test_a_quota_over_all_requests(server: Server, clock: VirtualClock) -> None:
+    quota = Quota(1, 0.5, 3600, clock=clock)
+    with session(clock, recurs(9), budget=quota) as made:
+        for _ in range(3):
+            assert made.get(server.url).status_code == 200
+        assert quota.seen() == Usage(window=0, asked=3, given=0, left=2)
+        server.says(503)
+        assert made.get(server.url).status_code == 503
+        assert len(server.requests) == 1 + 3
+        assert quota.seen() == Usage(window=0, asked=4, given=3, left=0)
+    # connections that break: the fifth request gives half a ticket, and with the sixth it is one
+    server.says(0)
+    with pytest.raises(urllib3.exceptions.MaxRetryError):
+        pool(clock, recurs(9), budget=quota).request("GET", server.url)
+    assert quota.seen() == Usage(window=0, asked=5, given=3, left=0)
+    server.says(0, 200)
+    assert pool(clock, recurs(9), budget=quota).request("GET", server.url).status == 200
+    assert quota.seen() == Usage(window=0, asked=6, given=4, left=0)
 
 
 def test_threads_share_an_adapter(server: Server, clock: VirtualClock) -> None:

@@ -305,7 +305,7 @@ def test_a_lock_that_is_not_given_up(tmp_path: Path) -> None:
 
 
 def test_a_later_window_in_the_file_grants_nothing(tmp_path: Path) -> None:
-    from hikebox import leased as module
+    from hikebox import _stores as module
 
     path = tmp_path / "counts"
     store = FileStore(path)

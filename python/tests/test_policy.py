@@ -12,6 +12,7 @@ from datetime import timedelta
 from pathlib import Path
 from typing import Any, Callable, List
 
+import faults
 import pytest
 import reference
 from conftest import TOP
@@ -40,7 +41,7 @@ from hikebox import (
     unfold,
     windowed,
 )
-from hikebox._nodes import FORMS, NAMES, fault_of
+from hikebox._nodes import FORMS, NAMES
 
 NAMESPACE = {name: getattr(hikebox, name) for name in hikebox.__all__}
 
@@ -231,8 +232,9 @@ def test_the_files_of_plans_are_policies() -> None:
 
 
 REFUSED = [
-    ('{"recurs":3', Fault.NOT_JSON, None),
-    ("", Fault.NOT_JSON, None),
+    ('{"recurs":3', Fault.NOT_JSON, "line 1, column 11"),
+    ("", Fault.NOT_JSON, "line 1, column 0"),
+    ('[\n{"plan":]', Fault.NOT_JSON, "line 2, column 9"),
     ('{"recurs":-1}', Fault.NOT_A_PLAN, ""),
     ('{"recurs":1.0}', Fault.NOT_A_PLAN, ""),
     ('{"fixed":0}', Fault.OUT_OF_RANGE, ""),
@@ -247,6 +249,8 @@ REFUSED = [
     ('{"meet":[{"fixed":0},"nope"]}', Fault.OUT_OF_RANGE, "meet[0]"),
     ('{"cap":[4611686018427387904,"nope"]}', Fault.NOT_A_PLAN, "cap[1]"),
     ('{"first":{"gate":["input",true,"above",3,"forever"]}}', Fault.NOT_A_PLAN, "first"),
+    ('{"jitter":[0,1,2,{"gather":["sum",{"second":{"lone":true}}]}]}', Fault.NOT_A_PLAN, "jitter[3].gather[1].second"),
+    ('{"gate":["input",true,"below",3,{"join":[{"recurs":1},{"unfold":[1,2]}]}]}', Fault.NOT_A_PLAN, "gate[4].join[1]"),
     ('{"gate":["input",1,"below",3,"forever"]}', Fault.NOT_A_PLAN, ""),
     ('{"gather":["mean","forever"]}', Fault.NOT_A_PLAN, ""),
     ('{"jitter":[4,0,1,"forever"]}', Fault.OUT_OF_RANGE, ""),
@@ -261,13 +265,12 @@ REFUSED = [
 
 
 @pytest.mark.parametrize("text, fault, place", REFUSED)
-def test_a_bad_policy_is_refused_with_its_first_fault_and_place(text: str, fault: Fault, place: Any) -> None:
+def test_a_bad_policy_is_refused_with_its_first_fault_and_place(text: str, fault: Fault, place: str) -> None:
     with pytest.raises(PolicyError) as caught:
         Policy.from_json(text)
     assert caught.value.fault is fault
-    if place is not None:
-        assert caught.value.place == place
-        assert caught.value.hint
+    assert caught.value.place == place
+    assert bool(caught.value.hint) is (fault is not Fault.NOT_JSON)
     again = pickle.loads(pickle.dumps(caught.value))
     assert (again.fault, again.place, again.hint) == (fault, caught.value.place, caught.value.hint)
     assert isinstance(caught.value, ValueError)
@@ -276,6 +279,8 @@ def test_a_bad_policy_is_refused_with_its_first_fault_and_place(text: str, fault
 HINTS = [
     ('"Forever"', 'no node is called "Forever"; did you mean "forever"?'),
     ('"never"', 'no node is called "never"'),
+    ('"für immer"', 'no node is called "für immer"'),
+    (json.dumps("x" * 1000), f'no node is called "{"x" * 1000}"'),
     ('"recurs"', '"recurs" is spelt {"recurs":N}, N from 0 to 4611686018427387903'),
     ('{"forever":1}', '"forever" is spelt "forever"'),
     ('{"meet":[{"recurs":3}]}', '"meet" is spelt {"meet":[PLAN,PLAN]}'),
@@ -319,12 +324,12 @@ def test_the_limits_of_depth_and_nodes() -> None:
     assert caught.value.fault is Fault.TOO_MANY
 
 
-def test_the_place_is_found_for_the_very_fault_of_the_engine() -> None:
+def test_the_faults_of_the_engine_are_those_of_a_second_finder() -> None:
     rng = random.Random(7)
     refused = 0
     for _ in range(2000):
         tree = spoilt(rng, reference.some_plan(rng, rng.randrange(1, 8)))
-        found = fault_of(tree)
+        found = faults.fault_of(tree)
         if found is None:
             Policy.from_dict(tree)
             continue

@@ -7,13 +7,13 @@ import os
 import random
 import subprocess
 import sys
-from typing import Any, List, Tuple
+from typing import Any, Callable, List, Set, Tuple, Union
 
 import pytest
 import reference
 from conftest import python_environment
 
-from hikebox import Budget, Ending, Policy, Retrying, state_of
+from hikebox import Budget, Ending, Policy, Quota, Retrying, milliseconds, state_of
 from hikebox.testing import VirtualClock
 
 
@@ -34,7 +34,37 @@ def some_job(rng: random.Random) -> Tuple[Any, List[Run]]:
     return tree, runs
 
 
-def wanted(tree: Any, runs: List[Run], tickets: int) -> str:
+def a_budget(tickets: int) -> Callable[[int], bool]:
+    """Whether a budget of so many tickets grants one, at any moment."""
+    left = [tickets]
+
+    def grants(now: int) -> bool:
+        left[0] -= 1
+        return left[0] >= 0
+
+    return grants
+
+
+def a_quota(reserve: int, share: int, period: int, windows: Set[int]) -> Callable[[int], bool]:
+    """Whether a quota grants a ticket at a moment, where its one request came at the moment 0. The windows of tickets
+    are noted."""
+    latest, given = [0], [0]
+
+    def grants(now: int) -> bool:
+        window = max(latest[0], min(now // period, latest[0] + 3600))
+        if window != latest[0]:
+            latest[0], given[0] = window, 0
+        allowed = reserve + (share // 1000 if window == 0 else 0)
+        if given[0] == allowed:
+            return False
+        given[0] += 1
+        windows.add(window)
+        return True
+
+    return grants
+
+
+def wanted(tree: Any, runs: List[Run], grants: Callable[[int], bool]) -> str:
     """How the job ends, by the definitions of a retry."""
     now, granted = 0, 0
     history: List[reference.Event] = []
@@ -46,14 +76,14 @@ def wanted(tree: Any, runs: List[Run], tickets: int) -> str:
         start = reference.answer(tree, history).start
         if start is None:
             return f"schedule done, failure {code}, granted {granted}"
-        if granted == tickets:
+        if not grants(now):
             return f"budget refused, failure {code}, granted {granted}"
         granted += 1
         now = start
     raise AssertionError("the policy goes on at most six times")
 
 
-def ended(tree: Any, runs: List[Run], tickets: int) -> str:
+def ended(tree: Any, runs: List[Run], budget: Union[Budget, Quota], clock: VirtualClock) -> str:
     """How the job ends here."""
     left = list(runs)
 
@@ -63,8 +93,7 @@ def ended(tree: Any, runs: List[Run], tickets: int) -> str:
             raise Lost(code)
         return code
 
-    clock = VirtualClock()
-    with Budget(tickets) as budget:
+    with budget:
         retrying = Retrying(Policy.from_dict(tree), budget=budget, clock=clock, sleep=clock.sleep, random=lambda: 0.5)
         try:
             code = retrying(call)
@@ -75,9 +104,10 @@ def ended(tree: Any, runs: List[Run], tickets: int) -> str:
             line = f"{names[state.ending]}, failure {error.code}, granted {state.granted}"
         else:
             line = f"won {code}, granted "
+    granted = budget.close()
     if line.endswith(" "):
-        return f"{line}{budget.count}"
-    assert line.endswith(f" {budget.count}")
+        return f"{line}{granted}"
+    assert line.endswith(f" {granted}")
     return line
 
 
@@ -87,8 +117,8 @@ def test_300_retries_end_as_the_definitions_say() -> None:
     for _ in range(300):
         tree, runs = some_job(rng)
         tickets = rng.choice([0, 1, 2, 5, 100])
-        line = ended(tree, runs, tickets)
-        assert line == wanted(tree, runs, tickets), (tree, runs, tickets)
+        line = ended(tree, runs, Budget(tickets), VirtualClock())
+        assert line == wanted(tree, runs, a_budget(tickets)), (tree, runs, tickets)
         endings.add(line.split(",")[0].split()[0])
     assert endings == {"won", "schedule", "budget"}
 
@@ -107,15 +137,38 @@ def compare_with_pool(program: str, jobs: List[Tuple[Any, List[Run]]]) -> None:
     text = json.dumps([{"plan": tree, "runs": [{kind: code} for kind, code in runs]} for tree, runs in jobs])
     words = [program, "pool", "--budget", "1000000"]
     printed = subprocess.run(words, input=text, capture_output=True, text=True, check=True).stdout.splitlines()
-    lines = [ended(tree, runs, 2**32) for tree, runs in jobs]
+    lines = [ended(tree, runs, Budget(2**32), VirtualClock()) for tree, runs in jobs]
     assert printed[:-1] == [f"job {number}: {line}" for number, line in enumerate(lines)]
     total = sum(int(line.split()[-1]) for line in lines)
     assert printed[-1] == f"granted {total} of 1000000"
 
 
+def test_200_retries_on_a_quota_end_as_the_definitions_and_zsched_pool_say() -> None:
+    program = os.environ.get("HIKEBOX_ZSCHED")
+    if program is None:
+        pytest.skip("HIKEBOX_ZSCHED names no zsched")
+    rng = random.Random(27)
+    endings = set()
+    for _ in range(200):
+        tree, runs = some_job(rng)
+        reserve, share = rng.randrange(4), rng.choice([0, 999, 1000, 2500])
+        period = rng.choice([1, 50, 200, 1000, 10**6])
+        clock = VirtualClock()
+        line = ended(tree, runs, Quota(reserve, share / 1000, milliseconds(period), clock=clock), clock)
+        windows: Set[int] = set()
+        grants = a_quota(reserve, share, period, windows)
+        assert line == wanted(tree, runs, grants), (tree, runs, reserve, share, period)
+        text = json.dumps([{"plan": tree, "runs": [{kind: code} for kind, code in runs]}])
+        words = [program, "pool", "--quota", f"{reserve}/{share}/{period}"]
+        printed = subprocess.run(words, input=text, capture_output=True, text=True, check=True).stdout.splitlines()
+        assert printed == [f"job 0: {line}", f"granted {line.split()[-1]} in {len(windows)} windows"]
+        endings.add(line.split()[0])
+    assert endings == {"won", "schedule", "budget"}
+
+
 GROWS = """
 import gc, resource
-from hikebox import Budget, Policy, Retrying, recurs, spaced
+from hikebox import Budget, Policy, Quota, Retrying, recurs, spaced
 
 def fails():
     raise KeyError
@@ -128,8 +181,11 @@ def work(count):
         retrying = Retrying(policy, budget=budget, sleep=lambda seconds: None, fallback=lambda state: None)
         retrying(fails)
         Retrying(policy, sleep=lambda seconds: None, fallback=lambda state: None)(fails)
+        quota = Quota(2, 1, 60)
+        Retrying(policy, budget=quota, sleep=lambda seconds: None, fallback=lambda state: None)(fails)
         if number % 2:
             budget.close()
+            quota.close()
             continue
         attempts = iter(retrying)
         try:

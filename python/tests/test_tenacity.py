@@ -8,12 +8,12 @@ from typing import Any, List
 
 import pytest
 
-import hikebox
-from hikebox import Budget, exponential, recurs, spaced
+import hikebox.testing
+from hikebox import Budget, Quota, Usage, exponential, recurs, spaced
 
 tenacity = pytest.importorskip("tenacity")
 
-from hikebox.adapters.tenacity import stop_and_wait  # noqa: E402
+from hikebox.adapters.tenacity import before_deposit, stop_and_wait  # noqa: E402
 
 
 def made(policy: Any, slept: List[float], **how: Any) -> Any:
@@ -61,6 +61,20 @@ def test_a_budget_over_all_calls() -> None:
         for thread in threads:
             thread.join()
     assert budget.count == 100 and len(runs) == 108
+
+
+def test_a_quota_over_all_calls() -> None:
+    clock = hikebox.testing.VirtualClock(100)
+    quota = Quota(1, 0.5, 60, clock=clock)
+    stop, wait = stop_and_wait(recurs(2), budget=quota, clock=clock)
+    retrying = tenacity.Retrying(before=before_deposit(quota), stop=stop, wait=wait, reraise=True)
+    for _ in range(4):
+        assert retrying(lambda: 1) == 1
+    assert quota.seen() == Usage(window=1, asked=4, given=0, left=3)
+    for _ in range(2):
+        with pytest.raises(KeyError):
+            retrying(fails)
+    assert quota.seen() == Usage(window=1, asked=6, given=4, left=0)
 
 
 def test_with_tenacitys_own_stops_waits_and_results() -> None:

@@ -43,7 +43,7 @@ pub struct Pass {
     tickets: u64,
 }
 
-/// Why a call on a budget is refused.
+/// Why a call on a budget or a quota is refused.
 #[derive(Clone, Copy, Debug, PartialEq, Eq, Hash)]
 #[non_exhaustive]
 pub enum BudgetError {
@@ -51,6 +51,14 @@ pub enum BudgetError {
     LimitTooLarge,
     /// The budget was made by [`Budget::new`], which keeps its limit.
     Fixed,
+    /// The reserve is above 4,294,967,296 retries a window.
+    ReserveTooLarge,
+    /// The share is below 0 or above 1000 retries a request, no number, or more than 0 and less than a thousandth.
+    ShareOutOfRange,
+    /// The window is shorter than a millisecond.
+    PeriodTooShort,
+    /// The window is longer than 2^62 - 1 milliseconds.
+    PeriodTooLong,
     /// 65,536 passes were made of the budget.
     TooManyPasses,
     /// Memory is wanting.
@@ -210,6 +218,10 @@ impl BudgetError {
         match status {
             engine::LIMIT_TOO_LARGE => Self::LimitTooLarge,
             engine::FIXED => Self::Fixed,
+            engine::RESERVE_TOO_LARGE => Self::ReserveTooLarge,
+            engine::SHARE_TOO_LARGE => Self::ShareOutOfRange,
+            engine::PERIOD_TOO_SHORT => Self::PeriodTooShort,
+            engine::TOO_LARGE => Self::PeriodTooLong,
             engine::TOO_MANY_PASSES => Self::TooManyPasses,
             engine::NO_MEMORY => Self::NoMemory,
             status => unreachable!("the engine's status {status}"),
@@ -222,6 +234,10 @@ impl fmt::Display for BudgetError {
         f.write_str(match self {
             Self::LimitTooLarge => "the limit is above 4294967296",
             Self::Fixed => "the budget keeps its limit",
+            Self::ReserveTooLarge => "the reserve is above 4294967296 retries a window",
+            Self::ShareOutOfRange => "the share is not 0, nor from 0.001 to 1000 retries a request",
+            Self::PeriodTooShort => "the window is shorter than a millisecond",
+            Self::PeriodTooLong => "the window is longer than 2^62 - 1 milliseconds",
             Self::TooManyPasses => "65536 passes were made of the budget",
             Self::NoMemory => "no memory",
         })

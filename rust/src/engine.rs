@@ -35,8 +35,18 @@ pub(crate) struct Next {
     pub(crate) runs: u64,
 }
 
+#[repr(C)]
+#[derive(Clone, Copy, Debug, Default)]
+pub(crate) struct Used {
+    pub(crate) window: u64,
+    pub(crate) asked: u64,
+    pub(crate) given: u64,
+    pub(crate) left: u64,
+}
+
 pub(crate) const OK: u32 = 0;
 pub(crate) const NO_MEMORY: u32 = 4;
+pub(crate) const TOO_LARGE: u32 = 5;
 pub(crate) const NO_ROOM: u32 = 6;
 pub(crate) const NOT_JSON: u32 = 10;
 pub(crate) const NOT_A_POLICY: u32 = 11;
@@ -47,6 +57,9 @@ pub(crate) const LIMIT_TOO_LARGE: u32 = 30;
 pub(crate) const FIXED: u32 = 31;
 pub(crate) const NO_TICKET: u32 = 32;
 pub(crate) const TOO_MANY_PASSES: u32 = 33;
+pub(crate) const RESERVE_TOO_LARGE: u32 = 35;
+pub(crate) const SHARE_TOO_LARGE: u32 = 36;
+pub(crate) const PERIOD_TOO_SHORT: u32 = 37;
 
 pub(crate) const NO_REPORT: u32 = 0;
 pub(crate) const WON: u32 = 1;
@@ -62,8 +75,21 @@ pub(crate) const ENDED_CANCELLED: u32 = 4;
 pub(crate) const ENDED_NO_MEMORY: u32 = 5;
 pub(crate) const ENDED_JOURNAL_FULL: u32 = 6;
 
+/// The greatest moment, length of a window, and code.
+pub(crate) const FAR: u64 = (1 << 62) - 1;
+/// The most tickets of a budget, and of a window of a quota.
+#[cfg(feature = "leased")]
+pub(crate) const MOST_TICKETS: u64 = 1 << 32;
+
 extern "C" {
     pub(crate) fn hikebox_policy_read(json: *const u8, length: usize, policy: *mut Raw, place: *mut Place) -> u32;
+    pub(crate) fn hikebox_policy_fault(
+        json: *const u8,
+        json_length: usize,
+        text: *mut u8,
+        capacity: usize,
+        length: *mut usize,
+    ) -> u32;
     pub(crate) fn hikebox_policy_size(policy: *mut Raw, nodes: *mut u64, depth: *mut u64) -> u32;
     fn hikebox_policy_free(policy: *mut Raw) -> u32;
 
@@ -88,7 +114,19 @@ extern "C" {
     pub(crate) fn hikebox_pass_close(pass: *mut Raw, tickets: *mut u64) -> u32;
     fn hikebox_pass_free(pass: *mut Raw) -> u32;
 
+    pub(crate) fn hikebox_quota_new(reserve: u64, share: u64, period: u64, quota: *mut Raw) -> u32;
+    pub(crate) fn hikebox_quota_deposit(quota: *mut Raw, now: u64) -> u32;
+    pub(crate) fn hikebox_quota_draw(quota: *mut Raw, now: u64, ticket: *mut u64) -> u32;
+    pub(crate) fn hikebox_quota_seen(quota: *mut Raw, now: u64, usage: *mut Used) -> u32;
+    pub(crate) fn hikebox_quota_split(quota: *mut Raw, part: *mut Raw) -> u32;
+    pub(crate) fn hikebox_quota_join(quota: *mut Raw, other: *mut Raw) -> u32;
+    pub(crate) fn hikebox_quota_count(quota: *mut Raw, tickets: *mut u64) -> u32;
+    pub(crate) fn hikebox_quota_close(quota: *mut Raw, tickets: *mut u64) -> u32;
+    fn hikebox_quota_free(quota: *mut Raw) -> u32;
+
     pub(crate) fn hikebox_retry_new(policy: *mut Raw, pass: *mut Raw, retry: *mut Raw) -> u32;
+    pub(crate) fn hikebox_retry_on_quota(policy: *mut Raw, quota: *mut Raw, retry: *mut Raw) -> u32;
+    pub(crate) fn hikebox_retry_unlimited(policy: *mut Raw, retry: *mut Raw) -> u32;
     pub(crate) fn hikebox_retry_poll(
         retry: *mut Raw,
         now: u64,
@@ -100,7 +138,24 @@ extern "C" {
     pub(crate) fn hikebox_retry_see(retry: *mut Raw, next: *mut Next) -> u32;
     pub(crate) fn hikebox_retry_cancel(retry: *mut Raw) -> u32;
     pub(crate) fn hikebox_retry_end(retry: *mut Raw, pass: *mut Raw) -> u32;
+    pub(crate) fn hikebox_retry_end_on_quota(retry: *mut Raw, quota: *mut Raw) -> u32;
     fn hikebox_retry_free(retry: *mut Raw) -> u32;
+}
+
+/// The text that a call writes into the room that it is given, or the status with which it refused.
+pub(crate) fn text(call: impl Fn(*mut u8, usize, &mut usize) -> u32) -> Result<String, u32> {
+    let mut text = vec![0; 64];
+    loop {
+        let mut length = 0;
+        match call(text.as_mut_ptr(), text.len(), &mut length) {
+            OK => {
+                text.truncate(length);
+                return Ok(String::from_utf8_lossy(&text).into_owned());
+            }
+            NO_ROOM => text.resize(length, 0),
+            status => return Err(status),
+        }
+    }
 }
 
 /// What a handle holds.
@@ -117,6 +172,8 @@ pub(crate) enum DriverKind {}
 #[derive(Debug)]
 pub(crate) enum PassKind {}
 #[derive(Debug)]
+pub(crate) enum QuotaKind {}
+#[derive(Debug)]
 pub(crate) enum RetryKind {}
 
 impl Kind for PolicyKind {
@@ -129,6 +186,10 @@ impl Kind for DriverKind {
 
 impl Kind for PassKind {
     const FREE: unsafe extern "C" fn(*mut Raw) -> u32 = hikebox_pass_free;
+}
+
+impl Kind for QuotaKind {
+    const FREE: unsafe extern "C" fn(*mut Raw) -> u32 = hikebox_quota_free;
 }
 
 impl Kind for RetryKind {

@@ -1,8 +1,9 @@
 //! Retries by schedules and shared budgets.
 //!
-//! A [`Schedule`] says when to call again and when to stop; as a [`Policy`] it was read and found right by the engine. A
-//! [`Budget`] is a number of retries that all threads of a program share. [`retry()`] runs a call by both, and gives its
-//! first success, or its last error with the reason why it was the last:
+//! A [`Schedule`] says when to call again and when to stop; as a [`Policy`] it was read and found right by the engine.
+//! A [`Budget`] is a number of retries that all threads of a program share, and a [`Quota`] one in each window of time,
+//! which grows with the requests made. [`retry()`] runs a call by both, and gives its first success, or its last error
+//! with the reason why it was the last:
 //!
 //! ```
 //! use hikebox::{retry, Budget, Policy, Schedule};
@@ -16,34 +17,44 @@
 //! # Ok::<(), Box<dyn std::error::Error>>(())
 //! ```
 //!
-//! - [`Retrying`] adds which errors are retried, the numbers by which the schedule knows them, and who hears of a retry.
+//! - [`Retrying`] adds which errors are retried, the numbers by which the schedule knows them, and who hears of a
+//!   retry.
 //! - With the feature `tokio`, `retry_async` retries futures.
 //! - With the feature `tower`, `RetryPolicy` is a `tower::retry::Policy`.
-//! - With the feature `leased`, `Leased` is a budget that all processes of a machine share, by a file.
+//! - With the feature `leased`, `Leased` and `LeasedQuota` are shared by all processes of a machine, by a file.
 //! - [`Machine`] is a retry that a host with a clock of its own steps.
 //!
-//! What the engine does is proved; this crate, which calls it, is tested. `docs/RUST.md` of the repository is the guide.
+//! What the engine does is proved; this crate, which calls it, is tested. `docs/RUST.md` of the repository is the
+//! guide.
 
 mod budget;
 mod engine;
+mod grants;
 #[cfg(feature = "leased")]
 mod leased;
 mod machine;
 mod policy;
+mod quota;
 mod retrying;
 mod schedule;
+#[cfg(feature = "leased")]
+mod store;
 #[cfg(feature = "tokio")]
 mod tokio;
 #[cfg(feature = "tower")]
 mod tower;
 
 pub use budget::{Budget, BudgetError, Pass};
+pub use grants::{Grants, Unlimited};
 #[cfg(feature = "leased")]
-pub use leased::{Leased, StoreError};
+pub use leased::{Leased, LeasedQuota};
 pub use machine::{Cause, Ended, Machine, Report, Step};
-pub use policy::{Line, Policy, PolicyError};
+pub use policy::{Line, Policy, PolicyError, PolicyFault};
+pub use quota::{Quota, QuotaPass, Usage};
 pub use retrying::{retry, RetryError, Retrying};
 pub use schedule::{Fold, Schedule, Test};
+#[cfg(feature = "leased")]
+pub use store::StoreError;
 #[cfg(feature = "tokio")]
 pub use tokio::retry_async;
 #[cfg(feature = "tower")]

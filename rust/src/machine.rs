@@ -1,15 +1,17 @@
 //! A retry as a machine that its host steps.
 
 use crate::budget::{Budget, BudgetError};
-use crate::engine::{self, Handle, Next, PassKind, RetryKind};
+use crate::engine::{self, Handle, Next, RetryKind, FAR};
+use crate::grants::{Grants, Source};
 use crate::policy::Policy;
+use crate::quota::Quota;
 use std::collections::hash_map::RandomState;
 use std::hash::{BuildHasher, Hasher};
 
 /// A retry that the host steps: it says when to run the call and when to wait, and is told how each run went.
 ///
-/// [`retry`](crate::retry()) and [`Retrying`](crate::Retrying) drive one by the system's clock. It is for hosts that have
-/// a clock of their own, as an event loop or a test.
+/// [`retry`](crate::retry()) and [`Retrying`](crate::Retrying) drive one by the system's clock. It is for hosts that
+/// have a clock of their own, as an event loop or a test.
 ///
 /// ```
 /// use hikebox::{Budget, Ended, Machine, Policy, Report, Step};
@@ -23,19 +25,33 @@ use std::hash::{BuildHasher, Hasher};
 /// assert_eq!(machine.granted(), 1);
 /// # Ok::<(), Box<dyn std::error::Error>>(())
 /// ```
+///
+/// On a [`Quota`](crate::Quota) it draws at the moments that it is stepped at, so these are on one clock with all
+/// others of the quota, and the host deposits each request: `quota.deposit_at(now)`.
 #[derive(Debug)]
 pub struct Machine {
     handle: Option<Handle<RetryKind>>,
-    budget: Budget,
+    draws_on: DrawsOn,
     words: Words,
-    apart: Option<Apart>,
 }
 
-/// A retry for which the budget has no pass left, or has none since its limit may rise: the engine's retry draws on a
-/// budget of its own, which never refuses, and each of its tickets is drawn of the shared budget too.
+/// What a retry draws on.
+#[derive(Debug)]
+enum DrawsOn {
+    /// The engine's retry has a pass of this budget.
+    Budget(Budget),
+    /// The engine's retry has a pass of this quota.
+    Quota(Quota),
+    /// Nothing.
+    Nothing,
+    /// The engine's retry draws on nothing, and each ticket is drawn here.
+    Apart(Apart),
+}
+
+/// A budget that has no pass left for a retry, or has none since its limit may rise, and what was drawn of it.
 #[derive(Debug)]
 struct Apart {
-    own: Handle<PassKind>,
+    budget: Budget,
     granted: u64,
     is_refused: bool,
 }
@@ -67,7 +83,7 @@ pub enum Ended {
     Won,
     /// The last run failed, and the schedule does not go on.
     ScheduleDone,
-    /// The last run failed, the schedule goes on, and the budget has no ticket.
+    /// The last run failed, the schedule goes on, and the budget or the quota has no ticket.
     BudgetRefused,
     /// It was cancelled.
     Cancelled,
@@ -86,20 +102,26 @@ pub enum Cause {
     Backwards,
 }
 
-/// The most tickets of a budget.
-const MOST_TICKETS: u64 = 1 << 32;
-
-/// The greatest moment and code.
-const FAR: u64 = (1 << 62) - 1;
-
 impl Machine {
-    /// A retry by the policy under the budget, which has not begun.
-    pub fn new(policy: &Policy, budget: &Budget) -> Result<Self, BudgetError> {
-        let (handle, apart) = match Self::by_a_pass(policy, budget)? {
-            Some(handle) => (handle, None),
-            None => Self::apart(policy).map(|(handle, apart)| (handle, Some(apart)))?,
+    /// A retry by the policy under the budget or the quota, which has not begun.
+    ///
+    /// # Errors
+    ///
+    /// [`BudgetError::NoMemory`].
+    pub fn new(policy: &Policy, budget: &impl Grants) -> Result<Self, BudgetError> {
+        Self::on(policy, &budget.source())
+    }
+
+    pub(crate) fn on(policy: &Policy, source: &Source) -> Result<Self, BudgetError> {
+        let (handle, draws_on) = match source {
+            Source::Budget(budget) => match Self::by_a_pass(policy, budget)? {
+                Some(handle) => (handle, DrawsOn::Budget(budget.clone())),
+                None => (Self::unlimited(policy)?, DrawsOn::Apart(Apart::of(budget))),
+            },
+            Source::Quota(quota) => (Self::on_quota(policy, quota)?, DrawsOn::Quota(quota.clone())),
+            Source::Unlimited => (Self::unlimited(policy)?, DrawsOn::Nothing),
         };
-        Ok(Self { handle: Some(handle), budget: budget.clone(), words: Words::new(), apart })
+        Ok(Self { handle: Some(handle), draws_on, words: Words::new() })
     }
 
     /// The engine's retry with a pass of the budget, where it has one for it.
@@ -117,19 +139,25 @@ impl Machine {
         }
     }
 
-    fn apart(policy: &Policy) -> Result<(Handle<RetryKind>, Apart), BudgetError> {
-        // SAFETY: `pass` is an empty handle.
-        let own = Handle::filled(|pass| unsafe { engine::hikebox_budget_fixed(MOST_TICKETS, pass) });
-        let mut own = own.map_err(BudgetError::of)?;
+    /// The engine's retry with a pass of the quota. The first pass has 2^62 parts, of which it takes 2^20 at most.
+    fn on_quota(policy: &Policy, quota: &Quota) -> Result<Handle<RetryKind>, BudgetError> {
         let handle = Handle::filled(|retry| {
             // SAFETY: the handles hold a policy and a pass, and `retry` is empty.
-            policy.with(|policy| unsafe { engine::hikebox_retry_new(policy, own.raw(), retry) })
+            policy.with(|policy| quota.with(|root| unsafe { engine::hikebox_retry_on_quota(policy, root, retry) }))
         });
-        Ok((handle.map_err(BudgetError::of)?, Apart { own, granted: 0, is_refused: false }))
+        handle.map_err(BudgetError::of)
     }
 
-    /// Steps it at the moment `now`, in milliseconds, which is not before that of the step before. A report is of the run
-    /// under way; where none is, it counts for nothing.
+    fn unlimited(policy: &Policy) -> Result<Handle<RetryKind>, BudgetError> {
+        let handle = Handle::filled(|retry| {
+            // SAFETY: the handle holds a policy, and `retry` is empty.
+            policy.with(|policy| unsafe { engine::hikebox_retry_unlimited(policy, retry) })
+        });
+        handle.map_err(BudgetError::of)
+    }
+
+    /// Steps it at the moment `now`, in milliseconds, which is not before that of the step before. A report is of the
+    /// run under way; where none is, it counts for nothing.
     pub fn step(&mut self, now: u64, report: Option<Report>) -> Step {
         let (report, code) = match report {
             None => (engine::NO_REPORT, 0),
@@ -147,27 +175,25 @@ impl Machine {
         if report == engine::LOST && next.what != engine::OVER && !self.draws() {
             self.cancel();
         }
-        match &self.apart {
-            Some(apart) if apart.is_refused => Step::Over(Ended::BudgetRefused),
+        match &self.draws_on {
+            DrawsOn::Apart(apart) if apart.is_refused => Step::Over(Ended::BudgetRefused),
             _ => step_of(next),
         }
     }
 
-    /// Draws a ticket of the shared budget, where the engine's retry does not: whether there was one.
+    /// Draws a ticket where the engine's retry does not: whether there was one.
     fn draws(&mut self) -> bool {
-        let Some(apart) = &mut self.apart else {
-            return true;
-        };
-        apart.is_refused = self.budget.draw().is_none();
-        apart.granted += u64::from(!apart.is_refused);
-        !apart.is_refused
+        match &mut self.draws_on {
+            DrawsOn::Apart(apart) => apart.draw(),
+            DrawsOn::Budget(_) | DrawsOn::Quota(_) | DrawsOn::Nothing => true,
+        }
     }
 
-    /// How many retries it was granted: tickets of the budget.
+    /// How many retries it was granted.
     pub fn granted(&mut self) -> u64 {
-        match &self.apart {
-            Some(apart) => apart.granted,
-            None => self.see().granted,
+        match &self.draws_on {
+            DrawsOn::Apart(apart) => apart.granted,
+            DrawsOn::Budget(_) | DrawsOn::Quota(_) | DrawsOn::Nothing => self.see().granted,
         }
     }
 
@@ -200,11 +226,29 @@ impl Drop for Machine {
         let Some(mut handle) = self.handle.take() else {
             return;
         };
-        // SAFETY: the handles hold a retry and a pass of its budget.
-        match &mut self.apart {
-            Some(apart) => unsafe { engine::hikebox_retry_end(handle.raw(), apart.own.raw()) },
-            None => self.budget.with(|root| unsafe { engine::hikebox_retry_end(handle.raw(), root) }),
-        };
+        // SAFETY: the handles hold a retry and a pass of its budget, or of its quota.
+        match &self.draws_on {
+            DrawsOn::Budget(budget) => {
+                budget.with(|root| unsafe { engine::hikebox_retry_end(handle.raw(), root) });
+            }
+            DrawsOn::Quota(quota) => {
+                quota.with(|root| unsafe { engine::hikebox_retry_end_on_quota(handle.raw(), root) });
+            }
+            DrawsOn::Nothing | DrawsOn::Apart(_) => (),
+        }
+    }
+}
+
+impl Apart {
+    fn of(budget: &Budget) -> Self {
+        Self { budget: budget.clone(), granted: 0, is_refused: false }
+    }
+
+    /// Draws a ticket: whether there was one.
+    fn draw(&mut self) -> bool {
+        self.is_refused = self.budget.draw().is_none();
+        self.granted += u64::from(!self.is_refused);
+        !self.is_refused
     }
 }
 

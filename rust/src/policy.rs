@@ -31,10 +31,27 @@ pub struct Policy {
     depth: u64,
 }
 
-/// Why a text or a [`Schedule`] is no policy.
+/// Why a text or a [`Schedule`] is no policy: its first fault, where that is, and what is wanted there.
+///
+/// ```
+/// use hikebox::{Policy, PolicyFault};
+///
+/// let error = Policy::from_json(r#"{"meet":["forever",{"recur":3}]}"#).unwrap_err();
+/// assert_eq!(error.fault(), PolicyFault::NotAPolicy);
+/// assert_eq!(error.place(), "meet[1]");
+/// assert_eq!(error.hint(), r#"no node is called "recur"; did you mean "recurs"?"#);
+/// ```
+#[derive(Clone, Debug, PartialEq, Eq, Hash)]
+pub struct PolicyError {
+    fault: PolicyFault,
+    place: String,
+    hint: String,
+}
+
+/// What is wrong with a policy.
 #[derive(Clone, Copy, Debug, PartialEq, Eq, Hash)]
 #[non_exhaustive]
-pub enum PolicyError {
+pub enum PolicyFault {
     /// The text is not JSON; where it stops being so, counted from 1, where that is known.
     NotJson {
         /// The line.
@@ -42,7 +59,7 @@ pub enum PolicyError {
         /// The column.
         column: u64,
     },
-    /// The JSON value has not the form of a policy.
+    /// The JSON value, or one in it that should be a policy, has not the form of one.
     NotAPolicy,
     /// A parameter is outside its range.
     OutOfRange,
@@ -78,7 +95,7 @@ impl Policy {
             // SAFETY: the text is valid for its length, and `policy` is an empty handle.
             unsafe { engine::hikebox_policy_read(json.as_ptr(), json.len(), policy, &mut place) }
         })
-        .map_err(|status| PolicyError::of(status, place))?;
+        .map_err(|status| PolicyError::of_text(json, status, place))?;
         let (mut nodes, mut depth) = (0, 0);
         // SAFETY: the handle holds a policy.
         let status = unsafe { engine::hikebox_policy_size(handle.raw(), &mut nodes, &mut depth) };
@@ -141,7 +158,7 @@ impl Driver {
     fn new(policy: &Policy) -> Result<Self, PolicyError> {
         // SAFETY: the first handle holds a policy, and the second is empty.
         let handle = Handle::filled(|driver| policy.with(|policy| unsafe { engine::hikebox_driver_new(policy, driver) }));
-        Ok(Self { handle: handle.map_err(|status| PolicyError::of(status, Place::default()))? })
+        Ok(Self { handle: handle.map_err(PolicyError::of)? })
     }
 
     /// One event.
@@ -155,32 +172,68 @@ impl Driver {
                 output: self.output()?,
                 next: decision.goes_on.then_some(decision.start),
             }),
-            status => Err(PolicyError::of(status, Place::default())),
+            status => Err(PolicyError::of(status)),
         }
     }
 
     /// The last output, as text.
     fn output(&mut self) -> Result<String, PolicyError> {
-        let mut text = vec![0; 64];
-        loop {
-            let mut length = 0;
-            // SAFETY: the handle holds a driver, and the text has room for as many bytes as are told.
-            let status = unsafe {
-                engine::hikebox_driver_last_text(self.handle.raw(), text.as_mut_ptr(), text.len(), &mut length)
-            };
-            match status {
-                engine::OK => {
-                    text.truncate(length);
-                    return Ok(String::from_utf8_lossy(&text).into_owned());
-                }
-                engine::NO_ROOM => text.resize(length, 0),
-                status => return Err(PolicyError::of(status, Place::default())),
-            }
-        }
+        let driver = self.handle.raw();
+        // SAFETY: the handle holds a driver, and the text has room for as many bytes as are told.
+        let text = engine::text(|text, room, length| unsafe {
+            engine::hikebox_driver_last_text(driver, text, room, length)
+        });
+        text.map_err(PolicyError::of)
     }
 }
 
 impl PolicyError {
+    /// What is wrong.
+    pub fn fault(&self) -> PolicyFault {
+        self.fault
+    }
+
+    /// Where: the steps to the node, as `meet[1].cap[1]`, or `line 2, column 7` of a text that is not JSON. Empty where it
+    /// is the whole policy, or not known.
+    pub fn place(&self) -> &str {
+        &self.place
+    }
+
+    /// What is wanted there, in the words of `zsched check`, or nothing.
+    pub fn hint(&self) -> &str {
+        &self.hint
+    }
+
+    /// The error of a call on what is a policy.
+    fn of(status: u32) -> Self {
+        Self { fault: PolicyFault::of(status, Place::default()), place: String::new(), hint: String::new() }
+    }
+
+    /// The error of this text, which was refused with this status.
+    fn of_text(json: &str, status: u32, at: Place) -> Self {
+        let fault = PolicyFault::of(status, at);
+        let (place, hint) = match fault {
+            PolicyFault::NoMemory | PolicyFault::NotJson { line: 0, .. } => Default::default(),
+            PolicyFault::NotJson { line, column } => (format!("line {line}, column {column}"), String::new()),
+            _ => told(json),
+        };
+        Self { fault, place, hint }
+    }
+}
+
+/// The place of a text's first fault, and what is wanted there, as the engine says; nothing where memory is wanting.
+fn told(json: &str) -> (String, String) {
+    // SAFETY: both texts are valid for their lengths.
+    let told = engine::text(|text, room, length| unsafe {
+        engine::hikebox_policy_fault(json.as_ptr(), json.len(), text, room, length)
+    });
+    let told = told.unwrap_or_default();
+    let (place, hint) = told.split_once(": ").unwrap_or_default();
+    let place = if place == "top" { "" } else { place };
+    (place.into(), hint.into())
+}
+
+impl PolicyFault {
     fn of(status: u32, place: Place) -> Self {
         match status {
             engine::NOT_JSON => Self::NotJson { line: place.line, column: place.column },
@@ -194,17 +247,27 @@ impl PolicyError {
     }
 }
 
+impl fmt::Display for PolicyFault {
+    fn fmt(&self, f: &mut fmt::Formatter<'_>) -> fmt::Result {
+        f.write_str(match self {
+            Self::NotJson { .. } => "not JSON",
+            Self::NotAPolicy => "not a policy",
+            Self::OutOfRange => "number out of range",
+            Self::TooDeep => "too deep",
+            Self::TooMany => "too many nodes",
+            Self::NoMemory => "no memory",
+        })
+    }
+}
+
+/// What is wrong, where, and what is wanted there.
 impl fmt::Display for PolicyError {
     fn fmt(&self, f: &mut fmt::Formatter<'_>) -> fmt::Result {
-        match self {
-            Self::NotJson { line: 0, .. } => f.write_str("not JSON"),
-            Self::NotJson { line, column } => write!(f, "not JSON at line {line}, column {column}"),
-            Self::NotAPolicy => f.write_str("not a policy"),
-            Self::OutOfRange => f.write_str("number out of range"),
-            Self::TooDeep => f.write_str("too deep"),
-            Self::TooMany => f.write_str("too many nodes"),
-            Self::NoMemory => f.write_str("no memory"),
+        self.fault.fmt(f)?;
+        for part in [&self.place, &self.hint].into_iter().filter(|part| !part.is_empty()) {
+            write!(f, ": {part}")?;
         }
+        Ok(())
     }
 }
 

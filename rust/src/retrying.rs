@@ -1,6 +1,7 @@
 //! Retries of calls, by the system's clock.
 
-use crate::budget::{Budget, BudgetError};
+use crate::budget::BudgetError;
+use crate::grants::{Grants, Source};
 use crate::machine::{Cause, Ended, Machine, Report, Step};
 use crate::policy::Policy;
 use std::error::Error;
@@ -9,7 +10,7 @@ use std::thread;
 use std::time::{Duration, Instant};
 
 /// Runs the call until it succeeds, again after each failure as the policy says, with a ticket of the budget for each
-/// retry. The first run needs none.
+/// retry. The first run needs none, and is a request of a [`Quota`](crate::Quota).
 ///
 /// ```
 /// use hikebox::{retry, Budget, Policy, RetryError, Schedule};
@@ -34,7 +35,11 @@ use std::time::{Duration, Instant};
 /// # Errors
 ///
 /// [`RetryError`] keeps the last error of the call.
-pub fn retry<T, E>(policy: &Policy, budget: &Budget, call: impl FnMut() -> Result<T, E>) -> Result<T, RetryError<E>> {
+pub fn retry<T, E>(
+    policy: &Policy,
+    budget: &impl Grants,
+    call: impl FnMut() -> Result<T, E>,
+) -> Result<T, RetryError<E>> {
     Retrying::new(policy, budget).call(call)
 }
 
@@ -57,7 +62,7 @@ pub fn retry<T, E>(policy: &Policy, budget: &Budget, call: impl FnMut() -> Resul
 /// ```
 pub struct Retrying<'a, E> {
     pub(crate) policy: &'a Policy,
-    pub(crate) budget: &'a Budget,
+    pub(crate) source: Source,
     when: Box<dyn FnMut(&E) -> bool + Send + 'a>,
     code: Box<dyn FnMut(&E) -> u64 + Send + 'a>,
     notify: Box<dyn FnMut(&E, Duration) + Send + 'a>,
@@ -68,7 +73,7 @@ pub struct Retrying<'a, E> {
 pub enum RetryError<E> {
     /// The call failed, and the schedule does not go on.
     ScheduleDone(E),
-    /// The call failed, the schedule goes on, and the budget has no ticket.
+    /// The call failed, the schedule goes on, and the budget or the quota has no ticket.
     BudgetRefused(E),
     /// The call failed with an error that is not to be retried.
     NotRetried(E),
@@ -80,10 +85,10 @@ pub enum RetryError<E> {
 
 impl<'a, E> Retrying<'a, E> {
     /// Retries every error, by the code 0.
-    pub fn new(policy: &'a Policy, budget: &'a Budget) -> Self {
+    pub fn new(policy: &'a Policy, budget: &impl Grants) -> Self {
         Self {
             policy,
-            budget,
+            source: budget.source(),
             when: Box::new(|_| true),
             code: Box::new(|_| 0),
             notify: Box::new(|_, _| ()),
@@ -117,7 +122,7 @@ impl<'a, E> Retrying<'a, E> {
     ///
     /// [`RetryError`] keeps the last error of the call.
     pub fn call<T>(mut self, mut call: impl FnMut() -> Result<T, E>) -> Result<T, RetryError<E>> {
-        let mut run = Run::begin(self.policy, self.budget, Instant::now()).map_err(RetryError::NotBegun)?;
+        let mut run = self.begin(Instant::now()).map_err(RetryError::NotBegun)?;
         loop {
             let (start, error) = match self.after(&mut run, call(), Instant::now()) {
                 Then::Again(start, error) => (start, error),
@@ -128,6 +133,12 @@ impl<'a, E> Retrying<'a, E> {
                 return Err(RetryError::Broken(cause, error));
             }
         }
+    }
+
+    /// A request, and its retry, whose first run is under way.
+    pub(crate) fn begin(&self, now: Instant) -> Result<Run, BudgetError> {
+        self.source.deposit(now);
+        Run::begin(self.policy, &self.source, now)
     }
 
     /// What follows a run that ended so.
@@ -161,17 +172,18 @@ pub(crate) enum Then<T, E> {
     End(Result<T, RetryError<E>>),
 }
 
-/// A retry under way, and the moment that its own moments count from.
+/// A retry under way, and when it began: by the system's clock, and by the machine's.
 #[derive(Debug)]
 pub(crate) struct Run {
     machine: Machine,
     began: Instant,
+    origin: u64,
 }
 
 impl Run {
     /// A retry whose first run is under way.
-    pub(crate) fn begin(policy: &Policy, budget: &Budget, now: Instant) -> Result<Self, BudgetError> {
-        let mut run = Self { machine: Machine::new(policy, budget)?, began: now };
+    pub(crate) fn begin(policy: &Policy, source: &Source, now: Instant) -> Result<Self, BudgetError> {
+        let mut run = Self { machine: Machine::on(policy, source)?, began: now, origin: source.moment(now) };
         run.resume(now).map_err(|_| BudgetError::NoMemory)?;
         Ok(run)
     }
@@ -188,7 +200,7 @@ impl Run {
         match self.machine.step(moment, Some(Report::Lost(code))) {
             Step::Run => Ok(now),
             Step::Wait(until) => {
-                let start = self.began.checked_add(Duration::from_millis(until));
+                let start = self.began.checked_add(Duration::from_millis(until - self.origin));
                 Ok(start.unwrap_or_else(|| now + Duration::from_secs(A_CENTURY)))
             }
             Step::Over(ended) => Err(ended),
@@ -209,9 +221,10 @@ impl Run {
         self.machine.cancel();
     }
 
-    /// The machine's moment: whole milliseconds since it began.
+    /// The machine's moment: whole milliseconds since it began, after the one at which it did.
     fn moment(&self, now: Instant) -> u64 {
-        u64::try_from(now.saturating_duration_since(self.began).as_millis()).unwrap_or(u64::MAX)
+        let passed = u64::try_from(now.saturating_duration_since(self.began).as_millis()).unwrap_or(u64::MAX);
+        self.origin.saturating_add(passed)
     }
 }
 

@@ -1,12 +1,13 @@
 //! Retries of futures, which wait by tokio's timers.
 
-use crate::budget::Budget;
+use crate::grants::Grants;
 use crate::policy::Policy;
-use crate::retrying::{RetryError, Retrying, Run, Then};
+use crate::retrying::{RetryError, Retrying, Then};
 use std::future::Future;
 use tokio::time::{sleep_until, Instant};
 
-/// [`retry`](crate::retry()) for futures: `call` makes one for each run, and between runs the task waits by tokio's timer.
+/// [`retry`](crate::retry()) for futures: `call` makes one for each run, and between runs the task waits by tokio's
+/// timer.
 ///
 /// A retry whose future is dropped is cancelled: its tickets stay counted, and it draws no more.
 ///
@@ -33,7 +34,7 @@ use tokio::time::{sleep_until, Instant};
 /// [`RetryError`] keeps the last error of the call.
 pub async fn retry_async<T, E, F>(
     policy: &Policy,
-    budget: &Budget,
+    budget: &impl Grants,
     call: impl FnMut() -> F,
 ) -> Result<T, RetryError<E>>
 where
@@ -52,7 +53,7 @@ impl<E> Retrying<'_, E> {
     where
         F: Future<Output = Result<T, E>>,
     {
-        let mut run = Run::begin(self.policy, self.budget, now()).map_err(RetryError::NotBegun)?;
+        let mut run = self.begin(now()).map_err(RetryError::NotBegun)?;
         loop {
             let ran = call().await;
             let (start, error) = match self.after(&mut run, ran, now()) {

@@ -1,6 +1,6 @@
 //! A `tower` retry policy by a schedule and a budget.
 
-use crate::budget::Budget;
+use crate::grants::{Grants, Source};
 use crate::policy::Policy;
 use crate::retrying::Run;
 use crate::tokio::now;
@@ -10,8 +10,9 @@ use std::pin::Pin;
 use std::sync::{Arc, Mutex, PoisonError};
 use tokio::time::sleep_until;
 
-/// A [`tower::retry::Policy`] that retries a request as a schedule says, with a ticket of a budget for each retry, in the
-/// place of `tower::retry::budget`.
+/// A [`tower::retry::Policy`] that retries a request as a schedule says, with a ticket of a [`Budget`](crate::Budget)
+/// or a [`Quota`](crate::Quota) for each retry, in the place of `tower::retry::budget`. Each request is one of the
+/// quota, when it is made.
 ///
 /// ```
 /// use hikebox::{Budget, Policy, RetryPolicy};
@@ -35,7 +36,7 @@ use tokio::time::sleep_until;
 /// ```
 pub struct RetryPolicy<E> {
     policy: Policy,
-    budget: Budget,
+    source: Source,
     when: Arc<dyn Fn(&E) -> bool + Send + Sync>,
     code: Arc<dyn Fn(&E) -> u64 + Send + Sync>,
     run: Option<Arc<Mutex<Run>>>,
@@ -43,8 +44,8 @@ pub struct RetryPolicy<E> {
 
 impl<E> RetryPolicy<E> {
     /// Retries every error, by the code 0.
-    pub fn new(policy: Policy, budget: Budget) -> Self {
-        Self { policy, budget, when: Arc::new(|_| true), code: Arc::new(|_| 0), run: None }
+    pub fn new(policy: Policy, budget: impl Grants) -> Self {
+        Self { policy, source: budget.source(), when: Arc::new(|_| true), code: Arc::new(|_| 0), run: None }
     }
 
     /// Retries only errors of which this is true.
@@ -70,7 +71,7 @@ impl<E> RetryPolicy<E> {
         }
         let run = match &self.run {
             Some(run) => run.clone(),
-            None => Arc::new(Mutex::new(Run::begin(&self.policy, &self.budget, now()).ok()?)),
+            None => Arc::new(Mutex::new(Run::begin(&self.policy, &self.source, now()).ok()?)),
         };
         let start = run.lock().unwrap_or_else(PoisonError::into_inner).lost((self.code)(error), now()).ok()?;
         Some((Self { run: Some(run), ..self.fresh() }, start))
@@ -80,7 +81,7 @@ impl<E> RetryPolicy<E> {
     fn fresh(&self) -> Self {
         Self {
             policy: self.policy.clone(),
-            budget: self.budget.clone(),
+            source: self.source.clone(),
             when: self.when.clone(),
             code: self.code.clone(),
             run: None,
@@ -103,7 +104,11 @@ impl<Request: Clone, Response, E: 'static> tower::retry::Policy<Request, Respons
         }))
     }
 
+    // It is asked for a copy before each run, and of a policy with no request under way before the first one.
     fn clone_request(&self, request: &Request) -> Option<Request> {
+        if self.run.is_none() {
+            self.source.deposit(now());
+        }
         Some(request.clone())
     }
 }
@@ -119,7 +124,7 @@ impl<E> fmt::Debug for RetryPolicy<E> {
     fn fmt(&self, f: &mut fmt::Formatter<'_>) -> fmt::Result {
         f.debug_struct("RetryPolicy")
             .field("policy", &self.policy)
-            .field("budget", &self.budget)
+            .field("budget", &self.source)
             .finish_non_exhaustive()
     }
 }

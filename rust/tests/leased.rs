@@ -1,11 +1,11 @@
-//! Budgets that processes share by a file.
+//! Budgets and quotas that processes share by a file.
 #![cfg(feature = "leased")]
 
-use hikebox::{Leased, StoreError};
+use hikebox::{BudgetError, Leased, LeasedQuota, StoreError, Usage};
 use std::collections::HashSet;
 use std::env;
 use std::fs;
-use std::path::PathBuf;
+use std::path::{Path, PathBuf};
 use std::process::{Command, Stdio};
 use std::thread;
 use std::time::Duration;
@@ -42,13 +42,43 @@ fn drawing_process() {
     }
 }
 
+/// What a process of another test does: it makes 2,500 requests, draws until there is none, and prints each ticket.
+#[test]
+#[ignore = "run by eight_processes_draw_all_of_a_quota_each_ticket_once"]
+fn process_on_a_quota() {
+    let Ok(file) = env::var("HIKEBOX_TEST_FILE") else {
+        return;
+    };
+    let quota = long_quota(&file, 20_000, 0.5).lease(200);
+    (0..2500).for_each(|_| quota.deposit());
+    while let Some(ticket) = quota.draw().unwrap() {
+        println!("ticket {ticket}");
+    }
+}
+
+/// A quota with a window that no test sees the end of.
+fn long_quota(file: impl AsRef<Path>, reserve: u64, share: f64) -> LeasedQuota {
+    LeasedQuota::new(file, "q", reserve, share, Duration::from_secs(1_000_000)).unwrap()
+}
+
 #[test]
 fn eight_processes_draw_each_ticket_once() {
-    let file = Scratch::new("processes");
+    assert_eq!(drawn_by_eight("drawing_process", "processes"), LIMIT);
+}
+
+// 20,000, and the half of 8 * 2,500 requests.
+#[test]
+fn eight_processes_draw_all_of_a_quota_each_ticket_once() {
+    assert_eq!(drawn_by_eight("process_on_a_quota", "quotas"), 30_000);
+}
+
+/// How many tickets eight processes draw that each do what this test does. Each ticket is one of the first so many.
+fn drawn_by_eight(process: &str, name: &str) -> u64 {
+    let file = Scratch::new(name);
     let children: Vec<_> = (0..8)
         .map(|_| {
             Command::new(env::current_exe().unwrap())
-                .args(["--ignored", "--exact", "drawing_process", "--nocapture", "--test-threads=1"])
+                .args(["--ignored", "--exact", process, "--nocapture", "--test-threads=1"])
                 .env("HIKEBOX_TEST_FILE", &file.0)
                 .stdout(Stdio::piped())
                 .spawn()
@@ -66,11 +96,12 @@ fn eight_processes_draw_each_ticket_once() {
         for line in String::from_utf8(output.stdout).unwrap().lines() {
             if let Some((_, ticket)) = line.split_once("ticket ") {
                 let ticket: u64 = ticket.parse().unwrap();
-                assert!(ticket < LIMIT && seen.insert(ticket), "ticket {ticket}");
+                assert!(seen.insert(ticket), "ticket {ticket}");
             }
         }
     }
-    assert_eq!(seen.len() as u64, LIMIT);
+    assert_eq!(seen.iter().max(), Some(&(seen.len() as u64 - 1)));
+    seen.len() as u64
 }
 
 #[test]
@@ -126,4 +157,102 @@ fn a_file_that_is_damaged_grants_nothing() {
 fn a_file_that_can_not_be_reached_grants_nothing() {
     let budget = Leased::new("/no/such/folder/counts", "b", 10);
     assert!(matches!(budget.draw(), Err(StoreError::Io(_))));
+}
+
+#[test]
+fn requests_that_were_told_are_everybodys() {
+    let file = Scratch::new("told");
+    let (first, second) = (long_quota(&file.0, 4, 0.5).lease(2), long_quota(&file.0, 4, 0.5).lease(2));
+    let draws = |quota: &LeasedQuota, count| (0..count).map(|_| quota.draw().unwrap()).collect::<Vec<_>>();
+    assert_eq!(draws(&first, 3), [Some(0), Some(1), Some(2)]);
+    assert_eq!(draws(&second, 1), [None]);
+    assert_eq!(draws(&first, 2), [Some(3), None]);
+    (0..6).for_each(|_| second.deposit());
+    assert_eq!(draws(&first, 1), [None]);
+    let usage = second.seen().unwrap();
+    assert_eq!(usage, Usage { window: usage.window, asked: 6, given: 4, left: 3 });
+    assert_eq!(draws(&first, 4), [Some(4), Some(5), Some(6), None]);
+    assert_eq!(second.seen().unwrap(), Usage { window: usage.window, asked: 6, given: 7, left: 0 });
+    // beside a budget in the same file, and a quota of another name
+    assert_eq!(Leased::new(&file.0, "q", 1).draw().unwrap(), Some(0));
+    assert_eq!(Leased::new(&file.0, "q", 1).in_each(Duration::from_secs(1_000_000)).draw().unwrap(), Some(0));
+    let another = LeasedQuota::new(&file.0, "r", 1, 0.0, Duration::from_secs(1_000_000)).unwrap();
+    assert_eq!(draws(&another, 2), [Some(0), None]);
+}
+
+#[test]
+fn a_lease_of_a_quota_that_dies_is_lost_and_no_more() {
+    let file = Scratch::new("lost-quota");
+    let first = long_quota(&file.0, 640, 0.0);
+    assert_eq!(first.draw().unwrap(), Some(0));
+    drop(first);
+    let second = long_quota(&file.0, 640, 0.0);
+    let drawn: Vec<_> = std::iter::from_fn(|| second.draw().unwrap()).collect();
+    assert_eq!(drawn, (10..640).collect::<Vec<_>>());
+}
+
+#[test]
+fn each_window_of_a_quota_has_its_own_requests_and_tickets() {
+    let file = Scratch::new("quota-windows");
+    let quota = LeasedQuota::new(&file.0, "w", 1, 0.5, Duration::from_millis(300)).unwrap();
+    let mut windows = HashSet::new();
+    for _ in 0..4 {
+        let before = quota.seen().unwrap();
+        (0..4).for_each(|_| quota.deposit());
+        let drawn: Vec<_> = std::iter::from_fn(|| quota.draw().unwrap()).collect();
+        let after = quota.seen().unwrap();
+        if before.window == after.window {
+            assert_eq!(drawn, [0, 1, 2]);
+            assert_eq!(after, Usage { window: after.window, asked: 4, given: 3, left: 0 });
+            windows.insert(after.window);
+        }
+        thread::sleep(Duration::from_millis(300));
+    }
+    assert!(windows.len() >= 2);
+}
+
+#[test]
+fn a_quota_that_python_wrote_goes_on() {
+    let file = Scratch::new("python-quota");
+    let period = 1_000_000_000_u64;
+    let boot = fs::read_to_string("/proc/sys/kernel/random/boot_id").unwrap();
+    let window = long_quota(&file.0, 1, 0.0).seen().unwrap().window;
+    let written = |name: &str| {
+        let body = format!("{{\"quota of {period} ms of q\": [\"{name}\", 7, 20]}}");
+        fs::write(&file.0, format!("hikebox counts 1 {} {}\n{body}", body.len(), crc32(body.as_bytes()))).unwrap();
+    };
+    written(&format!("{} {window}", boot.trim()));
+    assert_eq!(long_quota(&file.0, 5, 0.2).seen().unwrap(), Usage { window, asked: 20, given: 7, left: 2 });
+    assert_eq!(long_quota(&file.0, 5, 0.2).draw().unwrap(), Some(7));
+    // a later window of this start of the machine, and one of another start
+    written(&format!("{} {}", boot.trim(), window + 1));
+    assert_eq!(long_quota(&file.0, 5, 0.2).draw().unwrap(), None);
+    written(&format!("another {}", window + 1));
+    assert_eq!(long_quota(&file.0, 5, 0.2).draw().unwrap(), Some(0));
+}
+
+/// The CRC-32 of a text, bit by bit.
+fn crc32(text: &[u8]) -> u32 {
+    !text.iter().fold(!0, |sum, byte| {
+        (0..8).fold(sum ^ u32::from(*byte), |sum, _| (sum >> 1) ^ (0xedb8_8320 & (sum & 1).wrapping_neg()))
+    })
+}
+
+#[test]
+fn terms_of_a_quota_out_of_their_ranges_are_refused() {
+    let refused = |reserve, share, millis| {
+        LeasedQuota::new("/no/such/file", "q", reserve, share, Duration::from_millis(millis)).unwrap_err()
+    };
+    assert_eq!(refused((1 << 32) + 1, 0.0, 1), BudgetError::ReserveTooLarge);
+    assert_eq!(refused(0, 1001.0, 1), BudgetError::ShareOutOfRange);
+    assert_eq!(refused(0, 0.0, 0), BudgetError::PeriodTooShort);
+    assert_eq!(refused(0, 0.0, 1 << 62), BudgetError::PeriodTooLong);
+}
+
+#[test]
+fn a_quota_of_a_bad_file_grants_nothing() {
+    let file = Scratch::new("damaged-quota");
+    fs::write(&file.0, "something else").unwrap();
+    assert!(matches!(long_quota(&file.0, 9, 1.0).draw(), Err(StoreError::Damaged)));
+    assert!(matches!(long_quota("/no/such/folder/counts", 9, 1.0).seen(), Err(StoreError::Io(_))));
 }

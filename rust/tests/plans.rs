@@ -1,6 +1,6 @@
 //! Policies step as `zsched plan` says, on random ones and at the limits.
 
-use hikebox::{Fold, Policy, PolicyError, Schedule, Test};
+use hikebox::{Fold, Policy, PolicyFault, Schedule, Test};
 use std::io::Write;
 use std::process::{Command, Stdio};
 use std::time::Duration;
@@ -103,19 +103,19 @@ fn three_hundred_random_policies_step_as_zsched_says() {
 
 #[test]
 fn faults_are_those_of_the_text() {
-    let fault = |json: &str| Policy::from_json(json).unwrap_err();
-    assert_eq!(fault(r#"{"recurs":-1}"#), PolicyError::NotAPolicy);
-    assert!(matches!(fault(r#"{"recurs":3"#), PolicyError::NotJson { .. }));
-    assert!(matches!(fault(""), PolicyError::NotJson { .. }));
-    assert_eq!(fault(r#"{"fixed":0}"#), PolicyError::OutOfRange);
-    assert_eq!(fault(r#"{"exponential":[1,1001]}"#), PolicyError::OutOfRange);
+    let fault = |json: &str| Policy::from_json(json).unwrap_err().fault();
+    assert_eq!(fault(r#"{"recurs":-1}"#), PolicyFault::NotAPolicy);
+    assert!(matches!(fault(r#"{"recurs":3"#), PolicyFault::NotJson { .. }));
+    assert!(matches!(fault(""), PolicyFault::NotJson { .. }));
+    assert_eq!(fault(r#"{"fixed":0}"#), PolicyFault::OutOfRange);
+    assert_eq!(fault(r#"{"exponential":[1,1001]}"#), PolicyFault::OutOfRange);
 
     let mut deep = Schedule::forever();
     for _ in 0..31 {
         deep = deep.nothing();
     }
     assert_eq!(Policy::new(&deep).unwrap().depth(), 32);
-    assert_eq!(Policy::new(&deep.nothing()).unwrap_err(), PolicyError::TooDeep);
+    assert_eq!(Policy::new(&deep.nothing()).unwrap_err().fault(), PolicyFault::TooDeep);
 
     let mut wide = Schedule::forever();
     for _ in 0..7 {
@@ -123,7 +123,33 @@ fn faults_are_those_of_the_text() {
     }
     assert_eq!(Policy::new(&wide).unwrap().nodes(), 255);
     assert_eq!(Policy::new(&wide.clone().nothing()).unwrap().nodes(), 256);
-    assert_eq!(Policy::new(&wide.nothing().nothing()).unwrap_err(), PolicyError::TooMany);
+    assert_eq!(Policy::new(&wide.nothing().nothing()).unwrap_err().fault(), PolicyFault::TooMany);
+}
+
+#[test]
+fn a_fault_has_its_place_and_what_is_wanted_there() {
+    let deep = format!("{}\"forever\"{}", r#"{"nothing":"#.repeat(33), "}".repeat(33));
+    for (json, place, hint) in [
+        ("", "line 1, column 0", ""),
+        ("[\n{\"plan\":]", "line 2, column 9", ""),
+        ("7", "", "a plan is a string or an object of one member"),
+        (r#"{"fixed":0}"#, "", r#""fixed" is spelt {"fixed":D}, D from 1 to 4611686018427387903"#),
+        (
+            r#"{"meet":["forever",{"cap":[5,{"exponental":[1,2]}]}]}"#,
+            "meet[1].cap[1]",
+            r#"no node is called "exponental"; did you mean "exponential"?"#,
+        ),
+        (r#"{"gather":["sum",{"second":"für immer"}]}"#, "gather[1].second", r#"no node is called "für immer""#),
+        (&deep, "nothing", "a plan is at most 32 deep"),
+    ] {
+        let error = Policy::from_json(json).unwrap_err();
+        assert_eq!((error.place(), error.hint()), (place, hint), "{json}");
+    }
+    let shown = |json: &str| Policy::from_json(json).unwrap_err().to_string();
+    assert_eq!(shown("7"), "not a policy: a plan is a string or an object of one member");
+    assert_eq!(shown(r#"{"recurs":3"#), "not JSON: line 1, column 11");
+    let join = Schedule::forever() | Schedule::fixed(Duration::ZERO);
+    assert!(Policy::new(&join).unwrap_err().to_string().starts_with(r#"number out of range: join[1]: "fixed" is"#));
 }
 
 #[test]
@@ -133,9 +159,9 @@ fn durations_are_rounded_up_and_ratios_to_thousandths() {
     assert_eq!(Schedule::forever().jittered(0.1234..10.0).as_json(), r#"{"jitter":[0,123,10000,"forever"]}"#);
     for ratios in [-0.1..1.0, 0.0..10.1, 0.0..f64::NAN] {
         let schedule = Schedule::forever().jittered(ratios);
-        assert_eq!(Policy::new(&schedule).unwrap_err(), PolicyError::OutOfRange);
+        assert_eq!(Policy::new(&schedule).unwrap_err().fault(), PolicyFault::OutOfRange);
     }
     let longest = Schedule::spaced(Duration::from_millis(4_611_686_018_427_387_903));
     assert!(Policy::new(&longest).is_ok());
-    assert_eq!(Policy::new(&Schedule::spaced(Duration::MAX)).unwrap_err(), PolicyError::OutOfRange);
+    assert_eq!(Policy::new(&Schedule::spaced(Duration::MAX)).unwrap_err().fault(), PolicyFault::OutOfRange);
 }

@@ -5,8 +5,8 @@
 
 use anyhow::{Context, Result, bail};
 use sched_run::{
-    Action, Budget, Call, Driver, Ending, OnBudget, Plan, PlanFault, Retry, SystemClock,
-    SystemWords, Tagged, Timed, block_on,
+    Budget, Driver, Ending, HostRetry, OnBudget, Plan, PlanFault, SystemClock, SystemWords, Tagged,
+    retry_call,
 };
 use std::alloc::{AllocGlobal, Global};
 use std::random::RandomSource;
@@ -15,22 +15,13 @@ use std::sync::Wait;
 use std::{env, fs, io};
 
 // What is retried: to read this file.
-#[derive(Drop)]
-struct ReadFile<'a, R> {
-    rt: &'a R,
-    path: &'a str,
-}
-
-impl<'a, R: Files + AllocGlobal> Action for ReadFile<'a, R> {
-    type Item = Tagged<String>;
-
-    type Fault = Tagged<io::Error>;
-
-    fn run(&mut self) -> Result<Tagged<String>, Tagged<io::Error>> {
-        match fs::read_to_string(self.rt, self.path) {
-            Ok(text) => Ok(Tagged::by(text, |text| text.len() as u64)),
-            Err(error) => Err(Tagged::by(error, |_| 0)),
-        }
+fn read_once<R: Files + AllocGlobal>(
+    rt: &R,
+    path: &str,
+) -> Result<Tagged<String>, Tagged<io::Error>> {
+    match fs::read_to_string(rt, path) {
+        Ok(text) => Ok(Tagged::by(text, |text| text.len() as u64)),
+        Err(error) => Err(Tagged::by(error, |_| 0)),
     }
 }
 
@@ -46,16 +37,22 @@ fn read<R: Runtime + RandomSource + AllocGlobal + Wait>(rt: &R, path: &str) -> R
     let alloc = rt.alloc();
     let (budget, pass) = Budget::new(alloc, 10)?;
     let driver = Driver::new(alloc, back_off(alloc)?)?;
-    let call = Call::new(alloc, ReadFile { rt, path });
-    let retry = Retry::new(alloc, call, driver, OnBudget::new(pass, &budget));
-    let timed = Timed::new(alloc, retry, SystemClock::new(rt)?, SystemWords::new(rt)?);
-    let mut retry = block_on(rt, timed)?;
+    let mut retry = HostRetry::new(alloc, driver, OnBudget::new(pass, &budget));
+    let mut clock = SystemClock::new(rt)?;
+    let mut words = SystemWords::new(rt)?;
+    let ending = retry_call(
+        rt,
+        &mut retry,
+        &mut clock,
+        &mut words,
+        || read_once(rt, path),
+    );
     let retries = retry.granted();
     eprintln!(rt; "{retries} retries")?;
-    match retry.take_ending() {
-        Some(Ending::Won(text)) => Ok(text.value),
-        Some(Ending::ScheduleDone(fault)) => Err(fault.value.into()),
-        Some(Ending::BudgetRefused(fault)) => Err(fault.value.into()),
+    match ending {
+        Ending::Won(text) => Ok(text.value),
+        Ending::ScheduleDone(fault) => Err(fault.value.into()),
+        Ending::BudgetRefused(fault) => Err(fault.value.into()),
         _ => bail!("the retry broke off"),
     }
 }

@@ -1,5 +1,6 @@
 pub mod Calls
 pub mod Policies
+pub mod Faults
 pub mod Drivers
-pub mod Budgets
+pub mod Shared
 pub mod Retries

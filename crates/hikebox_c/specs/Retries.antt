@@ -1,25 +1,28 @@
 -- What the calls on retries do.
-use Rattle.std.specs.Prelude.{◌≡◌, ◌≢◌, ℕ, ◌<◌, ◌≤◌, List, Option, Some, None, is_some, MatchBool, Result, Ok, Err}
+use Rattle.std.specs.Prelude.{◌≡◌, ◌≢◌, ◌⊎◌, ℕ, ◌<◌, ◌≤◌, List, Option, Some, None, is_some, MatchBool, Result, Ok, Err}
+use Rattle.std.specs.Global.{Global}
+use Rattle.std_alloc.specs.declared.boxed.Box.{Box}
 use Rattle.sched_time.specs.declared.numbers.TheConstants.{FAR}
 use Rattle.sched_time.specs.declared.numbers.Tick.{Tick}
 use Rattle.sched_effect.specs.declared.ran.Ran.{Ran}
 use Rattle.sched_effect.specs.declared.ran.Ran.TheVariants.{Won, Lost}
-use Rattle.sched_handle.specs.Passes.{Joins}
-use Rattle.sched_handle.specs.Retries.{Retries, Polls, GivesBack}
+use Rattle.sched_handle.specs.Retries.{Polls, drawn_on, GivesBack}
 use Rattle.sched_handle.specs.declared.held.Held.{Held}
+use Rattle.sched_handle.specs.declared.held.Kind.{Kind}
 use Rattle.sched_handle.specs.declared.held.Kind.TheVariants as kind
 use Rattle.sched_handle.specs.declared.replies.Reply.{Reply}
 use Rattle.sched_handle.specs.declared.status.Status.{Status}
-use Rattle.sched_handle.specs.declared.status.Status.TheVariants.{Empty, Full, TooLarge, NoSuchReport}
+use Rattle.sched_handle.specs.declared.status.Status.TheVariants.{Empty, Full, TooLarge, NoSuchReport, DrawsElsewhere}
 use Rattle.hikebox_c.specs.Calls.{Puts, OnHeld, MakesWith, OfKind}
-use Rattle.hikebox_c.specs.Budgets.{NoneJoined}
+use Rattle.hikebox_c.specs.Shared.{NoneJoined}
 
 -- a retry of what the first handle holds is made with what the second holds; the policy is asked for before the pass
-abbrev pub NewRetry : Option Held → Option Held → Option Held → Option Held → ℕ → Option Held → Type 0
-NewRetry None pass left u code v = MatchBool (is_some u)
+abbrev pub NewRetry : (Held → Held → Result (Box Held Global) Status → Held → Type 0) → Option Held → Option Held →
+    Option Held → Option Held → ℕ → Option Held → Type 0
+NewRetry retries None pass left u code v = MatchBool (is_some u)
     ((left ≡ pass) × Puts u code v (Err Full))
     ((left ≡ pass) × Puts u code v (Err Empty))
-NewRetry (Some policy) pass left u code v = MakesWith (Retries policy) pass left u code v
+NewRetry retries (Some policy) pass left u code v = MakesWith (retries policy) pass left u code v
 
 -- the run that a number and a code report, if any
 abbrev pub Reports : ℕ → ℕ → Result (Option Ran) Status → Type 0
@@ -43,11 +46,20 @@ PollsAt now words report code u w tells =
     × PollsWith (record { now = now; words = words }) r u w tells
 
 -- the pass of a retry is joined into another, and the retry's handle is empty
-abbrev pub RetryEnded : Held → Held → ℕ → Option Held → Option Held → Type 0
-RetryEnded x y code rest w = (p z : Held) × (w ≡ Some z) × GivesBack x p × Joins y p z × (rest ≡ None) × (code ≡ 0)
+abbrev pub RetryEnded : (Held → Held → Held → Type 0) → Held → Held → ℕ → Option Held → Option Held → Type 0
+RetryEnded joins x y code rest w =
+    (p z : Held) × (w ≡ Some z) × GivesBack x p × joins y p z × (rest ≡ None) × (code ≡ 0)
 
--- a retry is freed, and its pass joined into that of the other handle, where both are there
-abbrev pub EndsHeld : Option Held → Option Held → ℕ → Option Held → Option Held → Type 0
-EndsHeld u v code rest w = OfKind kind.Retry u
-    (λ x. OfKind kind.Pass v (λ y. RetryEnded x y code rest w) (NoneJoined v u code w rest))
+-- this is done where a retry draws on what a handle of this kind holds, or it draws elsewhere
+abbrev pub WhereDrawn : Kind → Held → Type 0 → (Status → Type 0) → Type 0
+WhereDrawn k x does refuses =
+    ((drawn_on x ≡ k) × does) ⊎ ((drawn_on x ≢ k) × refuses DrawsElsewhere)
+
+-- a retry is freed, and its pass joined into that of the other handle, where both are there and it draws there
+abbrev pub EndsHeld : Kind → (Held → Held → Held → Type 0) → Option Held → Option Held → ℕ → Option Held →
+    Option Held → Type 0
+EndsHeld k joins u v code rest w = OfKind kind.Retry u
+    (λ x. OfKind k v
+    (λ y. WhereDrawn k x (RetryEnded joins x y code rest w) (NoneJoined v u code w rest))
+    (NoneJoined v u code w rest))
     (NoneJoined v u code w rest)

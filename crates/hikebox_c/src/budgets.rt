@@ -1,10 +1,11 @@
 //! Budgets and their passes.
 ghost use Rattle.std.specs.Prelude.{true, false};
 ghost use Rattle.sched_handle.specs.Fills.{Frees};
-ghost use Rattle.sched_handle.specs.Passes.{MakesBudget, Draws, Splits, Raises, CountsTickets, AreOfOneBudget};
+ghost use Rattle.sched_handle.specs.Passes.{MakesBudget, Draws, Splits, Raises, CountsTickets};
+ghost use Rattle.sched_handle.specs.Passes.{AreOfOneBudget, Joins, Closes};
 ghost use Rattle.sched_handle.specs.declared.held.Kind.TheVariants as kind;
 ghost use Rattle.hikebox_c.specs.Calls.{Tells, Kept, OnHeld, Makes, MakesWith};
-ghost use Rattle.hikebox_c.specs.Budgets.{JoinsHeld, ClosesHeld};
+ghost use Rattle.hikebox_c.specs.Shared.{JoinsHeld, ClosesHeld};
 
 use sched_handle::{Handle, Held, Kind, Status, tell};
 use std::alloc::Global;
@@ -61,7 +62,7 @@ pub extern "C" fn hikebox_pass_split(alloc: Global, pass: &mut Handle, part: &mu
 #[unsafe(no_mangle)]
 pub extern "C" fn hikebox_pass_join(alloc: Global, pass: &mut Handle, other: &mut Handle) -> u32
     requires { AreOfOneBudget pass.old.held other.old.held }
-    ensures { JoinsHeld pass.old.held other.old.held result pass.new.held other.new.held }
+    ensures { JoinsHeld kind.Pass Joins pass.old.held other.old.held result pass.new.held other.new.held }
 {
     let Some(mut held) = pass.take(alloc) else {
         return Status::Empty.code();
@@ -115,7 +116,7 @@ pub extern "C" fn hikebox_pass_count(alloc: Global, pass: &mut Handle, tickets: 
 
 #[unsafe(no_mangle)]
 pub extern "C" fn hikebox_pass_close(alloc: Global, pass: &mut Handle, tickets: &mut u64) -> u32
-    ensures { ClosesHeld pass.old.held pass.new.held (Tells result tickets.old tickets.new) }
+    ensures { ClosesHeld Closes pass.old.held pass.new.held (Tells result tickets.old tickets.new) }
 {
     let Some(mut held) = pass.take(alloc) else {
         return Status::Empty.code();

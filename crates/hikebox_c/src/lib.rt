@@ -3,5 +3,8 @@
 
 mod budgets;
 mod drivers;
+mod faults;
+mod journals;
 mod policies;
+mod quotas;
 mod retries;

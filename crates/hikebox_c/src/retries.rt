@@ -2,11 +2,14 @@
 ghost use Rattle.std.specs.Prelude.{◌≡◌, ◌<◌, ◌≤◌, Err};
 ghost use Rattle.sched_time.specs.declared.numbers.TheConstants.{FAR};
 ghost use Rattle.sched_handle.specs.Fills.{Frees};
-ghost use Rattle.sched_handle.specs.Retries.{Sees, Cancels, IsOfItsBudget};
+ghost use Rattle.sched_handle.specs.Passes.{Joins};
+ghost use Rattle.sched_handle.specs.Quotas.{JoinsQuota};
+ghost use Rattle.sched_handle.specs.Retries.{Retries, RetriesOnQuota, RetriesUnlimited};
+ghost use Rattle.sched_handle.specs.Retries.{Sees, Cancels, IsOfItsBudget, IsOfItsQuota};
 ghost use Rattle.sched_handle.specs.Status.{told};
 ghost use Rattle.sched_handle.specs.declared.held.Kind.TheVariants as kind;
 ghost use Rattle.sched_handle.specs.declared.status.Status.TheVariants as status;
-ghost use Rattle.hikebox_c.specs.Calls.{Tells, Kept, OnHeld};
+ghost use Rattle.hikebox_c.specs.Calls.{Tells, Kept, OnHeld, MakesWith};
 ghost use Rattle.hikebox_c.specs.Retries.{NewRetry, Reports, PollsAt, EndsHeld};
 
 use sched_effect::Ran;
@@ -21,7 +24,8 @@ pub extern "C" fn hikebox_retry_new(
     pass: &mut Handle,
     retry: &mut Handle,
 ) -> u32
-    ensures retry { NewRetry policy.old.held pass.old.held pass.new.held retry.old.held result retry.new.held }
+    ensures retry { NewRetry Retries policy.old.held pass.old.held pass.new.held
+        retry.old.held result retry.new.held }
     ensures policy { policy.new.held ≡ policy.old.held }
 {
     if retry.is_full(alloc) {
@@ -37,6 +41,53 @@ pub extern "C" fn hikebox_retry_new(
     let made = Held::retry(alloc, &plan, &mut held);
     policy.put(plan);
     pass.put(held);
+    retry.fill(made)
+}
+
+#[unsafe(no_mangle)]
+pub extern "C" fn hikebox_retry_on_quota(
+    alloc: Global,
+    policy: &mut Handle,
+    quota: &mut Handle,
+    retry: &mut Handle,
+) -> u32
+    ensures retry { NewRetry RetriesOnQuota policy.old.held quota.old.held quota.new.held
+        retry.old.held result retry.new.held }
+    ensures policy { policy.new.held ≡ policy.old.held }
+{
+    if retry.is_full(alloc) {
+        return Status::Full.code();
+    }
+    let Some(plan) = policy.take(alloc) else {
+        return Status::Empty.code();
+    };
+    let Some(mut held) = quota.take(alloc) else {
+        policy.put(plan);
+        return Status::Empty.code();
+    };
+    let made = Held::retry_on_quota(alloc, &plan, &mut held);
+    policy.put(plan);
+    quota.put(held);
+    retry.fill(made)
+}
+
+#[unsafe(no_mangle)]
+pub extern "C" fn hikebox_retry_unlimited(
+    alloc: Global,
+    policy: &mut Handle,
+    retry: &mut Handle,
+) -> u32
+    ensures { MakesWith (Kept RetriesUnlimited) policy.old.held policy.new.held
+        retry.old.held result retry.new.held }
+{
+    if retry.is_full(alloc) {
+        return Status::Full.code();
+    }
+    let Some(plan) = policy.take(alloc) else {
+        return Status::Empty.code();
+    };
+    let made = Held::retry_unlimited(alloc, &plan);
+    policy.put(plan);
     retry.fill(made)
 }
 
@@ -120,7 +171,7 @@ pub extern "C" fn hikebox_retry_cancel(alloc: Global, retry: &mut Handle) -> u32
 #[unsafe(no_mangle)]
 pub extern "C" fn hikebox_retry_end(alloc: Global, retry: &mut Handle, pass: &mut Handle) -> u32
     requires { IsOfItsBudget retry.old.held pass.old.held }
-    ensures { EndsHeld retry.old.held pass.old.held result retry.new.held pass.new.held }
+    ensures { EndsHeld kind.Pass Joins retry.old.held pass.old.held result retry.new.held pass.new.held }
 {
     let Some(held) = retry.take(alloc) else {
         return Status::Empty.code();
@@ -138,8 +189,48 @@ pub extern "C" fn hikebox_retry_end(alloc: Global, retry: &mut Handle, pass: &mu
         pass.put(to);
         return Status::WrongKind.code();
     }
+    if held.draws_on() != Kind::Pass {
+        retry.put(held);
+        pass.put(to);
+        return Status::DrawsElsewhere.code();
+    }
     to.join(Box::into_inner(held).into_pass());
     pass.put(to);
+    0
+}
+
+#[unsafe(no_mangle)]
+pub extern "C" fn hikebox_retry_end_on_quota(
+    alloc: Global,
+    retry: &mut Handle,
+    quota: &mut Handle,
+) -> u32
+    requires { IsOfItsQuota retry.old.held quota.old.held }
+    ensures { EndsHeld kind.Quota JoinsQuota retry.old.held quota.old.held result retry.new.held quota.new.held }
+{
+    let Some(held) = retry.take(alloc) else {
+        return Status::Empty.code();
+    };
+    if held.kind() != Kind::Retry {
+        retry.put(held);
+        return Status::WrongKind.code();
+    }
+    let Some(mut to) = quota.take(alloc) else {
+        retry.put(held);
+        return Status::Empty.code();
+    };
+    if to.kind() != Kind::Quota {
+        retry.put(held);
+        quota.put(to);
+        return Status::WrongKind.code();
+    }
+    if held.draws_on() != Kind::Quota {
+        retry.put(held);
+        quota.put(to);
+        return Status::DrawsElsewhere.code();
+    }
+    to.join_quota(Box::into_inner(held).into_pass());
+    quota.put(to);
     0
 }
 

@@ -1,5 +1,6 @@
 -- What is told follows from what was checked.
-use Rattle.std.proofs.Common.{◌≡◌, ℕ, List, true, false, Some, Result, Ok, Err, IfOk, IsUtf8, is_some, sym}
+use Rattle.std.proofs.Common.{◌≡◌, ℕ, List, ◌++◌, true, false, Some, Result, Ok, Err, IfOk, IsUtf8, is_some, string_bytes, sym, ap, ◌∙◌}
+use Rattle.std.specs.Prelude.{codes}
 use Rattle.std.proofs.lemmas.Bool.{false≢true}
 use Rattle.serde_json.specs.Data.{Data, null, boolean, number, string, array, object}
 use Rattle.serde_json.specs.Find.{as_array}
@@ -10,33 +11,37 @@ use Rattle.sched_time.specs.declared.faults.NoMemory.{NoMemory}
 use Rattle.sched_check.specs.declared.places.Fault.{Fault}
 use Rattle.sched_check.specs.Places.{place_of}
 use Rattle.sched_check.specs.Checked.{IsPlanFault, IsJobsFault}
-use Rattle.sched_check_text.specs.PlaceText.{fault_text}
+use Rattle.sched_check_text.specs.Faults.{IsTold, told_text}
 use Rattle.sched_check_text.specs.Reporting.{TellsPlanFault, TellsJobsFault, ReportsPlan, ReportsJobs, Reports, IsReport}
+use Rattle.sched_check_text.specs.declared.faults.ToldFault.{ToldFault}
+use Rattle.sched_check_text.specs.declared.faults.ToldFault.TheVariants as what
 use Rattle.sched_check_text.specs.declared.reports.Report.{Report}
 use Rattle.sched_check_text.specs.declared.reports.Report.TheVariants.{Read, Refused, NotJson}
 
-pub tells_plan : (d : Data) (found : Fault) (hint text : List ℕ) → IsPlanFault d found → text ≡ fault_text (place_of found.place.items) hint →
+pub tells_plan : (d : Data) (found : Fault) (t : ToldFault) (text : List ℕ) → IsPlanFault d found → IsTold found t → text ≡ told_text t ++ codes "\n" →
     TellsPlanFault d found.fault text
-tells_plan d found hint text is told = record {
+tells_plan d found (what.NotJson line column) text is at is_line = absurd at
+tells_plan d found (what.Refused fault place hint) text is at is_line = record {
   place = place_of found.place.items;
   value = view found.value.now;
-  hint = hint;
+  hint = string_bytes hint;
   refused = is.fault;
   leads = is.leads;
   first = is.first;
-  told = told;
+  told = is_line ∙ ap (λ p. (p ++ codes ": " ++ string_bytes hint) ++ codes "\n") at.1;
 }
 
-pub tells_jobs : (d : Data) (found : Fault) (hint text : List ℕ) → IsJobsFault d found → text ≡ fault_text (place_of found.place.items) hint →
+pub tells_jobs : (d : Data) (found : Fault) (t : ToldFault) (text : List ℕ) → IsJobsFault d found → IsTold found t → text ≡ told_text t ++ codes "\n" →
     TellsJobsFault d found.fault text
-tells_jobs d found hint text is told = record {
+tells_jobs d found (what.NotJson line column) text is at is_line = absurd at
+tells_jobs d found (what.Refused fault place hint) text is at is_line = record {
   place = place_of found.place.items;
   value = view found.value.now;
-  hint = hint;
+  hint = string_bytes hint;
   refused = is.fault;
   leads = is.leads;
   first = is.first;
-  told = told;
+  told = is_line ∙ ap (λ p. (p ++ codes ": " ++ string_bytes hint) ++ codes "\n") at.1;
 }
 
 jobs_too : (d : Data) (r : Report) → is_some (as_array d) ≡ true → ReportsJobs d r → Reports d r

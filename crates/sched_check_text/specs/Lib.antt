@@ -1,3 +1,4 @@
 pub mod PlaceText
+pub mod Faults
 pub mod Reporting
 pub mod Checking

@@ -23,4 +23,4 @@ place_text (step ∷ place) = first_text step ++ steps_text place
 
 -- `PLACE: HINT`
 abbrev pub fault_text : List Into → List ℕ → List ℕ
-fault_text place hint = place_text place ++ codes ": " ++ hint ++ codes "\n"
+fault_text place hint = place_text place ++ codes ": " ++ hint

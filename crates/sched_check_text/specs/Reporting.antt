@@ -1,5 +1,5 @@
 -- What is told of a text.
-use Rattle.std.specs.Prelude.{◌≡◌, ℕ, List, Some, Result, Ok, Err, string_bytes}
+use Rattle.std.specs.Prelude.{◌≡◌, ℕ, List, ◌++◌, codes, Some, Result, Ok, Err, string_bytes}
 use Rattle.serde_json.specs.Data.{Data, array}
 use Rattle.sched_plan_text.specs.Printing.{Spells, SpellsNothing}
 use Rattle.sched_plan_text.specs.Refusal.{refusal_of}
@@ -24,7 +24,7 @@ pub record TellsPlanFault (d : Data) (fault : ReadFault) (text : List ℕ) : Typ
   pub refused : plan_of d ≡ Err fault
   pub leads : value_at place d ≡ Some value
   pub first : FirstFault fault d place value
-  pub told : text ≡ fault_text place hint
+  pub told : text ≡ fault_text place hint ++ codes "\n"
 
 -- the same of reading it as jobs
 pub record TellsJobsFault (d : Data) (fault : ReadFault) (text : List ℕ) : Type 0 where
@@ -34,7 +34,7 @@ pub record TellsJobsFault (d : Data) (fault : ReadFault) (text : List ℕ) : Typ
   pub refused : jobs_of d ≡ Err fault
   pub leads : value_at place d ≡ Some value
   pub first : JobsFault fault d place value
-  pub told : text ≡ fault_text place hint
+  pub told : text ≡ fault_text place hint ++ codes "\n"
 
 -- what is told of a value as a plan, and as jobs
 abbrev pub ReportsPlan : Data → Report → Type 0

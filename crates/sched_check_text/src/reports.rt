@@ -1,14 +1,13 @@
 //! What is told of a text.
-ghost use Rattle.std.specs.Prelude.{◌≡◌, IfOk, string_bytes};
+ghost use Rattle.std.specs.Prelude.{◌≡◌, ◌++◌, codes, IfOk, string_bytes};
 ghost use Rattle.serde_json.specs.View.{view};
 ghost use Rattle.sched_check_text.specs.Reporting.{IsReport, Reports, ReportsPlan, ReportsJobs};
-ghost use Rattle.sched_check.specs.Places.{place_of};
-ghost use Rattle.sched_check_text.specs.PlaceText.{fault_text};
+ghost use Rattle.sched_check_text.specs.Faults.{told_text};
 
-use crate::hints::{push_jobs_hint, push_plan_hint};
-use crate::places::push_place;
+use crate::faults::{ToldFault, tell_fault, tell_plan_fault};
+use crate::hints::push_jobs_hint;
 use sched_bound::most_goes;
-use sched_check::{Fault, JobsChecked, PlanChecked, check_jobs, check_plan};
+use sched_check::{JobsChecked, PlanChecked, check_jobs, check_plan};
 use sched_jobs_json::JobRead;
 use sched_json::ReadFault;
 use sched_plan::Plan;
@@ -37,7 +36,11 @@ pub(crate) fn report_bytes(alloc: Global, bytes: &[u8]) -> Result<Report, NoMemo
         Ok(value) => report_value(alloc, &value),
         Err(error) if error.is_memory() => Err(NoMemory),
         Err(error) => {
-            let text = not_json(alloc, error.line(), error.column())?;
+            let told = ToldFault::NotJson {
+                line: error.line(),
+                column: error.column(),
+            };
+            let text = fault_line(alloc, &told)?;
             Ok(Report::NotJson(text))
         }
     }
@@ -67,9 +70,8 @@ fn report_plan(alloc: Global, value: &Value) -> Result<Report, NoMemory>
             Ok(Report::Read(text))
         }
         PlanChecked::Fault(found) => {
-            let mut hint = String::new(alloc);
-            push_plan_hint(alloc, &mut hint, found.fault, found.value)?;
-            let text = fault_line(alloc, found, hint.as_str())?;
+            let told = tell_plan_fault(alloc, found)?;
+            let text = fault_line(alloc, &told)?;
             Ok(Report::Refused(found.fault, text))
         }
     }
@@ -89,28 +91,20 @@ fn report_jobs(alloc: Global, value: &Value) -> Result<Report, NoMemory>
         JobsChecked::Fault(found) => {
             let mut hint = String::new(alloc);
             push_jobs_hint(alloc, &mut hint, found)?;
-            let text = fault_line(alloc, found, hint.as_str())?;
+            let told = tell_fault(alloc, found, hint)?;
+            let text = fault_line(alloc, &told)?;
             Ok(Report::Refused(found.fault, text))
         }
     }
 }
 
-// The line of a fault: `PLACE: HINT`.
-fn fault_line(alloc: Global, found: &Fault<'_>, hint: &str) -> Result<String, NoMemory>
-    ensures { IfOk result (λ line.
-        string_bytes line ≡ fault_text (place_of found.now.place.items) hint.now) }
+// The line that tells of a fault.
+fn fault_line(alloc: Global, told: &ToldFault) -> Result<String, NoMemory>
+    ensures { IfOk result (λ line. string_bytes line ≡ told_text told.now ++ codes "\n") }
 {
-    let mut line = String::new(alloc);
-    push_place(&mut line, &found.place)?;
-    write!(line, ": {hint}\n")?;
+    let mut line = told.text(alloc)?;
+    line.push_str("\n")?;
     Ok(line)
-}
-
-// Where a text stops being JSON.
-fn not_json(alloc: Global, line: usize, column: usize) -> Result<String, NoMemory> {
-    let mut text = String::new(alloc);
-    write!(text, "not JSON: line {line}, column {column}\n")?;
-    Ok(text)
 }
 
 // What a plan is: `plan: 8 nodes, depth 4, goes on at most 5 times`.

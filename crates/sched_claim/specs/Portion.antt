@@ -2,7 +2,7 @@
 use Rattle.std.specs.Prelude.{◌≡◌, ℕ, ◌<◌, ◌≤◌, false, List, [], ◌∷◌, ◌++◌, length, Option, Some, None, All}
 use Rattle.sched_ticket.specs.Lists.{total, times}
 use Rattle.sched_ticket.specs.Held.{Name, Held, IsOf}
-use Rattle.sched_ticket.specs.Calls.{Drew, DrewNone}
+use Rattle.sched_ticket.specs.Calls.{Drew, DrawRefused}
 
 -- a share's pass, whose tickets are the jobs that it claimed, and those of them that are active, in the order claimed
 pub record Portion : Type 0 where
@@ -45,7 +45,7 @@ pub record Took (share : Portion) (job : ℕ) (after : Portion) : Type 0 where
 
 -- a claim that was answered None: so was the draw with the share's pass, and the active jobs stay
 abbrev pub TookNone : Portion → Portion → Type 0
-TookNone share after = DrewNone share.pass.has after.pass.has × (after.active ≡ share.active)
+TookNone share after = DrawRefused share.pass.has after.pass.has × (after.active ≡ share.active)
 
 -- how often the job was claimed over all shares
 abbrev pub claims_of : ℕ → List Portion → ℕ

@@ -1,4 +1,3 @@
 pub mod Fours
 pub mod PoolLines
-pub mod PoolFaults
-pub mod QuotaFaults
+pub mod JobsFaults

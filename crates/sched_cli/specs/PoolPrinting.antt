@@ -1,108 +1,19 @@
--- What printing a pool does to the bytes left and the bytes taken, whatever bytes come.
-use Rattle.std.specs.Prelude.{◌≡◌, ℕ, ◌⊎◌, Bool, true, false, List, Vec, Option, Some, Result, Ok, Err}
-use Rattle.std.specs.List.{list_all}
-use Rattle.std.specs.Io.KnownBytes.{Appends, Keeps}
-use Rattle.std.specs.declared.alloc.Global.{Global}
-use Rattle.sched_plan.specs.declared.plans.PlanFault.TheVariants as refused
-use Rattle.sched_json.specs.declared.faults.ReadFault.{ReadFault}
-use Rattle.sched_json.specs.declared.faults.ReadFault.TheVariants as reading
-use Rattle.sched_task.specs.declared.endings.How.{How}
-use Rattle.sched_task.specs.declared.endings.How.TheVariants.{Won, ScheduleDone, BudgetRefused}
+-- What printing a pool on a budget does.
+use Rattle.std.specs.Prelude.{◌≡◌, ℕ, List, Option, Result}
 use Rattle.sched_task_law.specs.Past.{Past}
 use Rattle.sched_jobs_json.specs.Job.{Job}
-use Rattle.sched_jobs_json.specs.JobsOf.{jobs_of}
 use Rattle.sched_pool_text.specs.PoolText.{pool_text}
 use Rattle.sched_scripted_pool.specs.Batch.{AreRun}
-use Rattle.sched_plan_text.specs.Whole.{StopsReading, WritesFront}
-use Rattle.sched_plan_text.specs.Printing.{Spells, SpellsNothing, IsInput}
-use Rattle.sched_cli.specs.declared.options.PoolOptions.{PoolOptions}
 use Rattle.sched_plan_text.specs.declared.faults.PrintFault.{PrintFault}
-use Rattle.sched_plan_text.specs.declared.faults.PrintFault.TheVariants.{ReadFailed, TooLong, NotJson, NotAPlan, OutOfRange, TooDeep, TooMany, NoMemory, NotStarted, WriteFailed, Unfinished, Mixed}
+use Rattle.sched_cli.specs.JobsPrinting.{PrintsJobs}
+use Rattle.sched_cli.specs.declared.options.PoolOptions.{PoolOptions}
 
--- the bytes spell these jobs
-abbrev pub SpellsJobs : List ℕ → List Job → Type 0
-SpellsJobs bytes jobs = Spells bytes (λ v. jobs_of v ≡ Ok jobs)
+-- the jobs were run on the budget, and this is their text
+abbrev pub RunsOnBudget : PoolOptions → List Job → List Past → List ℕ → Type 0
+RunsOnBudget o jobs ends text =
+    (granted : ℕ) × AreRun jobs o.budget ends granted × (text ≡ pool_text ends granted o.budget)
 
--- the bytes spell a value that is no list of jobs, for this fault
-abbrev pub SpellsNoJobs : List ℕ → ReadFault → Type 0
-SpellsNoJobs bytes fault = Spells bytes (λ v. jobs_of v ≡ Err fault)
-
--- what the bytes of jobs are read as
-abbrev pub ReadsJobs : List ℕ → Result (Vec Job Global) PrintFault → Type 0
-ReadsJobs bytes (Ok jobs) = SpellsJobs bytes jobs.items
-ReadsJobs bytes (Err NotJson) = SpellsNothing bytes
-ReadsJobs bytes (Err NotAPlan) = SpellsNoJobs bytes reading.NotAPlan
-ReadsJobs bytes (Err OutOfRange) = SpellsNoJobs bytes (reading.Plan refused.OutOfRange)
-ReadsJobs bytes (Err TooDeep) = SpellsNoJobs bytes (reading.Plan refused.TooDeep)
-ReadsJobs bytes (Err TooMany) = SpellsNoJobs bytes (reading.Plan refused.TooMany)
-ReadsJobs bytes (Err NoMemory) = Unit {0}
-ReadsJobs bytes (Err ReadFailed) = ⊥
-ReadsJobs bytes (Err TooLong) = ⊥
-ReadsJobs bytes (Err NotStarted) = ⊥
-ReadsJobs bytes (Err WriteFailed) = ⊥
-ReadsJobs bytes (Err Unfinished) = ⊥
-ReadsJobs bytes (Err Mixed) = ⊥
-
--- jobs that were read are not run for this reason
-abbrev pub IsRunFault : PrintFault → Type 0
-IsRunFault NoMemory = Unit {0}
-IsRunFault NotStarted = Unit {0}
-IsRunFault Mixed = Unit {0}
-IsRunFault _ = ⊥
-
--- it won, or ended with the failure at which its schedule was done or the budget refused it
-abbrev pub is_answered : Option How → Bool
-is_answered (Some Won) = true
-is_answered (Some ScheduleDone) = true
-is_answered (Some BudgetRefused) = true
-is_answered _ = false
-
-abbrev pub all_answered : List Past → Bool
-all_answered ends = list_all (λ v. is_answered v.over) ends
-
--- Writing the text of jobs that ended so: all of it, and whether each of them answered, or a front of it where a write
--- failed or memory was refused.
-abbrev pub WritesPool : Option (List ℕ) → Option (List ℕ) → List Past → List ℕ → Result (Unit {0}) PrintFault → Type 0
-WritesPool taken taken' ends text (Ok _) = (all_answered ends ≡ true) × Appends taken taken' text
-WritesPool taken taken' ends text (Err Unfinished) = (all_answered ends ≡ false) × Appends taken taken' text
-WritesPool taken taken' ends text (Err WriteFailed) = WritesFront taken taken' text
-WritesPool taken taken' ends text (Err NoMemory) = WritesFront taken taken' text
-WritesPool taken taken' ends text (Err _) = ⊥
-
--- the whole input was read and spells jobs, of which P is true
-abbrev pub IsJobsInput : Option (List ℕ) → Option (List ℕ) → (List Job → Type 0) → Type 0
-IsJobsInput left left' P = IsInput left left' (λ bytes. (jobs : List Job) × SpellsJobs bytes jobs × P jobs)
-
--- the jobs that were read were run on the budget, and P is true of their ends and their text
-abbrev pub IsRunInput : PoolOptions → Option (List ℕ) → Option (List ℕ) → (List Past → List ℕ → Type 0) → Type 0
-IsRunInput o left left' P =
-    IsJobsInput left left' (λ jobs. (ends : List Past) × (granted : ℕ)
-    × AreRun jobs o.budget ends granted × P ends (pool_text ends granted o.budget))
-
--- The printing of a pool: at Ok and at `Unfinished` the whole text was written of the jobs that were read, run on the
--- budget; at a fault of reading nothing was written, and the input is at fault as the answer says; nothing was written
--- where a worker was not started or the jobs were mixed up; at a failed write a front of the text was written; and so
--- too where memory was refused, unless nothing was written.
+-- jobs that were run on the budget are printed
 abbrev pub PrintsPool : PoolOptions → Option (List ℕ) → Option (List ℕ) → Option (List ℕ) → Option (List ℕ) →
     Result (Unit {0}) PrintFault → Type 0
-PrintsPool o left left' taken taken' (Ok done) =
-    IsRunInput o left left' (λ ends text. WritesPool taken taken' ends text (Ok done))
-PrintsPool o left left' taken taken' (Err Unfinished) =
-    IsRunInput o left left' (λ ends text. WritesPool taken taken' ends text (Err Unfinished))
-PrintsPool o left left' taken taken' (Err WriteFailed) =
-    IsRunInput o left left' (λ ends text. WritesPool taken taken' ends text (Err WriteFailed))
-PrintsPool o left left' taken taken' (Err NoMemory) =
-    Keeps taken taken' ⊎ IsRunInput o left left' (λ ends text. WritesPool taken taken' ends text (Err NoMemory))
-PrintsPool o left left' taken taken' (Err NotStarted) = IsJobsInput left left' (λ _. Keeps taken taken')
-PrintsPool o left left' taken taken' (Err Mixed) = IsJobsInput left left' (λ _. Keeps taken taken')
-PrintsPool o left left' taken taken' (Err ReadFailed) = StopsReading ReadFailed left left' × Keeps taken taken'
-PrintsPool o left left' taken taken' (Err TooLong) = StopsReading TooLong left left' × Keeps taken taken'
-PrintsPool o left left' taken taken' (Err NotJson) = IsInput left left' SpellsNothing × Keeps taken taken'
-PrintsPool o left left' taken taken' (Err NotAPlan) =
-    IsInput left left' (λ bytes. SpellsNoJobs bytes reading.NotAPlan) × Keeps taken taken'
-PrintsPool o left left' taken taken' (Err OutOfRange) =
-    IsInput left left' (λ bytes. SpellsNoJobs bytes (reading.Plan refused.OutOfRange)) × Keeps taken taken'
-PrintsPool o left left' taken taken' (Err TooDeep) =
-    IsInput left left' (λ bytes. SpellsNoJobs bytes (reading.Plan refused.TooDeep)) × Keeps taken taken'
-PrintsPool o left left' taken taken' (Err TooMany) =
-    IsInput left left' (λ bytes. SpellsNoJobs bytes (reading.Plan refused.TooMany)) × Keeps taken taken'
+PrintsPool o left left' taken taken' result = PrintsJobs (RunsOnBudget o) (Unit {0}) left left' taken taken' result

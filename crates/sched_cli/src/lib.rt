@@ -4,6 +4,7 @@
 
 mod check;
 mod commands;
+mod ended;
 mod faults;
 mod options;
 mod pools;

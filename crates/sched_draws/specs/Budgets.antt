@@ -2,7 +2,7 @@
 use Rattle.std.specs.Prelude.{◌≡◌, ℕ, ◌<◌, Bool, true, false, length, refl}
 use Rattle.std.proofs.Common.{inl, inr, arith, ap}
 use Rattle.sched_ticket.specs.Held.{Name, Held, IsOf}
-use Rattle.sched_ticket.specs.Calls.{Drew, DrewNone}
+use Rattle.sched_ticket.specs.Calls.{Drew, DrawRefused}
 use Rattle.sched_draws.specs.Counted.{count_after}
 use Rattle.sched_draws.specs.Grants.{Grants, Lawful}
 
@@ -14,7 +14,7 @@ pub record OfBudget : Type 0 where
 -- a draw: the pass gained a ticket, or it was refused
 abbrev pub BudgetDrew : OfBudget → Bool → OfBudget → Type 0
 BudgetDrew d true e = (e.budget ≡ d.budget) × (k : ℕ) × Drew d.pass.has k e.pass.has
-BudgetDrew d false e = (e.budget ≡ d.budget) × DrewNone d.pass.has e.pass.has
+BudgetDrew d false e = (e.budget ≡ d.budget) × DrawRefused d.pass.has e.pass.has
 
 abbrev pub budget_grants : Grants OfBudget
 budget_grants = record {

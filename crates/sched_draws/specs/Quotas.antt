@@ -2,7 +2,7 @@
 use Rattle.std.specs.Prelude.{◌≡◌, ℕ, ◌≤◌, ◌⊎◌, Bool, true, false, length, refl}
 use Rattle.std.proofs.Common.{inl, inr, arith, ap, subst, sym}
 use Rattle.sched_quota.specs.Held.{Name, Held, IsOf}
-use Rattle.sched_quota.specs.Calls.{Turned, Drew, DrewNone, HasNoRoom}
+use Rattle.sched_quota.specs.Calls.{Turned, Drew, DrawRefused, HasNoRoom}
 use Rattle.sched_quota.specs.declared.view.Terms.{Terms}
 use Rattle.sched_quota.specs.declared.view.View.{View}
 use Rattle.sched_draws.specs.Counted.{count_after}
@@ -16,7 +16,7 @@ pub record OfQuota : Type 0 where
 -- a draw at a moment: the pass gained a ticket of the moment's window or of a later one, or it was refused
 abbrev pub QuotaDrew : OfQuota → ℕ → Bool → OfQuota → Type 0
 QuotaDrew d now true e = (e.quota ≡ d.quota) × (t : ℕ) × Drew d.quota.terms now d.pass.has t e.pass.has
-QuotaDrew d now false e = (e.quota ≡ d.quota) × DrewNone d.quota.terms now d.pass.has e.pass.has
+QuotaDrew d now false e = (e.quota ≡ d.quota) × DrawRefused d.quota.terms now d.pass.has e.pass.has
 
 -- so many tickets were found given in the latest window as its requests allow, or 64 races were lost
 abbrev pub NoneLeft : Terms → View → Type 0

@@ -6,4 +6,6 @@ pub mod Replies
 pub mod Policies
 pub mod Drivers
 pub mod Passes
+pub mod Quotas
 pub mod Retries
+pub mod Journals

@@ -2,11 +2,11 @@
 use Rattle.std.specs.Prelude.{◌≡◌, ℕ, ◌<◌, ◌≤◌, Bool, false, length, Option, Some, Result, Ok, Err}
 use Rattle.std.specs.Global.{Global}
 use Rattle.std_alloc.specs.declared.boxed.Box.{Box}
-use Rattle.sched_ticket.specs.View.{terms, first_view, part_of, with_split, both}
-use Rattle.sched_ticket.specs.Calls.{Drew, DrewNone, SplitRefused, Raised, IsWhole}
-use Rattle.sched_host.specs.Share.{Share}
+use Rattle.sched_ticket.specs.View.{terms, first_view, part_of, with_split, joined_view}
+use Rattle.sched_ticket.specs.Calls.{Drew, DrawRefused, SplitRefused, Raised, IsWhole}
+use Rattle.sched_draws.specs.Budgets.{OfBudget}
 use Rattle.sched_host.specs.Worker.{CloseFails}
-use Rattle.sched_host.specs.declared.worker.CloseFault.TheVariants as close
+use Rattle.sched_host.specs.declared.close.CloseFault.TheVariants as close
 use Rattle.sched_handle.specs.Held.{IsOther, OtherKind}
 use Rattle.sched_handle.specs.declared.held.Held.{Held}
 use Rattle.sched_handle.specs.declared.held.Held.TheVariants.{Room, Pass}
@@ -24,36 +24,40 @@ NotMade limit _ = ⊥
 -- a budget of this limit is made, with its first pass, or none for this reason
 abbrev pub MakesBudget : ℕ → Bool → Result (Box Held Global) Status → Type 0
 MakesBudget limit rises (Ok b) =
-    (s : Share) × (b.value ≡ Pass s) × (s.budget.terms ≡ terms limit rises)
+    (s : OfBudget) × (b.value ≡ Pass s) × (s.budget.terms ≡ terms limit rises)
     × (s.pass.has ≡ first_view (terms limit rises))
 MakesBudget limit rises (Err s) = NotMade limit s
 
 -- a pass of the same budget, of which this is true
-abbrev pub IsPassOf : Share → Held → (Share → Type 0) → Type 0
-IsPassOf s v P = (t : Share) × (v ≡ Pass t) × (t.budget ≡ s.budget) × P t
+abbrev pub IsPassOf : OfBudget → Held → (OfBudget → Type 0) → Type 0
+IsPassOf s v P = (t : OfBudget) × (v ≡ Pass t) × (t.budget ≡ s.budget) × P t
 
-abbrev pub PassDraws : Share → Result ℕ Status → Held → Type 0
+abbrev pub PassDraws : OfBudget → Result ℕ Status → Held → Type 0
 PassDraws s (Ok k) v = IsPassOf s v (λ t. Drew s.pass.has k t.pass.has)
-PassDraws s (Err NoTicket) v = IsPassOf s v (λ t. DrewNone s.pass.has t.pass.has)
+PassDraws s (Err NoTicket) v = IsPassOf s v (λ t. DrawRefused s.pass.has t.pass.has)
 PassDraws s (Err _) v = ⊥
 
 abbrev pub Draws : Held → Result ℕ Status → Held → Type 0
 Draws (Pass s) r v = PassDraws s r v
 Draws u r v = OtherKind u r v
 
-abbrev pub PassSplits : Share → Result (Box Held Global) Status → Held → Type 0
+-- no pass is split off for this reason, which may be noted
+abbrev pub NoSplit : OfBudget → OfBudget → Status → Type 0
+NoSplit s t TooManyPasses = SplitRefused s.pass.has t.pass.has
+NoSplit s t NoMemory = t.pass.has ≡ s.pass.has
+NoSplit s t _ = ⊥
+
+abbrev pub PassSplits : OfBudget → Result (Box Held Global) Status → Held → Type 0
 PassSplits s (Ok b) v =
     IsPassOf s v (λ t. t.pass.has ≡ with_split s.pass.has)
     × IsPassOf s b.value (λ t. t.pass.has ≡ part_of s.pass.has)
-PassSplits s (Err TooManyPasses) v = IsPassOf s v (λ t. SplitRefused s.pass.has t.pass.has)
-PassSplits s (Err NoMemory) v = IsPassOf s v (λ t. t.pass.has ≡ s.pass.has)
-PassSplits s (Err _) v = ⊥
+PassSplits s (Err e) v = IsPassOf s v (λ t. NoSplit s t e)
 
 abbrev pub Splits : Held → Result (Box Held Global) Status → Held → Type 0
 Splits (Pass s) r v = PassSplits s r v
 Splits u r v = OtherKind u r v
 
-abbrev pub PassRaises : ℕ → Share → Result ℕ Status → Held → Type 0
+abbrev pub PassRaises : ℕ → OfBudget → Result ℕ Status → Held → Type 0
 PassRaises to s (Ok n) v = IsPassOf s v (λ t. Raised s.pass.has to n t.pass.has)
 PassRaises to s (Err LimitTooLarge) v = (4294967296 < to) × (v ≡ Pass s)
 PassRaises to s (Err Fixed) v = (s.budget.terms.rises ≡ false) × (to ≤ 4294967296) × (v ≡ Pass s)
@@ -65,27 +69,27 @@ Raises to u r v = OtherKind u r v
 
 -- how many tickets a pass has
 abbrev pub CountsTickets : Held → Result ℕ Status → Type 0
-CountsTickets u (Ok n) = (s : Share) × (u ≡ Pass s) × (n ≡ length s.pass.has.tickets)
+CountsTickets u (Ok n) = (s : OfBudget) × (u ≡ Pass s) × (n ≡ length s.pass.has.tickets)
 CountsTickets u (Err s) = IsOther kind.Pass u s
 
 -- passes of one budget
 abbrev pub IsShareOf : Held → Held → Type 0
-IsShareOf u v = (s t : Share) → u ≡ Pass s → v ≡ Pass t → t.budget ≡ s.budget
+IsShareOf u v = (s t : OfBudget) → u ≡ Pass s → v ≡ Pass t → t.budget ≡ s.budget
 
 -- handles of passes of one budget
 abbrev pub AreOfOneBudget : Option Held → Option Held → Type 0
-AreOfOneBudget u v = (s t : Share) → u ≡ Some (Pass s) → v ≡ Some (Pass t) → t.budget ≡ s.budget
+AreOfOneBudget u v = (s t : OfBudget) → u ≡ Some (Pass s) → v ≡ Some (Pass t) → t.budget ≡ s.budget
 
 -- one pass has what both had
 abbrev pub Joins : Held → Held → Held → Type 0
 Joins u v w =
-    (s t : Share) → u ≡ Pass s → v ≡ Pass t → IsPassOf s w (λ x. x.pass.has ≡ both s.pass.has t.pass.has)
+    (s t : OfBudget) → u ≡ Pass s → v ≡ Pass t → IsPassOf s w (λ x. x.pass.has ≡ joined_view s.pass.has t.pass.has)
 
 -- the budget of a pass is closed, or not: what comes back is as it was, but that the pass may be marked as one of
 -- several
-abbrev pub PassCloses : Share → Result ℕ Status → Held → Type 0
+abbrev pub PassCloses : OfBudget → Result ℕ Status → Held → Type 0
 PassCloses s (Ok n) v = (v ≡ Room) × (n ≡ length s.pass.has.tickets) × IsWhole s.budget.terms s.pass.has
-PassCloses s (Err PassesOut) v = (t : Share) × (v ≡ Pass t) × CloseFails s (close.PassesOut t)
+PassCloses s (Err PassesOut) v = (t : OfBudget) × (v ≡ Pass t) × CloseFails s (close.PassesOut t)
 PassCloses s (Err NoMemory) v = v ≡ Room
 PassCloses s (Err _) v = ⊥
 

@@ -8,23 +8,28 @@ use Rattle.sched_effect.specs.declared.ran.Ran.{Ran}
 use Rattle.sched_task.specs.declared.endings.How.{How}
 use Rattle.sched_task.specs.declared.endings.How.TheVariants as how
 use Rattle.sched_task.specs.declared.endings.RunFault.TheVariants as fault
-use Rattle.sched_draws.specs.Budgets.{OfBudget, budget_grants}
+use Rattle.sched_draws.specs.Budgets.{OfBudget}
+use Rattle.sched_draws.specs.Quotas.{OfQuota}
 use Rattle.sched_ticket.specs.View.{part_of, with_split}
-use Rattle.sched_ticket.specs.Calls.{SplitRefused}
+use Rattle.sched_quota.specs.View.{part_of as quota_part_of, without_part}
 use Rattle.sched_task_law.specs.Past.{Past, nothing_yet}
 use Rattle.sched_retry.specs.Retrying.{Retrying, gives_up}
 use Rattle.sched_host.specs.Host.{HostPoll, hears, next_of}
-use Rattle.sched_host.specs.Share.{Share}
+use Rattle.sched_host.specs.Drawing.{granted_by, drawing_grants}
+use Rattle.sched_host.specs.declared.drawing.Drawing.{Drawing}
+use Rattle.sched_host.specs.declared.drawing.Drawing.TheVariants as by
 use Rattle.sched_host.specs.declared.retry.Next.{Next}
 use Rattle.sched_host.specs.declared.retry.Next.TheVariants as next
-use Rattle.sched_handle.specs.Held.{IsOther, OtherKind}
-use Rattle.sched_handle.specs.Passes.{IsPassOf}
+use Rattle.sched_handle.specs.Held.{kind_of, IsOther, OtherKind, Wants}
+use Rattle.sched_handle.specs.Passes.{IsPassOf, NoSplit}
+use Rattle.sched_handle.specs.Quotas.{IsQuotaOf, NoQuotaSplit}
 use Rattle.sched_handle.specs.declared.held.Held.{Held}
-use Rattle.sched_handle.specs.declared.held.Held.TheVariants.{Policy, Pass, Retry}
+use Rattle.sched_handle.specs.declared.held.Held.TheVariants.{Room, Policy, Pass, Quota, Retry}
+use Rattle.sched_handle.specs.declared.held.Kind.{Kind}
 use Rattle.sched_handle.specs.declared.held.Kind.TheVariants as kind
 use Rattle.sched_handle.specs.declared.replies.Reply.{Reply}
 use Rattle.sched_handle.specs.declared.status.Status.{Status}
-use Rattle.sched_handle.specs.declared.status.Status.TheVariants.{WrongKind, NoMemory, TooManyPasses, NoRun}
+use Rattle.sched_handle.specs.declared.status.Status.TheVariants.{WrongKind, NoMemory, NoRun}
 
 -- the number by which C knows how a retry ended
 abbrev pub how_number : How → ℕ
@@ -47,18 +52,17 @@ reply_to (next.Over h) granted runs = record { what = 3; how = how_number h; unt
 abbrev pub reply_of : Past → Reply
 reply_of v = reply_to (next_of v) v.granted (length v.runs)
 
--- a retry that has not begun, of this policy and with a part of this pass, which has no ticket
-abbrev pub IsFresh : Schedule → Share → Held → Type 0
-IsFresh plan s v =
-    (r : Retrying OfBudget) × (v ≡ Retry r) × (r.past ≡ nothing_yet plan) × (r.had ≡ 0)
-    × (r.drawing.budget ≡ s.budget) × (r.drawing.pass.has ≡ part_of s.pass.has)
+-- a retry that has not begun, of this policy, and that draws by this
+abbrev pub IsFresh : Schedule → Drawing → Held → Type 0
+IsFresh plan d v =
+    (r : Retrying Drawing) × (v ≡ Retry r) × (r.past ≡ nothing_yet plan) × (r.drawing ≡ d) × (r.had ≡ granted_by d)
 
--- a retry of a policy is made with a pass
-abbrev pub PassRetries : Schedule → Share → Result (Box Held Global) Status → Held → Type 0
-PassRetries plan s (Ok b) v = IsPassOf s v (λ t. t.pass.has ≡ with_split s.pass.has) × IsFresh plan s b.value
-PassRetries plan s (Err TooManyPasses) v = IsPassOf s v (λ t. SplitRefused s.pass.has t.pass.has)
-PassRetries plan s (Err NoMemory) v = IsPassOf s v (λ t. t.pass.has ≡ s.pass.has)
-PassRetries plan s (Err _) v = ⊥
+-- a retry of a policy is made with a part of a pass, which has no ticket
+abbrev pub PassRetries : Schedule → OfBudget → Result (Box Held Global) Status → Held → Type 0
+PassRetries plan s (Ok b) v =
+    IsPassOf s v (λ t. t.pass.has ≡ with_split s.pass.has)
+    × (d : OfBudget) × IsFresh plan (by.Budget d) b.value × (d.budget ≡ s.budget) × (d.pass.has ≡ part_of s.pass.has)
+PassRetries plan s (Err e) v = IsPassOf s v (λ t. NoSplit s t e)
 
 -- with what is no pass, a retry is refused for this reason
 abbrev pub OtherRetries : Held → Result (Box Held Global) Status → Held → Type 0
@@ -72,13 +76,31 @@ Retries (Policy plan) (Pass s) r v = PassRetries plan s r v
 Retries (Policy plan) u r v = OtherRetries u r v
 Retries policy u r v = OtherKind u r v
 
+-- the same with a part of a pass of a quota
+abbrev pub QuotaRetries : Schedule → OfQuota → Result (Box Held Global) Status → Held → Type 0
+QuotaRetries plan s (Ok b) v =
+    IsQuotaOf s v (λ t. t.pass.has ≡ without_part s.pass.has)
+    × (d : OfQuota) × IsFresh plan (by.Quota d) b.value × (d.quota ≡ s.quota)
+    × (d.pass.has ≡ quota_part_of s.pass.has)
+QuotaRetries plan s (Err e) v = (v ≡ Quota s) × NoQuotaSplit s e
+
+abbrev pub RetriesOnQuota : Held → Held → Result (Box Held Global) Status → Held → Type 0
+RetriesOnQuota (Policy plan) (Quota s) r v = QuotaRetries plan s r v
+RetriesOnQuota (Policy plan) u r v = OtherRetries u r v
+RetriesOnQuota policy u r v = OtherKind u r v
+
+-- a retry of a policy is made that draws on nothing, or none for this reason
+abbrev pub RetriesUnlimited : Held → Result (Box Held Global) Status → Type 0
+RetriesUnlimited u (Ok b) = (plan : Schedule) × (u ≡ Policy plan) × IsFresh plan (by.Unlimited 0) b.value
+RetriesUnlimited u (Err s) = Wants kind.Policy u s
+
 -- a poll, after a report where there is one
-abbrev pub RetryPolls : Tick → Option Ran → Retrying OfBudget → Result Reply Status → Held → Type 0
+abbrev pub RetryPolls : Tick → Option Ran → Retrying Drawing → Result Reply Status → Held → Type 0
 RetryPolls t None r (Ok x) v =
-    (u : Retrying OfBudget) × (v ≡ Retry u) × HostPoll budget_grants r t [] u × (x ≡ reply_of u.past)
+    (u : Retrying Drawing) × (v ≡ Retry u) × HostPoll drawing_grants r t [] u × (x ≡ reply_of u.past)
 RetryPolls t (Some ran) r (Ok x) v =
-    (m u : Retrying OfBudget) × (v ≡ Retry u) × HostPoll budget_grants r t (ran ∷ []) m
-    × HostPoll budget_grants m t [] u × (x ≡ reply_of u.past)
+    (m u : Retrying Drawing) × (v ≡ Retry u) × HostPoll drawing_grants r t (ran ∷ []) m
+    × HostPoll drawing_grants m t [] u × (x ≡ reply_of u.past)
 RetryPolls t (Some ran) r (Err NoRun) v = (hears r.past ≡ false) × (v ≡ Retry r)
 RetryPolls t report r (Err _) v = ⊥
 
@@ -88,7 +110,7 @@ Polls t report u x v = OtherKind u x v
 
 -- what a retry is at
 abbrev pub Sees : Held → Result Reply Status → Type 0
-Sees u (Ok x) = (r : Retrying OfBudget) × (u ≡ Retry r) × (x ≡ reply_of r.past)
+Sees u (Ok x) = (r : Retrying Drawing) × (u ≡ Retry r) × (x ≡ reply_of r.past)
 Sees u (Err s) = IsOther kind.Retry u s
 
 -- a retry that is not over ends as cancelled
@@ -96,14 +118,29 @@ abbrev pub Cancels : Held → Result (Unit {0}) Status → Held → Type 0
 Cancels (Retry r) x v = (x ≡ Ok tt) × (v ≡ Retry (gives_up r))
 Cancels u x v = OtherKind u x v
 
+-- the pass of what draws, as a handle holds it; room where it draws on nothing
+abbrev pub pass_of : Drawing → Held
+pass_of (by.Budget d) = Pass d
+pass_of (by.Quota d) = Quota d
+pass_of (by.Unlimited n) = Room
+
+-- the kind of a retry's pass
+abbrev pub drawn_on : Held → Kind
+drawn_on (Retry r) = kind_of (pass_of r.drawing)
+drawn_on u = kind.Room
+
 -- the pass of a retry, with all its tickets
 abbrev pub GivesBack : Held → Held → Type 0
-GivesBack u v =
-    (r : Retrying OfBudget) × (t : Share) × (u ≡ Retry r) × (v ≡ Pass t)
-    × (t.budget ≡ r.drawing.budget) × (t.pass ≡ r.drawing.pass)
+GivesBack u v = (r : Retrying Drawing) × (u ≡ Retry r) × (v ≡ pass_of r.drawing)
 
 -- handles of a retry and of a pass of its budget
 abbrev pub IsOfItsBudget : Option Held → Option Held → Type 0
 IsOfItsBudget u v =
-    (r : Retrying OfBudget) (s : Share) → u ≡ Some (Retry r) → v ≡ Some (Pass s) →
-    r.drawing.budget ≡ s.budget
+    (r : Retrying Drawing) (d s : OfBudget) → u ≡ Some (Retry r) → pass_of r.drawing ≡ Pass d → v ≡ Some (Pass s) →
+    d.budget ≡ s.budget
+
+-- handles of a retry and of a pass of its quota
+abbrev pub IsOfItsQuota : Option Held → Option Held → Type 0
+IsOfItsQuota u v =
+    (r : Retrying Drawing) (d s : OfQuota) → u ≡ Some (Retry r) → pass_of r.drawing ≡ Quota d → v ≡ Some (Quota s) →
+    d.quota ≡ s.quota

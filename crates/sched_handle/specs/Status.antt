@@ -19,13 +19,18 @@ code_of status.Backwards = 20
 code_of status.JournalFull = 21
 code_of status.NoOutput = 22
 code_of status.NotANumber = 23
+code_of status.NoEvent = 24
 code_of status.LimitTooLarge = 30
 code_of status.Fixed = 31
 code_of status.NoTicket = 32
 code_of status.TooManyPasses = 33
 code_of status.PassesOut = 34
+code_of status.ReserveTooLarge = 35
+code_of status.ShareTooLarge = 36
+code_of status.PeriodTooShort = 37
 code_of status.NoSuchReport = 40
 code_of status.NoRun = 41
+code_of status.DrawsElsewhere = 42
 
 -- what a call that answers nothing else returns
 abbrev pub told : {A : Type 0} → Result A Status → ℕ

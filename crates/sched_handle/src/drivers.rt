@@ -28,6 +28,7 @@ impl Held {
             Held::Room => Err(Status::WrongKind),
             Held::Policy(_) => Err(Status::WrongKind),
             Held::Pass(_) => Err(Status::WrongKind),
+            Held::Quota(_) => Err(Status::WrongKind),
             Held::Retry(_) => Err(Status::WrongKind),
         }
     }
@@ -44,12 +45,13 @@ impl Held {
             Held::Room => Err(Status::WrongKind),
             Held::Policy(_) => Err(Status::WrongKind),
             Held::Pass(_) => Err(Status::WrongKind),
+            Held::Quota(_) => Err(Status::WrongKind),
             Held::Retry(_) => Err(Status::WrongKind),
         }
     }
 
     /// The driver, where it is one.
-    fn driven(&self) -> Result<&Driver, Status>
+    pub(crate) fn driven(&self) -> Result<&Driver, Status>
         ensures ok { IfOk result (λ driver. self.now ≡ what.Driver driver.now) }
         ensures err { IfErr result (IsOther kind.Driver self.now) }
     {
@@ -58,6 +60,7 @@ impl Held {
             Held::Room => Err(Status::WrongKind),
             Held::Policy(_) => Err(Status::WrongKind),
             Held::Pass(_) => Err(Status::WrongKind),
+            Held::Quota(_) => Err(Status::WrongKind),
             Held::Retry(_) => Err(Status::WrongKind),
         }
     }

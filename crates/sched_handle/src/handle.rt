@@ -1,5 +1,5 @@
 //! Handles.
-ghost use Rattle.std.specs.Prelude.{◌≡◌, Option, Some, None, is_some, option_map};
+ghost use Rattle.std.specs.Prelude.{◌≡◌, false, Option, Some, None, is_some, option_map};
 ghost use Rattle.sched_handle.specs.declared.held.Held.{Held as What};
 ghost use Rattle.sched_handle.specs.Handle.{handle_owns, what_coded};
 ghost use Rattle.sched_handle.specs.Fills.{Fills, Frees};
@@ -40,16 +40,21 @@ impl Handle {
 
     /// Puts this into a handle that holds nothing.
     pub fn put(&mut self, held: Box<Held>)
+        requires { self.old.held ≡ None }
         ensures { self.new.held ≡ Some held.value }
     {
-        let handle = mem::replace(self, Handle::of_parts(Parts::of(held)));
-        drop(handle);
+        let empty = mem::replace(self, Handle::of_parts(Parts::of(held)));
+        match empty.into_parts() {
+            None => {}
+            Some(_) => unreachable!(),
+        }
     }
 
     /// Whether the handle holds something.
     pub fn is_full(&mut self, alloc: Global) -> bool
         ensures full { result ≡ is_some self.old.held }
         ensures kept { self.new.held ≡ self.old.held }
+        ensures empty { result ≡ false → self.new.held ≡ None }
     {
         match self.take(alloc) {
             Some(held) => {
@@ -60,8 +65,9 @@ impl Handle {
         }
     }
 
-    /// Puts what was made into the handle, and answers the number of the status.
+    /// Puts what was made into a handle that holds nothing, and answers the number of the status.
     pub fn fill(&mut self, made: Result<Box<Held>, Status>) -> u32
+        requires { self.old.held ≡ None }
         ensures { Fills made self.old.held result self.new.held }
     {
         match made {

@@ -1,13 +1,14 @@
 //! What a handle holds.
-ghost use Rattle.std.specs.Prelude.{◌≡◌};
+ghost use Rattle.std.specs.Prelude.{◌≡◌, IfOk, IfErr};
 ghost use Rattle.sched_handle.specs.Held.{kind_of};
+ghost use Rattle.sched_handle.specs.declared.status.Status.TheVariants as status;
 
-use sched_draws::OnBudget;
+use crate::status::Status;
 use sched_driver::Driver;
-use sched_host::{HostRetry, Worker};
+use sched_host::{Drawing, HostRetry, QuotaWorker, Worker};
 use sched_plan::Plan;
-use sched_ticket::Budget;
-use std::sync::Arc;
+use std::alloc::Global;
+use std::mem;
 
 /// What a handle holds.
 #[derive(Drop)]
@@ -20,8 +21,10 @@ pub enum Held {
     Driver(Driver),
     /// A pass, with its budget.
     Pass(Worker),
+    /// A pass of a quota, with its quota.
+    Quota(QuotaWorker),
     /// A retry.
-    Retry(HostRetry<OnBudget<Arc<Budget>>>),
+    Retry(HostRetry<Drawing>),
 }
 
 /// Which kind of thing a handle holds.
@@ -33,8 +36,10 @@ pub enum Kind {
     Policy,
     /// A driver.
     Driver,
-    /// A pass.
+    /// A pass of a budget.
     Pass,
+    /// A pass of a quota.
+    Quota,
     /// A retry.
     Retry,
 }
@@ -49,7 +54,26 @@ impl Held {
             Held::Policy(_) => Kind::Policy,
             Held::Driver(_) => Kind::Driver,
             Held::Pass(_) => Kind::Pass,
+            Held::Quota(_) => Kind::Quota,
             Held::Retry(_) => Kind::Retry,
         }
+    }
+    /// The same in a block of its own.
+    pub(crate) fn boxed(self, alloc: Global) -> Result<Box<Held>, Status>
+        ensures ok { IfOk result (λ b. b.value ≡ self) }
+        ensures err { IfErr result (λ s. s ≡ status.NoMemory) }
+    {
+        match Box::new(alloc, self) {
+            Ok(held) => Ok(held),
+            Err(_) => Err(Status::NoMemory),
+        }
+    }
+
+    /// The same in the place of what is in this block.
+    pub(crate) fn within(self, mut room: Box<Held>) -> Box<Held>
+        ensures { result.value ≡ self }
+    {
+        let _ = mem::replace(&mut *room, self);
+        room
     }
 }

@@ -1,11 +1,11 @@
 //! Calls on passes.
-ghost use Rattle.std.specs.Prelude.{◌≡◌, ◌≢◌, true, false, IfOk, IfErr, IfSome, IfNone};
+ghost use Rattle.std.specs.Prelude.{◌≡◌, ◌≢◌, true, false, IfOk, IfErr, OnOk, IfSome, IfNone};
+ghost use Rattle.sched_ticket.specs.View.{part_of, with_split};
 ghost use Rattle.sched_handle.specs.Held.{kind_of};
-ghost use Rattle.sched_handle.specs.Passes.{MakesBudget, Draws, Splits, Raises, CountsTickets};
+ghost use Rattle.sched_handle.specs.Passes.{MakesBudget, Draws, Splits, NoSplit, Raises, CountsTickets};
 ghost use Rattle.sched_handle.specs.Passes.{IsShareOf, Joins, Closes};
 ghost use Rattle.sched_handle.specs.declared.held.Held.TheVariants as what;
 ghost use Rattle.sched_handle.specs.declared.held.Kind.TheVariants as kind;
-ghost use Rattle.sched_handle.specs.declared.status.Status.TheVariants as status;
 
 use crate::held::{Held, Kind};
 use crate::status::Status;
@@ -20,7 +20,7 @@ impl Held {
         ensures { MakesBudget limit false result }
     {
         match Worker::fixed(alloc, limit) {
-            Ok(worker) => boxed(alloc, worker),
+            Ok(worker) => Held::Pass(worker).boxed(alloc),
             Err(TicketFault::LimitTooLarge) => Err(Status::LimitTooLarge),
             Err(TicketFault::NoMemory) => Err(Status::NoMemory),
             Err(TicketFault::TooManyPasses) => Err(Status::TooManyPasses),
@@ -33,7 +33,7 @@ impl Held {
         ensures { MakesBudget limit true result }
     {
         match Worker::rising(alloc, limit) {
-            Ok(worker) => boxed(alloc, worker),
+            Ok(worker) => Held::Pass(worker).boxed(alloc),
             Err(TicketFault::LimitTooLarge) => Err(Status::LimitTooLarge),
             Err(TicketFault::NoMemory) => Err(Status::NoMemory),
             Err(TicketFault::TooManyPasses) => Err(Status::TooManyPasses),
@@ -53,6 +53,7 @@ impl Held {
             Held::Room => Err(Status::WrongKind),
             Held::Policy(_) => Err(Status::WrongKind),
             Held::Driver(_) => Err(Status::WrongKind),
+            Held::Quota(_) => Err(Status::WrongKind),
             Held::Retry(_) => Err(Status::WrongKind),
         }
     }
@@ -63,23 +64,14 @@ impl Held {
     {
         match self {
             Held::Pass(worker) => {
-                let Ok(mut room) = Box::new(alloc, Held::Room) else {
-                    return Err(Status::NoMemory);
-                };
-                match worker.split() {
-                    Ok(part) => {
-                        let _ = mem::replace(&mut *room, Held::Pass(part));
-                        Ok(room)
-                    }
-                    Err(TicketFault::LimitTooLarge) => Err(Status::LimitTooLarge),
-                    Err(TicketFault::NoMemory) => Err(Status::NoMemory),
-                    Err(TicketFault::TooManyPasses) => Err(Status::TooManyPasses),
-                    Err(TicketFault::Fixed) => Err(Status::Fixed),
-                }
+                let room = Held::Room.boxed(alloc)?;
+                let part = split_off(worker)?;
+                Ok(Held::Pass(part).within(room))
             }
             Held::Room => Err(Status::WrongKind),
             Held::Policy(_) => Err(Status::WrongKind),
             Held::Driver(_) => Err(Status::WrongKind),
+            Held::Quota(_) => Err(Status::WrongKind),
             Held::Retry(_) => Err(Status::WrongKind),
         }
     }
@@ -99,6 +91,7 @@ impl Held {
             Held::Room => Err(Status::WrongKind),
             Held::Policy(_) => Err(Status::WrongKind),
             Held::Driver(_) => Err(Status::WrongKind),
+            Held::Quota(_) => Err(Status::WrongKind),
             Held::Retry(_) => Err(Status::WrongKind),
         }
     }
@@ -112,6 +105,7 @@ impl Held {
             Held::Room => Err(Status::WrongKind),
             Held::Policy(_) => Err(Status::WrongKind),
             Held::Driver(_) => Err(Status::WrongKind),
+            Held::Quota(_) => Err(Status::WrongKind),
             Held::Retry(_) => Err(Status::WrongKind),
         }
     }
@@ -164,18 +158,25 @@ impl Held {
             Held::Room => None,
             Held::Policy(_) => None,
             Held::Driver(_) => None,
+            Held::Quota(_) => None,
             Held::Retry(_) => None,
         }
     }
 }
 
-// A pass in a block of its own.
-fn boxed(alloc: Global, worker: Worker) -> Result<Box<Held>, Status>
-    ensures ok { IfOk result (λ b. b.value ≡ what.Pass worker) }
-    ensures err { IfErr result (λ s. s ≡ status.NoMemory) }
+// A worker that is split off this one.
+pub(crate) fn split_off(worker: &mut Worker) -> Result<Worker, Status>
+    ensures budget { worker.new.budget ≡ worker.old.budget }
+    ensures ok { IfOk result
+        (λ part. (part.budget ≡ worker.old.budget) × (part.pass.has ≡ part_of worker.old.pass.has)) }
+    ensures kept { OnOk result (worker.new.pass.has ≡ with_split worker.old.pass.has) }
+    ensures err { IfErr result (NoSplit worker.old worker.new) }
 {
-    match Box::new(alloc, Held::Pass(worker)) {
-        Ok(held) => Ok(held),
-        Err(_) => Err(Status::NoMemory),
+    match worker.split() {
+        Ok(part) => Ok(part),
+        Err(TicketFault::LimitTooLarge) => Err(Status::LimitTooLarge),
+        Err(TicketFault::NoMemory) => Err(Status::NoMemory),
+        Err(TicketFault::TooManyPasses) => Err(Status::TooManyPasses),
+        Err(TicketFault::Fixed) => Err(Status::Fixed),
     }
 }

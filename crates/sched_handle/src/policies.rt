@@ -35,10 +35,7 @@ impl Held {
             Err(TextFault::TooMany) => return Err(Status::TooMany),
             Err(TextFault::NoMemory) => return Err(Status::NoMemory),
         };
-        match Box::new(alloc, Held::Policy(plan)) {
-            Ok(held) => Ok(held),
-            Err(_) => Err(Status::NoMemory),
-        }
+        Held::Policy(plan).boxed(alloc)
     }
 
     /// The policy, where it is one.
@@ -51,6 +48,7 @@ impl Held {
             Held::Room => Err(Status::WrongKind),
             Held::Driver(_) => Err(Status::WrongKind),
             Held::Pass(_) => Err(Status::WrongKind),
+            Held::Quota(_) => Err(Status::WrongKind),
             Held::Retry(_) => Err(Status::WrongKind),
         }
     }
@@ -63,10 +61,7 @@ impl Held {
         let Ok(plan) = plan.copy(alloc) else {
             return Err(Status::NoMemory);
         };
-        match Box::new(alloc, Held::Policy(plan)) {
-            Ok(held) => Ok(held),
-            Err(_) => Err(Status::NoMemory),
-        }
+        Held::Policy(plan).boxed(alloc)
     }
 
     /// How many nodes the policy has, and how deep it is.
@@ -85,10 +80,7 @@ impl Held {
         ensures { Drives self.now result }
     {
         let driver = self.fresh_driver(alloc)?;
-        match Box::new(alloc, Held::Driver(driver)) {
-            Ok(held) => Ok(held),
-            Err(_) => Err(Status::NoMemory),
-        }
+        Held::Driver(driver).boxed(alloc)
     }
 
     /// The same, not yet in a box.

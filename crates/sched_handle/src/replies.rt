@@ -31,6 +31,15 @@ pub struct Decided {
     pub goes_on: bool,
 }
 
+/// An event of a journal: its moment, its input and its random words.
+#[repr(C)]
+#[derive(Clone, Copy)]
+pub struct Noted {
+    pub now: u64,
+    pub input: u64,
+    pub words: [u32; 4],
+}
+
 /// What a retry is at.
 #[repr(C)]
 #[derive(Clone, Copy)]
@@ -45,6 +54,20 @@ pub struct Reply {
     pub granted: u64,
     /// How many runs were reported.
     pub runs: u64,
+}
+
+/// What is known of a window of a quota.
+#[repr(C)]
+#[derive(Clone, Copy)]
+pub struct Usage {
+    /// Which window it is, from 0 on.
+    pub window: u64,
+    /// The requests that were counted in it.
+    pub asked: u64,
+    /// The tickets that it has given out.
+    pub given: u64,
+    /// The tickets that it may yet give for the requests counted.
+    pub left: u64,
 }
 
 impl Decided {

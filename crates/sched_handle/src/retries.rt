@@ -1,21 +1,22 @@
 //! Calls on retries.
-ghost use Rattle.std.specs.Prelude.{◌≡◌};
+ghost use Rattle.std.specs.Prelude.{◌≡◌, []};
 ghost use Rattle.sched_handle.specs.Held.{kind_of};
-ghost use Rattle.sched_handle.specs.Retries.{Retries, Polls, Sees, Cancels, GivesBack, reply_of, how_number};
+ghost use Rattle.sched_handle.specs.Retries.{IsFresh, Retries, RetriesOnQuota, RetriesUnlimited};
+ghost use Rattle.sched_handle.specs.Retries.{Polls, Sees, Cancels, drawn_on, GivesBack, reply_of, how_number};
 ghost use Rattle.sched_handle.specs.declared.held.Kind.TheVariants as kind;
 
-use crate::held::Held;
+use crate::held::{Held, Kind};
+use crate::passes::split_off;
+use crate::quotas::split_off_quota;
 use crate::replies::Reply;
 use crate::status::Status;
-use sched_draws::OnBudget;
+use sched_draws::Unlimited;
+use sched_driver::Driver;
 use sched_effect::Ran;
-use sched_host::{HostRetry, Next, Worker};
+use sched_host::{Drawing, HostRetry, Next, QuotaWorker, Worker};
 use sched_task::{How, RunFault};
-use sched_ticket::{Budget, TicketFault};
 use sched_time::Tick;
 use std::alloc::Global;
-use std::mem;
-use std::sync::Arc;
 
 impl Held {
     /// A retry that has not begun, of a copy of the policy, with a pass that is split off.
@@ -25,28 +26,49 @@ impl Held {
         let driver = policy.fresh_driver(alloc)?;
         match pass {
             Held::Pass(worker) => {
-                let Ok(mut room) = Box::new(alloc, Held::Room) else {
-                    return Err(Status::NoMemory);
-                };
-                match worker.split() {
-                    Ok(part) => {
-                        let (pass, budget) = part.into_parts();
-                        let drawing = OnBudget::new(pass, budget);
-                        let retry = HostRetry::new(alloc, driver, drawing);
-                        let _ = mem::replace(&mut *room, Held::Retry(retry));
-                        Ok(room)
-                    }
-                    Err(TicketFault::LimitTooLarge) => Err(Status::LimitTooLarge),
-                    Err(TicketFault::NoMemory) => Err(Status::NoMemory),
-                    Err(TicketFault::TooManyPasses) => Err(Status::TooManyPasses),
-                    Err(TicketFault::Fixed) => Err(Status::Fixed),
-                }
+                let room = Held::Room.boxed(alloc)?;
+                let part = split_off(worker)?;
+                let drawing = Drawing::Budget(part.into_drawing());
+                Ok(fresh(alloc, driver, drawing).within(room))
             }
             Held::Room => Err(Status::WrongKind),
             Held::Policy(_) => Err(Status::WrongKind),
             Held::Driver(_) => Err(Status::WrongKind),
+            Held::Quota(_) => Err(Status::WrongKind),
             Held::Retry(_) => Err(Status::WrongKind),
         }
+    }
+
+    /// The same with a pass that is split off a quota's.
+    pub fn retry_on_quota(
+        alloc: Global,
+        policy: &Held,
+        quota: &mut Held,
+    ) -> Result<Box<Held>, Status>
+        ensures { RetriesOnQuota policy.now quota.old result quota.new }
+    {
+        let driver = policy.fresh_driver(alloc)?;
+        match quota {
+            Held::Quota(worker) => {
+                let room = Held::Room.boxed(alloc)?;
+                let part = split_off_quota(worker)?;
+                let drawing = Drawing::Quota(part.into_drawing());
+                Ok(fresh(alloc, driver, drawing).within(room))
+            }
+            Held::Room => Err(Status::WrongKind),
+            Held::Policy(_) => Err(Status::WrongKind),
+            Held::Driver(_) => Err(Status::WrongKind),
+            Held::Pass(_) => Err(Status::WrongKind),
+            Held::Retry(_) => Err(Status::WrongKind),
+        }
+    }
+
+    /// The same, drawing on nothing.
+    pub fn retry_unlimited(alloc: Global, policy: &Held) -> Result<Box<Held>, Status>
+        ensures { RetriesUnlimited policy.now result }
+    {
+        let driver = policy.fresh_driver(alloc)?;
+        fresh(alloc, driver, Drawing::Unlimited(Unlimited::new())).boxed(alloc)
     }
 
     /// Ends the run under way as it is reported, where one is, and begins one where one may begin.
@@ -67,6 +89,7 @@ impl Held {
             Held::Policy(_) => Err(Status::WrongKind),
             Held::Driver(_) => Err(Status::WrongKind),
             Held::Pass(_) => Err(Status::WrongKind),
+            Held::Quota(_) => Err(Status::WrongKind),
         }
     }
 
@@ -80,6 +103,7 @@ impl Held {
             Held::Policy(_) => Err(Status::WrongKind),
             Held::Driver(_) => Err(Status::WrongKind),
             Held::Pass(_) => Err(Status::WrongKind),
+            Held::Quota(_) => Err(Status::WrongKind),
         }
     }
 
@@ -96,10 +120,30 @@ impl Held {
             Held::Policy(_) => Err(Status::WrongKind),
             Held::Driver(_) => Err(Status::WrongKind),
             Held::Pass(_) => Err(Status::WrongKind),
+            Held::Quota(_) => Err(Status::WrongKind),
         }
     }
 
-    /// The pass of a retry, which is dropped.
+    /// Of which kind a handle is that a retry's pass can be joined into: room where it draws on nothing, or this is no
+    /// retry.
+    pub fn draws_on(&self) -> Kind
+        ensures { result ≡ drawn_on self.now }
+    {
+        match self {
+            Held::Retry(retry) => match retry.drawing() {
+                Drawing::Budget(_) => Kind::Pass,
+                Drawing::Quota(_) => Kind::Quota,
+                Drawing::Unlimited(_) => Kind::Room,
+            },
+            Held::Room => Kind::Room,
+            Held::Policy(_) => Kind::Room,
+            Held::Driver(_) => Kind::Room,
+            Held::Pass(_) => Kind::Room,
+            Held::Quota(_) => Kind::Room,
+        }
+    }
+
+    /// The pass of a retry, which is dropped; room where it drew on nothing.
     pub fn into_pass(self) -> Held
         requires { kind_of self ≡ kind.Retry }
         ensures { GivesBack self result }
@@ -107,19 +151,31 @@ impl Held {
         match self {
             Held::Retry(retry) => {
                 let (_, _, drawing) = retry.into_parts();
-                let (pass, budget) = drawing.into_parts();
-                Held::Pass(Worker::of_parts(pass, budget))
+                match drawing {
+                    Drawing::Budget(drawing) => Held::Pass(Worker::of_drawing(drawing)),
+                    Drawing::Quota(drawing) => Held::Quota(QuotaWorker::of_drawing(drawing)),
+                    Drawing::Unlimited(_) => Held::Room,
+                }
             }
             Held::Room => Held::Room,
             Held::Policy(_) => Held::Room,
             Held::Driver(_) => Held::Room,
             Held::Pass(_) => Held::Room,
+            Held::Quota(_) => Held::Room,
         }
     }
 }
 
+// A retry that has not begun.
+fn fresh(alloc: Global, driver: Driver, drawing: Drawing) -> Held
+    requires { driver.journal ≡ [] }
+    ensures { IsFresh driver.plan drawing result }
+{
+    Held::Retry(HostRetry::new(alloc, driver, drawing))
+}
+
 // What the retry is at, as C sees it.
-fn reply(retry: &HostRetry<OnBudget<Arc<Budget>>>) -> Reply
+fn reply(retry: &HostRetry<Drawing>) -> Reply
     ensures { result ≡ reply_of retry.now.past }
 {
     let granted = retry.granted();

@@ -52,27 +52,42 @@ pub enum Status {
     /// The output is no number.
     #[error("the output is not a number")]
     NotANumber,
+    /// The journal has no event of this number.
+    #[error("there is no such event")]
+    NoEvent,
     /// The limit is too large.
     #[error("the limit is more than 4294967296 tickets")]
     LimitTooLarge,
     /// The budget keeps its limit.
     #[error("the budget keeps its limit")]
     Fixed,
-    /// The budget has no ticket.
-    #[error("the budget has no ticket")]
+    /// There is no ticket.
+    #[error("there is no ticket")]
     NoTicket,
-    /// Too many passes were made.
-    #[error("more than 65536 passes of one budget")]
+    /// Too many passes were made, or the pass has no part to give.
+    #[error("no more passes can be split off")]
     TooManyPasses,
     /// Another pass is alive or was dropped.
-    #[error("another pass of the budget is alive or was dropped")]
+    #[error("another pass is alive or was dropped")]
     PassesOut,
+    /// The reserve is too large.
+    #[error("the reserve is more than 4294967296 tickets a window")]
+    ReserveTooLarge,
+    /// The share is too large.
+    #[error("the share is more than 1000 tickets a request")]
+    ShareTooLarge,
+    /// The period is 0.
+    #[error("the window is shorter than 1 ms")]
+    PeriodTooShort,
     /// The report is none that there is.
     #[error("there is no such report")]
     NoSuchReport,
     /// A run is reported, and none is under way.
     #[error("no run is under way")]
     NoRun,
+    /// The retry draws on something else.
+    #[error("the retry draws on something else")]
+    DrawsElsewhere,
 }
 
 impl Status {
@@ -96,13 +111,18 @@ impl Status {
             Status::JournalFull => 21,
             Status::NoOutput => 22,
             Status::NotANumber => 23,
+            Status::NoEvent => 24,
             Status::LimitTooLarge => 30,
             Status::Fixed => 31,
             Status::NoTicket => 32,
             Status::TooManyPasses => 33,
             Status::PassesOut => 34,
+            Status::ReserveTooLarge => 35,
+            Status::ShareTooLarge => 36,
+            Status::PeriodTooShort => 37,
             Status::NoSuchReport => 40,
             Status::NoRun => 41,
+            Status::DrawsElsewhere => 42,
         }
     }
 }

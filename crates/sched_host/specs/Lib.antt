@@ -1,4 +1,4 @@
-pub mod Share
+pub mod Drawing
 pub mod Hosted
 pub mod Host
 pub mod Worker

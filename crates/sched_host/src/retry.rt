@@ -169,6 +169,13 @@ impl<D: Draws> HostRetry<D> {
         self.drawing.granted() - self.had
     }
 
+    /// What it draws by.
+    pub fn drawing(&self) -> &D
+        ensures { result.now ≡ self.now.drawing }
+    {
+        &self.drawing
+    }
+
     /// The driver, how the runs went, and what it drew by, with all its tickets.
     pub fn into_parts(self) -> (Driver, Vec<Ran>, D)
         ensures driver { result.0 ≡ self.past.driver }

@@ -1,19 +1,18 @@
 //! A budget as one worker holds it.
 ghost use Rattle.std.specs.Prelude.{◌≡◌, ◌+◌, ◌<◌, ◌≤◌, true, false, length, min, None};
 ghost use Rattle.std.specs.Prelude.{IfOk, IfErr, OnOk, IfSome, IfNone};
-ghost use Rattle.sched_ticket.specs.View.{terms, first_view, part_of, with_split, both};
+ghost use Rattle.sched_ticket.specs.View.{terms, first_view, part_of, with_split, joined_view};
 ghost use Rattle.sched_ticket.specs.Steps.{IsSound};
-ghost use Rattle.sched_ticket.specs.Held.{IsOf};
 ghost use Rattle.sched_ticket.specs.Lists.{AreBelow};
-ghost use Rattle.sched_ticket.specs.Calls.{Drew, DrewNone, Raised, RefusesLimit, RefusesRaise, IsWhole};
+ghost use Rattle.sched_ticket.specs.Calls.{Drew, DrawRefused, Raised, RefusesLimit, RefusesRaise, IsWhole};
 ghost use Rattle.sched_host.specs.Worker.{SplitFails, CloseFails};
 
+use crate::close::CloseFault;
+use sched_draws::OnBudget;
 use sched_ticket::{Budget, Pass, TicketFault};
 use std::alloc::Global;
-use std::fmt;
 use std::marker::Model;
 use std::sync::Arc;
-use thiserror::Error;
 
 /// A pass with its budget, which the passes of other workers share. The budget lives as long as one of them.
 #[derive(Drop)]
@@ -23,35 +22,15 @@ pub struct Worker {
 }
 
 impl Model for Worker {
-    ghost use Rattle.sched_host.specs.Share.{Share};
+    ghost use Rattle.sched_draws.specs.Budgets.{OfBudget};
 
-    ghost Value = { Share };
+    ghost Value = { OfBudget };
 
     ghost use Rattle.sched_ticket.specs.Held.{IsOf};
 
-    ghost view = { λ w. record { budget = w.budget.value; pass = w.pass } };
+    ghost view = { λ w. record { pass = w.pass; budget = w.budget.value } };
 
     ghost invariant = { λ w. IsOf w.budget.value w.pass };
-}
-
-/// Why a worker did not close its budget.
-#[derive(Drop, Error)]
-pub enum CloseFault {
-    /// Another pass of the budget is alive or was dropped. The worker is as before.
-    #[error("another pass of the budget is alive or was dropped")]
-    PassesOut(Worker),
-    /// Another pass was dropped, and there was no memory to share the budget again. The worker was dropped.
-    #[error("no memory")]
-    NoMemory,
-}
-
-impl fmt::Debug for CloseFault {
-    fn fmt<W: fmt::Write>(&self, f: &mut fmt::Formatter<W>) -> fmt::Result {
-        f.write_str(match self {
-            CloseFault::PassesOut(_) => "PassesOut",
-            CloseFault::NoMemory => "NoMemory",
-        })
-    }
 }
 
 impl Worker {
@@ -83,30 +62,27 @@ impl Worker {
         }
     }
 
-    /// The worker of this pass.
-    pub fn of_parts(pass: Pass, budget: Arc<Budget>) -> Worker
-        requires { IsOf budget.value pass }
-        ensures pass { result.pass ≡ pass }
-        ensures budget { result.budget ≡ budget.value }
+    /// The worker that has what a retry drew by.
+    pub fn of_drawing(drawing: OnBudget<Arc<Budget>>) -> Worker
+        ensures { result ≡ drawing }
     {
+        let (pass, budget) = drawing.into_parts();
         Worker { pass, budget }
     }
 
-    /// The pass and the budget.
-    pub fn into_parts(self) -> (Pass, Arc<Budget>)
-        ensures pass { result.0 ≡ self.pass }
-        ensures budget { result.1.value ≡ self.budget }
-        ensures of { IsOf result.1.value result.0 }
+    /// What a retry draws by that has this worker's pass.
+    pub fn into_drawing(self) -> OnBudget<Arc<Budget>>
+        ensures { result ≡ self }
     {
         let Worker { pass, budget } = self;
-        (pass, budget)
+        OnBudget::new(pass, budget)
     }
 
     /// A ticket below the limit, or None, and then None for good.
     pub fn draw(&mut self) -> Option<u64>
         ensures budget { self.new.budget ≡ self.old.budget }
         ensures some { IfSome result (λ k. Drew self.old.pass.has k self.new.pass.has) }
-        ensures none { IfNone result (DrewNone self.old.pass.has self.new.pass.has) }
+        ensures none { IfNone result (DrawRefused self.old.pass.has self.new.pass.has) }
         ensures again { 0 < length self.old.pass.has.refusals → (result ≡ None) × (self.new ≡ self.old) }
     {
         self.pass.draw(&self.budget)
@@ -131,7 +107,7 @@ impl Worker {
     pub fn join(self, other: Worker) -> Worker
         requires { other.budget ≡ self.budget }
         ensures budget { result.budget ≡ self.budget }
-        ensures both { result.pass.has ≡ both self.pass.has other.pass.has }
+        ensures joined { result.pass.has ≡ joined_view self.pass.has other.pass.has }
         ensures sound { IsSound result.pass.has }
     {
         let Worker { pass, budget } = self;
@@ -157,7 +133,7 @@ impl Worker {
     }
 
     /// The number of tickets drawn, where this worker's pass stands for all passes of the budget.
-    pub fn close(self, alloc: Global) -> Result<u64, CloseFault>
+    pub fn close(self, alloc: Global) -> Result<u64, CloseFault<Worker>>
         ensures count { IfOk result (λ n. n ≡ length self.pass.has.tickets) }
         ensures whole { OnOk result (IsWhole self.budget.terms self.pass.has) }
         ensures fixed { IfOk result (λ n. self.budget.terms.rises ≡ false →

@@ -3,7 +3,7 @@ use Rattle.std.proofs.Common.{◌≡◌, ℕ, suc, ◌+◌, ◌<◌, ◌≤◌, 
 use Rattle.std.specs.Prelude.{All, slice_index_or}
 use Rattle.std.proofs.lemmas.List.Elements.{All-nil, All-push}
 use Rattle.sched_ticket.specs.Lists.{total}
-use Rattle.sched_ticket.specs.View.{both}
+use Rattle.sched_ticket.specs.View.{joined_view}
 use Rattle.sched_ticket.specs.Steps.{IsSound, IsWithin}
 use Rattle.sched_ticket.specs.Calls.{IsWhole}
 use Rattle.sched_ticket.specs.Held.{Name, Held, IsOf}
@@ -79,18 +79,18 @@ count_taken b n before ends pass granted h =
     )
 
 -- a pass keeps its refusals where another is joined into it
-more_refused : (p mine q : Held) → q.has ≡ both p.has mine.has → (v : Past) → IsRefusedBy p v → IsRefusedBy q v
+more_refused : (p mine q : Held) → q.has ≡ joined_view p.has mine.has → (v : Past) → IsRefusedBy p v → IsRefusedBy q v
 more_refused p mine q join v refused = λ denied.
     omega (arith, refused denied, ap (λ (w : View). length w.refusals) join, length-append p.has.refusals mine.has.refusals)
 
-its_refusal : (p mine q : Held) → q.has ≡ both p.has mine.has → (v : Past) → IsRefusedBy mine v → IsRefusedBy q v
+its_refusal : (p mine q : Held) → q.has ≡ joined_view p.has mine.has → (v : Past) → IsRefusedBy mine v → IsRefusedBy q v
 its_refusal p mine q join v refused = λ denied.
     omega (arith, refused denied, ap (λ (w : View). length w.refusals) join, length-append p.has.refusals mine.has.refusals)
 
 -- one more job is taken back, with its pass
 pub one_taken : (b : Name) (n : ℕ) (before p mine q : Held) (ends : List Past) (granted : ℕ) (v : Past) →
     IsEnd b n before ends p granted → Law retry v → v.granted ≡ length mine.has.tickets → IsRefusedBy mine v →
-    IsOf b q → q.has ≡ both p.has mine.has → IsSound q.has → IsEnd b (n + 1) before (ends ++ v ∷ []) q (granted + v.granted)
+    IsOf b q → q.has ≡ joined_view p.has mine.has → IsSound q.has → IsEnd b (n + 1) before (ends ++ v ∷ []) q (granted + v.granted)
 one_taken b n before p mine q ends granted v h law same refused of join sound =
     let f : Past → ℕ = λ w. w.granted in
     let counted : length q.has.tickets ≡ length before.has.tickets + (granted + v.granted) = omega (

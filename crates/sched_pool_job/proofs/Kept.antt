@@ -7,7 +7,8 @@ use Rattle.sched_driver.specs.Driven.{Driven, next_start_of}
 use Rattle.sched_effect.specs.declared.ran.Ran.{Ran}
 use Rattle.sched_task.specs.declared.endings.How.{How}
 use Rattle.sched_task.specs.declared.endings.How.TheVariants.{Won, ScheduleDone, BudgetRefused, Failed, Cancelled, Broken}
-use Rattle.sched_ticket.specs.Held.{Name, Held}
+use Rattle.sched_ticket.specs.Held.{Name}
+use Rattle.sched_draws.specs.Grants.{Grants}
 use Rattle.sched_draws.specs.Budgets.{OfBudget, budget_grants}
 use Rattle.sched_task_law.specs.Kind.{Kind, retry}
 use Rattle.sched_task_law.specs.Past.{Past, schedule_is_done, is_under_way, waits_for}
@@ -16,7 +17,7 @@ use Rattle.sched_task_law.specs.Law.{Law, Ended}
 use Rattle.sched_task_law.proofs.Law.{or_false}
 use Rattle.sched_task_law.proofs.Lists.{by_test}
 use Rattle.sched_task_law.proofs.Fields.{none_of}
-use Rattle.sched_retry.specs.Retrying.{Retrying, RetryLaw, RetryPoll, gives_up}
+use Rattle.sched_retry.specs.Retrying.{Retrying, RetryPoll, gives_up}
 use Rattle.sched_pool_job.specs.Jobs.{IsJob}
 use Rattle.sched_pool_job.specs.Ends.{is_refused, ended}
 
@@ -38,14 +39,19 @@ stays_over kind v t asks may over = absurd (none_is v.over may.unended over)
 stays_over kind v t cannot_ask may over = absurd (none_is v.over may.unended over)
 stays_over kind v t falls may over = absurd (none_is v.over may.unended over)
 
+-- a retry whose ending was not taken keeps it in a poll
+pub polled_untaken : {D : Type 0} (grants : Grants D) (v u : Retrying D) (t : Tick) (ready : Bool) →
+    v.untaken ≡ is_some v.past.over → RetryPoll grants retry v t ready u → u.untaken ≡ is_some u.past.over
+polled_untaken grants v u t ready untaken poll = by_test (is_some v.past.over)
+    (λ yes. poll.untaken ∙ rw yes (untaken ∙ ap (λ (w : Past). is_some w.over) (sym (poll.poll.leaves ∙ stays_over retry v.past t poll.poll.happened poll.poll.may yes))))
+    (λ no. poll.untaken ∙ rw no poll.poll.ready_is)
+
 pub polled : (b : Name) (v u : Retrying OfBudget) (t : Tick) (ready : Bool) →
     IsJob b v → RetryPoll budget_grants retry v t ready u → IsJob b u
 polled b v u t ready job poll = record {
   of = poll.budget ∙ job.of;
   had = poll.had ∙ job.had;
-  untaken = by_test (is_some v.past.over)
-      (λ yes. poll.untaken ∙ rw yes (job.untaken ∙ ap (λ (w : Past). is_some w.over) (sym (poll.poll.leaves ∙ stays_over retry v.past t poll.poll.happened poll.poll.may yes))))
-      (λ no. poll.untaken ∙ rw no poll.poll.ready_is);
+  untaken = polled_untaken budget_grants v u t ready job.untaken poll;
 }
 
 pub cancels : (b : Name) (v : Retrying OfBudget) → IsJob b v → IsJob b (gives_up v)
@@ -78,19 +84,13 @@ denied_by v (Some Failed) ended = absurd (let bad = ended.0 in cc)
 denied_by v (Some Cancelled) ended = (or_false v.denied (schedule_is_done v.driver) (ended refl)).0
 denied_by v (Some (Broken fault)) ended = (or_false v.denied (schedule_is_done v.driver) (ended.0 refl)).0
 
--- what is left of a retry says what it has done: the tickets of a pass that had none before are those granted
-pub end_is : (v : Retrying OfBudget) → v.had ≡ 0 → RetryLaw budget_grants retry v →
-    ended v.past.driver v.past.runs v.past.begun v.past.over (length v.drawing.pass.has.tickets) ≡ v.past
-end_is v had law =
-    ap (λ n. ended v.past.driver v.past.runs v.past.begun v.past.over n) (omega (arith, law.granted, had))
-    ∙ ap (λ b. record v.past { denied = b }) (sym (denied_by v.past v.past.over law.law.ended))
+-- what is left of a retry says what it has done
+pub end_is : (v : Past) → Law retry v → ended v.driver v.runs v.begun v.over v.granted ≡ v
+end_is v law = ap (λ b. record v { denied = b }) (sym (denied_by v v.over law.ended))
 
 -- and keeps its law
-pub law_left : (v : Retrying OfBudget) (drawing : OfBudget) (pass : Held) (driver : Driven) (runs : List Ran) (begun : List ℕ)
-    (over : Option How) (granted : ℕ) → RetryLaw budget_grants retry v → v.had ≡ 0 →
-    drawing ≡ v.drawing → pass ≡ drawing.pass → granted ≡ length pass.has.tickets →
-    driver ≡ v.past.driver → runs ≡ v.past.runs → begun ≡ v.past.begun → over ≡ v.past.over →
+pub law_left : (v : Past) (driver : Driven) (runs : List Ran) (begun : List ℕ) (over : Option How) (granted : ℕ) → Law retry v →
+    driver ≡ v.driver → runs ≡ v.runs → begun ≡ v.begun → over ≡ v.over → granted ≡ v.granted →
     Law retry (ended driver runs begun over granted)
-law_left v drawing pass driver runs begun over granted law had is_drawing is_pass is_granted is_driver is_runs is_begun is_over =
-    rw (is_driver, is_runs, is_begun, is_over, is_granted, is_pass, is_drawing)
-    (subst (λ (p : Past). Law retry p) (sym (end_is v had law)) law.law)
+law_left v driver runs begun over granted law is_driver is_runs is_begun is_over is_granted =
+    rw (is_driver, is_runs, is_begun, is_over, is_granted) (subst (λ (p : Past). Law retry p) (sym (end_is v law)) law)

@@ -1,18 +1,15 @@
 //! What is left of a job.
-ghost use Rattle.std.specs.Prelude.{◌≡◌, ◌+◌, length, is_some, IfSome};
-ghost use Rattle.sched_ticket.specs.Held.{IsOf};
+ghost use Rattle.std.specs.Prelude.{◌≡◌, ◌+◌, true, length, is_some, IfSome};
 ghost use Rattle.sched_task_law.specs.Kind.{retry};
 ghost use Rattle.sched_task_law.specs.Past.{bit};
 ghost use Rattle.sched_task_law.specs.Law.{Law, is_stop};
 ghost use Rattle.sched_retry.specs.Ending.{EndingFits};
-ghost use Rattle.sched_pool_job.specs.Ends.{IsRefusedBy};
 
-use sched_draws::OnBudget;
+use sched_draws::Draws;
 use sched_driver::Driver;
 use sched_effect::{Coded, Effect};
 use sched_retry::{Ending, Retry, Whole};
 use sched_task::How;
-use sched_ticket::{Budget, Pass};
 use sched_time::Moment;
 use std::marker::Model;
 
@@ -49,17 +46,17 @@ impl<X: Effect> Model for JobEnd<X> {
 }
 
 impl<X: Effect> JobEnd<X> {
-    // The end of a retry, and its pass, which had no ticket before it.
-    pub(crate) fn of_retry(task: Retry<X, OnBudget<&'_ Budget>>) -> (JobEnd<X>, Pass)
+    /// The end of a retry whose ending was not taken, and what it drew by, with all its tickets. It takes no memory.
+    pub fn of_retry<D: Draws>(task: Retry<X, D>) -> (JobEnd<X>, D)
         requires untaken { task.untaken ≡ is_some task.past.over }
-        requires had { task.had ≡ 0 }
-        ensures end { result.0 ≡ task.entry.past }
-        ensures pass { result.1 ≡ task.entry.drawing.pass }
-        ensures of { IsOf task.entry.drawing.budget result.1 }
-        ensures granted { result.0.granted ≡ length result.1.has.tickets }
-        ensures refused { IsRefusedBy result.1 result.0 }
+        ensures end { result.0 ≡ task.past }
         ensures law { Law retry result.0 }
+        ensures drawing { result.1 ≡ task.drawing }
+        ensures stands { D.grants.stands result.1 }
+        ensures granted { D.grants.granted result.1 ≡ task.had + result.0.granted }
+        ensures refused { result.0.denied ≡ true → D.grants.refused result.1 }
     {
+        let granted = task.granted();
         let Whole {
             effect,
             driver,
@@ -69,8 +66,6 @@ impl<X: Effect> JobEnd<X> {
             drawing,
             had: _,
         } = task.into_whole();
-        let (pass, _) = drawing.into_parts();
-        let granted = pass.count();
         let end = JobEnd {
             effect,
             driver,
@@ -79,7 +74,7 @@ impl<X: Effect> JobEnd<X> {
             ending,
             granted,
         };
-        (end, pass)
+        (end, drawing)
     }
 
     /// The effect, with its finished runs.

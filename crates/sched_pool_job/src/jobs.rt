@@ -80,7 +80,9 @@ impl<'a, X: Effect, N: Naming> Job<'a, X, N> {
         ensures law { Law retry result.0 }
     {
         let Job { retry, name: _ } = self;
-        JobEnd::of_retry(retry)
+        let (end, drawing) = JobEnd::of_retry(retry);
+        let (pass, _) = drawing.into_parts();
+        (end, pass)
     }
 }
 

@@ -9,7 +9,7 @@ use Rattle.atomic_table.proofs.Lists.{at_set, at_snoc, set_else}
 use Rattle.sched_ticket.specs.Lists.{total, times, is}
 use Rattle.sched_ticket.proofs.Sums.{total-append, total-set, total-le, Each-append, alone}
 use Rattle.sched_quota.specs.Windows.{first_of, allowed, within, count_in}
-use Rattle.sched_quota.specs.View.{part, first_view, without_part, part_of, both, blank_view}
+use Rattle.sched_quota.specs.View.{part, first_view, without_part, part_of, joined_view, blank_view}
 use Rattle.sched_quota.specs.Rule.{ticket_weight, request_weight, tickets_in, requests_in, weights, may_count, IsAllowed, Fits, IsOrderly, drawn_of, asked_of, IsKept}
 use Rattle.sched_quota.specs.Calls.{IsWhole}
 use Rattle.sched_quota.specs.declared.view.Terms.{Terms}
@@ -30,11 +30,11 @@ may_count-cut v more = let p = part-some v.weight more in dite (dec_le 128849018
     (λ full. omega (arith, may_count-no (without_part v) full, may_count-no (part_of v) full))
     (λ not. let may : v.told < 12884901888000000000 = lt_of_not-le not in omega (arith, may_count-yes (without_part v) may, may_count-yes (part_of v) may, may_count-yes v may))
 
-may_count-both : (v w : View) → may_count (both v w) ≤ may_count v + may_count w
-may_count-both v w = dite (dec_le 12884901888000000000 (max v.told w.told))
-    (λ full. omega (arith, may_count-no (both v w) full))
+may_count-joined : (v w : View) → may_count (joined_view v w) ≤ may_count v + may_count w
+may_count-joined v w = dite (dec_le 12884901888000000000 (max v.told w.told))
+    (λ full. omega (arith, may_count-no (joined_view v w) full))
     (λ not. let may : max v.told w.told < 12884901888000000000 = lt_of_not-le not in
-    omega (arith, may_count-yes (both v w) may, may_count-yes v (omega arith), may_count-yes w (omega arith)))
+    omega (arith, may_count-yes (joined_view v w) may, may_count-yes v (omega arith), may_count-yes w (omega arith)))
 
 module _ (k : Terms) where
   pub splits_ok : (id : ℕ) (v : View) → 1 < v.weight → Splits (IsKept k) id v (without_part v) (part_of v)
@@ -85,13 +85,13 @@ module _ (k : Terms) where
         };
       }
 
-  pub joins_ok : (id : ℕ) (v : View) (other : ℕ) (w : View) → 0 < v.weight → Joins (IsKept k) id v other w (both v w) blank_view
+  pub joins_ok : (id : ℕ) (v : View) (other : ℕ) (w : View) → 0 < v.weight → Joins (IsKept k) id v other w (joined_view v w) blank_view
   joins_ok id v other w live s kept at apart there =
       let views : List View = s.views in
       let o : IsOrderly k (drawn_of s) kept.window (asked_of s) kept.latest views = kept.orderly in
-      let at-other : get_elem? views other ≡ some w = sym (set_else views id other (both v w) apart) ∙ there in
+      let at-other : get_elem? views other ≡ some w = sym (set_else views id other (joined_view v w) apart) ∙ there in
       let f = o.each id v at in
-      let joined : View = both v w in
+      let joined : View = joined_view v w in
       let middle : List View = set views id joined in
       let after : List View = set middle other blank_view in
       let sums : (g : View → ℕ) → total g after + g w + g v ≡ total g views + g joined + g blank_view = λ g. omega (arith, total-set g views id v joined at, total-set g middle other w blank_view there) in
@@ -136,7 +136,7 @@ module _ (k : Terms) where
             all = λ h. omega (arith, sums (request_weight h), total-append h v.requests w.requests, o.counted.all h);
             from = o.counted.from;
             opened = λ some-window. omega (arith, sums (λ (u : View). times (first_of kept.latest) u.opened), total-append (is (first_of kept.latest)) v.opened w.opened, o.counted.opened some-window);
-            small = omega (arith, sums may_count, may_count-both v w, may_count-le blank_view, o.counted.small);
+            small = omega (arith, sums may_count, may_count-joined v w, may_count-le blank_view, o.counted.small);
           };
           behind = o.behind;
           parts = omega (arith, sums (λ (u : View). u.weight), o.parts);

@@ -73,8 +73,8 @@ abbrev pub Drew : Terms → ℕ → View → ℕ → View → Type 0
 Drew k now v t w = (u : View) × Turned k now v u × Won k u t w
 
 -- a draw that was refused
-abbrev pub DrewNone : Terms → ℕ → View → View → Type 0
-DrewNone k now v w = (u : View) × Turned k now v u × WonNone k u w
+abbrev pub DrawRefused : Terms → ℕ → View → View → Type 0
+DrawRefused k now v w = (u : View) × Turned k now v u × WonNone k u w
 
 -- what is known of the latest window: the requests as they were read, the tickets as they were found, and what is left
 pub record Told (k : Terms) (now : ℕ) (v w : View) (told : Usage) : Type 0 where

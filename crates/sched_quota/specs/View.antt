@@ -65,8 +65,8 @@ abbrev pub part_of : View → View
 part_of v = fresh_view v.terms v.seen v.told v.found (part v.weight)
 
 -- two passes joined: what both have
-abbrev pub both : View → View → View
-both v w = record {
+abbrev pub joined_view : View → View → View
+joined_view v w = record {
   terms = v.terms;
   tickets = v.tickets ++ w.tickets;
   requests = v.requests ++ w.requests;

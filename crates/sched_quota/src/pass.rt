@@ -3,10 +3,11 @@ ghost use Rattle.std.specs.Prelude.{◌≡◌, ◌+◌, ◌-◌, ◌*◌, ◌/�
 ghost use Rattle.std.specs.Prelude.{IfOk, IfErr, OnOk, IfSome, IfNone, MatchOption};
 ghost use Rattle.sched_quota.specs.Windows.{window_of, first_of, window_at, opening, allowed, floor_of};
 ghost use Rattle.sched_quota.specs.View.{fresh_view, with_reading, with_opening, with_ticket, next_ticket};
-ghost use Rattle.sched_quota.specs.View.{without_part, part_of, part, both};
+ghost use Rattle.sched_quota.specs.View.{without_part, part_of, part, joined_view};
 ghost use Rattle.sched_quota.specs.Steps.{IsLater, IsSound, IsNoLater};
 ghost use Rattle.sched_quota.specs.Held.{AreTerms, IsOf};
-ghost use Rattle.sched_quota.specs.Calls.{Meets, Opens, Turned, Deposited, Tried, Drew, DrewNone, Won, WonNone, Told};
+ghost use Rattle.sched_quota.specs.Calls.{Meets, Opens, Turned, Deposited, Tried};
+ghost use Rattle.sched_quota.specs.Calls.{Drew, DrawRefused, Won, WonNone, Told};
 
 use crate::fault::QuotaFault;
 use crate::quota::{DRAWS, LAST_WINDOW, NUMBERS, Quota, REQUESTS};
@@ -111,7 +112,7 @@ impl Pass {
         requires { IsOf quota.now self.old }
         ensures of { IsOf quota.now self.new }
         ensures some { IfSome result (λ t. Drew quota.now.terms now self.old.has t self.new.has) }
-        ensures none { IfNone result (DrewNone quota.now.terms now self.old.has self.new.has) }
+        ensures none { IfNone result (DrawRefused quota.now.terms now self.old.has self.new.has) }
         ensures tickets { MatchOption result
             (self.new.has.tickets ≡ self.old.has.tickets) (λ t. self.new.has.tickets ≡ t ∷ self.old.has.tickets) }
     {
@@ -147,7 +148,7 @@ impl Pass {
         requires this { IsOf quota.now self }
         requires that { IsOf quota.now other }
         ensures of { IsOf quota.now result }
-        ensures both { result.has ≡ both self.has other.has }
+        ensures joined { result.has ≡ joined_view self.has other.has }
         ensures sound { IsSound result.has }
     {
         let Pass {

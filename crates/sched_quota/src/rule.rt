@@ -11,7 +11,7 @@
 //! | `Merge` | none changes | takes in another pass, which is spent |
 //! | `Learn` | none changes | learns that its tickets are distinct |
 ghost use Rattle.sched_quota.specs.Rule.{IsKept};
-ghost use Rattle.sched_quota.specs.View.{first_view, blank_view, without_part, part_of, both};
+ghost use Rattle.sched_quota.specs.View.{first_view, blank_view, without_part, part_of, joined_view};
 ghost use Rattle.sched_quota.specs.Steps.{reads, opens, counts, finds, wins, learns};
 
 use crate::view::{Terms, View};
@@ -67,7 +67,7 @@ impl Split<View> for Part {
 pub(crate) struct Merge;
 
 impl Join<View> for Merge {
-    ghost both = { both };
+    ghost both = { joined_view };
 
     ghost spent = { blank_view };
 }

@@ -10,6 +10,7 @@ use Rattle.sched_wheel.specs.Polled.{Standing, Poll, polled, ArePolls}
 use Rattle.sched_quota.specs.Held.{Name}
 use Rattle.sched_draws.specs.Quotas.{OfQuota, quota_grants}
 use Rattle.sched_retry.specs.Retrying.{Retrying, DrawsIn, RetryPoll}
+use Rattle.sched_pool_job.proofs.Kept.{polled_untaken}
 use Rattle.sched_quota_pool.specs.Driven.{IsDriven}
 use Rattle.sched_quota_pool.proofs.Passes.{drew_requests, drew_none_requests}
 
@@ -49,5 +50,6 @@ pub stays_driven : (quota : Name) (v : Retrying OfQuota) (t : Tick) (ready : Boo
 stays_driven quota v t ready u was poll = record {
   of = poll.budget ∙ was.of;
   had = poll.had ∙ was.had;
+  untaken = polled_untaken quota_grants v u t ready was.untaken poll;
   asked = ap length (draws_requests poll.poll.happened t.now v.drawing u.drawing poll.drawing) ∙ was.asked;
 }

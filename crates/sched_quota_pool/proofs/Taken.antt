@@ -4,38 +4,21 @@ use Rattle.std.specs.Prelude.{All}
 use Rattle.std.proofs.lemmas.List.Elements.{All-nil, All-push}
 use Rattle.sched_ticket.specs.Lists.{total, times}
 use Rattle.sched_ticket.proofs.Sums.{total-append}
-use Rattle.sched_task.specs.declared.endings.How.{How}
-use Rattle.sched_task.specs.declared.endings.How.TheVariants.{Won, ScheduleDone, BudgetRefused, Failed, Cancelled, Broken}
 use Rattle.sched_quota.specs.Windows.{window_of}
-use Rattle.sched_quota.specs.View.{both}
+use Rattle.sched_quota.specs.View.{joined_view}
 use Rattle.sched_quota.specs.Held.{Name, Held, IsOf}
 use Rattle.sched_quota.specs.Calls.{IsWhole}
 use Rattle.sched_quota.specs.declared.view.Terms.{Terms}
 use Rattle.sched_quota.specs.declared.view.View.{View}
 use Rattle.sched_task_law.specs.Kind.{retry}
-use Rattle.sched_task_law.specs.Past.{Past, schedule_is_done}
-use Rattle.sched_task_law.specs.Law.{Law, Ended, is_refused}
-use Rattle.sched_task_law.proofs.Law.{or_false}
+use Rattle.sched_task_law.specs.Past.{Past}
+use Rattle.sched_task_law.specs.Law.{Law}
 use Rattle.sched_jobs_json.specs.Job.{Job}
+use Rattle.sched_scripted_job.specs.Ends.{AreEndsOf}
 use Rattle.sched_quota_pool.specs.Windows.{HaveSame, HasDistinct}
 use Rattle.sched_quota_pool.specs.Driven.{IsUnused}
-use Rattle.sched_quota_pool.specs.Ends.{ended, AreEndsOf}
 use Rattle.sched_quota_pool.specs.Batch.{AreRunOnQuota, AreTaken}
 use Rattle.sched_quota_pool.proofs.Noted.{joined_same, mapped_append, distinct_of_same}
-
--- how a retry ended tells whether its quota refused it
-denied_by : (v : Past) (over : Option How) → Ended retry v over → v.denied ≡ is_refused over
-denied_by v None ended = (or_false v.denied (schedule_is_done v.driver) (ended refl)).0
-denied_by v (Some Won) ended = (or_false v.denied (schedule_is_done v.driver) ended.1).0
-denied_by v (Some ScheduleDone) ended = ended.1
-denied_by v (Some BudgetRefused) ended = ended
-denied_by v (Some Failed) ended = absurd (let bad = ended.0 in cc)
-denied_by v (Some Cancelled) ended = (or_false v.denied (schedule_is_done v.driver) (ended refl)).0
-denied_by v (Some (Broken fault)) ended = (or_false v.denied (schedule_is_done v.driver) (ended.0 refl)).0
-
--- what is left of a retry says what it has done
-pub end_is : (v : Past) → Law retry v → ended v.driver v.runs v.begun v.over v.granted ≡ v
-end_is v law = ap (λ b. record v { denied = b }) (sym (denied_by v v.over law.ended))
 
 -- no retry was taken back yet
 pub none_taken : (quota : Name) (pass : Held) → IsOf quota pass → IsUnused pass.has → AreTaken quota [] pass []
@@ -51,7 +34,7 @@ none_taken quota pass of unused = record {
 -- one more, with its pass
 pub one_taken : (quota : Name) (ends : List Past) (v : Past) (p own q : Held) (windows noted : List ℕ) →
     AreTaken quota ends p windows → Law retry v → v.granted ≡ length own.has.tickets → length own.has.requests ≡ 1 →
-    HaveSame noted (map window_of own.has.tickets) → IsOf quota q → q.has ≡ both p.has own.has →
+    HaveSame noted (map window_of own.has.tickets) → IsOf quota q → q.has ≡ joined_view p.has own.has →
     ((x : ℕ) → times x q.has.tickets ≤ 1) → AreTaken quota (ends ++ v ∷ []) q (windows ++ noted)
 one_taken quota ends v p own q windows noted taken law granted asked same of join once =
     let f : Past → ℕ = λ w. w.granted in

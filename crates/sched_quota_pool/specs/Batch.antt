@@ -9,8 +9,8 @@ use Rattle.sched_task_law.specs.Kind.{retry}
 use Rattle.sched_task_law.specs.Past.{Past}
 use Rattle.sched_task_law.specs.Law.{Law}
 use Rattle.sched_jobs_json.specs.Job.{Job}
+use Rattle.sched_scripted_job.specs.Ends.{AreEndsOf}
 use Rattle.sched_quota_pool.specs.Windows.{HaveSame, HasDistinct}
-use Rattle.sched_quota_pool.specs.Ends.{AreEndsOf}
 
 -- The jobs ended so on a quota of these terms, which gave out so many tickets in so many windows.
 pub record AreRunOnQuota (jobs : List Job) (k : Terms) (ends : List Past) (granted windows : ℕ) : Type 0 where

@@ -1,5 +1,5 @@
 -- A quota's passes before and while the jobs run.
-use Rattle.std.specs.Prelude.{◌≡◌, [], length}
+use Rattle.std.specs.Prelude.{◌≡◌, [], length, is_some}
 use Rattle.sched_quota.specs.Held.{Name}
 use Rattle.sched_quota.specs.declared.view.View.{View}
 use Rattle.sched_draws.specs.Quotas.{OfQuota}
@@ -11,8 +11,10 @@ pub record IsUnused (v : View) : Type 0 where
   pub tickets : v.tickets ≡ []
   pub requests : v.requests ≡ []
 
--- a retry on this quota, with a pass that had no ticket before it and has counted one request
+-- a retry on this quota, with a pass that had no ticket before it and has counted one request; its ending is there where
+-- it is over
 pub record IsDriven (quota : Name) (v : Retrying OfQuota) : Type 0 where
   pub of : v.drawing.quota ≡ quota
   pub had : v.had ≡ 0
+  pub untaken : v.untaken ≡ is_some v.past.over
   pub asked : length v.drawing.pass.has.requests ≡ 1

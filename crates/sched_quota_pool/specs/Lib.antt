@@ -1,4 +1,3 @@
 pub mod Windows
 pub mod Driven
-pub mod Ends
 pub mod Batch

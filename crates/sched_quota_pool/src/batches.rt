@@ -6,10 +6,12 @@ ghost use Rattle.sched_quota_pool.specs.Driven.{IsDriven, IsUnused};
 ghost use Rattle.sched_quota_pool.specs.Batch.{AreRunOnQuota, AreTaken};
 ghost use Rattle.sched_quota_pool.specs.Windows.{HasDistinct};
 
-use crate::ends::{QuotaEnd, are_ends_of, end_of};
 use crate::retries::{QuotaRetry, retries_of};
+use sched_effect::Scripted;
 use sched_jobs_json::JobRead;
+use sched_pool_job::JobEnd;
 use sched_quota::{Pass, Quota, QuotaFault, Terms};
+use sched_scripted_job::are_ends_of;
 use sched_task::{MidWords, VirtualClock};
 use sched_time::{Moment, NoMemory};
 use sched_wheel::{LoopStop, WheelLoop};
@@ -22,7 +24,7 @@ use thiserror::Error;
 #[derive(Drop)]
 pub struct QuotaBatch {
     /// The jobs, in the order in which they were read.
-    pub ends: Vec<QuotaEnd>,
+    pub ends: Vec<JobEnd<Scripted>>,
     /// How many tickets the quota gave out.
     pub granted: u64,
     /// In how many windows it gave them.
@@ -55,7 +57,7 @@ impl From<NoMemory> for QuotaBatchFault {
 // The jobs that were taken back, one pass for all of them, and the windows of its tickets.
 #[derive(Drop)]
 struct TakenBack {
-    ends: Vec<QuotaEnd>,
+    ends: Vec<JobEnd<Scripted>>,
     pass: Pass,
     windows: Vec<u64>,
 }
@@ -156,7 +158,8 @@ fn take_back(
     let mut ends = Vec::new(alloc);
     let mut windows = Vec::new(alloc);
     for retry in retries {
-        let (end, own, noted) = end_of(retry);
+        let (end, drawing) = JobEnd::of_retry(retry);
+        let (own, noted) = drawing.into_parts();
         let Some(noted) = noted else {
             return Err(QuotaBatchFault::NoMemory);
         };

@@ -3,10 +3,8 @@
 #![tactic(auto)]
 
 mod batches;
-mod ends;
 mod retries;
 mod tallies;
 
 pub use batches::{QuotaBatch, QuotaBatchFault, run_on_quota};
-pub use ends::QuotaEnd;
 pub use tallies::Tally;

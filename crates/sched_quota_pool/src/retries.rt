@@ -5,11 +5,11 @@ ghost use Rattle.sched_quota_pool.specs.Driven.{IsDriven, IsUnused};
 
 use crate::batches::QuotaBatchFault;
 use crate::tallies::Tally;
-use sched_driver::Driver;
 use sched_effect::Scripted;
 use sched_jobs_json::JobRead;
 use sched_quota::{Pass, Quota};
 use sched_retry::Retry;
+use sched_scripted_job::retry_of;
 use sched_time::Moment;
 use std::alloc::Global;
 
@@ -33,7 +33,7 @@ pub(crate) fn retries_of<'a>(
 {
     let mut retries = Vec::new(alloc);
     for job in jobs {
-        let retry = retry_of(alloc, job, quota, pass, now)?;
+        let retry = requested(alloc, job, quota, pass, now)?;
         if retries.push(retry).is_err() {
             return Err(QuotaBatchFault::NoMemory);
         }
@@ -42,7 +42,7 @@ pub(crate) fn retries_of<'a>(
 }
 
 // A retry of the job, with a pass split off that has counted its request.
-fn retry_of<'a>(
+fn requested<'a>(
     alloc: Global,
     job: &JobRead,
     quota: &'a Quota,
@@ -55,18 +55,10 @@ fn retry_of<'a>(
     ensures of { IsOf quota.entry.now pass.new }
     ensures unused { IsUnused pass.new.has }
 {
-    let script = Vec::from_slice(alloc, job.script())?;
-    let Some(effect) = Scripted::new(script) else {
-        unreachable!()
-    };
-    let plan = job
-        .plan()
-        .copy(alloc)
-        .map_err(|_| QuotaBatchFault::NoMemory)?;
-    let driver = Driver::new(alloc, plan)?;
     let Ok(mut own) = pass.split(quota) else {
         return Err(QuotaBatchFault::Mixed);
     };
     own.deposit(quota, now);
-    Ok(Retry::new(alloc, effect, driver, Tally::new(alloc, own, quota)))
+    let retry = retry_of(alloc, job, Tally::new(alloc, own, quota))?;
+    Ok(retry)
 }

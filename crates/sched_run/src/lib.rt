@@ -1,10 +1,13 @@
 //! Effects that are retried and repeated as a schedule says: the tasks, with what they are made of and what drives
 //! them.
 //!
-//! A `Retry` runs an effect until it succeeds, again after each failure as its driver's schedule says, with a ticket for
-//! each retry: of a budget or a quota that others share (`OnBudget`, `OnQuota`), or of no budget (`Unlimited`). A
-//! `RetryOr` asks a fallback in the end, and a `Repeat` runs again after each success. Each is polled by hand with
-//! `poll_at`, or is a future by `Timed`, which `block_on` runs to its end.
+//! `retry_call` calls a closure until it succeeds, again after each failure as its driver's schedule says, with a ticket
+//! for each retry: of a budget or a quota that others share (`OnBudget`, `OnQuota`), or of no budget (`Unlimited`). It
+//! blocks until that is over.
+//!
+//! A `Retry` does the same with an effect, as a task that is polled. A `RetryOr` asks a fallback in the end, and a
+//! `Repeat` runs again after each success. Each is polled by hand with `poll_at`, or is a future by `Timed`, which
+//! `block_on` runs to its end.
 //!
 //! All that one retry names is here: a program that stands on this crate alone needs no other line in crates.txt.
 #![tactic(auto)]
@@ -16,11 +19,13 @@ pub use futures::Future;
 pub use futures::executor::block_on;
 pub use futures::task::{Context, Poll};
 pub use rand_core::Rng;
+pub use sched_closure::retry_call;
 pub use sched_draws::{Draws, OnBudget, OnQuota, RefersTo, Unlimited};
 pub use sched_driver::{DriveFault, Driver, Event};
 pub use sched_effect::{
     Action, Call, Code, Coded, Effect, Fallback, FutureAction, FutureCall, Ran, Scripted, Tagged,
 };
+pub use sched_host::{HostRetry, Next};
 pub use sched_plan::{Fold, Plan, PlanFault, Test, Val};
 pub use sched_quota::{
     Pass as QuotaPass, PassesOut as QuotaPassesOut, Quota, QuotaFault, Terms, Usage,

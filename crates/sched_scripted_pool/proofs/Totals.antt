@@ -7,7 +7,8 @@ use Rattle.sched_ticket.specs.declared.view.Terms.{Terms}
 use Rattle.sched_task_law.specs.Past.{Past}
 use Rattle.sched_pool.specs.Ends.{TotalsAgree}
 use Rattle.sched_jobs_json.specs.Job.{Job}
-use Rattle.sched_scripted_pool.specs.Batch.{AreEndsOf, AreRun, IsNewEnd}
+use Rattle.sched_scripted_job.specs.Ends.{AreEndsOf}
+use Rattle.sched_scripted_pool.specs.Batch.{AreRun, IsNewEnd}
 
 -- what the jobs were granted is what a budget of this limit gave out
 pub are_run : TotalsAgree → (jobs : List Job) (limit : ℕ) (budget : Name) (n : ℕ) (ends : List Past) (pass : Held) (granted total : ℕ)

@@ -1,6 +1,5 @@
 -- What is true of jobs that were run on one budget.
-use Rattle.std.specs.Prelude.{◌≡◌, ℕ, ◌≤◌, true, List, [], ◌∷◌, All}
-use Rattle.sched_effect.specs.Played.{Follows}
+use Rattle.std.specs.Prelude.{◌≡◌, ℕ, ◌≤◌, true, List, [], All}
 use Rattle.sched_ticket.specs.Lists.{total}
 use Rattle.sched_ticket.specs.Held.{Name, Held}
 use Rattle.sched_task_law.specs.Kind.{retry}
@@ -8,18 +7,7 @@ use Rattle.sched_task_law.specs.Past.{Past}
 use Rattle.sched_task_law.specs.Law.{Law}
 use Rattle.sched_pool.specs.Ends.{has_refused, IsEnd}
 use Rattle.sched_jobs_json.specs.Job.{Job}
-
--- a job ended so: with its plan, and its finished runs are its script's in order, the last one repeated
-pub record IsEndOf (job : Job) (v : Past) : Type 0 where
-  pub plan : v.driver.plan ≡ job.plan
-  pub runs : Follows job.script v.runs
-
--- each job has its end, in order
-abbrev pub AreEndsOf : List Job → List Past → Type 0
-AreEndsOf [] [] = Unit {0}
-AreEndsOf (job ∷ jobs) (v ∷ ends) = IsEndOf job v × AreEndsOf jobs ends
-AreEndsOf [] (v ∷ ends) = ⊥
-AreEndsOf (job ∷ jobs) [] = ⊥
+use Rattle.sched_scripted_job.specs.Ends.{AreEndsOf}
 
 -- The jobs ended so on a budget of this limit, which gave out so many tickets.
 pub record AreRun (jobs : List Job) (limit : ℕ) (ends : List Past) (granted : ℕ) : Type 0 where

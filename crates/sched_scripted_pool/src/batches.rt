@@ -5,13 +5,13 @@ ghost use Rattle.sched_ticket.specs.Held.{IsOf};
 ghost use Rattle.sched_ticket.specs.Calls.{IsWhole};
 ghost use Rattle.sched_scripted_pool.specs.Batch.{AreRun, IsNewEnd};
 
-use crate::ends::are_ends_of;
 use crate::retries::boarded;
 use sched_effect::Scripted;
 use sched_jobs_json::JobRead;
 use sched_pool::laws::totals_agree;
 use sched_pool::{PoolEnd, PoolStop};
 use sched_pool_job::JobEnd;
+use sched_scripted_job::are_ends_of;
 use sched_task::{MidWords, VirtualClock};
 use sched_ticket::{Budget, Naming, Pass, TicketFault};
 use sched_time::{Moment, NoMemory};

@@ -2,7 +2,6 @@
 #![tactic(auto)]
 
 mod batches;
-mod ends;
 mod retries;
 
 pub use batches::{Batch, BatchFault, run_batch};

@@ -8,7 +8,7 @@ use lib.ListN.{get_elem?}
 use Rattle.atomic_table.specs.Table.{Step, Act, keeps, Valid, carried_after, stepped, Allows, Splits, Joins}
 use Rattle.atomic_table.proofs.Lists.{at_set, at_snoc, set_else}
 use Rattle.sched_ticket.specs.Lists.{total, below, Each}
-use Rattle.sched_ticket.specs.View.{with_ticket, with_refusal, with_floor, with_raise, with_mark, with_refused_split, with_part, without_part, part_of, both, blank_view}
+use Rattle.sched_ticket.specs.View.{with_ticket, with_refusal, with_floor, with_raise, with_mark, with_refused_split, with_part, without_part, part_of, joined_view, blank_view}
 use Rattle.sched_ticket.specs.Rule.{drawn_at, made_at, limit_at, laid, number_weight, weights, splits, refused_splits, IsMarked, IsRefusal, Fits, IsOrderly, IsKept}
 use Rattle.sched_ticket.specs.Steps.{Sat, draws, counts, learns, looks, reads_limit, raises}
 use Rattle.sched_ticket.specs.declared.view.Terms.{Terms}
@@ -327,14 +327,14 @@ module _ (k : Terms) where
     mark = tt;
   }
 
-  pub joins_ok : (id : ℕ) (v : View) (other : ℕ) (w : View) → 0 < v.weight → Joins (IsKept k) id v other w (both v w) blank_view
+  pub joins_ok : (id : ℕ) (v : View) (other : ℕ) (w : View) → 0 < v.weight → Joins (IsKept k) id v other w (joined_view v w) blank_view
   joins_ok id v other w live s kept at apart there =
       let views : List View = s.views in
       let o : IsOrderly k kept.drawn kept.made kept.limit views = kept.orderly in
-      let at-other : get_elem? views other ≡ some w = sym (set_else views id other (both v w) apart) ∙ there in
+      let at-other : get_elem? views other ≡ some w = sym (set_else views id other (joined_view v w) apart) ∙ there in
       let f : Fits k kept.made kept.limit (weights views) v = o.each id v at in
       let g : Fits k kept.made kept.limit (weights views) w = o.each other w at-other in
-      let joined : View = both v w in
+      let joined : View = joined_view v w in
       let middle : List View = set views id joined in
       let after : List View = set middle other blank_view in
       let sums : (p : View → ℕ) → total p after + p w + p v ≡ total p views + p joined + p blank_view =

@@ -49,8 +49,8 @@ pub record FoundNone (v w : View) : Type 0 where
   pub gained : w ≡ with_refusal asked number
 
 -- a draw was answered None: before, and nothing changes, or now
-abbrev pub DrewNone : View → View → Type 0
-DrewNone v w = ((0 < length v.refusals) × (w ≡ v)) ⊎ FoundNone v w
+abbrev pub DrawRefused : View → View → Type 0
+DrawRefused v w = ((0 < length v.refusals) × (w ≡ v)) ⊎ FoundNone v w
 
 -- a split was refused: before, and nothing changes, or now
 abbrev pub SplitRefused : View → View → Type 0

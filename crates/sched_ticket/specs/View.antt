@@ -71,8 +71,8 @@ abbrev pub part_of : View → View
 part_of v = fresh_view v.terms v.floor 1
 
 -- two passes joined: what both have, without a mark
-abbrev pub both : View → View → View
-both v w = record {
+abbrev pub joined_view : View → View → View
+joined_view v w = record {
   terms = v.terms;
   tickets = v.tickets ++ w.tickets;
   refusals = v.refusals ++ w.refusals;

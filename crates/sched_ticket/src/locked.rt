@@ -2,7 +2,7 @@
 //! An example of the theorem, which tests alone call.
 ghost use Rattle.std.specs.Prelude.{◌≡◌, ◌+◌, ◌≤◌, false, length, IfOk, IfErr, IfSome, IfNone};
 ghost use Rattle.sched_ticket.specs.Held.{IsOf};
-ghost use Rattle.sched_ticket.specs.Calls.{Drew, DrewNone, RefusesLimit};
+ghost use Rattle.sched_ticket.specs.Calls.{Drew, DrawRefused, RefusesLimit};
 
 use crate::budget::Budget;
 use crate::fault::TicketFault;
@@ -50,7 +50,7 @@ impl<N: Naming> Job<N> {
     pub fn draw(&mut self, budget: &Budget) -> Option<u64>
         requires { budget.now ≡ N.budget }
         ensures some { IfSome result (λ k. Drew self.old.has k self.new.has) }
-        ensures none { IfNone result (DrewNone self.old.has self.new.has) }
+        ensures none { IfNone result (DrawRefused self.old.has self.new.has) }
     {
         let ticket = self.pass.draw(budget);
         self.granted = self.pass.count();

@@ -1,9 +1,9 @@
 //! The pass: the right to draw tickets of a budget, and what was drawn with it.
 ghost use Rattle.std.specs.Prelude.{◌≡◌, ◌+◌, ◌<◌, ◌≤◌, true, false, [], ◌∷◌, length, None, IfOk, IfErr, OnOk, IfSome, IfNone, MatchOption};
-ghost use Rattle.sched_ticket.specs.View.{fresh_view, part_of, with_split, both};
+ghost use Rattle.sched_ticket.specs.View.{fresh_view, part_of, with_split, joined_view};
 ghost use Rattle.sched_ticket.specs.Steps.{IsSound, IsWithin};
 ghost use Rattle.sched_ticket.specs.Held.{IsOf};
-ghost use Rattle.sched_ticket.specs.Calls.{Asked, Drew, DrewNone, SplitRefused, Raised, RefusesRaise};
+ghost use Rattle.sched_ticket.specs.Calls.{Asked, Drew, DrawRefused, SplitRefused, Raised, RefusesRaise};
 
 use crate::budget::{Budget, MAX_LIMIT};
 use crate::fault::TicketFault;
@@ -70,7 +70,7 @@ impl Pass {
         requires { IsOf budget.now self.old }
         ensures of { IsOf budget.now self.new }
         ensures some { IfSome result (λ k. Drew self.old.has k self.new.has) }
-        ensures none { IfNone result (DrewNone self.old.has self.new.has) }
+        ensures none { IfNone result (DrawRefused self.old.has self.new.has) }
         ensures again { 0 < length self.old.has.refusals → (result ≡ None) × (self.new ≡ self.old) }
         ensures tickets { MatchOption result
             (self.new.has.tickets ≡ self.old.has.tickets) (λ k. self.new.has.tickets ≡ k ∷ self.old.has.tickets) }
@@ -123,7 +123,7 @@ impl Pass {
         requires this { IsOf budget.now self }
         requires that { IsOf budget.now other }
         ensures of { IsOf budget.now result }
-        ensures both { result.has ≡ both self.has other.has }
+        ensures joined { result.has ≡ joined_view self.has other.has }
         ensures sound { IsSound result.has }
     {
         let Pass {

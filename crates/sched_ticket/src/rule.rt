@@ -11,7 +11,7 @@
 //! | `ReadLimit` | limit is read | its floor becomes the limit |
 //! | `Raise` | limit becomes at least the number given | its floor becomes the limit; it keeps the greatest it gave |
 ghost use Rattle.sched_ticket.specs.Rule.{IsKept};
-ghost use Rattle.sched_ticket.specs.View.{first_view, blank_view, without_part, part_of, both};
+ghost use Rattle.sched_ticket.specs.View.{first_view, blank_view, without_part, part_of, joined_view};
 ghost use Rattle.sched_ticket.specs.Steps.{draws, counts, learns, looks, reads_limit, raises};
 
 use crate::view::{Terms, View};
@@ -59,7 +59,7 @@ impl Split<View> for Part {
 pub(crate) struct Merge;
 
 impl Join<View> for Merge {
-    ghost both = { both };
+    ghost both = { joined_view };
 
     ghost spent = { blank_view };
 }

@@ -3,7 +3,7 @@ use Rattle.std.proofs.Common.{◌≡◌, ℕ, ◌+◌, ◌<◌, ◌≤◌, Bool,
 use Rattle.std.specs.Option.{ForSome}
 use Rattle.sched_ticket.specs.Lists.{total}
 use Rattle.sched_ticket.specs.Held.{Name, Held, IsOf}
-use Rattle.sched_ticket.specs.Calls.{Drew, DrewNone}
+use Rattle.sched_ticket.specs.Calls.{Drew, DrawRefused}
 use Rattle.sched_ticket.specs.declared.view.View.{View}
 use Rattle.sched_ticket.proofs.Sums.{total-append}
 use Rattle.sched_claim.specs.Portion.{Portion, Took, IsShareOf}
@@ -68,7 +68,7 @@ pub record IsRefused (v w : View) : Type 0 where
   pub some : 0 < length w.refusals
   pub terms : w.terms ≡ v.terms
 
-pub refused : (v w : View) → DrewNone v w → IsRefused v w
+pub refused : (v w : View) → DrawRefused v w → IsRefused v w
 refused v w none = ⊎_elim
     (λ before. record {
       refusals = omega (arith, ap (λ (u : View). length u.refusals) before.1);
@@ -83,7 +83,7 @@ refused v w none = ⊎_elim
     none
 
 -- no job is left to claim
-pub went_none : (s t : Portion) → DrewNone s.pass.has t.pass.has → t.pass.has.tickets ≡ s.pass.has.tickets → t.active ≡ s.active → WentOn s t
+pub went_none : (s t : Portion) → DrawRefused s.pass.has t.pass.has → t.pass.has.tickets ≡ s.pass.has.tickets → t.active ≡ s.active → WentOn s t
 went_none s t none tickets active = record {
   claimed = [];
   closed = [];
@@ -92,7 +92,7 @@ went_none s t none tickets active = record {
   refusals = (refused s.pass.has t.pass.has none).refusals;
 }
 
-pub to_do_of_none : (s t : Portion) → DrewNone s.pass.has t.pass.has → t.pass.has.tickets ≡ s.pass.has.tickets → t.active ≡ s.active →
+pub to_do_of_none : (s t : Portion) → DrawRefused s.pass.has t.pass.has → t.pass.has.tickets ≡ s.pass.has.tickets → t.active ≡ s.active →
     still_to_do t ≡ still_to_do s
 to_do_of_none s t none tickets active = omega (
   arith,

@@ -24,6 +24,7 @@ from .errors import (
     ResultRefused,
     StoreError,
     StoreLost,
+    TermsError,
     TryAgain,
 )
 from .log import after_log, before_log, before_sleep_log
@@ -47,6 +48,7 @@ from .policy import (
     unfold,
     windowed,
 )
+from .quota import Quota, Usage
 from .retrying import AsyncRetrying, Attempt, Retrying, Tickets, retry
 from .state import Ending, Outcome, RetryState, Statistics, code_of, state_of
 from .version import VERSION
@@ -70,6 +72,7 @@ __all__ = [
     "Outcome",
     "Policy",
     "PolicyError",
+    "Quota",
     "ResultRefused",
     "RetryState",
     "Retrying",
@@ -77,8 +80,10 @@ __all__ = [
     "Step",
     "StoreError",
     "StoreLost",
+    "TermsError",
     "Tickets",
     "TryAgain",
+    "Usage",
     "after_log",
     "before_log",
     "before_sleep_log",

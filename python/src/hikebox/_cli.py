@@ -11,7 +11,7 @@ from ._run import RunOptions, run_command, statuses
 from ._time import FAR, milliseconds
 from .budget import Budget
 from .errors import BudgetError, PolicyError
-from .leased import FileStore, Leased
+from .leased import FileStore, Leased, LeasedQuota
 from .policy import Policy
 from .version import VERSION
 
@@ -35,6 +35,7 @@ examples:
   hikebox run -- curl --fail https://example.org
   hikebox run --policy 'recurs(9) & spaced(2)' --on 1-3 --timeout 30 -- ./job
   hikebox run --budget 100@/run/lock/nightly -- ./job   # at most 100 retries over all runs with that file
+  hikebox run --quota 10/0.2/3600@/run/lock/jobs -- ./job   # in each hour 10 over all runs, and one for every five runs
 """
 
 
@@ -71,7 +72,10 @@ def _parser() -> argparse.ArgumentParser:
         formatter_class=argparse.RawDescriptionHelpFormatter,
     )
     run.add_argument("--policy", metavar="POLICY", default=DEFAULT, help="when to run it again")
-    run.add_argument("--budget", metavar="N[@FILE]", help="at most N retries; with FILE over all runs that name it")
+    bounds = run.add_mutually_exclusive_group()
+    bounds.add_argument("--budget", metavar="N[@FILE]", help="at most N retries; with FILE over all runs that name it")
+    quota = "in each window of PERIOD seconds RESERVE retries over all runs that name FILE, and SHARE for each run"
+    bounds.add_argument("--quota", metavar="RESERVE/SHARE/PERIOD@FILE", help=quota)
     run.add_argument("--on", metavar="CODES", type=_statuses, help="retry these statuses alone, as 1,3-5")
     run.add_argument("--timeout", metavar="SECONDS", type=_duration, help="how long an attempt may take")
     grace = "SIGKILL so long after SIGTERM (5)"
@@ -103,7 +107,7 @@ def _run(given: Any) -> int:
         return _fails("run: a command is wanted", BAD_COMMAND_LINE)
     options = RunOptions(
         policy=_policy(given.policy),
-        budget=_budget(given.budget),
+        budget=_budget(given.budget) if given.quota is None else _quota(given.quota),
         on=given.on,
         timeout=given.timeout,
         grace=given.kill_after,
@@ -187,6 +191,19 @@ def _budget(text: Optional[str]) -> Union[Budget, Leased, None]:
     if not number.isdigit():
         raise BudgetError(f"{text!r} is not N or N@FILE")
     return Leased(FileStore(path), "run", int(number), lease=1) if at else Budget(int(number))
+
+
+def _quota(text: str) -> LeasedQuota:
+    """A quota that all runs with the same file share."""
+    terms, at, path = text.partition("@")
+    words = terms.split("/")
+    try:
+        reserve, share, period = int(words[0]), float(words[1]), float(words[2])
+    except (IndexError, ValueError):
+        at = ""
+    if not at or len(words) > 3:
+        raise BudgetError(f"{text!r} is not RESERVE/SHARE/PERIOD@FILE")
+    return LeasedQuota(FileStore(path), "run", reserve, share, period, lease=1)
 
 
 def _number(most: int) -> Any:

@@ -6,9 +6,11 @@ import logging
 from typing import TYPE_CHECKING, Any, Callable, List, Mapping, Optional, Tuple, Union
 
 from ._engine import LOST, NO_REPORT, OVER, RUN, WAIT, Machine, machines
-from ._time import FAR
-from .budget import UNBOUNDED, Budget, Unbounded
+from ._passes import NO_BUDGET, NoBudget
+from ._time import FAR, HAIR
+from .budget import Budget
 from .policy import word_of
+from .quota import Quota
 from .state import ENDINGS, Ending, Outcome, RetryState
 
 if TYPE_CHECKING:
@@ -17,10 +19,6 @@ if TYPE_CHECKING:
 __all__ = ["Course"]
 
 logger = logging.getLogger("hikebox")
-
-#: So much of a millisecond is not taken for less than a whole one.
-_HAIR = 1e-6
-
 
 #: The most notes of its own that an exception keeps, where one object is raised again and again.
 _MOST_NOTES = 8
@@ -43,6 +41,7 @@ class Course:
         "_clock",
         "_start",
         "_ahead",
+        "_origin",
         "_last",
         "_until",
         "_begun",
@@ -66,7 +65,9 @@ class Course:
         self._start = self._clock()
         #: Seconds by which a sleep came back before the moment that it was to wait for.
         self._ahead = 0.0
-        #: The last moment that the engine was told.
+        #: The engine's moment at the start: 0, or of a quota the one on its clock.
+        self._origin = 0
+        #: The last moment, counted from the start, that the engine was told.
         self._last = 0
         #: The start that the engine planned.
         self._until = 0
@@ -74,7 +75,7 @@ class Course:
         self._begun = False
         self._machine: Optional[Machine] = None
         #: What the engine's retry draws on, and the budget that the package draws on for it, where there is one.
-        self._drawn_on: Union[Budget, Unbounded] = UNBOUNDED
+        self._drawn_on: Union[Budget, Quota, NoBudget] = NO_BUDGET
         self._tickets = owner._tickets
         #: Whether each attempt that failed is logged.
         self._logs = False
@@ -83,10 +84,13 @@ class Course:
     # What the attempts say
 
     def begin(self) -> None:
-        """An attempt begins."""
+        """An attempt begins. The first one is a request."""
+        owner = self.owner
         self.state.outcome = None
-        if self.owner.before is not None:
-            self.owner.before(self.state)
+        if owner._deposit is not None and self.state.attempt_number == 1:
+            owner._deposit()
+        if owner.before is not None:
+            owner.before(self.state)
 
     def returned(self, value: Any) -> bool:
         """The attempt gave this result: whether the retry goes on, since it is not accepted."""
@@ -119,13 +123,13 @@ class Course:
         for lane in owner._lanes:
             machine.words[lane] = word_of(owner.random())
         now = self._moment(seconds)
-        what = machine.poll(now, LOST, owner._code_for(outcome) if owner._reads_codes else 0)
+        what = machine.poll(self._origin + now, LOST, owner._code_for(outcome) if owner._reads_codes else 0)
         report = machine.next
         if what == OVER:
             state.ending = ENDINGS[report.how]
             return False
         self._begun = what == RUN
-        self._until = report.until if what == WAIT else now
+        self._until = report.until - self._origin if what == WAIT else now
         if self._tickets is None:
             state.granted = report.granted
         return True
@@ -179,7 +183,7 @@ class Course:
         state.upcoming_sleep = 0.0
         state.attempt_number += 1
         seconds = self._seconds()
-        if seconds * 1000 + _HAIR < self._until:
+        if seconds * 1000 + HAIR < self._until:
             self._ahead += self._until / 1000 - seconds
             seconds = self._until / 1000
         if self._begun:
@@ -189,7 +193,7 @@ class Course:
         now = self._moment(seconds)
         if now < self._until:
             now = self._last = self._until
-        if machine.poll(now, NO_REPORT, 0) != RUN:
+        if machine.poll(self._origin + now, NO_REPORT, 0) != RUN:
             state.ending = ENDINGS[machine.next.how]
             raise MemoryError("the engine found no memory for one more attempt")
 
@@ -242,7 +246,7 @@ class Course:
     # The engine's retry, and its clock
 
     def _begin(self) -> Machine:
-        """A retry of the engine, whose first attempt began at the moment 0."""
+        """A retry of the engine, whose first attempt began at the start."""
         owner = self.owner
         try:
             machine = machines.pop()
@@ -252,14 +256,15 @@ class Course:
         try:
             if owner._budget is not None and owner._budget._begin_retry(machine, handle):
                 self._drawn_on = owner._budget
+                self._origin = owner._budget._moment_of(self._start)
             else:
-                UNBOUNDED._begin_retry(machine, handle)
+                NO_BUDGET._begin_retry(machine, handle)
                 self._tickets = owner._tickets if owner._budget is None else owner._budget
         finally:
             owner.policy._give_back(handle)
         self._machine = machine
         self._logs = logger.isEnabledFor(logging.DEBUG)
-        if machine.poll(0, NO_REPORT, 0) != RUN:
+        if machine.poll(self._origin, NO_REPORT, 0) != RUN:
             raise MemoryError("the engine found no memory for an attempt")
         return machine
 
@@ -269,9 +274,9 @@ class Course:
 
     def _moment(self, seconds: float) -> int:
         """The same in whole milliseconds, never less than before, and at most the last moment that there is."""
-        moment = int(seconds * 1000 + _HAIR)
+        moment = int(seconds * 1000 + HAIR)
         if moment > self._last:
-            self._last = min(FAR, moment)
+            self._last = min(FAR - self._origin, moment)
         return self._last
 
     def _name(self) -> str:

@@ -10,11 +10,11 @@ from __future__ import annotations
 import ctypes
 import os
 from ctypes import POINTER, Structure, byref, c_bool, c_char_p, c_size_t, c_uint8, c_uint32, c_uint64, c_void_p
-from typing import Any, Dict, List, NamedTuple, Optional, Tuple
+from typing import Any, Callable, ClassVar, Dict, List, NamedTuple, Optional, Tuple, TypeVar
 
 from .errors import EngineError
 
-__all__ = ["Driver", "Handle", "Machine", "Pass", "PolicyHandle", "SIGNATURES", "library_path"]
+__all__ = ["AnyPass", "Driver", "Handle", "Machine", "Pass", "PolicyHandle", "QuotaPass", "SIGNATURES", "library_path"]
 
 OK = 0
 NO_MEMORY = 4
@@ -32,8 +32,10 @@ NO_TICKET = 32
 TOO_MANY_PASSES = 33
 PASSES_OUT = 34
 
-#: The most tickets of a budget.
+#: The most tickets of a budget, and of a window of a quota.
 MOST_TICKETS = 2**32
+#: The most thousandths of a ticket that a request gives.
+MOST_SHARE = 1_000_000
 #: The most events of a driver, and of a retry.
 MOST_EVENTS = 65536
 
@@ -65,6 +67,10 @@ class Next(Structure):
     ]
 
 
+class Usage(Structure):
+    _fields_ = [("window", c_uint64), ("asked", c_uint64), ("given", c_uint64), ("left", c_uint64)]
+
+
 Words = c_uint32 * 4
 
 _HANDLE = POINTER(Handle)
@@ -74,6 +80,7 @@ _WORDS = POINTER(c_uint32)
 #: Each function of the header that is used here, with the types of its parameters.
 SIGNATURES: Dict[str, Tuple[Any, ...]] = {
     "hikebox_policy_read": (c_char_p, c_size_t, _HANDLE, POINTER(Place)),
+    "hikebox_policy_fault": (c_char_p, c_size_t, POINTER(c_uint8), c_size_t, POINTER(c_size_t)),
     "hikebox_policy_size": (_HANDLE, _NUMBER, _NUMBER),
     "hikebox_policy_free": (_HANDLE,),
     "hikebox_driver_new": (_HANDLE, _HANDLE),
@@ -90,10 +97,22 @@ SIGNATURES: Dict[str, Tuple[Any, ...]] = {
     "hikebox_pass_count": (_HANDLE, _NUMBER),
     "hikebox_pass_close": (_HANDLE, _NUMBER),
     "hikebox_pass_free": (_HANDLE,),
+    "hikebox_quota_new": (c_uint64, c_uint64, c_uint64, _HANDLE),
+    "hikebox_quota_deposit": (_HANDLE, c_uint64),
+    "hikebox_quota_draw": (_HANDLE, c_uint64, _NUMBER),
+    "hikebox_quota_seen": (_HANDLE, c_uint64, POINTER(Usage)),
+    "hikebox_quota_split": (_HANDLE, _HANDLE),
+    "hikebox_quota_join": (_HANDLE, _HANDLE),
+    "hikebox_quota_count": (_HANDLE, _NUMBER),
+    "hikebox_quota_close": (_HANDLE, _NUMBER),
+    "hikebox_quota_free": (_HANDLE,),
     "hikebox_retry_new": (_HANDLE, _HANDLE, _HANDLE),
+    "hikebox_retry_on_quota": (_HANDLE, _HANDLE, _HANDLE),
+    "hikebox_retry_unlimited": (_HANDLE, _HANDLE),
     "hikebox_retry_poll": (_HANDLE, c_uint64, _WORDS, c_uint32, c_uint64, POINTER(Next)),
     "hikebox_retry_cancel": (_HANDLE,),
     "hikebox_retry_end": (_HANDLE, _HANDLE),
+    "hikebox_retry_end_on_quota": (_HANDLE, _HANDLE),
     "hikebox_retry_free": (_HANDLE,),
 }
 
@@ -116,17 +135,26 @@ def _load() -> Any:
     return library
 
 
+def _unchecked(call: str) -> Any:
+    """A call with no check of the arguments' types, which would double its time: for those that are made at each step
+    of a retry, at each request and at each draw. They are only made below, with an argument of the right size in each
+    place."""
+    function = _library[call]
+    function.restype = c_uint32
+    return function
+
+
 _library = _load()
+_retry_poll = _unchecked("hikebox_retry_poll")
+_pass_draw = _unchecked("hikebox_pass_draw")
+_quota_deposit = _unchecked("hikebox_quota_deposit")
+_quota_draw = _unchecked("hikebox_quota_draw")
 _retry_new = _library.hikebox_retry_new
-#: The calls that are made at each step of a retry and at each draw, with no check of the arguments' types, which would
-#: double their time. They are only made below, with an argument of the right size in each place.
-_retry_poll = _library["hikebox_retry_poll"]
-_retry_poll.restype = c_uint32
-_pass_draw = _library["hikebox_pass_draw"]
-_pass_draw.restype = c_uint32
+_retry_on_quota = _library.hikebox_retry_on_quota
+_retry_unlimited = _library.hikebox_retry_unlimited
 _retry_end = _library.hikebox_retry_end
+_retry_end_on_quota = _library.hikebox_retry_end_on_quota
 _retry_free = _library.hikebox_retry_free
-_pass_free = _library.hikebox_pass_free
 
 
 def refused(call: str, status: int) -> Exception:
@@ -137,11 +165,34 @@ def refused(call: str, status: int) -> Exception:
 
 
 class Refusal(NamedTuple):
-    """Why a text is no policy: the status, and the line and column from 1, or 0 where they are not known."""
+    """Why a text is no policy: the status, the place of the fault, and what is wanted there."""
 
     status: int
-    line: int
-    column: int
+    place: str
+    hint: str
+
+
+def _text(call: str, fill: Callable[[Any, int, Any], int]) -> bytes:
+    """The bytes that a call writes into the room that it is given."""
+    room = 256
+    while True:
+        text = (c_uint8 * room)()
+        length = c_size_t()
+        status = fill(text, room, byref(length))
+        if status == OK:
+            return bytes(text[: length.value])
+        if length.value <= room:
+            raise refused(call, status)
+        room = length.value
+
+
+def _refusal(status: int, text: bytes, place: Place) -> Refusal:
+    """Why this text is no policy, which was refused with this status."""
+    if status == NOT_JSON:
+        return Refusal(status, f"line {place.line}, column {place.column}" if place.line else "", "")
+    fault = _text("hikebox_policy_fault", lambda *room: _library.hikebox_policy_fault(text, len(text), *room))
+    where, _, wanted = fault.decode().partition(": ")
+    return Refusal(status, "" if where == "top" else where, wanted)
 
 
 class PolicyHandle:
@@ -161,7 +212,7 @@ class PolicyHandle:
         if status == OK:
             return None
         if NOT_JSON <= status <= TOO_MANY:
-            return Refusal(status, place.line, place.column)
+            return _refusal(status, text, place)
         raise refused("hikebox_policy_read", status)
 
     def size(self) -> Tuple[int, int]:
@@ -202,32 +253,73 @@ class Driver:
 
     def last_text(self) -> str:
         """The output of the last event, as `zsched plan` prints it."""
-        room = 256
-        while True:
-            text = (c_uint8 * room)()
-            length = c_size_t()
-            status = _library.hikebox_driver_last_text(self.at, text, room, byref(length))
-            if status == OK:
-                return bytes(text[: length.value]).decode("ascii")
-            if length.value <= room:
-                raise refused("hikebox_driver_last_text", status)
-            room = length.value
+        return _text("hikebox_driver_last_text", lambda *room: _library.hikebox_driver_last_text(self.at, *room)).decode()
 
     def __del__(self) -> None:
         if self.handle.held:
             self._free(self.at)
 
 
-class Pass:
-    """A pass of a budget. Who holds it joins it into another, closes the budget with it or frees it."""
+AnyPass = TypeVar("AnyPass", bound="BasePass")
+
+
+class BasePass:
+    """A pass of a budget or of a quota. Who holds it joins it into another, closes what it is of with it, or frees
+    it."""
 
     __slots__ = ("handle", "at", "_ticket", "_at_ticket")
+
+    #: How the engine's calls on it begin, and the one that frees it.
+    _CALLS: ClassVar[str]
+    _FREE: ClassVar[Any]
 
     def __init__(self) -> None:
         self.handle = Handle()
         self.at = byref(self.handle)
         self._ticket = c_uint64()
         self._at_ticket = byref(self._ticket)
+
+    def split(self: AnyPass) -> Optional[AnyPass]:
+        """A new pass of the same, with no ticket, or None where too many are out."""
+        part = type(self)()
+        return part if self._does("split", part.at, unless=TOO_MANY_PASSES) else None
+
+    def join(self: AnyPass, other: AnyPass) -> None:
+        """Takes in another pass of the same."""
+        self._does("join", other.at)
+
+    def count(self) -> int:
+        """How many tickets were drawn with it and with those joined into it."""
+        self._does("count", self._at_ticket)
+        return self._ticket.value
+
+    def close(self) -> Optional[int]:
+        """Closes what it is of: how many tickets were drawn of it, or None where another pass is out."""
+        return self._ticket.value if self._does("close", self._at_ticket, unless=PASSES_OUT) else None
+
+    def free(self) -> None:
+        """Frees it with its tickets, where it holds a pass: what it is of can't be closed then."""
+        if self.handle.held:
+            self._FREE(self.at)
+
+    def _does(self, verb: str, *given: Any, unless: Optional[int] = None) -> bool:
+        """Makes this call: False where it answers the one status that is no error."""
+        call = self._CALLS + verb
+        status = getattr(_library, call)(self.at, *given)
+        if status == OK:
+            return True
+        if status == unless:
+            return False
+        raise refused(call, status)
+
+
+class Pass(BasePass):
+    """A pass of a budget."""
+
+    __slots__ = ()
+
+    _CALLS = "hikebox_pass_"
+    _FREE = _library.hikebox_pass_free
 
     @classmethod
     def of_budget(cls, limit: int, rising: bool) -> Pass:
@@ -248,64 +340,65 @@ class Pass:
             return None
         raise refused("hikebox_pass_draw", status)
 
-    def split(self) -> Optional[Pass]:
-        """A new pass of the same budget, or None where too many are out."""
-        part = Pass()
-        status = _library.hikebox_pass_split(self.at, part.at)
-        if status == OK:
-            return part
-        if status == TOO_MANY_PASSES:
-            return None
-        raise refused("hikebox_pass_split", status)
-
-    def join(self, other: Pass) -> None:
-        """Takes in another pass of the same budget."""
-        status = _library.hikebox_pass_join(self.at, other.at)
-        if status != OK:
-            raise refused("hikebox_pass_join", status)
-
     def raise_to(self, limit: int) -> Optional[int]:
         """The limit after it was raised to this one at least, or None where the budget keeps its limit."""
-        status = _library.hikebox_pass_raise(self.at, limit, self._at_ticket)
-        if status == OK:
-            return self._ticket.value
-        if status == FIXED:
-            return None
-        raise refused("hikebox_pass_raise", status)
+        return self._ticket.value if self._does("raise", limit, self._at_ticket, unless=FIXED) else None
 
-    def count(self) -> int:
-        """How many tickets were drawn with it and with those joined into it."""
-        status = _library.hikebox_pass_count(self.at, self._at_ticket)
+
+class QuotaPass(BasePass):
+    """A pass of a quota. Moments are whole milliseconds from 0 to FAR."""
+
+    __slots__ = ("_now", "_usage")
+
+    _CALLS = "hikebox_quota_"
+    _FREE = _library.hikebox_quota_free
+
+    def __init__(self) -> None:
+        super().__init__()
+        self._now = c_uint64()
+        self._usage = Usage()
+
+    @classmethod
+    def of_quota(cls, reserve: int, share: int, period: int) -> QuotaPass:
+        """The first pass of a new quota."""
+        made = cls()
+        status = _library.hikebox_quota_new(reserve, share, period, made.at)
         if status != OK:
-            raise refused("hikebox_pass_count", status)
-        return self._ticket.value
+            raise refused("hikebox_quota_new", status)
+        return made
 
-    def close(self) -> Optional[int]:
-        """Closes the budget: how many tickets were drawn of it, or None where another pass is out."""
-        status = _library.hikebox_pass_close(self.at, self._at_ticket)
+    def deposit(self, now: int) -> None:
+        """Counts a request."""
+        self._now.value = now
+        status = _quota_deposit(self.at, self._now)
+        if status != OK:
+            raise refused("hikebox_quota_deposit", status)
+
+    def draw(self, now: int) -> Optional[int]:
+        """A ticket, or None where the window has none left."""
+        self._now.value = now
+        status = _quota_draw(self.at, self._now, self._at_ticket)
         if status == OK:
             return self._ticket.value
-        if status == PASSES_OUT:
+        if status == NO_TICKET:
             return None
-        raise refused("hikebox_pass_close", status)
+        raise refused("hikebox_quota_draw", status)
 
-    def free(self) -> None:
-        """Frees it with its tickets, where it holds a pass: the budget can't be closed then."""
-        if self.handle.held:
-            _pass_free(self.at)
+    def seen(self, now: int) -> Tuple[int, int, int, int]:
+        """The window, the requests counted in it, the tickets given, and those that are left."""
+        usage = self._usage
+        self._does("seen", now, byref(usage))
+        return usage.window, usage.asked, usage.given, usage.left
 
 
 class Machine:
     """A retry that is stepped. One object serves many retries, one after the other."""
 
-    __slots__ = ("handle", "at", "words", "next", "drawn", "uses", "_at_next", "_at_words", "_now", "_code")
+    __slots__ = ("handle", "at", "words", "next", "_at_next", "_at_words", "_now", "_code")
 
     def __init__(self) -> None:
         self.handle = Handle()
         self.at = byref(self.handle)
-        #: Of a retry without a budget: the pass that it was begun with, and how often that was used.
-        self.drawn: Optional[Pass] = None
-        self.uses = 0
         self.words = Words(1 << 31, 1 << 31, 1 << 31, 1 << 31)
         self.next = Next()
         self._at_next = byref(self.next)
@@ -315,12 +408,15 @@ class Machine:
 
     def begin(self, policy: PolicyHandle, drawn: Pass) -> bool:
         """Begins a retry with a pass split off this one; False where too many are out."""
-        status = _retry_new(policy.at, drawn.at, self.at)
-        if status == OK:
-            return True
-        if status == TOO_MANY_PASSES:
-            return False
-        raise refused("hikebox_retry_new", status)
+        return _begun("hikebox_retry_new", _retry_new(policy.at, drawn.at, self.at))
+
+    def begin_on_quota(self, policy: PolicyHandle, drawn: QuotaPass) -> bool:
+        """The same on a quota: it draws at the moments of its polls. False where this pass has one part left."""
+        return _begun("hikebox_retry_on_quota", _retry_on_quota(policy.at, drawn.at, self.at))
+
+    def begin_unlimited(self, policy: PolicyHandle) -> None:
+        """Begins a retry that draws on nothing. `free` ends it."""
+        _begun("hikebox_retry_unlimited", _retry_unlimited(policy.at, self.at))
 
     def poll(self, now: int, report: int, code: int) -> int:
         """One step: what is to be done, with the rest in `next`."""
@@ -344,10 +440,25 @@ class Machine:
         if status != OK:
             raise refused("hikebox_retry_end", status)
 
+    def end_on_quota(self, drawn: QuotaPass) -> None:
+        """The same of a retry on a quota."""
+        status = _retry_end_on_quota(self.at, drawn.at)
+        if status != OK:
+            raise refused("hikebox_retry_end_on_quota", status)
+
     def free(self) -> None:
-        """Frees the retry and its pass, where there is one: the budget can't be closed then."""
+        """Frees the retry and its pass, where there is one: what that is of can't be closed then."""
         if self.handle.held:
             _retry_free(self.at)
+
+
+def _begun(call: str, status: int) -> bool:
+    """Whether a retry was begun; False where there was no pass for it."""
+    if status == OK:
+        return True
+    if status == TOO_MANY_PASSES:
+        return False
+    raise refused(call, status)
 
 
 #: Machines that hold no retry, for the next ones. Who holds a machine with a retry ends or frees it.

@@ -2,6 +2,7 @@
 
 from __future__ import annotations
 
+import contextlib
 import os
 import signal
 import sys
@@ -11,7 +12,8 @@ from dataclasses import dataclass
 from typing import Any, FrozenSet, List, Optional, Sequence, Tuple, Union
 
 from .budget import Budget
-from .leased import Leased
+from .errors import StoreError
+from .leased import Leased, LeasedQuota
 from .policy import Policy
 from .retrying import Retrying
 from .state import RetryState
@@ -36,7 +38,7 @@ class RunOptions:
     """How a command is run."""
 
     policy: Policy
-    budget: Union[Budget, Leased, None] = None
+    budget: Union[Budget, Leased, LeasedQuota, None] = None
     #: The statuses that are retried; None for all but 0 and those of a command that can't be run.
     on: Optional[FrozenSet[int]] = None
     #: Seconds that an attempt may take, and that it is given after SIGTERM before it gets SIGKILL.
@@ -72,6 +74,7 @@ def run_command(command: Sequence[str], options: RunOptions) -> int:
             budget=options.budget,
             on=runner.retries,
             code=lambda error: error.status if isinstance(error, _Failed) else 0,
+            before=_tell_request if isinstance(options.budget, LeasedQuota) else None,
             before_sleep=runner.tell_wait if options.verbose else None,
             sleep=runner.wait,
         )
@@ -85,6 +88,14 @@ def run_command(command: Sequence[str], options: RunOptions) -> int:
             status = ended.status
         runner.let_out()
         return status
+
+
+def _tell_request(state: RetryState) -> None:
+    """Tells the store of a quota that there is one more run, as its first attempt begins: also of one that succeeds."""
+    quota = state.retry_object.budget if state.retry_object is not None else None
+    if state.attempt_number == 1 and isinstance(quota, LeasedQuota):
+        with contextlib.suppress(StoreError):
+            quota.seen()
 
 
 class _Runner:

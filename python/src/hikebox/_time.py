@@ -8,10 +8,13 @@ from typing import Union
 
 from .errors import Fault, PolicyError
 
-__all__ = ["FAR", "Duration", "Milliseconds", "milliseconds", "seconds", "seconds_text"]
+__all__ = ["FAR", "HAIR", "Duration", "Milliseconds", "milliseconds", "moment", "seconds", "seconds_text"]
 
 #: The longest duration, in milliseconds; also the last moment and the greatest number of a policy.
 FAR = 2**62 - 1
+
+#: So much of a millisecond is not taken for less than a whole one.
+HAIR = 1e-6
 
 
 class Milliseconds(int):
@@ -71,6 +74,18 @@ def _rounded(count: int, unit: int) -> int:
         return -1
     whole, rest = divmod(count, unit)
     return whole + (1 if 2 * rest > unit or (2 * rest == unit and whole % 2) else 0)
+
+
+def moment(clock: float) -> int:
+    """The whole milliseconds of what a clock tells, from 0 to the last moment that there is.
+
+    >>> moment(0.1 + 0.2), moment(-1), moment(1e30) == FAR
+    (300, 0, True)
+    """
+    count = int(clock * 1000 + HAIR)
+    if 0 <= count <= FAR:
+        return count
+    return 0 if count < 0 else FAR
 
 
 def seconds_text(count: int) -> str:

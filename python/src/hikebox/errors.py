@@ -16,6 +16,7 @@ __all__ = [
     "ResultRefused",
     "StoreError",
     "StoreLost",
+    "TermsError",
     "TryAgain",
 ]
 
@@ -58,15 +59,19 @@ class PolicyError(HikeboxError, ValueError):
 
 
 class BudgetError(HikeboxError):
-    """A budget can't do what was asked of it."""
+    """A budget, or a quota, can't do what was asked of it."""
+
+
+class TermsError(BudgetError, ValueError):
+    """What a budget or a quota was to be made with is out of range."""
 
 
 class BudgetClosed(BudgetError):
-    """The budget was closed."""
+    """The budget, or the quota, was closed."""
 
 
 class BudgetInUse(BudgetError):
-    """The budget can't be closed: a retry under it is still under way."""
+    """The budget, or the quota, can't be closed: a retry under it is still under way."""
 
 
 class StoreError(HikeboxError):

@@ -1,9 +1,10 @@
-"""Budgets that processes and machines share: tickets in ranges from a store that counts.
+"""Budgets and quotas that processes and machines share: tickets in ranges from a store that counts.
 
 >>> import tempfile
 >>> from hikebox import recurs, retry
 >>> folder = tempfile.TemporaryDirectory()
->>> budget = Leased(FileStore(folder.name + "/budgets"), "nightly", limit=1000)
+>>> store = FileStore(folder.name + "/budgets")
+>>> budget = Leased(store, "nightly", limit=1000)
 >>> @retry(recurs(3), budget=budget)
 ... def fetch():
 ...     return "fetched"
@@ -11,75 +12,35 @@
 'fetched'
 >>> budget.draw()
 0
+>>> quota = LeasedQuota(store, "payments", reserve=100, share=0.2, per=10)
+>>> @retry(recurs(3), budget=quota)
+... def pay():
+...     return "paid"
+>>> pay()
+'paid'
 >>> folder.cleanup()
 
-A store counts the tickets that were leased of a budget. A process leases a range, by one atomic step of the store, and
-only then draws from it, by a `Budget` of the engine that has as many tickets as the range. So each ticket is in one
-lease, and is drawn once. What is left of a lease when its process ends is lost.
+A store counts the tickets that were leased. A process leases a range, by one atomic step of the store, and only then
+draws from it, by a `Budget` of the engine that has as many tickets as the range. So each ticket is in one lease, and is
+drawn once. What is left of a lease when its process ends is lost.
 """
 
 from __future__ import annotations
 
-import fcntl
-import json
-import logging
-import os
 import threading
-import time
-import zlib
-from typing import Any, Callable, Dict, List, NamedTuple, Optional, Protocol, Tuple, Union
+from collections import deque
+from typing import Callable, Deque, Optional
 
+from ._leases import Leases, checked_lease
+from ._stores import FileStore, QuotaRange, QuotaStore, Range, RedisStore, Store, uptime
 from ._time import Duration, seconds, seconds_text
-from .budget import Budget
-from .errors import BudgetClosed, BudgetError, BudgetInUse, StoreError, StoreLost
+from .errors import TermsError
+from .quota import Usage, terms_of
 
-__all__ = ["FileStore", "Leased", "Range", "RedisStore", "Store"]
-
-logger = logging.getLogger("hikebox")
+__all__ = ["FileStore", "Leased", "LeasedQuota", "QuotaRange", "QuotaStore", "Range", "RedisStore", "Store"]
 
 
-#: How many leases in a row may be over before a ticket is drawn of them.
-_TRIES = 3
-
-
-def _uptime() -> float:
-    """Seconds since the machine started, also those for which it slept. Nobody can set this clock."""
-    return time.clock_gettime(time.CLOCK_BOOTTIME)
-
-
-class Range(NamedTuple):
-    """A range of tickets that a store granted: so many `tickets` from `first` on, or none."""
-
-    first: int
-    tickets: int
-    #: The moment, by the clock that was handed in, up to which they may be drawn, or None. Where there are none, the
-    #: moment from which on it makes sense to ask again.
-    until: Optional[float]
-
-
-class Store(Protocol):
-    """Where leases come from."""
-
-    def take(
-        self, name: str, count: int, limit: int, period: Optional[int], clock: Callable[[], float]
-    ) -> Range:
-        """Adds `count` to the count of this name, or of its present window of `period` milliseconds, and gives those
-        of the numbers added that are below the limit. A `StoreError` where the store can't be reached, or has lost
-        its count."""
-
-
-class _Lease:
-    """A range, and the budget of the engine that draws from it."""
-
-    __slots__ = ("first", "until", "budget")
-
-    def __init__(self, granted: Range) -> None:
-        self.first = granted.first
-        self.until = granted.until
-        self.budget = Budget(granted.tickets)
-
-
-class Leased:
+class Leased(Leases):
     """A budget that all processes with the same store and name share. Threads may share it too.
 
     `limit`
@@ -104,381 +65,163 @@ class Leased:
         lease: Optional[int] = None,
         reserve: int = 0,
         again_after: float = 1.0,
-        clock: Callable[[], float] = _uptime,
+        clock: Callable[[], float] = uptime,
     ) -> None:
         if isinstance(limit, bool) or not isinstance(limit, int) or not 0 <= limit < 2**52:
-            raise BudgetError(f"a limit is a whole number from 0 to 2**52 - 1, not {limit!r}")
+            raise TermsError(f"a limit is a whole number from 0 to 2**52 - 1, not {limit!r}")
         millis = None if period is None else seconds(period)
         if millis == 0:
-            raise BudgetError(f"a period is at least a millisecond, not {period!r}")
-        if lease is not None and not 1 <= lease <= 2**32:
-            raise BudgetError(f"a lease is from 1 to 2**32 tickets, not {lease!r}")
+            raise TermsError(f"a period is at least a millisecond, not {period!r}")
         self.store = store
-        self.name = name
         self.limit = limit
-        #: The length of a window in milliseconds, or None.
-        self.period = millis
-        self.lease = max(1, min(1000, limit // 64)) if lease is None else lease
+        self.lease = checked_lease(lease) or max(1, min(1000, limit // 64))
         self.reserve = reserve
-        self.again_after = again_after
-        self.clock = clock
-        self._begin()
+        super().__init__(name, millis, reserve, again_after, clock)
 
-    def _begin(self) -> None:
-        """As in a process that has no lease."""
-        self._process = os.getpid()
-        self._lock = threading.Lock()
-        self._lease: Optional[_Lease] = None
-        #: The budgets of past leases that are not closed yet, and how many tickets were drawn of the others.
-        self._past: List[Budget] = []
-        self._drawn = 0
-        #: From when on the store is asked again; None for never.
-        self._ask_at: Optional[float] = 0.0
-        #: Whether the store could be reached when it was asked last.
-        self._reached = True
-        self._reserved: Optional[_Lease] = None
-
-    def draw(self) -> Optional[int]:
-        """A ticket, by its number, or None where there is none: from the lease, or from a new one where it is used up.
-
-        The numbers are from 0 to below the limit, in each window anew; those of the reserve are -1, -2 and so on.
-        """
-        if self._process != os.getpid():
-            self._begin()
-        lease = self._lease
-        if lease is not None:
-            ticket = self._from(lease)
-            if ticket is not None:
-                return ticket
-        with self._lock:
-            return self._drawn_anew(lease)
-
-    async def draw_async(self) -> Optional[int]:
-        """The same for a coroutine: it waits for the store on another thread."""
-        if self._process != os.getpid():
-            self._begin()
-        lease = self._lease
-        ticket = None if lease is None else self._from(lease)
-        if ticket is not None:
-            return ticket
-        if not self._lock.locked() and not self._may_ask():
-            return self.draw()
-        import asyncio
-
-        try:
-            loop = asyncio.get_running_loop()
-        except RuntimeError:  # a coroutine of another library
-            return self.draw()
-        return await loop.run_in_executor(None, self.draw)
-
-    @property
-    def granted(self) -> int:
-        """How many tickets this process drew."""
-        with self._lock:
-            held = [lease.budget for lease in (self._lease, self._reserved) if lease is not None]
-            return self._drawn + sum(budget.count for budget in (*self._past, *held))
+    def _take(self) -> Range:
+        return self.store.take(self.name, self.lease, self.limit, self.period, self.clock)
 
     def __repr__(self) -> str:
         period = "" if self.period is None else f", period={seconds_text(self.period)}"
         return f"Leased({self.store!r}, {self.name!r}, limit={self.limit}{period}, lease={self.lease})"
 
-    def __reduce__(self) -> Any:
-        raise TypeError("each process makes its own Leased, of the same store and name")
 
-    def _from(self, lease: _Lease) -> Optional[int]:
-        """A ticket of this lease, where it may still be drawn from and has one."""
-        if lease.until is not None and self.clock() >= lease.until:
-            return None
-        try:
-            ticket = lease.budget.draw()
-        except BudgetClosed:
-            return None
-        return None if ticket is None else lease.first + ticket
+class LeasedQuota(Leases):
+    """A quota that all processes with the same store and name share. Threads may share it too.
+
+    `reserve`, `share`, `per`
+        As of a `Quota`, over all processes: in each window of the store's clock they draw no more tickets than the
+        reserve, and the share of the requests that they told the store in it.
+    `lease`
+        How many tickets are leased at a time, at most. A process that ends loses at most so many; a store is asked once
+        for so many draws. A sixty-fourth of what the window allows where it is None, from 1 to 1000.
+    `spare`
+        How many tickets this process may draw in each period while the store can't be reached, beyond the quota.
+    `again_after`
+        How many seconds a store that could not be reached is left alone, and one that had no ticket left, where the
+        requests since then are not worth a lease.
+
+    Requests are counted in the process, and told to the store when a lease is asked for, or by `seen`; those of the
+    present window alone count. So a process whose calls all succeed never asks the store.
+    """
+
+    def __init__(
+        self,
+        store: QuotaStore,
+        name: str,
+        reserve: int,
+        share: float,
+        per: Duration,
+        *,
+        lease: Optional[int] = None,
+        spare: int = 0,
+        again_after: float = 1.0,
+        clock: Callable[[], float] = uptime,
+    ) -> None:
+        self.terms = terms_of(reserve, share, per)
+        self.store = store
+        self.lease = checked_lease(lease)
+        self.spare = spare
+        super().__init__(name, self.terms.period, spare, again_after, clock)
+
+    def _begin(self) -> None:
+        super()._begin()
+        self._requests = _Requests(self.terms.period / 1000)
+        #: How many tickets are leased next.
+        self._next = self._lease_of(self.terms.reserve)
+        #: Whether the store had no ticket left when it was asked last.
+        self._spent = False
+
+    def deposit(self) -> None:
+        """Counts a request. Calls that are retried under the quota do it by themselves. The store is not asked."""
+        self._look_at_process()
+        self._requests.add(self.clock())
+
+    def seen(self) -> Usage:
+        """Tells the store the requests that were counted since it was asked last, and answers what it has of its
+        present window. It is a `StoreError` where the store can't be reached.
+
+        A process whose calls hardly ever fail may call it now and then, so that others draw on the share of its
+        requests.
+        """
+        self._look_at_process()
+        with self._lock:
+            found = self._asked(0)
+            self._spent = False
+            self._ask_at = 0.0
+        given = found.first + found.tickets
+        return Usage(found.window, found.asked, given, max(0, self.terms.allowed(found.asked) - given))
+
+    def _take(self) -> Range:
+        self._spent = False
+        found = self._asked(self._next)
+        self._next = self._lease_of(self.terms.allowed(found.asked))
+        self._spent = found.tickets == 0
+        until = found.until
+        if self._spent and self.terms.share:
+            until = min(until, self.clock() + self.again_after)
+        return Range(found.first, found.tickets, until)
+
+    def _asked(self, count: int) -> QuotaRange:
+        return self.store.take_of_quota(self.name, self.terms, count, self._requests.take, self.clock)
 
     def _may_ask(self) -> bool:
-        return self._ask_at is not None and self.clock() >= self._ask_at
+        return super()._may_ask() or (self._spent and self._requests.count * self.terms.share >= self._next * 1000)
 
-    def _drawn_anew(self, before: Optional[_Lease]) -> Optional[int]:
-        """A ticket of the present lease, if it is another than before, or of a new one, or of the reserve."""
-        lease = self._lease
-        if lease is not None and lease is not before:
-            ticket = self._from(lease)
-            if ticket is not None:
-                return ticket
-        for _ in range(_TRIES):
-            lease = self._leased()
-            if lease is None:
-                return None if self._reached else self._from_reserve()
-            ticket = self._from(lease)
-            if ticket is not None:
-                return ticket
-        self._ask_at = self.clock() + self.again_after
-        return None
-
-    def _leased(self) -> Optional[_Lease]:
-        """A new lease in the place of the present one, or None where the store is not asked, or grants none."""
-        if not self._may_ask():
-            return None
-        try:
-            granted = self.store.take(self.name, self.lease, self.limit, self.period, self.clock)
-        except StoreError as error:
-            if self._reached:
-                logger.warning("%s: %s; it grants nothing until it can be reached", self.name, error)
-            self._reached = False
-            self._ask_at = self.clock() + self.again_after
-            return None
-        self._reached = True
-        if granted.tickets == 0:
-            self._ask_at = granted.until
-            return None
-        if self._lease is not None:
-            self._past.append(self._lease.budget)
-        self._lease = _Lease(granted)
-        self._retire()
-        return self._lease
-
-    def _retire(self) -> None:
-        """Closes the budgets of past leases, and adds up what was drawn of them."""
-        in_use: List[Budget] = []
-        for budget in self._past:
-            try:
-                self._drawn += budget.close()
-            except BudgetInUse:  # a draw of another thread is under way
-                in_use.append(budget)
-        self._past = in_use
-
-    def _from_reserve(self) -> Optional[int]:
-        if self.reserve == 0:
-            return None
-        reserved = self._reserved
-        if reserved is None or (reserved.until is not None and self.clock() >= reserved.until):
-            if reserved is not None:
-                self._past.append(reserved.budget)
-            until = None if self.period is None else self.clock() + self.period / 1000
-            reserved = self._reserved = _Lease(Range(0, self.reserve, until))
-        ticket = self._from(reserved)
-        return None if ticket is None else -1 - ticket
-
-
-def _below(before: int, count: int, limit: int, until: Optional[float]) -> Range:
-    """Those of `count` numbers from `before` on that are below the limit."""
-    return Range(before, max(0, min(count, limit - before)), until)
-
-
-def _window(now: float, period: int) -> Tuple[int, float, float]:
-    """The window of so many milliseconds that a moment is in: its number, its first moment and its end."""
-    number = int(now * 1000 // period)
-    return number, number * period / 1000, (number + 1) * period / 1000
-
-
-class FileStore:
-    """Counts in a file, for the processes of one machine.
-
-    Each lease is one change of the file under its lock (`flock`), written to the disk before it is granted. Windows are
-    counted by the machine's uptime, so a clock that is set, or off, changes nothing. The file has to be on a local
-    disk. Who deletes it begins all its budgets anew; one that is damaged grants nothing (`StoreLost`).
-
-    `patience` is how many seconds are waited for the lock.
-    """
-
-    def __init__(self, path: Union[str, os.PathLike[str]], *, patience: float = 5.0) -> None:
-        self.path = os.fspath(path)
-        self.patience = patience
+    def _lease_of(self, allowed: int) -> int:
+        return self.lease or max(1, min(1000, allowed // 64))
 
     def __repr__(self) -> str:
-        return f"FileStore({self.path!r})"
-
-    def take(
-        self, name: str, count: int, limit: int, period: Optional[int], clock: Callable[[], float]
-    ) -> Range:
-        """A range of this name's tickets, or of its present window's."""
-        try:
-            file = os.open(self.path, os.O_RDWR | os.O_CREAT | os.O_CLOEXEC, 0o666)
-            try:
-                self._lock(file)
-                return self._take(file, name, count, limit, period, clock)
-            finally:
-                os.close(file)
-        except OSError as error:
-            raise StoreError(f"{self.path}: {error.strerror}") from error
-
-    def _lock(self, file: int) -> None:
-        given_up_at = time.monotonic() + self.patience
-        while True:
-            try:
-                fcntl.flock(file, fcntl.LOCK_EX | fcntl.LOCK_NB)
-                return
-            except BlockingIOError:
-                if time.monotonic() >= given_up_at:
-                    raise StoreError(f"{self.path}: its lock is not given up") from None
-                time.sleep(0.001)
-
-    def _take(
-        self, file: int, name: str, count: int, limit: int, period: Optional[int], clock: Callable[[], float]
-    ) -> Range:
-        counts = _read_counts(file, self.path)
-        until: Optional[float] = None
-        key, window = f"budget {name}", ""
-        if period is not None:
-            asked_at, now = clock(), _uptime()
-            number, _, ends_at = _window(now, period)
-            key, window = f"windows of {period} ms of {name}", f"{_boot()} {number}"
-            until = asked_at + (ends_at - now)
-        stored = counts.get(key, [window, 0])
-        if _is_later(stored[0], window):
-            return Range(0, 0, until)
-        before = stored[1] if stored[0] == window else 0
-        granted = _below(before, count, limit, until)
-        if granted.tickets:
-            counts[key] = [window, before + granted.tickets]
-            _write_counts(file, counts)
-        return granted
+        lease = "" if self.lease is None else f", lease={self.lease}"
+        return f"LeasedQuota({self.store!r}, {self.name!r}, {self.terms}{lease})"
 
 
-def _is_later(stored: str, window: str) -> bool:
-    """Whether the window in the file is a later one of the same start of the machine."""
-    boot, _, number = stored.partition(" ")
-    present, _, now = window.partition(" ")
-    return boot == present and bool(number) and int(number) > int(now)
+#: Into so many slices the requests of a window are counted.
+_SLICES = 16
 
 
-def _boot() -> str:
-    """A name of this start of the machine."""
-    with open("/proc/sys/kernel/random/boot_id", encoding="ascii") as file:
-        return file.read().strip()
+class _Slice:
+    """Requests of a part of a window: which part it is, when the first one came, and how many they are."""
+
+    __slots__ = ("number", "began", "count")
+
+    def __init__(self, number: int, began: float) -> None:
+        self.number = number
+        self.began = began
+        self.count = 0
 
 
-_HEADER = b"hikebox counts 1 "
+class _Requests:
+    """Requests that were counted and not told to the store yet. They are kept by slices of time, since the store counts
+    those of its present window."""
 
+    def __init__(self, period: float) -> None:
+        self._period = period
+        #: The moment from which slices are counted, so that a window of the store begins with one.
+        self._anchor = 0.0
+        self._lock = threading.Lock()
+        self._slices: Deque[_Slice] = deque()
+        #: How many they are, of the last period.
+        self.count = 0
 
-def _read_counts(file: int, path: str) -> Dict[str, List[Any]]:
-    """The counts in the file, none where it is empty."""
-    text = b""
-    while True:
-        more = os.pread(file, 1 << 20, len(text))
-        if not more:
-            break
-        text += more
-    if not text:
-        return {}
-    head, _, rest = text.partition(b"\n")
-    try:
-        length, check = (int(word) for word in head[len(_HEADER) :].split())
-        body = rest[:length]
-        if not head.startswith(_HEADER) or len(body) != length or zlib.crc32(body) != check:
-            raise ValueError("damaged")
-        counts: Dict[str, List[Any]] = json.loads(body)
-        return counts
-    except ValueError:
-        raise StoreLost(f"{path}: it is damaged, or no file of counts") from None
+    def add(self, now: float) -> None:
+        """One more."""
+        with self._lock:
+            number = int((now - self._anchor) * _SLICES // self._period)
+            slices = self._slices
+            if not slices or slices[-1].number != number:
+                slices.append(_Slice(number, now))
+                while slices[0].began < now - self._period:
+                    self.count -= slices.popleft().count
+            slices[-1].count += 1
+            self.count += 1
 
-
-def _write_counts(file: int, counts: Dict[str, List[Any]]) -> None:
-    """Writes the counts by one write, and to the disk."""
-    body = json.dumps(counts, sort_keys=True).encode()
-    text = _HEADER + b"%d %d\n" % (len(body), zlib.crc32(body)) + body
-    if os.pwrite(file, text, 0) != len(text):
-        raise StoreError("the file could not be written whole")
-    os.fsync(file)
-
-
-#: By how many seconds at most a Redis server was started later than it says.
-_UPTIME_OFF = 2
-
-#: What a count in Redis begins at, so that one that was lost, and began anew at 0, is seen.
-_BASE = 2**52
-
-
-class RedisStore:
-    """Counts in a Redis server, for the processes of many machines: each lease is one INCRBY, in a transaction.
-
-    The connection is handed in: a client of the `redis` library, best with a `socket_timeout`. The server's clock alone
-    counts, for windows too.
-
-    A budget without a period is begun once, by `begin`. It grants nothing (`StoreLost`) where its count is not there,
-    and after the server was started anew, since what it was told last may be lost; with `durable`, where the server has
-    `appendonly yes` and `appendfsync always`, it goes on after that. A window that began before the server was started
-    grants nothing. Not seen are a failover to a replica that lags, a clock of the server that is set back, and someone
-    who writes to its keys.
-    """
-
-    def __init__(self, client: Any, *, prefix: str = "hikebox", durable: bool = False) -> None:
-        self.client = client
-        self.prefix = prefix
-        self.durable = durable
-
-    def __repr__(self) -> str:
-        return f"RedisStore({self.client!r})"
-
-    def begin(self, name: str) -> None:
-        """Begins a budget of this name with no ticket leased: to be called once for each budget, by one process."""
-        key = self._key(name)
-        try:
-            server = self.client.info("server")["run_id"]
-            pipe = self.client.pipeline(transaction=True)
-            pipe.set(key, _BASE)
-            pipe.set(key + ":server", server)
-            pipe.execute()
-        except Exception as error:
-            raise StoreError(f"Redis: {error}") from error
-
-    def forget(self, name: str) -> None:
-        """Takes a budget away: from then on it grants nothing."""
-        try:
-            self.client.delete(self._key(name), self._key(name) + ":server")
-        except Exception as error:
-            raise StoreError(f"Redis: {error}") from error
-
-    def take(
-        self, name: str, count: int, limit: int, period: Optional[int], clock: Callable[[], float]
-    ) -> Range:
-        """A range of this name's tickets, or of its present window's."""
-        try:
-            if period is None:
-                return self._of_budget(name, count, limit)
-            return self._of_window(name, count, limit, period, clock)
-        except StoreError:
-            raise
-        except Exception as error:
-            raise StoreError(f"Redis: {error}") from error
-
-    def _key(self, name: str) -> str:
-        return f"{self.prefix}:{{{name}}}"
-
-    def _of_budget(self, name: str, count: int, limit: int) -> Range:
-        key = self._key(name)
-        pipe = self.client.pipeline(transaction=True)
-        pipe.get(key + ":server")
-        pipe.info("server")
-        pipe.incrby(key, count)
-        server, info, after = pipe.execute()
-        before = int(after) - count - _BASE
-        if server is None or before < 0:
-            raise StoreLost(f"Redis has no count of {name!r}: begin() makes one")
-        begun_on = server.decode() if isinstance(server, bytes) else server
-        if not self.durable and begun_on != info["run_id"]:
-            raise StoreLost(f"Redis was started anew since {name!r} was begun, and may have lost some of its count")
-        return _below(before, count, limit, None)
-
-    def _of_window(
-        self, name: str, count: int, limit: int, period: int, clock: Callable[[], float]
-    ) -> Range:
-        asked_at = clock()
-        pipe = self.client.pipeline(transaction=True)
-        pipe.time()
-        pipe.info("server")
-        (whole, micros), info = pipe.execute()
-        now = int(whole) + int(micros) / 1e6
-        window, begun_at, ends_at = _window(now, period)
-        until = asked_at + (ends_at - now)
-        if begun_at < now - int(info["uptime_in_seconds"]) + _UPTIME_OFF:
-            return Range(0, 0, until)
-        key = f"{self._key(name)}:{period}:{window}"
-        pipe = self.client.pipeline(transaction=True)
-        pipe.info("server")
-        pipe.incrby(key, count)
-        pipe.pexpire(key, 2 * period)
-        again, after, _ = pipe.execute()
-        if again["run_id"] != info["run_id"]:
-            raise StoreLost("Redis was started anew while it was asked")
-        return _below(int(after) - count, count, limit, until)
+    def take(self, since: float) -> int:
+        """Those of the slices that began since this moment, at which a window of the store began. None is given
+        again."""
+        with self._lock:
+            told = sum(part.count for part in self._slices if part.began >= since)
+            self._slices.clear()
+            self.count = 0
+            self._anchor = since
+            return told

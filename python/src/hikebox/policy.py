@@ -9,7 +9,7 @@ from dataclasses import dataclass
 from typing import Any, Callable, Dict, List, Optional, Tuple, Union
 
 from . import _engine
-from ._nodes import fault_of, most_goes, parts_of, walk
+from ._nodes import most_goes, parts_of, walk
 from ._time import FAR, Duration, seconds, seconds_text
 from .errors import Fault, PolicyError
 
@@ -107,7 +107,7 @@ class Policy:
         handle = _engine.PolicyHandle()
         refusal = handle.read(text)
         if refusal is not None:
-            raise _policy_error(refusal, text)
+            raise _error(refusal)
         policy = object.__new__(cls)
         policy._tree = json.loads(text) if tree is None else tree
         policy._text = json.dumps(policy._tree, separators=(",", ":"))
@@ -396,7 +396,7 @@ class Policy:
             handle = _engine.PolicyHandle()
             refusal = handle.read(self._text.encode())
             if refusal is not None:
-                raise _policy_error(refusal, self._text.encode()) from None
+                raise _error(refusal) from None
             return handle
 
     def _give_back(self, handle: _engine.PolicyHandle) -> None:
@@ -431,14 +431,9 @@ def word_of(number: float) -> int:
     return min(2**32 - 1, max(0, int(number * 4294967296.0)))
 
 
-def _policy_error(refusal: _engine.Refusal, text: bytes) -> PolicyError:
-    """The error for a text that the engine refused, with the place that is found for the same fault."""
-    fault = _FAULTS[refusal.status]
-    if fault is Fault.NOT_JSON:
-        place = f"line {refusal.line}, column {refusal.column}" if refusal.line else ""
-        return PolicyError(fault, place)
-    found = fault_of(json.loads(text))
-    return found if found is not None and found.fault is fault else PolicyError(fault)
+def _error(refusal: _engine.Refusal) -> PolicyError:
+    """The error for a text that the engine refused."""
+    return PolicyError(_FAULTS[refusal.status], refusal.place, refusal.hint)
 
 
 def _whole(number: Any, most: int = FAR) -> int:

@@ -30,6 +30,7 @@ from ._time import FAR
 from .budget import Budget
 from .errors import ResultRefused, TryAgain
 from .policy import Policy
+from .quota import Quota
 from .state import Counts, Ending, Outcome, RetryState, Statistics, code_of
 
 __all__ = ["AsyncRetrying", "Attempt", "BaseRetrying", "Retrying", "Tickets", "retry"]
@@ -49,7 +50,11 @@ if TYPE_CHECKING:
 
 
 class Tickets(Protocol):
-    """What a retry can draw on beside a `Budget`: a budget that is kept elsewhere, as by `hikebox.leased`."""
+    """What a retry can draw on beside a `Budget` or a `Quota`: one that is kept elsewhere, as by `hikebox.leased`.
+
+    Where it has a `draw_async()`, coroutines await that in the place of `draw()`. Where it has a `deposit()`, that is
+    called once for each call, at its first attempt.
+    """
 
     def draw(self) -> Optional[int]:
         """A ticket, or None where there is none."""
@@ -61,7 +66,8 @@ class BaseRetrying:
     `policy`
         When to call again: a `Policy`, or its JSON as text or a dict.
     `budget`
-        A `Budget` that all calls share, or other `Tickets`; None for none.
+        A `Budget` or a `Quota` that all calls share, or other `Tickets`; None for none. Each call is a request of a
+        quota.
     `on`
         Which exceptions are retried: a type, a tuple of types, or a function of the exception. All others are raised
         at once.
@@ -84,7 +90,7 @@ class BaseRetrying:
         self,
         policy: Union[Policy, str, bytes, Dict[str, Any]],
         *,
-        budget: Union[Budget, Tickets, None] = None,
+        budget: Union[Budget, Quota, Tickets, None] = None,
         on: On = Exception,
         on_result: Optional[Callable[[Any], bool]] = None,
         code: Optional[Callable[[BaseException], int]] = None,
@@ -114,11 +120,18 @@ class BaseRetrying:
         self._retries = _test_of(on)
         self._lanes = self.policy._jitters()
         self._reads_codes = any(_reads_code(name, own) for name, own in walk(self.policy._tree))
-        #: A budget of the engine, or one that is kept elsewhere, where there is one.
-        self._budget: Optional[Budget] = budget if isinstance(budget, Budget) else None
-        self._tickets: Optional[Tickets] = None if budget is None or isinstance(budget, Budget) else budget
-        if self._tickets is not None and not callable(getattr(self._tickets, "draw", None)):
-            raise TypeError(f"a Budget, or something with draw(), is wanted, not {budget!r}")
+        #: What the engine's retry draws on by itself, or else what the package draws on for it, where there is either.
+        #: Of a quota the first wants moments of its clock, so this retry has to go by the same.
+        self._budget: Union[Budget, Quota, None] = None
+        self._tickets: Optional[Tickets] = None
+        if isinstance(budget, Budget) or (isinstance(budget, Quota) and budget.clock == clock):
+            self._budget = budget
+        else:
+            self._tickets = budget
+        if budget is not None and not callable(getattr(budget, "draw", None)):
+            raise TypeError(f"a Budget, a Quota, or something with draw(), is wanted, not {budget!r}")
+        #: What counts a request, where the budget does.
+        self._deposit: Optional[Callable[[], Any]] = getattr(budget, "deposit", None)
 
     def _default_sleep(self) -> Callable[[float], Any]:
         return _sleep

@@ -82,7 +82,8 @@ fn a_job_s_plan_has_its_place_in_the_job(rt: HostRuntime) -> Result<(), Fail> {
             "[0].plan: a plan is a string or an object of one member\n",
         ),
         (
-            r#"[{"plan":"forever","runs":[{"won":1}]},{"plan":{"meet":["forever",{"fibonaci":1}]},"runs":[{"won":1}]},7]"#,
+            r#"[{"plan":"forever","runs":[{"won":1}]},
+                {"plan":{"meet":["forever",{"fibonaci":1}]},"runs":[{"won":1}]},7]"#,
             "[1].plan.meet[1]: no node is called \"fibonaci\"; did you mean \"fibonacci\"?\n",
         ),
     ];

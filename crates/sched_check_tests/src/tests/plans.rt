@@ -108,7 +108,8 @@ fn nodes_that_have_not_their_own_form(rt: HostRuntime) -> Result<(), Fail> {
         (
             r#"{"jitter":[0,800,1200,{"jitter":[0,-1,2,{"fixed":0}]}]}"#,
             "jitter[3]",
-            r#""jitter" is spelt {"jitter":[LANE,LEAST,MOST,PLAN]}, LANE from 0 to 3, LEAST at most MOST, MOST at most 10000"#,
+            "\"jitter\" is spelt {\"jitter\":[LANE,LEAST,MOST,PLAN]}, LANE from 0 to 3, \
+                LEAST at most MOST, MOST at most 10000",
         ),
         (
             r#"{"second":{"gate":["input",true,"below",1,{"gather":["min","forever"]}]}}"#,

@@ -10,7 +10,8 @@ use std::thread::Threads;
 
 // Four jobs with three retries each, that never succeed.
 const FOUR: &str =
-    r#"[{"plan":{"recurs":3},"runs":[{"lost":7}]},{"plan":{"recurs":3},"runs":[{"lost":7}]},{"plan":{"recurs":3},"runs":[{"lost":7}]},{"plan":{"recurs":3},"runs":[{"lost":7}]}]"#;
+    r#"[{"plan":{"recurs":3},"runs":[{"lost":7}]},{"plan":{"recurs":3},"runs":[{"lost":7}]},
+    {"plan":{"recurs":3},"runs":[{"lost":7}]},{"plan":{"recurs":3},"runs":[{"lost":7}]}]"#;
 
 // A job that succeeds at its third run, and what is printed of it.
 const THIRD: &str = r#"[{"plan":{"recurs":5},"runs":[{"lost":7},{"lost":7},{"won":1}]}]"#;
@@ -87,12 +88,16 @@ where
 }
 
 // What is printed of the four where the budget is ample.
-const FOUR_DONE: &str =
-    "job 0: schedule done, failure 7, granted 3\njob 1: schedule done, failure 7, granted 3\njob 2: schedule done, failure 7, granted 3\njob 3: schedule done, failure 7, granted 3\ngranted 12 of 100\n";
+const FOUR_DONE: &str = "job 0: schedule done, failure 7, granted 3\n\
+    job 1: schedule done, failure 7, granted 3\n\
+    job 2: schedule done, failure 7, granted 3\n\
+    job 3: schedule done, failure 7, granted 3\ngranted 12 of 100\n";
 
 // What is printed of them where there is none.
-const FOUR_REFUSED: &str =
-    "job 0: budget refused, failure 7, granted 0\njob 1: budget refused, failure 7, granted 0\njob 2: budget refused, failure 7, granted 0\njob 3: budget refused, failure 7, granted 0\ngranted 0 of 0\n";
+const FOUR_REFUSED: &str = "job 0: budget refused, failure 7, granted 0\n\
+    job 1: budget refused, failure 7, granted 0\n\
+    job 2: budget refused, failure 7, granted 0\n\
+    job 3: budget refused, failure 7, granted 0\ngranted 0 of 0\n";
 
 #[test]
 fn any_number_of_workers_prints_one_text(rt: HostRuntime) -> Result<(), Fail> {

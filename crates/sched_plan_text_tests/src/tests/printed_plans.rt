@@ -19,76 +19,59 @@ const FOREVER: &str = r#""forever""#;
 #[test]
 fn each_event_has_its_line(rt: HostRuntime) -> Result<(), Fail> {
     let far = 4611686018427387903;
-    let alloc = rt.alloc();
-    shows(&rt, alloc, PLAN, (10, 0, 0), LINES)?;
-    shows(&rt, alloc, PLAN, (4, 0, 0), LINES)?;
-    shows(
-        &rt,
-        alloc,
-        PLAN,
-        (2, 0, 0),
-        "0: (0, 0) next 100\n100: (1, 1) next 200\n",
-    )?;
-    shows(&rt, alloc, PLAN, (0, 0, 0), "")?;
-    shows(&rt, alloc, r#"{"recurs":0}"#, (10, 0, 0), "0: 0 done\n")?;
-    shows(&rt, alloc, r#"{"recurs":0}"#, (0, 0, 0), "")?;
-    shows(
-        &rt,
-        alloc,
-        r#"{"recurs":4611686018427387903}"#,
-        (1, 0, 0),
-        "0: 0 next 0\n",
-    )?;
-    shows(&rt, alloc, r#"{"spaced":10}"#, (1, 5, 0), "5: 0 next 15\n")?;
-    shows(
-        &rt,
-        alloc,
-        r#"{"follow":[{"recurs":2},{"spaced":50}]}"#,
-        (4, 0, 0),
-        "0: 0 next 0\n0: 1 next 0\n0: 0 next 50\n50: 1 next 100\n",
-    )?;
-    shows(
-        &rt,
-        alloc,
-        r#"{"follow":[{"recurs":0},{"recurs":0}]}"#,
-        (10, 0, 0),
-        "0: 0 done\n",
-    )?;
-    shows(
-        &rt,
-        alloc,
-        r#"{"fixed":100}"#,
-        (2, far, 0),
-        "4611686018427387903: 0 next 4611686018427387903\n4611686018427387903: 1 next 4611686018427387903\n",
-    )?;
-    Ok(())
+    let rows = [
+        (PLAN, (10, 0, 0), LINES),
+        (PLAN, (4, 0, 0), LINES),
+        (
+            PLAN,
+            (2, 0, 0),
+            "0: (0, 0) next 100\n100: (1, 1) next 200\n",
+        ),
+        (PLAN, (0, 0, 0), ""),
+        (r#"{"recurs":0}"#, (10, 0, 0), "0: 0 done\n"),
+        (r#"{"recurs":0}"#, (0, 0, 0), ""),
+        (
+            r#"{"recurs":4611686018427387903}"#,
+            (1, 0, 0),
+            "0: 0 next 0\n",
+        ),
+        (r#"{"spaced":10}"#, (1, 5, 0), "5: 0 next 15\n"),
+        (
+            r#"{"follow":[{"recurs":2},{"spaced":50}]}"#,
+            (4, 0, 0),
+            "0: 0 next 0\n0: 1 next 0\n0: 0 next 50\n50: 1 next 100\n",
+        ),
+        (
+            r#"{"follow":[{"recurs":0},{"recurs":0}]}"#,
+            (10, 0, 0),
+            "0: 0 done\n",
+        ),
+        (
+            r#"{"fixed":100}"#,
+            (2, far, 0),
+            "4611686018427387903: 0 next 4611686018427387903\n4611686018427387903: 1 next 4611686018427387903\n",
+        ),
+    ];
+    shows(&rt, rt.alloc(), &rows)
 }
 
 #[test]
 fn an_event_comes_when_its_work_is_over(rt: HostRuntime) -> Result<(), Fail> {
-    let (alloc, fixed) = (rt.alloc(), r#"{"fixed":100}"#);
-    shows(
-        &rt,
-        alloc,
-        fixed,
-        (3, 0, 30),
-        "0: 0 next 100\n130: 1 next 200\n230: 2 next 300\n",
-    )?;
-    shows(
-        &rt,
-        alloc,
-        fixed,
-        (2, 0, 100),
-        "0: 0 next 100\n200: 1 next 300\n",
-    )?;
-    shows(
-        &rt,
-        alloc,
-        fixed,
-        (3, 0, 250),
-        "0: 0 next 100\n350: 1 next 350\n600: 2 next 600\n",
-    )?;
-    Ok(())
+    let fixed = r#"{"fixed":100}"#;
+    let rows = [
+        (
+            fixed,
+            (3, 0, 30),
+            "0: 0 next 100\n130: 1 next 200\n230: 2 next 300\n",
+        ),
+        (fixed, (2, 0, 100), "0: 0 next 100\n200: 1 next 300\n"),
+        (
+            fixed,
+            (3, 0, 250),
+            "0: 0 next 100\n350: 1 next 350\n600: 2 next 600\n",
+        ),
+    ];
+    shows(&rt, rt.alloc(), &rows)
 }
 
 #[test]
@@ -103,59 +86,21 @@ fn inputs_and_words_leave_these_plans_alone(rt: HostRuntime) -> Result<(), Fail>
 #[test]
 fn other_inputs_are_refused_with_nothing_written(rt: HostRuntime) -> Result<(), Fail> {
     let options = options(10, 0, 0).ok_or("out of range")?;
-    let alloc = rt.alloc();
-    refuses(&rt, alloc, "".as_bytes(), &options, PrintFault::NotJson);
-    refuses(
-        &rt,
-        alloc,
-        r#"{"recurs":3"#.as_bytes(),
-        &options,
-        PrintFault::NotJson,
-    );
-    refuses(
-        &rt,
-        alloc,
-        r#"{"recurs":-1}"#.as_bytes(),
-        &options,
-        PrintFault::NotAPlan,
-    );
-    refuses(
-        &rt,
-        alloc,
-        r#"{"recurs":1.5}"#.as_bytes(),
-        &options,
-        PrintFault::NotAPlan,
-    );
-    refuses(
-        &rt,
-        alloc,
-        r#"{"meet":[{"recurs":3}]}"#.as_bytes(),
-        &options,
-        PrintFault::NotAPlan,
-    );
-    refuses(
-        &rt,
-        alloc,
-        r#"{"forever":1}"#.as_bytes(),
-        &options,
-        PrintFault::NotAPlan,
-    );
-    refuses(&rt, alloc, "7".as_bytes(), &options, PrintFault::NotAPlan);
-    refuses(
-        &rt,
-        alloc,
-        r#"{"fixed":0}"#.as_bytes(),
-        &options,
-        PrintFault::OutOfRange,
-    );
-    refuses(
-        &rt,
-        alloc,
-        r#"{"recurs":4611686018427387904}"#.as_bytes(),
-        &options,
-        PrintFault::OutOfRange,
-    );
-    refuses(&rt, alloc, &[255], &options, PrintFault::NotJson);
+    let rows = [
+        ("", PrintFault::NotJson),
+        (r#"{"recurs":3"#, PrintFault::NotJson),
+        (r#"{"recurs":-1}"#, PrintFault::NotAPlan),
+        (r#"{"recurs":1.5}"#, PrintFault::NotAPlan),
+        (r#"{"meet":[{"recurs":3}]}"#, PrintFault::NotAPlan),
+        (r#"{"forever":1}"#, PrintFault::NotAPlan),
+        ("7", PrintFault::NotAPlan),
+        (r#"{"fixed":0}"#, PrintFault::OutOfRange),
+        (r#"{"recurs":4611686018427387904}"#, PrintFault::OutOfRange),
+    ];
+    for (text, fault) in rows {
+        refuses(&rt, rt.alloc(), text.as_bytes(), &options, fault);
+    }
+    refuses(&rt, rt.alloc(), &[255], &options, PrintFault::NotJson);
     Ok(())
 }
 

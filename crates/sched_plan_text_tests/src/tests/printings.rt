@@ -77,16 +77,15 @@ pub(crate) fn refuses(
     assert!(rt; taken.is_empty(), "{fault:?}");
 }
 
-/// Asserts the lines of a plan with the options steps, from and took.
-pub(crate) fn shows(
-    rt: &impl Abort,
-    alloc: Global,
-    text: &str,
-    (steps, from, took): (u64, u64, u64),
-    lines: &str,
-) -> Result<(), Fail> {
-    let options = options(steps, from, took).ok_or("out of range")?;
-    prints(rt, alloc, text.as_bytes(), &options, lines);
+/// The text of a plan, the options steps, from and took, and the lines that are printed of it.
+pub(crate) type Row<'a> = (&'a str, (u64, u64, u64), &'a str);
+
+/// Asserts the lines of each row.
+pub(crate) fn shows(rt: &impl Abort, alloc: Global, rows: &[Row<'_>]) -> Result<(), Fail> {
+    for (text, (steps, from, took), lines) in rows {
+        let options = options(*steps, *from, *took).ok_or("out of range")?;
+        prints(rt, alloc, text.as_bytes(), &options, lines);
+    }
     Ok(())
 }
 

@@ -9,7 +9,8 @@ use std::test::Fail;
 
 // Three jobs with three retries each at once, that never succeed.
 const THREE: &str =
-    r#"[{"plan":{"recurs":3},"runs":[{"lost":7}]},{"plan":{"recurs":3},"runs":[{"lost":7}]},{"plan":{"recurs":3},"runs":[{"lost":7}]}]"#;
+    r#"[{"plan":{"recurs":3},"runs":[{"lost":7}]},{"plan":{"recurs":3},"runs":[{"lost":7}]},
+    {"plan":{"recurs":3},"runs":[{"lost":7}]}]"#;
 
 // The jobs take turns, so each of the three tickets that three requests give is another job's.
 #[test]

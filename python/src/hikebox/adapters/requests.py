@@ -14,6 +14,7 @@ from requests.adapters import HTTPAdapter
 
 from ..budget import Budget
 from ..policy import Policy
+from ..quota import Quota
 from ..retrying import Tickets
 from .urllib3 import STATUSES, PolicyRetry
 
@@ -33,7 +34,7 @@ class PolicyAdapter(HTTPAdapter):
         self,
         policy: Union[Policy, str, bytes, Dict[str, Any]],
         *,
-        budget: Union[Budget, Tickets, None] = None,
+        budget: Union[Budget, Quota, Tickets, None] = None,
         on_status: Collection[int] = STATUSES,
         **kw: Any,
     ) -> None:

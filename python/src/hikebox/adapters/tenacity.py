@@ -15,17 +15,19 @@ nobody there 3
 
 from __future__ import annotations
 
-from typing import Any, Dict, Tuple, Union
+from typing import Any, Callable, Dict, Tuple, Union
 
 from tenacity.stop import stop_base
 from tenacity.wait import wait_base
 
 from .._course import Course
+from ..leased import LeasedQuota
 from ..policy import Policy
+from ..quota import Quota
 from ..retrying import Retrying
 from ..state import Outcome
 
-__all__ = ["stop_and_wait"]
+__all__ = ["before_deposit", "stop_and_wait"]
 
 
 def stop_and_wait(policy: Union[Policy, str, bytes, Dict[str, Any]], **how: Any) -> Tuple[stop_base, wait_base]:
@@ -33,10 +35,32 @@ def stop_and_wait(policy: Union[Policy, str, bytes, Dict[str, Any]], **how: Any)
 
     `how` is what `hikebox.Retrying` takes: `budget`, `code`, `at_least`, `clock`, `random`. The policy is asked once
     for each attempt that tenacity finds failed, whichever of the two tenacity asks first. Other stops and waits may
-    be joined by tenacity's `|` and `+`.
+    be joined by tenacity's `|` and `+`. They hear of no call that succeeds at once, so where the budget is a quota,
+    `before_deposit` counts the requests.
     """
     shared = _Shared(Retrying(policy, **how))
     return _Stop(shared), _Wait(shared)
+
+
+def before_deposit(quota: Union[Quota, LeasedQuota]) -> Callable[[Any], None]:
+    """A hook for tenacity's `before`, which counts each call as a request of the quota.
+
+    >>> import tenacity
+    >>> from hikebox import Quota, recurs
+    >>> quota = Quota(reserve=0, share=0.5, per=60)
+    >>> stop, wait = stop_and_wait(recurs(2), budget=quota)
+    >>> @tenacity.retry(before=before_deposit(quota), stop=stop, wait=wait)
+    ... def fetch():
+    ...     return "fetched"
+    >>> fetch(), fetch(), quota.seen().left
+    ('fetched', 'fetched', 1)
+    """
+
+    def deposit(retry_state: Any) -> None:
+        if retry_state.attempt_number == 1:
+            quota.deposit()
+
+    return deposit
 
 
 class _Answer:

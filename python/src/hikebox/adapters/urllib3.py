@@ -17,6 +17,7 @@ from .._course import Course
 from ..budget import Budget
 from ..http import parse_retry_after
 from ..policy import Policy
+from ..quota import Quota
 from ..retrying import Retrying, Tickets
 from ..state import Outcome
 
@@ -42,7 +43,8 @@ class PolicyRetry(Retry):
     responses with a status of `on_status`. Its wait is the policy's, and at least what the response's `Retry-After`
     asks for, up to `longest_retry_after` seconds. The policy is given the response's status as code, and 0 for a
     connection. In the end the last response is given, or the last exception raised, as urllib3 does; with
-    `raise_on_status` it is a `MaxRetryError` in both cases. Redirects are followed and counted as by `Retry`.
+    `raise_on_status` it is a `MaxRetryError` in both cases. Redirects are followed and counted as by `Retry`. Under a
+    quota a request counts when it has its first response, or fails to get one.
 
     One object serves any number of requests and threads.
     """
@@ -51,7 +53,7 @@ class PolicyRetry(Retry):
         self,
         policy: Union[Policy, str, bytes, Dict[str, Any], None] = None,
         *,
-        budget: Union[Budget, Tickets, None] = None,
+        budget: Union[Budget, Quota, Tickets, None] = None,
         on_status: Collection[int] = STATUSES,
         longest_retry_after: float = 21600.0,
         sleep: Callable[[float], Any] = time.sleep,
@@ -84,6 +86,7 @@ class PolicyRetry(Retry):
 
     def is_retry(self, method: str, status_code: int, has_retry_after: bool = False) -> bool:
         """Whether a response is to be retried, if the policy goes on."""
+        self._deposit()
         if not self._is_method_retryable(method):
             return False
         if status_code in self.status_forcelist:
@@ -107,6 +110,7 @@ class PolicyRetry(Retry):
             return made
         failure: BaseException
         if error is not None:
+            self._deposit()
             failure, reason = error, error
         else:
             status = 0 if response is None else response.status
@@ -129,6 +133,11 @@ class PolicyRetry(Retry):
         if delay > 0:
             self._sleep(delay)
         self._course.waited()
+
+    def _deposit(self) -> None:
+        """Counts a request, if this was its first attempt."""
+        if self._course is None and self._retrying is not None and self._retrying._deposit is not None:
+            self._retrying._deposit()
 
     def _least(self, error: BaseException) -> Optional[float]:
         asked = error.retry_after if isinstance(error, _BadStatus) else None

@@ -24,7 +24,7 @@ loop-share-init c =
 
 pub loop-share-preserved : goal.loop-share-preserved
 loop-share-preserved c =
-    let joined = c.join-pass.ensures.both in
+    let joined = c.join-pass.ensures.joined in
     let before = c.loop-share.invariant in
     let mine = c.loop-share.pass.has in
     let share = c.in-Some.share in

@@ -31,7 +31,7 @@ loop-job-preserved g c =
     let sum : total granted (ends ++ end ∷ []) ≡ total granted ends + end.granted = omega (arith, total-append granted ends (end ∷ [])) in
     let of = subst (λ (b : Name). IsOf b c.join-pass.result) c.requires.name joined.of in
     let taken = one_taken g.N.Naming.budget (length c.loop-job.yielded) c.args.pass c.loop-job.pass c.into_end-end.result.1 c.join-pass.result
-    ends (total granted ends) end before.ends e.law e.granted e.refused of joined.both joined.sound in
+    ends (total granted ends) end before.ends e.law e.granted e.refused of joined.joined joined.sound in
     record {
       ends = rw (c.push_reserved.ensures.items, length-append c.loop-job.yielded (c.in-Some.job ∷ []), sum) taken;
       handed_in = before.handed_in;

@@ -1,5 +1,5 @@
 use Rattle.std.proofs.Common.{subst}
-use Rattle.sched_quota_pool.specs.Ends.{AreEndsOf}
+use Rattle.sched_scripted_job.specs.Ends.{AreEndsOf}
 use Rattle.sched_quota_pool.proofs.Taken.{are_run}
 use Rattle.sched_quota_pool.proofs.batches.run_on_quota.Goals as goal
 

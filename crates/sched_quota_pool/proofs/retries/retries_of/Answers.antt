@@ -9,6 +9,6 @@ loop-job-preserved c =
     let pushed : c.push.new.self.items ≡ before.retries.items ++ c.in_ok-retry.retry ∷ [] = search rules in
     record {
       retries = rw pushed (All-push (IsDriven c.args.quota.now) before.retries.items c.in_ok-retry.retry before.invariant.retries c.in_ok-retry.ensures.retry);
-      of = c.retry_of.ensures.of;
-      unused = c.retry_of.ensures.unused;
+      of = c.requested.ensures.of;
+      unused = c.requested.ensures.unused;
     }

@@ -1,6 +1,7 @@
 use Rattle.std.proofs.Common.{List, subst, sym}
 use Rattle.sched_task_law.specs.Past.{Past}
-use Rattle.sched_scripted_pool.specs.Batch.{AreEndsOf, AreRun}
+use Rattle.sched_scripted_job.specs.Ends.{AreEndsOf}
+use Rattle.sched_scripted_pool.specs.Batch.{AreRun}
 use Rattle.sched_scripted_pool.proofs.Totals.{are_run}
 use Rattle.sched_scripted_pool.proofs.batches.run_batch.Goals as goal
 

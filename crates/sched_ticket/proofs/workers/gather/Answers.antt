@@ -7,7 +7,7 @@ use Rattle.sched_ticket.proofs.workers.gather.Goals as goal
 
 pub loop-haul-preserved : goal.loop-haul-preserved
 loop-haul-preserved c =
-    let joined = c.join-pass.ensures.both in
+    let joined = c.join-pass.ensures.joined in
     let before = c.loop-haul.invariant in
     let mine = c.loop-haul.pass.has in
     let haul = c.in_ok-other.field-0 in

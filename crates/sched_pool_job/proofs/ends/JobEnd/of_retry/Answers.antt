@@ -5,8 +5,7 @@ use Rattle.sched_pool_job.proofs.ends.JobEnd.of_retry.Goals as goal
 pub invariant_of-end : goal.invariant_of-end
 invariant_of-end g c =
     let e = c.into_whole-effect.ensures in (
-      law_left c.args.task _ _ _ _ _ _ _ e.law c.requires.had e.drawing c.into_parts-pass.ensures.pass c.count-granted.ensures.count
-          e.driver e.runs e.begun e.over,
+      law_left c.args.task.past _ _ _ _ _ e.law.law e.driver e.runs e.begun e.over c.granted-granted.ensures.granted,
       rw e.over (e.untaken ∙ c.requires.untaken),
       rw (e.over, e.runs) e.fits,
     )

@@ -1,0 +1,176 @@
+ghost use Rattle.std.specs.Prelude.{◌≡◌, ⊤, []};
+ghost use Rattle.sched_ticket.specs.Held.{IsOf};
+ghost use Rattle.sched_task_law.specs.Past.{nothing_yet};
+
+use super::retry_call;
+use sched_draws::{OnBudget, Unlimited};
+use sched_driver::Driver;
+use sched_effect::Ran;
+use sched_host::HostRetry;
+use sched_plan::{Plan, PlanFault};
+use sched_retry::Ending;
+use sched_task::{Clock, How, MidWords, VirtualClock};
+use sched_ticket::{Budget, Pass};
+use sched_time::{Millis, Moment};
+use std::alloc::{AllocGlobal, Global};
+use std::cell::Cell;
+use std::process::Abort;
+
+fn moment(rt: &impl Abort, at: u64) -> Moment {
+    Moment::new(at).expect(rt, "the moment is in range")
+}
+
+// A driver of at most so many recurrences, 100 milliseconds apart, before its first event.
+fn driver(rt: &impl Abort, alloc: Global, recurs: u64) -> Driver
+    ensures { result.journal ≡ [] }
+{
+    let plan = spaced(alloc, recurs).expect(rt, "the plan is built");
+    Driver::new(alloc, plan).expect(rt, "there is memory")
+}
+
+fn spaced(alloc: Global, recurs: u64) -> Result<Plan, PlanFault> {
+    Plan::meet(alloc, Plan::recurs(recurs)?, Plan::spaced(100)?)
+}
+
+fn budget(rt: &impl Abort, alloc: Global, limit: u64) -> (Budget, Pass)
+    ensures { IsOf result.0 result.1 }
+{
+    Budget::new(alloc, limit).expect(rt, "the limit is in range")
+}
+
+fn assert_moments(rt: &impl Abort, begun: &[Moment], want: &[u64]) {
+    assert_eq!(rt; begun.len(), want.len());
+    for (begin, at) in begun.iter().zip(want) {
+        assert_eq!(rt; begin.get(), *at);
+    }
+}
+
+fn assert_runs(rt: &impl Abort, runs: &[Ran], want: &[Result<u32, u32>]) {
+    assert_eq!(rt; runs.len(), want.len());
+    for (ran, outcome) in runs.iter().zip(want) {
+        let wanted = match outcome {
+            Ok(code) => Ran::Won(Millis::from(*code)),
+            Err(code) => Ran::Lost(Millis::from(*code)),
+        };
+        assert_eq!(rt; *ran, wanted);
+    }
+}
+
+#[test]
+fn a_closure_is_called_until_it_succeeds(rt: HostRuntime) {
+    let alloc = rt.alloc();
+    let (budget, pass) = budget(&rt, alloc, 10);
+    let driver = driver(&rt, alloc, 5);
+    let mut retry = HostRetry::new(alloc, driver, OnBudget::new(pass, &budget));
+    let mut clock = VirtualClock::at(moment(&rt, 1000));
+    let mut calls = 0u32;
+    let ending = retry_call(&rt, &mut retry, &mut clock, &mut MidWords, || {
+        calls = calls.saturating_add(1);
+        if calls < 3 {
+            Err(calls)
+        } else {
+            Ok("fresh".len() as u32)
+        }
+    });
+    assert!(rt; matches!(ending, Ending::Won(5)));
+    assert_eq!(rt; calls, 3);
+    assert_moments(&rt, retry.begun(), &[1000, 1100, 1200]);
+    assert_runs(&rt, retry.runs(), &[Err(1), Err(2), Ok(5)]);
+    assert_eq!(rt; retry.granted(), 2);
+    assert_eq!(rt; clock.now().get(), 1200);
+}
+
+#[test]
+fn the_last_failure_ends_it(rt: HostRuntime) {
+    let alloc = rt.alloc();
+    let driver = driver(&rt, alloc, 1);
+    let mut retry = HostRetry::new(alloc, driver, Unlimited::new());
+    let mut clock = VirtualClock::at(moment(&rt, 0));
+    let mut calls = 0u32;
+    let ending = retry_call(
+        &rt,
+        &mut retry,
+        &mut clock,
+        &mut MidWords,
+        || -> Result<(), u32> {
+            calls = calls.saturating_add(1);
+            Err(calls)
+        },
+    );
+    assert!(rt; matches!(ending, Ending::ScheduleDone(2)));
+    assert_eq!(rt; calls, 2);
+    assert_moments(&rt, retry.begun(), &[0, 100]);
+    assert_runs(&rt, retry.runs(), &[Err(1), Err(2)]);
+}
+
+#[test]
+fn no_call_is_made_without_a_ticket(rt: HostRuntime) {
+    let alloc = rt.alloc();
+    let (budget, pass) = budget(&rt, alloc, 2);
+    let driver = driver(&rt, alloc, 5);
+    let mut retry = HostRetry::new(alloc, driver, OnBudget::new(pass, &budget));
+    let mut clock = VirtualClock::at(moment(&rt, 0));
+    let mut calls = 0u32;
+    let ending = retry_call(
+        &rt,
+        &mut retry,
+        &mut clock,
+        &mut MidWords,
+        || -> Result<(), u32> {
+            calls = calls.saturating_add(1);
+            Err(calls)
+        },
+    );
+    assert!(rt; matches!(ending, Ending::BudgetRefused(3)));
+    assert_eq!(rt; calls, 3);
+    assert_moments(&rt, retry.begun(), &[0, 100, 200]);
+    assert_eq!(rt; retry.granted(), 2);
+}
+
+// A clock that others move too. It wakes no later than 30 milliseconds after it began to wait.
+#[derive(Drop)]
+struct Shared<'a> {
+    moment: &'a Cell<Moment>,
+}
+
+impl<'a> Clock for Shared<'a> {
+    ghost tells = { λ _ _ _. ⊤ };
+
+    ghost waits = { λ _ _ _ _. ⊤ };
+
+    fn now(&mut self) -> Moment {
+        self.moment.get()
+    }
+
+    fn wait_until(&mut self, until: Moment) -> Moment {
+        let now = self.moment.get();
+        if now.get() < until.get() {
+            let pause = until.since(now).min(Millis::from(30));
+            self.moment.set(now.plus(pause));
+        }
+        self.moment.get()
+    }
+}
+
+// Each call takes 50 milliseconds, and the schedule's 100 count from its end.
+#[test]
+fn a_delay_begins_where_its_call_ends(rt: HostRuntime) {
+    let alloc = rt.alloc();
+    let driver = driver(&rt, alloc, 2);
+    let mut retry = HostRetry::new(alloc, driver, Unlimited::new());
+    let now = Cell::new(moment(&rt, 0));
+    let mut clock = Shared { moment: &now };
+    let ending = retry_call(
+        &rt,
+        &mut retry,
+        &mut clock,
+        &mut MidWords,
+        || -> Result<(), u32> {
+            now.set(now.get().plus(Millis::from(50)));
+            Err(4)
+        },
+    );
+    assert!(rt; matches!(ending, Ending::ScheduleDone(4)));
+    assert_moments(&rt, retry.begun(), &[0, 150, 300]);
+    assert_eq!(rt; now.get().get(), 350);
+}

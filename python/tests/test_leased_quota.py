@@ -1,0 +1,593 @@
+"""Quotas that processes share: by a file, and by a Redis server of the test's own."""
+
+from __future__ import annotations
+
+import asyncio
+import json
+import os
+import pickle
+import subprocess
+import sys
+import threading
+import time
+from collections import Counter
+from pathlib import Path
+from typing import Any, Counter as Counts, Dict, List, Optional, Tuple
+
+import pytest
+from conftest import HERE, python_environment
+
+from hikebox import AsyncRetrying, Ending, Retrying, StoreError, StoreLost, TermsError, Usage, recurs, spaced, state_of
+from hikebox.leased import FileStore, Leased, LeasedQuota, QuotaRange, RedisStore, _Requests
+from hikebox.quota import Terms
+
+#: A window that no test sees the end of.
+LONG = 1_000_000.0
+
+
+class Workers:
+    """Processes that draw on a quota, and what they wrote down."""
+
+    def __init__(self, folder: Path) -> None:
+        self.folder = folder
+        self.processes: List[Any] = []
+
+    def start(self, how: Any) -> None:
+        output = self.folder / f"notes-{len(self.processes)}"
+        words = [sys.executable, str(HERE / "quota_worker.py"), json.dumps(how), str(output)]
+        self.processes.append(subprocess.Popen(words, env=python_environment(), stderr=subprocess.PIPE, text=True))
+
+    def wait(self) -> List[int]:
+        """How they ended."""
+        for process in self.processes:
+            _, errors = process.communicate(timeout=100)
+            assert process.returncode in (0, -9), errors
+        return [process.returncode for process in self.processes]
+
+    def notes(self, kind: str) -> List[Tuple[int, int]]:
+        """What was noted of this kind: numbers, each with its window."""
+        found = []
+        for path in sorted(self.folder.glob("notes-*")):
+            for line in path.read_text().splitlines(keepends=True):
+                words = line.split()
+                if line.endswith("\n") and words[0] == kind:
+                    found.append((int(words[1]), int(words[2])))
+        return found
+
+    def tickets(self) -> Dict[int, List[int]]:
+        """The tickets of each window; -1 has those that were drawn without the store."""
+        by_window: Dict[int, List[int]] = {}
+        for ticket, window in self.notes("ticket"):
+            by_window.setdefault(window, []).append(ticket)
+        return by_window
+
+    def sums(self, kind: str) -> Counts[int]:
+        """The sum of what was noted of each window."""
+        sums: Counts[int] = Counter()
+        for number, window in self.notes(kind):
+            sums[window] += number
+        return sums
+
+    def await_tickets(self, count: int) -> None:
+        """Waits until so many tickets were drawn."""
+        until = time.monotonic() + 30
+        while len(self.notes("ticket")) < count:
+            assert time.monotonic() < until
+            time.sleep(0.02)
+
+
+@pytest.fixture
+def workers(tmp_path: Path) -> Any:
+    made = Workers(tmp_path)
+    yield made
+    for process in made.processes:
+        if process.poll() is None:
+            process.kill()
+            process.communicate()
+
+
+def fails() -> Any:
+    raise KeyError()
+
+
+# One process
+
+
+def test_a_quota_in_a_file(tmp_path: Path) -> None:
+    store = FileStore(tmp_path / "counts")
+    first = LeasedQuota(store, "a", 4, 0.5, LONG, lease=2)
+    second = LeasedQuota(FileStore(tmp_path / "counts"), "a", 4, 0.5, LONG, lease=2)
+    assert [first.draw() for _ in range(3)] == [0, 1, 2]
+    assert second.draw() is None
+    assert [first.draw() for _ in range(2)] == [3, None]
+    # two requests of each are worth a ticket of each; the first to ask is granted what both give
+    for _ in range(3):
+        first.deposit()
+    assert first.draw() is None
+    first.deposit()
+    assert [first.draw() for _ in range(3)] == [4, 5, None]
+    for _ in range(4):
+        second.deposit()
+    assert first.draw() is None
+    assert [second.draw() for _ in range(3)] == [6, 7, None]
+    assert (first.granted, second.granted) == (6, 2)
+    # beside a budget of the same name
+    assert Leased(store, "a", limit=10).draw() == 0
+    assert Leased(store, "a", limit=10, period=LONG).draw() == 0
+    assert LeasedQuota(store, "b", 1, 0, LONG).draw() == 0
+    assert LeasedQuota(store, "a", 4, 0.5, 10 * LONG).draw() == 0
+
+
+def test_what_was_seen_is_told_and_others_draw_on_it(tmp_path: Path) -> None:
+    store = FileStore(tmp_path / "counts")
+    busy, failing = LeasedQuota(store, "a", 0, 0.2, LONG), LeasedQuota(store, "a", 0, 0.2, LONG)
+    assert failing.draw() is None
+    for _ in range(10):
+        busy.deposit()
+    usage = busy.seen()
+    assert usage == Usage(window=usage.window, asked=10, given=0, left=2) == busy.seen()
+    assert usage.window == int(time.clock_gettime(time.CLOCK_BOOTTIME) // LONG)
+    assert failing.seen() == usage
+    assert [failing.draw() for _ in range(3)] == [0, 1, None]
+    assert busy.seen() == Usage(usage.window, asked=10, given=2, left=0)
+
+
+def test_a_lease_is_a_sixty_fourth_of_what_is_allowed(tmp_path: Path) -> None:
+    store = FileStore(tmp_path / "counts")
+    quota = LeasedQuota(store, "a", 640, 1, LONG)
+    other = LeasedQuota(store, "a", 640, 1, LONG)
+    for _ in range(1280):
+        quota.deposit()
+    assert quota.draw() == 0 and other.draw() == 10
+    # of 1,920 that are allowed from here on
+    assert [quota.draw() for _ in range(10)] == [*range(1, 10), 20]
+    assert other.seen().given == 50
+
+
+def test_terms() -> None:
+    store = FileStore("/nowhere/counts")
+    quota = LeasedQuota(store, "a", 100, 0.2, 10)
+    assert quota.terms == Terms(reserve=100, share=200, period=10_000)
+    assert repr(quota) == "LeasedQuota(FileStore('/nowhere/counts'), 'a', 100, 0.2, per=10)"
+    assert repr(LeasedQuota(store, "a", 1, 0, 1, lease=5)).endswith("'a', 1, 0, per=1, lease=5)")
+    for bad in ((-1, 0, 1), (0, -1, 1), (0, 0, 0), (2**32 + 1, 0, 1), (0, 1001, 1)):
+        with pytest.raises(TermsError):
+            LeasedQuota(store, "a", *bad)
+    with pytest.raises(TermsError):
+        LeasedQuota(store, "a", 1, 1, 1, lease=0)
+    with pytest.raises(TypeError, match="its own LeasedQuota"):
+        pickle.dumps(quota)
+
+
+def test_requests_by_slices_of_a_window() -> None:
+    requests = _Requests(16.0)
+    for now in (100.0, 100.5, 101.25, 103.75):
+        requests.add(now)
+    assert requests.count == 4
+    # the slice that began at 100 may have requests from before 100.25
+    assert requests.take(100.25) == 2
+    assert requests.count == 0 and requests.take(100.25) == 0
+    # from now on slices are counted from 100.25
+    for now in (116.125, 116.25, 117.125, 117.25):
+        requests.add(now)
+    assert requests.take(116.25) == 3
+    # what is older than a period is no request of a present window
+    requests.add(200.0)
+    requests.add(208.0)
+    requests.add(216.5)
+    assert requests.count == 2
+
+
+class Stub:
+    """A store that answers what the test says: first, tickets, until and asked; or raises it. It asks for the requests
+    since the moment that `since` names, where it does."""
+
+    def __init__(self, *answers: Any, since: Optional[float] = None) -> None:
+        self.answers = list(answers)
+        self.since = since
+        self.asked = 0
+        self.counts: List[int] = []
+        self.told: List[int] = []
+
+    def take_of_quota(self, name: str, terms: Terms, count: int, asked: Any, clock: Any) -> QuotaRange:
+        self.asked += 1
+        self.counts.append(count)
+        if self.since is not None:
+            self.told.append(asked(self.since))
+        answer = self.answers.pop(0) if len(self.answers) > 1 else self.answers[0]
+        if isinstance(answer, Exception):
+            raise answer
+        first, tickets, until, requests = answer
+        return QuotaRange(first, tickets, until, 7, requests)
+
+
+def test_a_lease_is_not_drawn_from_past_its_window() -> None:
+    now = [0.0]
+    store = Stub((0, 5, 10.0, 0), (0, 5, 20.0, 0))
+    quota = LeasedQuota(store, "a", 5, 0, 10, clock=lambda: now[0])
+    assert [quota.draw(), quota.draw()] == [0, 1]
+    now[0] = 10.0
+    assert quota.draw() == 0 and store.asked == 2
+    assert quota.granted == 3
+
+
+def test_when_a_store_that_had_none_left_is_asked_again() -> None:
+    now = [0.0]
+    store = Stub((5, 0, 10.0, 0))
+    quota = LeasedQuota(store, "a", 5, 0.5, 10, lease=3, clock=lambda: now[0])
+    assert [quota.draw() for _ in range(5)] == [None] * 5 and store.asked == 1
+    # once its requests are worth a lease
+    for _ in range(5):
+        quota.deposit()
+    assert quota.draw() is None and store.asked == 1
+    quota.deposit()
+    assert quota.draw() is None and store.asked == 2
+    # or after a second, since others may have told theirs
+    store.since = 0.0
+    now[0] = 0.99
+    assert quota.draw() is None and store.asked == 3
+    assert quota.draw() is None and store.asked == 3
+    now[0] = 2.0
+    assert quota.draw() is None and store.asked == 4
+    # or when the window ends
+    now[0] = 9.5
+    assert quota.draw() is None and store.asked == 5
+    now[0] = 9.9
+    assert quota.draw() is None and store.asked == 5
+    now[0] = 10.0
+    assert quota.draw() is None and store.asked == 6
+    assert store.told == [6, 0, 0, 0]
+    # without a share the end of the window is all that there is to wait for
+    spent = Stub((5, 0, 10.0, 0))
+    quota = LeasedQuota(spent, "a", 5, 0, 10, clock=lambda: now[0])
+    now[0] = 0.0
+    for moment in range(10):
+        now[0] = float(moment)
+        quota.deposit()
+        assert quota.draw() is None and spent.asked == 1
+
+
+def test_a_store_that_can_not_be_reached_grants_nothing_or_what_is_spared(caplog: Any) -> None:
+    now = [0.0]
+    gone = StoreError("gone")
+    store = Stub((0, 2, 10.0, 0), gone, gone, (2, 1, 10.0, 0), gone, since=0.0)
+    quota = LeasedQuota(store, "a", 100, 1, 10, lease=2, spare=2, clock=lambda: now[0])
+    assert [quota.draw() for _ in range(6)] == [0, 1, -1, -2, None, None]
+    assert store.asked == 2
+    for _ in range(100):
+        quota.deposit()
+    assert quota.draw() is None and store.asked == 2
+    now[0] = 1.0
+    assert quota.draw() is None and store.asked == 3
+    now[0] = 2.0
+    assert [quota.draw(), quota.draw()] == [2, None]
+    now[0] = 10.0
+    assert quota.draw() == -1
+    assert quota.granted == 6
+    # requests that were told to a store that did not answer are not told again
+    assert store.told == [0, 0, 100, 0, 0, 0]
+    assert [record.getMessage() for record in caplog.records] == [
+        "a: gone; it grants nothing until it can be reached"
+    ] * 2
+    nothing = LeasedQuota(Stub(StoreError("gone")), "a", 100, 1, 10)
+    assert nothing.draw() is None and nothing.granted == 0
+    with pytest.raises(StoreError):
+        nothing.seen()
+
+
+def test_requests_are_not_worth_asking_a_store_that_can_not_be_reached() -> None:
+    store = Stub((0, 0, 10.0, 0), StoreError("gone"))
+    quota = LeasedQuota(store, "a", 0, 1000, 10, clock=lambda: 0.0)
+    assert quota.draw() is None and store.asked == 1
+    for asked in (2, 2, 2):
+        quota.deposit()
+        assert quota.draw() is None and store.asked == asked
+
+
+def test_retries_draw_on_it_and_calls_are_its_requests(tmp_path: Path) -> None:
+    quota = LeasedQuota(FileStore(tmp_path / "counts"), "a", 4, 0.5, LONG, lease=1)
+    retrying = Retrying(recurs(3), budget=quota)
+    endings = []
+    for _ in range(2):
+        with pytest.raises(KeyError) as caught:
+            retrying(fails)
+        state = state_of(caught.value)
+        assert state is not None
+        endings.append((state.ending, state.granted))
+    assert endings == [(Ending.SCHEDULE_DONE, 3), (Ending.BUDGET_REFUSED, 2)]
+    assert quota.seen().asked == 2
+
+
+def test_coroutines_draw_on_it_and_others_go_on_meanwhile(tmp_path: Path) -> None:
+    quota = LeasedQuota(FileStore(tmp_path / "counts"), "a", 100, 0, LONG, lease=1)
+
+    async def fails_later() -> None:
+        raise KeyError()
+
+    async def main() -> Any:
+        retrying = AsyncRetrying(recurs(3) & spaced(0.001), budget=quota)
+        return await asyncio.gather(*(retrying(fails_later) for _ in range(10)), return_exceptions=True)
+
+    ended = asyncio.run(main())
+    assert [state_of(error).granted for error in ended] == [3] * 10  # type: ignore[union-attr]
+    assert quota.granted == 30 and quota.seen().asked == 10
+
+
+def test_threads_draw_each_ticket_once(tmp_path: Path) -> None:
+    quota = LeasedQuota(FileStore(tmp_path / "counts"), "a", 4000, 0.5, LONG, lease=100)
+    drawn: List[List[int]] = [[] for _ in range(8)]
+    ready = threading.Barrier(8)
+
+    def work(mine: List[int]) -> None:
+        for _ in range(1000):
+            quota.deposit()
+        ready.wait()
+        while True:
+            ticket = quota.draw()
+            if ticket is None:
+                return
+            mine.append(ticket)
+
+    threads = [threading.Thread(target=work, args=(mine,)) for mine in drawn]
+    for thread in threads:
+        thread.start()
+    for thread in threads:
+        thread.join()
+    assert sorted(ticket for mine in drawn for ticket in mine) == list(range(8000))
+    assert quota.granted == 8000
+
+
+def test_a_forked_child_has_leases_and_requests_of_its_own(tmp_path: Path) -> None:
+    quota = LeasedQuota(FileStore(tmp_path / "counts"), "a", 100, 1, LONG, lease=10)
+    assert quota.draw() == 0
+    quota.deposit()
+    child = os.fork()
+    if child == 0:
+        status = 1
+        try:
+            found = (quota.draw(), quota.granted, quota.seen().asked)
+            status = 0 if found == (10, 1, 0) else 2
+        finally:
+            os._exit(status)
+    assert os.waitstatus_to_exitcode(os.waitpid(child, 0)[1]) == 0
+    assert quota.draw() == 1 and quota.seen().asked == 1
+
+
+def test_windows_of_a_file(tmp_path: Path) -> None:
+    store = FileStore(tmp_path / "counts")
+    quota = LeasedQuota(store, "a", 2, 0.5, 0.4, lease=1, again_after=0.01)
+    by_window: Dict[int, List[int]] = {}
+    made: Counts[int] = Counter()
+    until = time.monotonic() + 2.2
+    while time.monotonic() < until:
+        window = int(time.clock_gettime(time.CLOCK_BOOTTIME) * 1000) // 400
+        if made[window] < 6:
+            quota.deposit()
+            made[window] += 1
+        ticket = quota.draw()
+        if ticket is None:
+            time.sleep(0.005)
+        elif window == int(time.clock_gettime(time.CLOCK_BOOTTIME) * 1000) // 400:
+            by_window.setdefault(window, []).append(ticket)
+    # two, and three for the six requests; a ticket that was drawn while a window ended is left out
+    assert len(by_window) >= 5
+    assert all(tickets == sorted(set(tickets)) and tickets[-1] < 5 for tickets in by_window.values())
+    assert sum(tickets == [0, 1, 2, 3, 4] for tickets in by_window.values()) >= 3
+
+
+def test_a_damaged_file_grants_nothing(tmp_path: Path) -> None:
+    path = tmp_path / "counts"
+    quota = LeasedQuota(FileStore(path), "a", 10, 1, LONG, lease=1)
+    assert quota.draw() == 0
+    whole = path.read_bytes()
+    path.write_bytes(whole[:-1])
+    assert quota.draw() is None
+    with pytest.raises(StoreLost):
+        quota.seen()
+    path.write_bytes(whole)
+    assert quota.seen().given == 1 and quota.draw() == 1
+
+
+def test_a_later_window_in_the_file_grants_nothing(tmp_path: Path) -> None:
+    from hikebox import _stores
+
+    path = tmp_path / "counts"
+    store = FileStore(path)
+    assert LeasedQuota(store, "a", 9, 0, 1000).draw() == 0
+    file = os.open(path, os.O_RDWR)
+    counts = _stores._read_counts(file, str(path))
+    ((key, (window, given, asked)),) = counts.items()
+    assert (key, given, asked) == ("quota of 1000000 ms of a", 1, 0)
+    boot, number = window.split()
+    counts[key] = [f"{boot} {int(number) + 100}", 1, 5]
+    _stores._write_counts(file, counts)
+    assert LeasedQuota(store, "a", 9, 0, 1000).draw() is None
+    counts[key] = [f"another-boot {int(number) + 100}", 9, 5]
+    _stores._write_counts(file, counts)
+    assert LeasedQuota(store, "a", 9, 0, 1000).seen() == Usage(int(number), 0, 0, 9)
+    os.close(file)
+
+
+# Many processes, a file
+
+
+def test_8_processes_draw_all_tickets_of_a_file_each_once(workers: Workers, tmp_path: Path) -> None:
+    how = {"file": str(tmp_path / "counts"), "name": "a", "reserve": 20_000, "share": 0.5, "per": LONG}
+    for _ in range(8):
+        workers.start({**how, "lease": 200, "first": 2500})
+    assert workers.wait() == [0] * 8
+    # 20,000, and the half of 8 * 2,500 requests
+    (tickets,) = workers.tickets().values()
+    assert sorted(tickets) == list(range(30_000))
+    assert sum(workers.sums("told").values()) == 20_000 == sum(workers.sums("asked").values())
+
+
+KILLS = [("asked", 1), ("asked", 4), ("granted", 1), ("granted", 4), ("drawn", 1), ("drawn", 20), ("drawn", 33)]
+
+
+def test_processes_killed_at_points_of_a_lease_of_a_file(workers: Workers, tmp_path: Path) -> None:
+    how = {"file": str(tmp_path / "counts"), "name": "a", "reserve": 1500, "share": 0.5, "per": LONG, "lease": 10}
+    for point, number in KILLS:
+        workers.start({**how, "first": 200, "kill": point, "number": number})
+    for _ in range(2):
+        workers.start({**how, "first": 200})
+    ends = workers.wait()
+    assert ends[-2:] == [0, 0] and set(ends[:-2]) <= {0, -9}
+    usage = LeasedQuota(FileStore(tmp_path / "counts"), "a", 1500, 0.5, LONG).seen()
+    # those of the process that died before it asked at all were not told
+    assert usage.asked == 8 * 200
+    (tickets,) = workers.tickets().values()
+    assert len(set(tickets)) == len(tickets)
+    # 1,500, and the half of 1,600; each that was killed loses a range at most
+    assert set(tickets) <= set(range(2300))
+    assert len(tickets) >= 2300 - 10 * len(KILLS)
+
+
+def check_windows(workers: Workers, reserve: int, share: float) -> None:
+    """In no window a ticket is drawn twice, or one past what the requests allow that were told; and of whole windows
+    most of what they allow is drawn."""
+    told, by_window = workers.sums("told"), workers.tickets()
+    assert told[-1] == 0
+    by_window.pop(-1, None)
+    for window, tickets in by_window.items():
+        allowed = reserve + int(share * 1000) * told[window] // 1000
+        assert len(set(tickets)) == len(tickets) and max(tickets) < allowed
+    whole = sorted(by_window)[1:-1]
+    assert len(whole) >= 2
+    allowed = sum(reserve + int(share * 1000) * told[window] // 1000 for window in whole)
+    assert sum(len(by_window[window]) for window in whole) >= 0.8 * allowed
+
+
+def test_windows_of_many_processes_two_with_a_clock_an_hour_off(workers: Workers, tmp_path: Path) -> None:
+    how = {"file": str(tmp_path / "counts"), "name": "a", "reserve": 20, "share": 0.5, "per": 0.5, "lease": 2}
+    for off in (0, 0, 3600, -3600):
+        more = {"clock_off": off, "patient": True, "seconds": 2.5, "each": 1, "again_after": 0.05}
+        workers.start({**how, **more})
+    workers.wait()
+    check_windows(workers, 20, 0.5)
+    # each request counts once at most, and in the window in which it was made
+    told, asked = workers.sums("told"), workers.sums("asked")
+    assert all(told[window] <= asked[window] + 4 for window in told)
+    assert sum(told.values()) >= 0.5 * sum(asked.values())
+
+
+# Redis
+
+
+def test_a_quota_in_redis(redis_server: Any) -> None:
+    import redis
+
+    server = redis_server()
+    store = RedisStore(server.client())
+    # no ticket of a window that may have begun before the server did
+    assert LeasedQuota(store, "a", 9, 1, 60).draw() is None
+    assert server.client().keys("*") == []
+    time.sleep(3.2)
+    first = LeasedQuota(store, "a", 4, 0.5, 3, lease=2, again_after=0.01)
+    decoding = redis.Redis(port=server.port, decode_responses=True)
+    second = LeasedQuota(RedisStore(decoding), "a", 4, 0.5, 3, lease=2, again_after=0.01)
+    while time.time() % 3 > 0.1:
+        time.sleep(0.01)
+    assert [first.draw() for _ in range(2)] == [0, 1]
+    assert [second.draw() for _ in range(3)] == [2, 3, None]
+    for _ in range(3):
+        first.deposit()
+        second.deposit()
+    assert second.seen().left == 1
+    usage = first.seen()
+    assert usage == Usage(window=usage.window, asked=6, given=4, left=3)
+    assert usage.window == int(time.time() // 3)
+    assert [first.draw(), second.draw(), first.draw()] == [4, 6, 5]
+    (key,) = server.client().keys("*")
+    assert key == b"hikebox:{a}:quota:3000:%d" % usage.window
+    assert 3000 < server.client().pttl(key) <= 6000
+    assert server.client().hgetall(key) == {b"asked": b"6", b"given": b"7"}
+    while time.time() // 3 == usage.window:
+        assert first.draw() is None
+        time.sleep(0.05)
+    assert first.draw() == 0
+
+
+def test_the_script_rounds_as_a_quota_does(redis_server: Any) -> None:
+    from hikebox import _stores
+
+    client = redis_server().client()
+    for reserve, share, asked, allowed in [
+        (0, 333, 3, 0),
+        (0, 333, 4, 1),
+        (7, 999, 1000, 1006),
+        (0, 1_000_000, 4_294_967, 4_294_967_000),
+        (0, 1_000_000, 4_294_968, 2**32),
+        (2**32, 1_000_000, 2**40, 2**32),
+        (1, 1, 2**32 - 1, 4_294_968),
+        (0, 999_999, 4_294_967_295, 2**32),
+        (5, 0, 2**40, 5),
+    ]:
+        client.delete("k")
+        given = client.eval(_stores._GRANT, 1, "k", asked, 2**40, reserve, share, 2**32, 1000)
+        assert given == [0, allowed, asked]
+        assert Terms(reserve, share, 1).allowed(asked) == allowed
+        assert client.eval(_stores._GRANT, 1, "k", 0, 5, reserve, share, 2**32, 1000) == [allowed, 0, asked]
+
+
+def test_windows_of_redis_two_processes_with_a_clock_an_hour_off(workers: Workers, redis_server: Any) -> None:
+    server = redis_server()
+    time.sleep(3.2)
+    how = {"port": server.port, "name": "a", "reserve": 20, "share": 0.5, "per": 0.5, "lease": 2, "each": 1}
+    for off in (0, 0, 3600, -3600):
+        workers.start({**how, "clock_off": off, "patient": True, "seconds": 2.5, "again_after": 0.05})
+    workers.wait()
+    check_windows(workers, 20, 0.5)
+    assert sum(workers.sums("told").values()) >= 0.5 * sum(workers.sums("asked").values())
+    time.sleep(1.1)
+    assert server.client().keys("*") == []
+
+
+def test_processes_killed_at_points_of_a_lease_of_redis(workers: Workers, redis_server: Any) -> None:
+    server = redis_server()
+    time.sleep(3.2)
+    how = {"port": server.port, "name": "a", "reserve": 100, "share": 0.5, "per": 0.5, "lease": 10, "each": 1}
+    for point, number in KILLS:
+        workers.start({**how, "patient": True, "seconds": 10, "kill": point, "number": number})
+    for _ in range(2):
+        workers.start({**how, "patient": True, "seconds": 2.5, "again_after": 0.05})
+    ends = workers.wait()
+    assert ends == [-9] * len(KILLS) + [0, 0]
+    by_window = workers.tickets()
+    told = workers.sums("told")
+    # what a process told before it was killed may have been counted, so those are no more than are allowed
+    unsure = told.pop(-1, 0)
+    for window, tickets in by_window.items():
+        assert len(set(tickets)) == len(tickets)
+        assert max(tickets) < 100 + (told[window] + unsure) // 2
+
+
+@pytest.mark.parametrize("durable", [True, False])
+def test_redis_stopped_and_started_under_load(durable: bool, workers: Workers, redis_server: Any) -> None:
+    options = ("--appendonly", "yes", "--appendfsync", "always") if durable else ()
+    server = redis_server(*options)
+    time.sleep(3.2)
+    how = {"port": server.port, "name": "a", "reserve": 1000, "share": 1, "per": 0.5, "lease": 20, "each": 1}
+    how.update({"patient": True, "stop": str(workers.folder / "stop"), "spare": 3, "again_after": 0.05})
+    for _ in range(4):
+        workers.start(how)
+    workers.await_tickets(2000)
+    server.stop()
+    time.sleep(0.3)
+    stopped_at = time.time()
+    server.start()
+    drawn = len(workers.notes("ticket"))
+    # the windows that may have begun before it was started give nothing; three and a half seconds later it goes on
+    time.sleep(3.5)
+    workers.await_tickets(drawn + 2000)
+    (workers.folder / "stop").touch()
+    assert workers.wait() == [0] * 4
+    by_window, told = workers.tickets(), workers.sums("told")
+    unsure = told.pop(-1, 0)
+    spared = by_window.pop(-1, [])
+    assert set(spared) <= {-1, -2, -3} and spared
+    for window, tickets in by_window.items():
+        assert len(set(tickets)) == len(tickets)
+        assert max(tickets) < 1000 + told[window] + unsure
+    silent = range(int(stopped_at * 2) + 1, int(stopped_at * 2) + 4)
+    assert not set(silent) & set(by_window)

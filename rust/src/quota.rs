@@ -1,0 +1,296 @@
+//! Quotas of retries, in windows of time.
+
+use crate::budget::BudgetError;
+use crate::engine::{self, Handle, QuotaKind, Used, FAR};
+use std::sync::{Arc, Mutex, MutexGuard, PoisonError};
+use std::time::{Duration, Instant};
+
+/// Retries for a service, shared by all threads of a program: in each window of time no more than a reserve, and a
+/// share of the requests made in it. Nothing is carried from a window to the next. It is cheap to clone; all clones are
+/// the same quota.
+///
+/// A retry draws a ticket, and each call that is retried counts as one request, before its first run:
+///
+/// ```
+/// use hikebox::{retry, Policy, Quota};
+/// use std::time::Duration;
+///
+/// let quota = Quota::new(10, 0.2, Duration::from_secs(10))?; // ten retries, and one for every five requests
+/// let policy: Policy = r#"{"recurs":3}"#.parse()?;
+/// for _ in 0..5 {
+///     retry(&policy, &quota, || Ok::<_, ()>("fetched")).unwrap();
+/// }
+/// let usage = quota.seen();
+/// assert_eq!((usage.asked, usage.given, usage.left), (5, 0, 11));
+/// # Ok::<(), Box<dyn std::error::Error>>(())
+/// ```
+///
+/// Windows are counted from the moment at which the quota was made, by the system's monotonic clock.
+#[derive(Clone, Debug)]
+pub struct Quota {
+    shared: Arc<Shared>,
+}
+
+#[derive(Debug)]
+struct Shared {
+    /// The first pass, which others are split off.
+    root: Mutex<Handle<QuotaKind>>,
+    /// Moment 0.
+    began: Instant,
+}
+
+/// The right to count requests and to draw tickets of a [`Quota`], for one thread at a time: no call of it takes a lock
+/// or memory, and none waits. Dropped, it is given back with its tickets.
+///
+/// ```
+/// use hikebox::Quota;
+/// use std::time::Duration;
+///
+/// let quota = Quota::new(1, 0.5, Duration::from_secs(60))?;
+/// let mut pass = quota.pass()?;
+/// assert!(pass.draw().is_some());
+/// assert!(pass.draw().is_none());
+/// pass.deposit();
+/// pass.deposit();
+/// assert!(pass.draw().is_some());
+/// drop(pass);
+/// assert_eq!(quota.close().ok(), Some(2));
+/// # Ok::<(), hikebox::BudgetError>(())
+/// ```
+#[derive(Debug)]
+pub struct QuotaPass {
+    /// `None` only while it is dropped.
+    handle: Option<Handle<QuotaKind>>,
+    quota: Quota,
+    tickets: u64,
+}
+
+/// What is known of a window of a quota.
+#[derive(Clone, Copy, Debug, PartialEq, Eq, Hash)]
+pub struct Usage {
+    /// Which window it is: its moment divided by the window's length.
+    pub window: u64,
+    /// The requests that were counted in it.
+    pub asked: u64,
+    /// The tickets that it has given out.
+    pub given: u64,
+    /// The tickets that it may yet give for the requests counted so far.
+    pub left: u64,
+}
+
+/// What a quota is made with, in the engine's units: tickets, thousandths of a ticket, milliseconds.
+#[derive(Clone, Copy, Debug)]
+pub(crate) struct Terms {
+    pub(crate) reserve: u64,
+    pub(crate) share: u64,
+    pub(crate) period: u64,
+}
+
+impl Quota {
+    /// A quota of `reserve` retries in each window of this length (whole milliseconds), and `share` retries for each
+    /// request of the window: 0.2 is one for every five. The share is counted in thousandths.
+    ///
+    /// # Errors
+    ///
+    /// [`BudgetError`] says which of them is out of its range.
+    pub fn new(reserve: u64, share: f64, per: Duration) -> Result<Self, BudgetError> {
+        Self::new_at(Instant::now(), reserve, share, per)
+    }
+
+    /// The same with windows that are counted from this moment, as that of a clock which a test has stopped. Before it,
+    /// it is moment 0.
+    ///
+    /// # Errors
+    ///
+    /// [`BudgetError`] says which of them is out of its range.
+    pub fn new_at(began: Instant, reserve: u64, share: f64, per: Duration) -> Result<Self, BudgetError> {
+        let Terms { reserve, share, period } = Terms::new(reserve, share, per)?;
+        // SAFETY: `pass` is an empty handle.
+        let root = Handle::filled(|pass| unsafe { engine::hikebox_quota_new(reserve, share, period, pass) });
+        let root = Mutex::new(root.map_err(BudgetError::of)?);
+        Ok(Self { shared: Arc::new(Shared { root, began }) })
+    }
+
+    /// A pass of the quota, for a thread that counts requests and draws by itself.
+    ///
+    /// # Errors
+    ///
+    /// [`BudgetError::NoMemory`].
+    pub fn pass(&self) -> Result<QuotaPass, BudgetError> {
+        // SAFETY: the first handle holds a pass, and the second is empty.
+        let part = Handle::filled(|part| self.with(|root| unsafe { engine::hikebox_quota_split(root, part) }));
+        Ok(QuotaPass { handle: Some(part.map_err(BudgetError::of)?), quota: self.clone(), tickets: 0 })
+    }
+
+    /// Counts a request. Calls that are retried under the quota do it by themselves.
+    pub fn deposit(&self) {
+        self.deposit_at(self.moment(Instant::now()));
+    }
+
+    /// The same at a moment of a host that has a clock of its own, in milliseconds.
+    pub fn deposit_at(&self, now: u64) {
+        deposit(&mut self.lock(), now);
+    }
+
+    /// What was asked of the present window, what it has given, and what it has left.
+    pub fn seen(&self) -> Usage {
+        self.seen_at(self.moment(Instant::now()))
+    }
+
+    /// The same at a moment of a host that has a clock of its own, in milliseconds.
+    pub fn seen_at(&self, now: u64) -> Usage {
+        seen(&mut self.lock(), now)
+    }
+
+    /// How many tickets were granted, in all windows, to retries that have ended and to passes that were given back.
+    pub fn granted(&self) -> u64 {
+        let mut tickets = 0;
+        // SAFETY: the handle holds a pass.
+        self.with(|root| unsafe { engine::hikebox_quota_count(root, &mut tickets) });
+        tickets
+    }
+
+    /// The quota's moment at this instant: milliseconds since it was made.
+    pub fn moment(&self, now: Instant) -> u64 {
+        u64::try_from(now.saturating_duration_since(self.shared.began).as_millis()).unwrap_or(u64::MAX)
+    }
+
+    /// Closes the quota, where no other clone of it, no pass and no retry is alive, and answers how many tickets were
+    /// drawn of it; otherwise the quota comes back.
+    ///
+    /// # Errors
+    ///
+    /// The quota itself.
+    pub fn close(self) -> Result<u64, Self> {
+        let Shared { root, began } = match Arc::try_unwrap(self.shared) {
+            Ok(shared) => shared,
+            Err(shared) => return Err(Self { shared }),
+        };
+        let mut root = root.into_inner().unwrap_or_else(PoisonError::into_inner);
+        let mut tickets = 0;
+        // SAFETY: the handle holds a pass.
+        match unsafe { engine::hikebox_quota_close(root.raw(), &mut tickets) } {
+            engine::OK => Ok(tickets),
+            _ => Err(Self { shared: Arc::new(Shared { root: Mutex::new(root), began }) }),
+        }
+    }
+
+    /// Lends the first pass to one call.
+    pub(crate) fn with<T>(&self, call: impl FnOnce(*mut engine::Raw) -> T) -> T {
+        call(self.lock().raw())
+    }
+
+    fn lock(&self) -> MutexGuard<'_, Handle<QuotaKind>> {
+        self.shared.root.lock().unwrap_or_else(PoisonError::into_inner)
+    }
+}
+
+impl QuotaPass {
+    /// Counts a request in the present window.
+    pub fn deposit(&mut self) {
+        self.deposit_at(self.quota.moment(Instant::now()));
+    }
+
+    /// A ticket that no other draw got, or `None` where the present window has none left: a later one may, and so may
+    /// this one after more requests. Ticket n of a window, from 0, has the number `window << 32 | n`.
+    pub fn draw(&mut self) -> Option<u64> {
+        self.draw_at(self.quota.moment(Instant::now()))
+    }
+
+    /// What was asked of the present window, what it has given, and what it has left.
+    pub fn seen(&mut self) -> Usage {
+        self.seen_at(self.quota.moment(Instant::now()))
+    }
+
+    /// [`QuotaPass::deposit`] at a moment of a host that has a clock of its own, in milliseconds. A moment in an
+    /// earlier window than the latest counts as one of the latest.
+    pub fn deposit_at(&mut self, now: u64) {
+        deposit(self.handle(), now);
+    }
+
+    /// [`QuotaPass::draw`] at such a moment.
+    pub fn draw_at(&mut self, now: u64) -> Option<u64> {
+        let mut ticket = 0;
+        // SAFETY: the handle holds a pass.
+        match unsafe { engine::hikebox_quota_draw(self.handle().raw(), now.min(FAR), &mut ticket) } {
+            engine::OK => {
+                self.tickets += 1;
+                Some(ticket)
+            }
+            status => {
+                debug_assert_eq!(status, engine::NO_TICKET);
+                None
+            }
+        }
+    }
+
+    /// [`QuotaPass::seen`] at such a moment.
+    pub fn seen_at(&mut self, now: u64) -> Usage {
+        seen(self.handle(), now)
+    }
+
+    /// How many tickets it drew.
+    pub fn count(&self) -> u64 {
+        self.tickets
+    }
+
+    fn handle(&mut self) -> &mut Handle<QuotaKind> {
+        self.handle.as_mut().expect("a pass has its handle until it is dropped")
+    }
+}
+
+impl Drop for QuotaPass {
+    fn drop(&mut self) {
+        if let Some(mut handle) = self.handle.take() {
+            // SAFETY: both handles hold passes of one quota. The second is then empty.
+            self.quota.with(|root| unsafe { engine::hikebox_quota_join(root, handle.raw()) });
+        }
+    }
+}
+
+fn deposit(pass: &mut Handle<QuotaKind>, now: u64) {
+    // SAFETY: the handle holds a pass.
+    unsafe { engine::hikebox_quota_deposit(pass.raw(), now.min(FAR)) };
+}
+
+fn seen(pass: &mut Handle<QuotaKind>, now: u64) -> Usage {
+    let mut used = Used::default();
+    // SAFETY: the handle holds a pass.
+    unsafe { engine::hikebox_quota_seen(pass.raw(), now.min(FAR), &mut used) };
+    let Used { window, asked, given, left } = used;
+    Usage { window, asked, given, left }
+}
+
+/// The greatest share, in thousandths of a ticket.
+const MOST_SHARE: f64 = 1_000_000.0;
+
+impl Terms {
+    /// The terms in the engine's units, where they have such; what else they have to keep to, the engine says.
+    pub(crate) fn new(reserve: u64, share: f64, per: Duration) -> Result<Self, BudgetError> {
+        let thousandths = (share * 1000.0).round();
+        if !(0.0..=MOST_SHARE).contains(&thousandths) || share < 0.0 || (share > 0.0 && thousandths == 0.0) {
+            return Err(BudgetError::ShareOutOfRange);
+        }
+        let period = u64::try_from(per.as_millis()).unwrap_or(u64::MAX);
+        Ok(Self { reserve, share: thousandths as u64, period })
+    }
+}
+
+#[cfg(feature = "leased")]
+impl Terms {
+    /// The same where the engine takes them, for a quota that is kept elsewhere.
+    pub(crate) fn checked(self) -> Result<Self, BudgetError> {
+        let Self { reserve, period, .. } = self;
+        match self {
+            _ if reserve > engine::MOST_TICKETS => Err(BudgetError::ReserveTooLarge),
+            _ if period == 0 => Err(BudgetError::PeriodTooShort),
+            _ if period > FAR => Err(BudgetError::PeriodTooLong),
+            terms => Ok(terms),
+        }
+    }
+
+    /// How many tickets a window of so many requests gives.
+    pub(crate) fn allowed(self, asked: u64) -> u64 {
+        (self.reserve + self.share * asked.min(engine::MOST_TICKETS) / 1000).min(engine::MOST_TICKETS)
+    }
+}

@@ -1,0 +1,258 @@
+//! Quotas: worked windows, retries on them, and threads that share one.
+
+use hikebox::{
+    retry, Budget, BudgetError, Ended, Grants, Machine, Policy, Quota, QuotaPass, Report, RetryError, Retrying, Step,
+    Unlimited, Usage,
+};
+use std::sync::Barrier;
+use std::thread;
+use std::time::{Duration, Instant};
+
+const WINDOW: u64 = 1 << 32;
+
+fn policy(json: &str) -> Policy {
+    json.parse().unwrap()
+}
+
+fn quota(reserve: u64, share: f64, millis: u64) -> Quota {
+    Quota::new(reserve, share, Duration::from_millis(millis)).unwrap()
+}
+
+fn usage(window: u64, asked: u64, given: u64, left: u64) -> Usage {
+    Usage { window, asked, given, left }
+}
+
+#[test]
+fn worked_windows() {
+    let quota = quota(2, 0.4, 10);
+    let mut first = quota.pass().unwrap();
+    let mut second = quota.pass().unwrap();
+    assert_eq!(first.draw_at(30), Some(3 * WINDOW));
+    assert_eq!(second.draw_at(31), Some(3 * WINDOW + 1));
+    assert_eq!(first.draw_at(32), None);
+    for _ in 0..4 {
+        second.deposit_at(33);
+    }
+    // 2 and 0.4 for each of four requests: 3.6
+    assert_eq!(first.seen_at(34), usage(3, 4, 2, 1));
+    assert_eq!(first.draw_at(34), Some(3 * WINDOW + 2));
+    assert_eq!(first.draw_at(34), None);
+    quota.deposit_at(35);
+    assert_eq!(second.draw_at(39), Some(3 * WINDOW + 3));
+    assert_eq!(second.draw_at(39), None);
+    assert_eq!(quota.seen_at(40), usage(4, 0, 0, 2));
+    assert_eq!(first.draw_at(40), Some(4 * WINDOW));
+    // a clock that is behind is served in the latest window
+    assert_eq!(second.draw_at(5), Some(4 * WINDOW + 1));
+    assert_eq!(second.draw_at(5), None);
+    // and one that is ahead opens it 3,600 windows on at most
+    assert_eq!(first.draw_at(u64::MAX), Some(3604 * WINDOW));
+    assert_eq!((first.count(), second.count()), (4, 3));
+    assert_eq!(quota.granted(), 0);
+    drop(first);
+    assert_eq!(quota.granted(), 4);
+    let quota = quota.close().unwrap_err();
+    drop(second);
+    assert_eq!(quota.close().unwrap(), 7);
+}
+
+#[test]
+fn windows_go_by_the_systems_clock() {
+    let began = Instant::now() - Duration::from_secs(100);
+    let quota = Quota::new_at(began, 1, 1.0, Duration::from_secs(60)).unwrap();
+    quota.deposit();
+    assert_eq!(quota.seen(), usage(1, 1, 0, 2));
+    let mut pass = quota.pass().unwrap();
+    pass.deposit();
+    assert_eq!(pass.draw(), Some(WINDOW));
+    assert_eq!(pass.seen(), usage(1, 2, 1, 2));
+    assert_eq!(quota.moment(began), 0);
+    assert_eq!(quota.moment(began + Duration::from_millis(1500)), 1500);
+    assert_eq!(quota.moment(began - Duration::from_millis(1500)), 0);
+}
+
+#[test]
+fn terms_out_of_their_ranges_are_refused() {
+    let refused = |reserve, share, per| Quota::new(reserve, share, per).unwrap_err();
+    let second = Duration::from_secs(1);
+    assert_eq!(refused(4_294_967_297, 0.0, second), BudgetError::ReserveTooLarge);
+    for share in [-0.1, 1000.1, f64::NAN, f64::INFINITY, f64::NEG_INFINITY, 0.0004, -0.0001] {
+        assert_eq!(refused(0, share, second), BudgetError::ShareOutOfRange, "{share}");
+    }
+    assert_eq!(refused(0, 0.0, Duration::ZERO), BudgetError::PeriodTooShort);
+    assert_eq!(refused(0, 0.0, Duration::from_micros(999)), BudgetError::PeriodTooShort);
+    assert_eq!(refused(0, 0.0, Duration::from_millis(1 << 62)), BudgetError::PeriodTooLong);
+    assert_eq!(refused(0, 0.0, Duration::MAX), BudgetError::PeriodTooLong);
+    assert_eq!(BudgetError::PeriodTooShort.to_string(), "the window is shorter than a millisecond");
+    assert!(Quota::new(4_294_967_296, 1000.0, Duration::from_millis((1 << 62) - 1)).is_ok());
+    assert!(Quota::new(0, 0.001, Duration::from_millis(1)).is_ok());
+}
+
+/// A retry by hand on the quota whose runs all fail, from this moment on: how it ended, and when it ran.
+fn all_lost(json: &str, budget: &impl Grants, start: u64) -> (Ended, Vec<u64>, u64) {
+    let mut machine = Machine::new(&policy(json), budget).unwrap();
+    let (mut now, mut report, mut runs) = (start, None, Vec::new());
+    loop {
+        match machine.step(now, report.take()) {
+            Step::Run => {
+                runs.push(now);
+                report = Some(Report::Lost(0));
+            }
+            Step::Wait(until) => now = until,
+            Step::Over(ended) => return (ended, runs, machine.granted()),
+        }
+    }
+}
+
+#[test]
+fn a_retry_draws_at_the_moment_of_the_failure() {
+    let quota = quota(2, 0.0, 1000);
+    // failures at 5,500, 5,900, 6,700 and 8,300
+    let json = r#"{"meet":[{"recurs":3},{"exponential":[400,2]}]}"#;
+    assert_eq!(all_lost(json, &quota, 5500), (Ended::ScheduleDone, vec![5500, 5900, 6700, 8300], 3));
+    assert_eq!(quota.seen_at(6999), usage(6, 0, 1, 1));
+    assert_eq!(all_lost("\"forever\"", &quota, 6900), (Ended::BudgetRefused, vec![6900, 6900], 1));
+    assert_eq!(all_lost("\"forever\"", &quota, 8300), (Ended::BudgetRefused, vec![8300; 3], 2));
+    assert_eq!(quota.close().unwrap(), 6);
+}
+
+#[test]
+fn a_retry_on_nothing_ends_by_its_schedule() {
+    assert_eq!(all_lost(r#"{"recurs":4}"#, &Unlimited, 7), (Ended::ScheduleDone, vec![7; 5], 4));
+    let mut calls = 0;
+    let result = retry(&policy(r#"{"recurs":4}"#), &Unlimited, || {
+        calls += 1;
+        if calls == 3 { Ok(calls) } else { Err(()) }
+    });
+    assert_eq!(result, Ok(3));
+}
+
+#[test]
+fn a_rising_budget_is_drawn_of_beside_the_engines_retry() {
+    let budget = Budget::rising(2).unwrap();
+    assert_eq!(all_lost("\"forever\"", &budget, 0), (Ended::BudgetRefused, vec![0; 3], 2));
+    assert_eq!(budget.raise(3), Ok(3));
+    assert_eq!(all_lost("\"forever\"", &budget, 0), (Ended::BudgetRefused, vec![0; 2], 1));
+    assert_eq!(budget.close().unwrap(), 3);
+}
+
+#[test]
+fn each_call_is_a_request_and_its_retries_draw() {
+    let (policy, quota) = (policy(r#"{"recurs":3}"#), quota(1, 0.5, 1_000_000));
+    let fails = || retry(&policy, &quota, || Err::<(), _>("no"));
+    // three calls are three requests: 1, 2 and 2 tickets in all
+    for granted in [1, 2, 2] {
+        assert_eq!(fails(), Err(RetryError::BudgetRefused("no")));
+        assert_eq!(quota.granted(), granted);
+    }
+    assert_eq!(Retrying::new(&policy, &quota).call(|| Ok::<_, ()>(5)), Ok(5));
+    assert_eq!(quota.seen(), usage(0, 4, 2, 1));
+    assert_eq!(Retrying::new(&policy, &quota).when(|_| false).call(|| Err::<(), _>(1)), Err(RetryError::NotRetried(1)));
+    assert_eq!(quota.seen(), usage(0, 5, 2, 1));
+    assert_eq!(quota.close().unwrap(), 2);
+}
+
+#[test]
+fn a_refused_call_is_served_in_the_next_window() {
+    let (policy, quota) = (policy(r#"{"recurs":1}"#), quota(1, 0.0, 50));
+    let fails = || retry(&policy, &quota, || Err::<(), _>(()));
+    let ends: Vec<_> = (0..40)
+        .map(|_| {
+            thread::sleep(Duration::from_millis(5));
+            fails()
+        })
+        .collect();
+    // 200 ms are four windows at least, each with one ticket
+    let granted = ends.iter().filter(|end| **end == Err(RetryError::ScheduleDone(()))).count();
+    assert!((4..40).contains(&granted), "{granted}");
+    assert_eq!(quota.close().unwrap(), granted as u64);
+}
+
+#[test]
+fn a_quota_serves_any_number_of_retries() {
+    let (policy, quota) = (policy(r#"{"recurs":1}"#), quota(1 << 32, 0.0, 1_000_000));
+    for _ in 0..100_000 {
+        assert_eq!(retry(&policy, &quota, || Err::<(), _>(())), Err(RetryError::ScheduleDone(())));
+    }
+    assert_eq!(quota.granted(), 100_000);
+    assert_eq!(quota.close().unwrap(), 100_000);
+}
+
+#[test]
+fn sixteen_threads_draw_all_of_a_window_each_ticket_once() {
+    let quota = quota(10, 0.25, 1000);
+    let ready = Barrier::new(16);
+    let mut tickets: Vec<u64> = thread::scope(|scope| {
+        let threads: Vec<_> = (0..16)
+            .map(|_| {
+                let mut pass = quota.pass().unwrap();
+                let ready = &ready;
+                scope.spawn(move || {
+                    (0..10_000).for_each(|_| pass.deposit_at(0));
+                    ready.wait();
+                    let mut drawn = Vec::new();
+                    // where a draw lost 64 races there are tickets left
+                    while pass.seen_at(0).left > 0 {
+                        drawn.extend(pass.draw_at(0));
+                    }
+                    assert_eq!(pass.count(), drawn.len() as u64);
+                    drawn
+                })
+            })
+            .collect();
+        threads.into_iter().flat_map(|thread| thread.join().unwrap()).collect()
+    });
+    // 16 * 10,000 requests give 40,000 tickets, beside the ten
+    tickets.sort_unstable();
+    assert_eq!(tickets, (0..40_010).collect::<Vec<_>>());
+    assert_eq!(quota.seen_at(0), usage(0, 160_000, 40_010, 0));
+    assert_eq!(quota.close().unwrap(), 40_010);
+}
+
+#[test]
+fn sixteen_threads_of_retries_never_pass_the_quota() {
+    let (policy, quota) = (policy(r#"{"recurs":3}"#), quota(1000, 0.5, 10_000_000));
+    let runs: u64 = thread::scope(|scope| {
+        let threads: Vec<_> = (0..16)
+            .map(|_| {
+                scope.spawn(|| {
+                    let mut runs = 0;
+                    for _ in 0..500 {
+                        let _: Result<(), _> = retry(&policy, &quota, || {
+                            runs += 1;
+                            Err(())
+                        });
+                    }
+                    runs
+                })
+            })
+            .collect();
+        threads.into_iter().map(|thread| thread.join().unwrap()).sum()
+    });
+    // 8,000 calls are 8,000 requests, and each further run has a ticket: 1,000 and 4,000 at most
+    assert_eq!(quota.seen().asked, 8000);
+    let granted = quota.close().unwrap();
+    assert_eq!(runs, 8000 + granted);
+    assert!((4900..=5000).contains(&granted), "{granted}");
+}
+
+#[test]
+fn a_clone_keeps_a_quota_open() {
+    let quota = quota(1, 0.0, 1);
+    let clone = quota.clone();
+    let quota = quota.close().unwrap_err();
+    drop(clone);
+    assert_eq!(quota.close().unwrap(), 0);
+}
+
+#[test]
+fn values_go_to_other_threads() {
+    fn sends<T: Send>() {}
+    fn shares<T: Sync>() {}
+    sends::<Quota>();
+    shares::<Quota>();
+    sends::<QuotaPass>();
+    shares::<Usage>();
+    shares::<Unlimited>();
+    sends::<Machine>();
+}
