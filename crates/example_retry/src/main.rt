@@ -35,11 +35,11 @@ fn back_off(alloc: Global) -> Result<Plan, PlanFault> {
 // The text of the file, once it can be read.
 fn read<R: Runtime + RandomSource + AllocGlobal + Wait>(rt: &R, path: &str) -> Result<String> {
     let alloc = rt.alloc();
-    let (budget, pass) = Budget::new(alloc, 10)?;
-    let driver = Driver::new(alloc, back_off(alloc)?)?;
-    let mut retry = HostRetry::new(alloc, driver, OnBudget::new(pass, &budget));
     let mut clock = SystemClock::new(rt)?;
     let mut words = SystemWords::new(rt)?;
+    let driver = Driver::new(alloc, back_off(alloc)?)?;
+    let (budget, pass) = Budget::new(alloc, 10)?;
+    let mut retry = HostRetry::new(alloc, driver, OnBudget::new(pass, &budget));
     let ending = retry_call(
         rt,
         &mut retry,
@@ -47,7 +47,15 @@ fn read<R: Runtime + RandomSource + AllocGlobal + Wait>(rt: &R, path: &str) -> R
         &mut words,
         || read_once(rt, path),
     );
-    let retries = retry.granted();
+    told(rt, retry.granted(), ending)
+}
+
+// What came of it, after a line that tells how many retries there were.
+fn told<R: Eprint>(
+    rt: &R,
+    retries: u64,
+    ending: Ending<Tagged<String>, Tagged<io::Error>>,
+) -> Result<String> {
     eprintln!(rt; "{retries} retries")?;
     match ending {
         Ending::Won(text) => Ok(text.value),
