@@ -62,6 +62,35 @@ struct TakenBack {
     windows: Vec<u64>,
 }
 
+impl TakenBack {
+    // With one retry more, which is taken apart.
+    fn with(self, retry: QuotaRetry<'_>, quota: &Quota) -> Result<TakenBack, QuotaBatchFault>
+        requires taken { AreTaken quota.now self.ends.items self.pass self.windows.items }
+        requires driven { IsDriven quota.now retry }
+        ensures { IfOk result (λ back. AreTaken quota.now back.ends.items back.pass back.windows.items) }
+    {
+        let TakenBack {
+            mut ends,
+            pass,
+            mut windows,
+        } = self;
+        ends.reserve(1)?;
+        let (end, drawing) = JobEnd::of_retry(retry);
+        ends.push_reserved(end);
+        let (own, noted) = drawing.into_parts();
+        let pass = pass.join(own, quota);
+        let Some(noted) = noted else {
+            return Err(QuotaBatchFault::NoMemory);
+        };
+        windows.extend_from_slice(&noted)?;
+        Ok(TakenBack {
+            ends,
+            pass,
+            windows,
+        })
+    }
+}
+
 /// Runs the jobs on one thread, with a virtual clock from 0 and at most `turns` turns: each job is retried by its plan,
 /// and all of them draw on one quota of these terms. Each job's first run is a request at moment 0; all requests are
 /// counted before the first run begins.
@@ -148,32 +177,22 @@ fn take_back(
     alloc: Global,
     retries: Vec<QuotaRetry<'_>>,
     quota: &Quota,
-    mut pass: Pass,
+    pass: Pass,
 ) -> Result<TakenBack, QuotaBatchFault>
     requires driven { All (IsDriven quota.now) retries.items }
     requires of { IsOf quota.now pass }
     requires unused { IsUnused pass.has }
     ensures { IfOk result (λ back. AreTaken quota.now back.ends.items back.pass back.windows.items) }
 {
-    let mut ends = Vec::new(alloc);
-    let mut windows = Vec::new(alloc);
-    for retry in retries {
-        let (end, drawing) = JobEnd::of_retry(retry);
-        let (own, noted) = drawing.into_parts();
-        let Some(noted) = noted else {
-            return Err(QuotaBatchFault::NoMemory);
-        };
-        windows.extend_from_slice(&noted)?;
-        pass = pass.join(own, quota);
-        if ends.push(end).is_err() {
-            return Err(QuotaBatchFault::NoMemory);
-        }
-    }
-    Ok(TakenBack {
-        ends,
+    let mut back = TakenBack {
+        ends: Vec::new(alloc),
         pass,
-        windows,
-    })
+        windows: Vec::new(alloc),
+    };
+    for retry in retries {
+        back = back.with(retry, quota)?;
+    }
+    Ok(back)
 }
 
 // How many windows these are, each counted once.

@@ -33,10 +33,9 @@ pub(crate) fn retries_of<'a>(
 {
     let mut retries = Vec::new(alloc);
     for job in jobs {
+        retries.reserve(1)?;
         let retry = requested(alloc, job, quota, pass, now)?;
-        if retries.push(retry).is_err() {
-            return Err(QuotaBatchFault::NoMemory);
-        }
+        retries.push_reserved(retry);
     }
     Ok(retries)
 }

@@ -1,5 +1,5 @@
 //! The jobs as retries on a board.
-ghost use Rattle.std.specs.Prelude.{◌≡◌, ◌≤◌, length, None, IfOk};
+ghost use Rattle.std.specs.Prelude.{◌≡◌, ◌≤◌, ◌<◌, ◌+◌, [], length, None, IfOk, OnOk};
 ghost use Rattle.sched_ticket.specs.Held.{IsOf};
 
 use crate::batches::BatchFault;
@@ -30,14 +30,32 @@ pub(crate) fn boarded<'a, N: Naming>(
         let Ok(own) = pass.split(budget) else {
             return Err(BatchFault::Mixed);
         };
-        let retry = retry_of(alloc, job, OnBudget::new(own, budget))?;
-        match board.add(retry) {
-            Ok(_) => {}
-            Err(refused) => match refused.fault {
-                AddFault::NoMemory => return Err(BatchFault::NoMemory),
-                AddFault::Sealed | AddFault::BoardFull => unreachable!(),
-            },
-        }
+        enter(alloc, &mut board, job, own, budget)?;
     }
     Ok(board)
+}
+
+// Adds a retry of the job, with this pass, to a board that is open and has room.
+fn enter<'a, N: Naming>(
+    alloc: Global,
+    board: &mut Board<'a, Scripted, N>,
+    job: &JobRead,
+    own: Pass,
+    budget: &'a Budget,
+) -> Result<(), BatchFault>
+    requires name { budget.now ≡ N.budget }
+    requires of { IsOf budget.now own }
+    requires none { own.has.tickets ≡ [] }
+    requires open { board.old.claims ≡ None }
+    requires room { board.old.jobs < 4096 }
+    ensures { OnOk result (board.new ≡ record board.old { jobs = board.old.jobs + 1 }) }
+{
+    let retry = retry_of(alloc, job, OnBudget::new(own, budget))?;
+    match board.add(retry) {
+        Ok(_) => Ok(()),
+        Err(refused) => match refused.fault {
+            AddFault::NoMemory => Err(BatchFault::NoMemory),
+            AddFault::Sealed | AddFault::BoardFull => unreachable!(),
+        },
+    }
 }

@@ -7,5 +7,5 @@ use Rattle.sched_quota_pool.proofs.batches.take_back.Given as goal
 abbrev pub invariant-loop-retry : goal.invariant-loop-retry
 invariant-loop-retry l = record {
   rest : All (IsDriven l.quota) (into_iter_items l.retry-iterator);
-  taken : AreTaken l.quota l.ends.items l.pass l.windows.items;
+  taken : AreTaken l.quota l.back.ends.items l.back.pass l.back.windows.items;
 }
