@@ -7,8 +7,6 @@
 mod gates;
 mod seats;
 mod stations;
-#[cfg(test)]
-mod tests;
 mod works;
 
 pub use gates::{Gate, OpenGate};

@@ -1,10 +1,24 @@
+//! Workers at gates that hold jobs up, count and cancel.
+use super::jobs::{Paced, cancel, job};
+use super::plays::{Play, Step, plays, plays_rows};
 use super::*;
+use sched_task::How;
 use std::sync::atomic::{AtomicBool, AtomicU64, Ordering};
+use std::sync::{Mutex, Wait};
+use std::test::Fail;
 
 // Is not ready for job 0 before job 1 was polled.
 #[derive(Drop)]
 struct SecondFirst {
     polled: AtomicBool,
+}
+
+impl SecondFirst {
+    fn new() -> SecondFirst {
+        SecondFirst {
+            polled: AtomicBool::new(false),
+        }
+    }
 }
 
 impl Gate for SecondFirst {
@@ -22,33 +36,28 @@ impl Gate for SecondFirst {
 // A turn without a poll, and two polls.
 #[test]
 fn a_gate_holds_up_a_job(rt: HostRuntime) -> Result<(), Fail> {
-    let jobs = [Paced::job(1, None), Paced::job(1, None)];
-    let (claims, mut share) = claimed(rt.alloc(), 2)?;
-    let mut worker = station(&rt, 2);
-    let gate = SecondFirst {
-        polled: AtomicBool::new(false),
+    let play = Play {
+        hold: 2,
+        steps: &[Step::Gated(9, after(3, Finish::AllOver))],
+        ends_at: 0,
     };
-    let worked = work_through(&rt, &jobs, &claims, &mut share, &mut worker, &gate, 9);
-    assert_eq!(rt; worked, after(3, Finish::AllOver));
-    Ok(())
+    plays_rows(&rt, &[(1, None), (1, None)], &SecondFirst::new(), &play)
 }
 
 // Job 1 is never claimed beside job 0, so the gate stays as it is.
 #[test]
 fn a_gate_can_use_up_all_turns(rt: HostRuntime) -> Result<(), Fail> {
-    let jobs = [Paced::job(1, None), Paced::job(1, None)];
-    let (claims, mut share) = claimed(rt.alloc(), 2)?;
-    let mut worker = station(&rt, 1);
-    let gate = SecondFirst {
-        polled: AtomicBool::new(false),
+    let play = Play {
+        hold: 1,
+        steps: &[
+            Step::Gated(50, after(50, Finish::TurnsSpent)),
+            Step::Active(&[0]),
+            Step::Left(0, 1, None),
+            Step::Works(2, after(2, Finish::AllOver)),
+        ],
+        ends_at: 0,
     };
-    let worked = work_through(&rt, &jobs, &claims, &mut share, &mut worker, &gate, 50);
-    assert_eq!(rt; worked, after(50, Finish::TurnsSpent));
-    assert_eq!(rt; share.active(), [0].as_slice());
-    assert_eq!(rt; shown(&rt, &jobs[0]), (1, None));
-    let worked = work_through(&rt, &jobs, &claims, &mut share, &mut worker, &OpenGate, 2);
-    assert_eq!(rt; worked, after(2, Finish::AllOver));
-    Ok(())
+    plays_rows(&rt, &[(1, None), (1, None)], &SecondFirst::new(), &play)
 }
 
 // Counts what it is asked and told.
@@ -71,15 +80,16 @@ impl Gate for Counts {
 // The first turn is without a poll. Then there are two polls and a wait.
 #[test]
 fn a_gate_is_told_of_each_poll(rt: HostRuntime) -> Result<(), Fail> {
-    let jobs = [Paced::job(2, Some(millis(&rt, 100)))];
-    let (claims, mut share) = claimed(rt.alloc(), 1)?;
-    let mut worker = station(&rt, 1);
     let gate = Counts {
         asked: AtomicU64::new(0),
         told: AtomicU64::new(0),
     };
-    let worked = work_through(&rt, &jobs, &claims, &mut share, &mut worker, &gate, 9);
-    assert_eq!(rt; worked, after(4, Finish::AllOver));
+    let play = Play {
+        hold: 1,
+        steps: &[Step::Gated(9, after(4, Finish::AllOver))],
+        ends_at: 100,
+    };
+    plays(&rt, &[job(&rt, 2, Some(100))], &gate, &play)?;
     assert_eq!(rt; gate.asked.load(Ordering::SeqCst), 3);
     assert_eq!(rt; gate.told.load(Ordering::SeqCst), 2);
     Ok(())
@@ -98,23 +108,25 @@ impl<'a, R: Wait> Gate for Cancels<'a, R> {
     }
 
     fn polled(&self, _job: usize) {
-        self.job.lock(self.rt).cancel();
+        cancel(self.rt, self.job);
     }
 }
 
 // The cancel is seen at the second poll, when the moment has come that the first one showed.
 #[test]
 fn a_cancel_overtakes_a_moment(rt: HostRuntime) -> Result<(), Fail> {
-    let jobs = [Paced::job(9, Some(millis(&rt, 100)))];
-    let (claims, mut share) = claimed(rt.alloc(), 1)?;
-    let mut worker = station(&rt, 1);
+    let jobs = [job(&rt, 9, Some(100))];
     let gate = Cancels {
         rt: &rt,
         job: &jobs[0],
     };
-    let worked = work_through(&rt, &jobs, &claims, &mut share, &mut worker, &gate, 9);
-    assert_eq!(rt; worked, after(3, Finish::AllOver));
-    assert_eq!(rt; worker.clock.now().get(), 100);
-    assert_eq!(rt; shown(&rt, &jobs[0]), (8, Some(How::Cancelled)));
-    Ok(())
+    let play = Play {
+        hold: 1,
+        steps: &[
+            Step::Gated(9, after(3, Finish::AllOver)),
+            Step::Left(0, 8, Some(How::Cancelled)),
+        ],
+        ends_at: 100,
+    };
+    plays(&rt, &jobs, &gate, &play)
 }
