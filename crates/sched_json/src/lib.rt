@@ -7,8 +7,6 @@ mod leaves;
 mod nodes;
 mod plans;
 mod spelling;
-#[cfg(test)]
-mod tests;
 mod texts;
 mod words;
 

@@ -1,4 +1,4 @@
-use crate::{ReadFault, TextFault};
+use sched_json::{ReadFault, TextFault};
 use sched_plan::PlanFault;
 use std::test::Fail;
 
