@@ -1,12 +1,13 @@
+//! Printings of whole plans, worked out by hand.
 use super::fakes::Halting;
 use super::printings::{
-    options, printing, prints, prints_text, refuses, refuses_text, shows, with_input,
+    CUT, Printed, Row, WHOLE, assert_printed, options, printing, prints, prints_from, prints_parts,
+    prints_text, prints_to, refuse_all, refuses, refuses_parts, refuses_text, shows, with_input,
 };
-use super::texts::{nested, node};
+use super::texts::{Part, text_of, tree};
 use sched_plan_text::{PlanOptions, PrintFault};
 use std::alloc::{AllocError, Global};
 use std::process::Abort;
-use std::test::Fail;
 
 // The intersection of three recurrences and a spacing of 100 ms, and its four lines.
 const PLAN: &str = r#"{"meet":[{"recurs":3},{"spaced":100}]}"#;
@@ -16,110 +17,91 @@ const LINES: &str =
 
 const FOREVER: &str = r#""forever""#;
 
+const EVENTS: [Row; 11] = [
+    (PLAN, (10, 0, 0), LINES),
+    (PLAN, (4, 0, 0), LINES),
+    (
+        PLAN,
+        (2, 0, 0),
+        "0: (0, 0) next 100\n100: (1, 1) next 200\n",
+    ),
+    (PLAN, (0, 0, 0), ""),
+    (r#"{"recurs":0}"#, (10, 0, 0), "0: 0 done\n"),
+    (r#"{"recurs":0}"#, (0, 0, 0), ""),
+    (
+        r#"{"recurs":4611686018427387903}"#,
+        (1, 0, 0),
+        "0: 0 next 0\n",
+    ),
+    (r#"{"spaced":10}"#, (1, 5, 0), "5: 0 next 15\n"),
+    (
+        r#"{"follow":[{"recurs":2},{"spaced":50}]}"#,
+        (4, 0, 0),
+        "0: 0 next 0\n0: 1 next 0\n0: 0 next 50\n50: 1 next 100\n",
+    ),
+    (
+        r#"{"follow":[{"recurs":0},{"recurs":0}]}"#,
+        (10, 0, 0),
+        "0: 0 done\n",
+    ),
+    (
+        FIXED,
+        (2, 4611686018427387903, 0),
+        "4611686018427387903: 0 next 4611686018427387903\n4611686018427387903: 1 next 4611686018427387903\n",
+    ),
+];
+
 #[test]
-fn each_event_has_its_line(rt: HostRuntime) -> Result<(), Fail> {
-    let far = 4611686018427387903;
-    let rows = [
-        (PLAN, (10, 0, 0), LINES),
-        (PLAN, (4, 0, 0), LINES),
-        (
-            PLAN,
-            (2, 0, 0),
-            "0: (0, 0) next 100\n100: (1, 1) next 200\n",
-        ),
-        (PLAN, (0, 0, 0), ""),
-        (r#"{"recurs":0}"#, (10, 0, 0), "0: 0 done\n"),
-        (r#"{"recurs":0}"#, (0, 0, 0), ""),
-        (
-            r#"{"recurs":4611686018427387903}"#,
-            (1, 0, 0),
-            "0: 0 next 0\n",
-        ),
-        (r#"{"spaced":10}"#, (1, 5, 0), "5: 0 next 15\n"),
-        (
-            r#"{"follow":[{"recurs":2},{"spaced":50}]}"#,
-            (4, 0, 0),
-            "0: 0 next 0\n0: 1 next 0\n0: 0 next 50\n50: 1 next 100\n",
-        ),
-        (
-            r#"{"follow":[{"recurs":0},{"recurs":0}]}"#,
-            (10, 0, 0),
-            "0: 0 done\n",
-        ),
-        (
-            r#"{"fixed":100}"#,
-            (2, far, 0),
-            "4611686018427387903: 0 next 4611686018427387903\n4611686018427387903: 1 next 4611686018427387903\n",
-        ),
-    ];
-    shows(&rt, rt.alloc(), &rows)
+fn each_event_has_its_line(rt: HostRuntime) {
+    shows(&rt, rt.alloc(), &EVENTS);
+}
+
+const FIXED: &str = r#"{"fixed":100}"#;
+
+const WORKED: [Row; 3] = [
+    (
+        FIXED,
+        (3, 0, 30),
+        "0: 0 next 100\n130: 1 next 200\n230: 2 next 300\n",
+    ),
+    (FIXED, (2, 0, 100), "0: 0 next 100\n200: 1 next 300\n"),
+    (
+        FIXED,
+        (3, 0, 250),
+        "0: 0 next 100\n350: 1 next 350\n600: 2 next 600\n",
+    ),
+];
+
+#[test]
+fn an_event_comes_when_its_work_is_over(rt: HostRuntime) {
+    shows(&rt, rt.alloc(), &WORKED);
 }
 
 #[test]
-fn an_event_comes_when_its_work_is_over(rt: HostRuntime) -> Result<(), Fail> {
-    let fixed = r#"{"fixed":100}"#;
-    let rows = [
-        (
-            fixed,
-            (3, 0, 30),
-            "0: 0 next 100\n130: 1 next 200\n230: 2 next 300\n",
-        ),
-        (fixed, (2, 0, 100), "0: 0 next 100\n200: 1 next 300\n"),
-        (
-            fixed,
-            (3, 0, 250),
-            "0: 0 next 100\n350: 1 next 350\n600: 2 next 600\n",
-        ),
-    ];
-    shows(&rt, rt.alloc(), &rows)
-}
-
-#[test]
-fn inputs_and_words_leave_these_plans_alone(rt: HostRuntime) -> Result<(), Fail> {
+fn inputs_and_words_leave_these_plans_alone(rt: HostRuntime) {
     for (input, word) in [(9u64, 0u32), (4611686018427387903, 4294967295)] {
-        let options = with_input(10, 0, 0, input, word).ok_or("out of range")?;
+        let options = with_input(&rt, (10, 0, 0), input, word);
         prints(&rt, rt.alloc(), PLAN.as_bytes(), &options, LINES);
     }
-    Ok(())
 }
+
+const BAD_TEXTS: [(&str, PrintFault); 9] = [
+    ("", PrintFault::NotJson),
+    (r#"{"recurs":3"#, PrintFault::NotJson),
+    (r#"{"recurs":-1}"#, PrintFault::NotAPlan),
+    (r#"{"recurs":1.5}"#, PrintFault::NotAPlan),
+    (r#"{"meet":[{"recurs":3}]}"#, PrintFault::NotAPlan),
+    (r#"{"forever":1}"#, PrintFault::NotAPlan),
+    ("7", PrintFault::NotAPlan),
+    (r#"{"fixed":0}"#, PrintFault::OutOfRange),
+    (r#"{"recurs":4611686018427387904}"#, PrintFault::OutOfRange),
+];
 
 #[test]
-fn other_inputs_are_refused_with_nothing_written(rt: HostRuntime) -> Result<(), Fail> {
-    let options = options(10, 0, 0).ok_or("out of range")?;
-    let rows = [
-        ("", PrintFault::NotJson),
-        (r#"{"recurs":3"#, PrintFault::NotJson),
-        (r#"{"recurs":-1}"#, PrintFault::NotAPlan),
-        (r#"{"recurs":1.5}"#, PrintFault::NotAPlan),
-        (r#"{"meet":[{"recurs":3}]}"#, PrintFault::NotAPlan),
-        (r#"{"forever":1}"#, PrintFault::NotAPlan),
-        ("7", PrintFault::NotAPlan),
-        (r#"{"fixed":0}"#, PrintFault::OutOfRange),
-        (r#"{"recurs":4611686018427387904}"#, PrintFault::OutOfRange),
-    ];
-    for (text, fault) in rows {
-        refuses(&rt, rt.alloc(), text.as_bytes(), &options, fault);
-    }
+fn other_inputs_are_refused_with_nothing_written(rt: HostRuntime) {
+    refuse_all(&rt, rt.alloc(), &BAD_TEXTS);
+    let options = options(&rt, (10, 0, 0));
     refuses(&rt, rt.alloc(), &[255], &options, PrintFault::NotJson);
-    Ok(())
-}
-
-// So many bytes, each this one.
-fn repeated(alloc: Global, byte: u8, times: usize) -> Result<Vec<u8>, AllocError> {
-    vec![in alloc; byte; times]
-}
-
-// The first bytes, and so many of the last one after them.
-fn ending_in(alloc: Global, first: &[u8], last: u8, times: usize) -> Result<Vec<u8>, AllocError> {
-    let mut bytes = Vec::new(alloc);
-    bytes.extend_from_slice(first)?;
-    bytes.extend_from_slice(repeated(alloc, last, times)?.as_slice())?;
-    Ok(bytes)
-}
-
-// `forever`, and so many spaces after it.
-fn spaced_out(alloc: Global, spaces: usize) -> Result<Vec<u8>, AllocError> {
-    ending_in(alloc, br#""forever""#, b' ', spaces)
 }
 
 // The lines of `forever` from 0, for so many events.
@@ -131,230 +113,195 @@ fn counted_lines(alloc: Global, events: u64) -> Result<String, AllocError> {
     Ok(lines)
 }
 
-// Asserts that the longest input is printed.
-fn longest_prints(rt: &impl Abort, alloc: Global, options: &PlanOptions) -> Result<(), Fail> {
-    let longest = spaced_out(alloc, 1048567)?;
+// `forever` and 1,048,567 spaces: the longest input, of 1,048,576 bytes.
+const LONGEST: [Part; 2] = [(FOREVER, 1), (" ", 1048567)];
+
+const LONGER: [Part; 2] = [(FOREVER, 1), (" ", 1048568)];
+
+const BRACKETS: [Part; 2] = [("[", 1000), ("]", 1000)];
+
+#[test]
+fn the_longest_input_is_printed(rt: HostRuntime) -> Result<(), AllocError> {
+    let alloc = rt.alloc();
+    let longest = text_of(alloc, &LONGEST)?;
     assert_eq!(rt; longest.len(), 1048576);
-    let lines = counted_lines(alloc, 10)?;
-    prints(rt, alloc, longest.as_slice(), options, lines.as_str());
-    Ok(())
-}
-
-// So many brackets that are open, and as many that close them.
-fn brackets(alloc: Global, times: usize) -> Result<Vec<u8>, AllocError> {
-    let open = repeated(alloc, b'[', times)?;
-    ending_in(alloc, open.as_slice(), b']', times)
-}
-
-// Asserts that bytes that were built are refused with this fault.
-fn refuses_bytes(
-    rt: &impl Abort,
-    alloc: Global,
-    bytes: Result<Vec<u8>, AllocError>,
-    options: &PlanOptions,
-    fault: PrintFault,
-) -> Result<(), Fail> {
-    refuses(rt, alloc, bytes?.as_slice(), options, fault);
-    Ok(())
+    prints_text(&rt, alloc, Ok(longest), 10, counted_lines(alloc, 10))
 }
 
 #[test]
-fn the_longest_input_is_printed_and_one_byte_more_is_refused(rt: HostRuntime) -> Result<(), Fail> {
-    let alloc = rt.alloc();
-    let options = options(10, 0, 0).ok_or("out of range")?;
-    longest_prints(&rt, alloc, &options)?;
-    let longer = spaced_out(alloc, 1048568);
-    refuses_bytes(&rt, alloc, longer, &options, PrintFault::TooLong)?;
-    let brackets = brackets(alloc, 1000);
-    refuses_bytes(&rt, alloc, brackets, &options, PrintFault::NotJson)
+fn one_byte_more_is_refused(rt: HostRuntime) -> Result<(), AllocError> {
+    refuses_parts(&rt, rt.alloc(), &LONGER, PrintFault::TooLong)
 }
 
-// Asserts that the text has 4,096 lines, and ends in the last one.
+#[test]
+fn brackets_are_no_json(rt: HostRuntime) -> Result<(), AllocError> {
+    refuses_parts(&rt, rt.alloc(), &BRACKETS, PrintFault::NotJson)
+}
+
+// Asserts that the text has 4,096 lines in 60,330 bytes, and ends in the last one.
 fn assert_most_lines(rt: &impl Abort, text: &[u8]) {
     let ends = text.iter().filter(|byte| **byte == b'\n').count();
-    assert_eq!(rt; ends, 4096);
+    assert_eq!(rt; (ends, text.len()), (4096, 60330));
     assert!(rt; text.ends_with(b"\n0: 4095 next 0\n"));
 }
 
 #[test]
-fn the_most_events_have_4096_lines(rt: HostRuntime) -> Result<(), Fail> {
-    let alloc = rt.alloc();
-    let options = options(4096, 0, 0).ok_or("out of range")?;
-    let lines = counted_lines(alloc, 4096)?;
-    let (printed, taken) = printing(alloc, FOREVER.as_bytes(), Vec::new(alloc), &options);
-    assert_eq!(rt; printed, (Ok(()), 0, 0));
-    assert_most_lines(&rt, taken.as_slice());
-    assert_eq!(rt; taken.as_slice(), lines.as_bytes());
-    Ok(())
+fn the_most_events_have_4096_lines(rt: HostRuntime) -> Result<(), AllocError> {
+    let lines = counted_lines(rt.alloc(), 4096)?;
+    assert_most_lines(&rt, lines.as_bytes());
+    prints_text(
+        &rt,
+        rt.alloc(),
+        text_of(rt.alloc(), &[(FOREVER, 1)]),
+        4096,
+        Ok(lines),
+    )
 }
 
-// Asserts that 4,096 lines are written to a writer that has room for each write, by so many writes.
+// The front of a text, of so many bytes.
+fn front<'a>(rt: &impl Abort, text: &'a str, len: usize) -> &'a [u8] {
+    text.as_bytes().get(..len).expect(rt, "the text is as long")
+}
+
+// Asserts that 4,096 lines are written to a writer that has room for each write, by eight writes.
 fn is_written_whole(rt: &impl Abort, alloc: Global, options: &PlanOptions, lines: &str) {
     let writer = Halting::steady(Vec::new(alloc), 100000);
-    let (printed, writer) = printing(alloc, FOREVER.as_bytes(), writer, options);
-    assert_eq!(rt; printed, (Ok(()), 0, 0));
-    assert_eq!(rt; writer.inner.as_slice(), lines.as_bytes());
-    assert_eq!(rt; writer.calls, 8);
+    let calls = prints_to(
+        rt,
+        alloc,
+        FOREVER,
+        writer,
+        options,
+        (WHOLE, lines.as_bytes()),
+    );
+    assert_eq!(rt; calls, 8);
+}
+
+// Asserts how much was taken, and by how many writes, where the write after so many fails. Each write but the last is of
+// 8,192 bytes or a line's end more.
+fn assert_cut(rt: &impl Abort, taken: usize, calls: u64, works: u64) {
+    assert!(rt; taken as u64 / 8192 >= works, "at write {works}");
+    assert_eq!(rt; calls.checked_sub(works), Some(1));
 }
 
 // Asserts what a writer has that fails after so many of these writes.
 fn is_cut_after(rt: &impl Abort, alloc: Global, options: &PlanOptions, lines: &str, works: u64) {
     let writer = Halting::failing_after(Vec::new(alloc), 100000, works);
     let (printed, writer) = printing(alloc, FOREVER.as_bytes(), writer, options);
-    assert_eq!(rt;
-        printed,
-        (Err(PrintFault::WriteFailed), 0, 1),
-        "at write {works}"
-    );
-    let taken = writer.inner.as_slice();
-    assert!(rt; lines.as_bytes().starts_with(taken), "at write {works}");
-    assert!(rt; taken.len() as u64 / 8192 >= works, "at write {works}");
-    assert_eq!(rt; writer.calls.checked_sub(works), Some(1));
+    let taken = writer.inner.len();
+    assert_printed(rt, (printed, &writer.inner), (CUT, front(rt, lines, taken)));
+    assert_cut(rt, taken, writer.calls, works);
 }
 
-// The 4,096 lines are 60,330 bytes, and each write but the last is of 8,192 bytes or a line's end more.
 #[test]
-fn many_lines_are_few_writes(rt: HostRuntime) -> Result<(), Fail> {
-    let alloc = rt.alloc();
-    let options = options(4096, 0, 0).ok_or("out of range")?;
-    let lines = counted_lines(alloc, 4096)?;
-    assert_eq!(rt; lines.len(), 60330);
-    is_written_whole(&rt, alloc, &options, lines.as_str());
+fn many_lines_are_few_writes(rt: HostRuntime) -> Result<(), AllocError> {
+    let lines = counted_lines(rt.alloc(), 4096)?;
+    let options = options(&rt, (4096, 0, 0));
+    is_written_whole(&rt, rt.alloc(), &options, lines.as_str());
     for works in 0..8 {
-        is_cut_after(&rt, alloc, &options, lines.as_str(), works);
+        is_cut_after(&rt, rt.alloc(), &options, lines.as_str(), works);
     }
     Ok(())
 }
 
-// The output of meets of `forever` nested on the left so many times, at the first event.
-fn nested_output(alloc: Global, times: u64) -> Result<String, AllocError> {
-    let mut output = String::from_str(alloc, "0")?;
-    for _ in 0..times {
-        output = format!(in alloc; "({output}, 0)")?;
-    }
-    Ok(output)
-}
+// Meets of `forever`, nested on the left to a depth of 32, which is the most, and the line of the first event.
+const DEEPEST: [Part; 3] = [(r#"{"meet":["#, 31), (FOREVER, 1), (r#","forever"]}"#, 31)];
 
-// The line of the first event, which has this output.
-fn line_of(alloc: Global, output: Result<String, AllocError>) -> Result<String, AllocError> {
-    format!(in alloc; "0: {} next 0\n", output?)
-}
+const DEEPEST_LINE: [Part; 5] = [
+    ("0: ", 1),
+    ("(", 31),
+    ("0", 1),
+    (", 0)", 31),
+    (" next 0\n", 1),
+];
+
+// The same, one deeper.
+const DEEPER: [Part; 3] = [(r#"{"meet":["#, 32), (FOREVER, 1), (r#","forever"]}"#, 32)];
 
 #[test]
-fn depth_ends_at_32(rt: HostRuntime) -> Result<(), Fail> {
-    let alloc = rt.alloc();
-    let options = options(1, 0, 0).ok_or("out of range")?;
-    let line = line_of(alloc, nested_output(alloc, 31));
-    prints_text(&rt, alloc, nested(alloc, "meet", 31), &options, line)?;
-    let deeper = nested(alloc, "meet", 32);
-    refuses_text(&rt, alloc, deeper, &options, PrintFault::TooDeep)
+fn depth_ends_at_32(rt: HostRuntime) -> Result<(), AllocError> {
+    prints_parts(&rt, rt.alloc(), &DEEPEST, 1, &DEEPEST_LINE)?;
+    refuses_parts(&rt, rt.alloc(), &DEEPER, PrintFault::TooDeep)
 }
 
 // Meets of `forever` as a full tree of so many levels of meets.
 fn full(alloc: Global, levels: u64) -> Result<String, AllocError> {
-    let mut text = String::from_str(alloc, "\"forever\"")?;
-    for _ in 0..levels {
-        text = node(alloc, "meet", text.as_str(), text.as_str())?;
-    }
-    Ok(text)
+    tree(alloc, FOREVER, (r#"{"meet":["#, ",", "]}"), levels)
 }
 
-// Its output at the first event.
-fn full_output(alloc: Global, levels: u64) -> Result<String, AllocError> {
-    let mut output = String::from_str(alloc, "0")?;
-    for _ in 0..levels {
-        output = format!(in alloc; "({output}, {output})")?;
-    }
-    Ok(output)
+// The line of its first event.
+fn full_line(alloc: Global, levels: u64) -> Result<String, AllocError> {
+    let output = tree(alloc, "0", ("(", ", ", ")"), levels)?;
+    format!(in alloc; "0: {output} next 0\n")
 }
 
 // A full tree of 6 levels has 127 nodes. This one has 257.
 fn over_full(alloc: Global) -> Result<String, AllocError> {
     let half = full(alloc, 6)?;
-    let two_more = node(alloc, "meet", half.as_str(), "\"forever\"")?;
-    node(alloc, "meet", half.as_str(), two_more.as_str())
+    format!(in alloc; "{{\"meet\":[{half},{{\"meet\":[{half},{FOREVER}]}}]}}")
 }
 
 #[test]
-fn nodes_end_at_256(rt: HostRuntime) -> Result<(), Fail> {
+fn nodes_end_at_256(rt: HostRuntime) -> Result<(), AllocError> {
     let alloc = rt.alloc();
-    let options = options(1, 0, 0).ok_or("out of range")?;
-    let line = line_of(alloc, full_output(alloc, 7));
-    prints_text(&rt, alloc, full(alloc, 7), &options, line)?;
-    let over = over_full(alloc);
-    refuses_text(&rt, alloc, over, &options, PrintFault::TooMany)
+    prints_text(&rt, alloc, full(alloc, 7), 1, full_line(alloc, 7))?;
+    refuses_text(&rt, alloc, over_full(alloc), PrintFault::TooMany)
 }
 
-// Asserts what a printing answers to a writer of one byte a call, by its failed writes, and how much of the lines the
-// writer has then.
+// Asserts what a printing answers to a writer, which has so much of the lines then. Answers how many writes were made.
 fn is_written(
     rt: &impl Abort,
     alloc: Global,
-    options: &PlanOptions,
     writer: Halting<Vec<u8>>,
-    (answer, failures): (Result<(), PrintFault>, u64),
+    want: Printed,
     taken: usize,
 ) -> u64 {
-    let (printed, writer) = printing(alloc, PLAN.as_bytes(), writer, options);
-    assert_eq!(rt; printed, (answer, 0, failures), "after {taken}");
-    let bytes = writer.inner.as_slice();
-    assert_eq!(rt; Some(bytes), LINES.as_bytes().get(..taken));
-    writer.calls
+    let options = options(rt, (10, 0, 0));
+    prints_to(
+        rt,
+        alloc,
+        PLAN,
+        writer,
+        &options,
+        (want, front(rt, LINES, taken)),
+    )
 }
 
 #[test]
-fn a_writer_that_fails_after_k_bytes_has_the_first_k(rt: HostRuntime) -> Result<(), Fail> {
-    let alloc = rt.alloc();
-    let options = options(10, 0, 0).ok_or("out of range")?;
-    let failed = (Err(PrintFault::WriteFailed), 1);
+fn a_writer_that_fails_after_k_bytes_has_the_first_k(rt: HostRuntime) {
     for works in 0..LINES.len() {
-        let writer = Halting::failing_after(Vec::new(alloc), 1, works as u64);
-        let calls = is_written(&rt, alloc, &options, writer, failed, works);
+        let writer = Halting::failing_after(Vec::new(rt.alloc()), 1, works as u64);
+        let calls = is_written(&rt, rt.alloc(), writer, CUT, works);
         assert_eq!(rt; calls, works as u64 + 1);
     }
-    let writer = Halting::steady(Vec::new(alloc), 1);
-    is_written(&rt, alloc, &options, writer, (Ok(()), 0), LINES.len());
-    Ok(())
 }
 
 #[test]
-fn a_writer_that_takes_no_byte_has_failed(rt: HostRuntime) -> Result<(), Fail> {
-    let alloc = rt.alloc();
-    let options = options(10, 0, 0).ok_or("out of range")?;
-    let writer = Halting::steady(Vec::new(alloc), 0);
-    let failed = (Err(PrintFault::WriteFailed), 1);
-    let calls = is_written(&rt, alloc, &options, writer, failed, 0);
-    assert_eq!(rt; calls, 1);
-    Ok(())
-}
-
-// Asserts that nothing is written where the input fails after so many bytes.
-fn is_torn(rt: &impl Abort, alloc: Global, options: &PlanOptions, works: u64) {
-    let reader = Halting::failing_after(PLAN.as_bytes(), 1, works);
-    let (printed, taken) = printing(alloc, reader, Vec::new(alloc), options);
-    assert_eq!(rt;
-        printed,
-        (Err(PrintFault::ReadFailed), 1, 0),
-        "at read {works}"
-    );
-    assert!(rt; taken.is_empty(), "at read {works}");
-}
-
-// Asserts what is written of the whole input, one byte a read.
-fn is_whole(rt: &impl Abort, alloc: Global, options: &PlanOptions) {
-    let reader = Halting::steady(PLAN.as_bytes(), 1);
-    let (printed, taken) = printing(alloc, reader, Vec::new(alloc), options);
-    assert_eq!(rt; printed, (Ok(()), 0, 0));
-    assert_eq!(rt; taken.as_slice(), LINES.as_bytes());
+fn a_writer_of_one_byte_a_call_has_all(rt: HostRuntime) {
+    let writer = Halting::steady(Vec::new(rt.alloc()), 1);
+    is_written(&rt, rt.alloc(), writer, WHOLE, LINES.len());
 }
 
 #[test]
-fn a_failed_read_leaves_nothing_written(rt: HostRuntime) -> Result<(), Fail> {
-    let alloc = rt.alloc();
-    let options = options(10, 0, 0).ok_or("out of range")?;
+fn a_writer_that_takes_no_byte_has_failed(rt: HostRuntime) {
+    let writer = Halting::steady(Vec::new(rt.alloc()), 0);
+    assert_eq!(rt; is_written(&rt, rt.alloc(), writer, CUT, 0), 1);
+}
+
+// Where the input fails after so many bytes.
+#[test]
+fn a_failed_read_leaves_nothing_written(rt: HostRuntime) {
+    let options = options(&rt, (10, 0, 0));
+    let torn = (Err(PrintFault::ReadFailed), 1, 0);
     for works in 0..=PLAN.len() {
-        is_torn(&rt, alloc, &options, works as u64);
+        let reader = Halting::failing_after(PLAN.as_bytes(), 1, works as u64);
+        prints_from(&rt, rt.alloc(), reader, &options, (torn, b""));
     }
-    is_whole(&rt, alloc, &options);
-    Ok(())
+}
+
+#[test]
+fn a_reader_of_one_byte_a_call_is_read_whole(rt: HostRuntime) {
+    let options = options(&rt, (10, 0, 0));
+    let reader = Halting::steady(PLAN.as_bytes(), 1);
+    prints_from(&rt, rt.alloc(), reader, &options, (WHOLE, LINES.as_bytes()));
 }

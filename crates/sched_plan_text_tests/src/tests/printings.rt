@@ -1,24 +1,26 @@
 //! Printings of plans, with what each answers and writes.
+use super::fakes::Halting;
+use super::texts::{Part, text_of};
 use sched_plan_text::{Counted, MOST_STEPS, PlanOptions, PrintFault, print_plan};
 use sched_time::{Millis, Moment};
 use std::alloc::{AllocError, Global};
 use std::io::{Read, Write};
 use std::process::Abort;
-use std::test::Fail;
 
-/// The options of a command line that gives these three, where they are in range.
-pub(crate) fn options(steps: u64, from: u64, took: u64) -> Option<PlanOptions> {
-    with_input(steps, from, took, 0, 2147483648)
+/// The options steps, from and took.
+pub(crate) type Terms = (u64, u64, u64);
+
+/// The options of a command line that gives these three.
+pub(crate) fn options(rt: &impl Abort, terms: Terms) -> PlanOptions {
+    with_input(rt, terms, 0, 2147483648)
 }
 
-/// The options of a command line that gives them all, where they are in range.
-pub(crate) fn with_input(
-    steps: u64,
-    from: u64,
-    took: u64,
-    input: u64,
-    word: u32,
-) -> Option<PlanOptions> {
+/// The options of a command line that gives them all.
+pub(crate) fn with_input(rt: &impl Abort, terms: Terms, input: u64, word: u32) -> PlanOptions {
+    in_range(terms, input, word).expect(rt, "the options are in range")
+}
+
+fn in_range((steps, from, took): Terms, input: u64, word: u32) -> Option<PlanOptions> {
     if steps > MOST_STEPS {
         return None;
     }
@@ -37,6 +39,12 @@ pub(crate) fn with_input(
 /// What a printing answered, and how many of its reads and of its writes failed.
 pub(crate) type Printed = (Result<(), PrintFault>, u64, u64);
 
+/// A printing of the whole text.
+pub(crate) const WHOLE: Printed = (Ok(()), 0, 0);
+
+/// A printing that was cut short by a failed write.
+pub(crate) const CUT: Printed = (Err(PrintFault::WriteFailed), 0, 1);
+
 /// Prints from the reader to the writer, and gives the writer back.
 pub(crate) fn printing<R: Read + Drop, W: Write>(
     alloc: Global,
@@ -51,6 +59,37 @@ pub(crate) fn printing<R: Read + Drop, W: Write>(
     (printed, writer.into_inner())
 }
 
+/// Asserts what a printing answered, and what it wrote.
+pub(crate) fn assert_printed(rt: &impl Abort, printed: (Printed, &[u8]), want: (Printed, &[u8])) {
+    assert_eq!(rt; printed, want);
+}
+
+/// Asserts what a printing from this reader answers, and what it writes.
+pub(crate) fn prints_from<R: Read + Drop>(
+    rt: &impl Abort,
+    alloc: Global,
+    reader: R,
+    options: &PlanOptions,
+    want: (Printed, &[u8]),
+) {
+    let (printed, taken) = printing(alloc, reader, Vec::new(alloc), options);
+    assert_printed(rt, (printed, &taken), want);
+}
+
+/// Asserts what a printing to this writer answers, and what it writes. Answers how many writes were made.
+pub(crate) fn prints_to(
+    rt: &impl Abort,
+    alloc: Global,
+    input: &str,
+    writer: Halting<Vec<u8>>,
+    options: &PlanOptions,
+    want: (Printed, &[u8]),
+) -> u64 {
+    let (printed, writer) = printing(alloc, input.as_bytes(), writer, options);
+    assert_printed(rt, (printed, &writer.inner), want);
+    writer.calls
+}
+
 /// Asserts that the input is printed as these lines, with no failed call.
 pub(crate) fn prints(
     rt: &impl Abort,
@@ -59,9 +98,7 @@ pub(crate) fn prints(
     options: &PlanOptions,
     lines: &str,
 ) {
-    let (printed, taken) = printing(alloc, input, Vec::new(alloc), options);
-    assert_eq!(rt; printed, (Ok(()), 0, 0), "{lines}");
-    assert_eq!(rt; taken.as_slice(), lines.as_bytes(), "{lines}");
+    prints_from(rt, alloc, input, options, (WHOLE, lines.as_bytes()));
 }
 
 /// Asserts that the input is refused with this fault, with nothing written and no failed call.
@@ -72,33 +109,40 @@ pub(crate) fn refuses(
     options: &PlanOptions,
     fault: PrintFault,
 ) {
-    let (printed, taken) = printing(alloc, input, Vec::new(alloc), options);
-    assert_eq!(rt; printed, (Err(fault), 0, 0));
-    assert!(rt; taken.is_empty(), "{fault:?}");
+    prints_from(rt, alloc, input, options, ((Err(fault), 0, 0), b""));
 }
 
 /// The text of a plan, the options steps, from and took, and the lines that are printed of it.
-pub(crate) type Row<'a> = (&'a str, (u64, u64, u64), &'a str);
+pub(crate) type Row = (&'static str, Terms, &'static str);
 
 /// Asserts the lines of each row.
-pub(crate) fn shows(rt: &impl Abort, alloc: Global, rows: &[Row<'_>]) -> Result<(), Fail> {
-    for (text, (steps, from, took), lines) in rows {
-        let options = options(*steps, *from, *took).ok_or("out of range")?;
+pub(crate) fn shows(rt: &impl Abort, alloc: Global, rows: &[Row]) {
+    for (text, terms, lines) in rows {
+        let options = options(rt, *terms);
         prints(rt, alloc, text.as_bytes(), &options, lines);
     }
-    Ok(())
 }
 
-/// Asserts that a text that was built is printed as lines that were built.
+/// Asserts that each of these texts is refused with its fault, where ten steps are asked for.
+pub(crate) fn refuse_all(rt: &impl Abort, alloc: Global, rows: &[(&str, PrintFault)]) {
+    let options = options(rt, (10, 0, 0));
+    for (text, fault) in rows {
+        refuses(rt, alloc, text.as_bytes(), &options, *fault);
+    }
+}
+
+/// Asserts that a text that was built is printed, in so many steps, as lines that were built.
 pub(crate) fn prints_text(
     rt: &impl Abort,
     alloc: Global,
     text: Result<String, AllocError>,
-    options: &PlanOptions,
+    steps: u64,
     lines: Result<String, AllocError>,
-) -> Result<(), Fail> {
+) -> Result<(), AllocError> {
     let text = text?;
-    prints(rt, alloc, text.as_bytes(), options, lines?.as_str());
+    let lines = lines?;
+    let options = options(rt, (steps, 0, 0));
+    prints(rt, alloc, text.as_bytes(), &options, lines.as_str());
     Ok(())
 }
 
@@ -107,9 +151,36 @@ pub(crate) fn refuses_text(
     rt: &impl Abort,
     alloc: Global,
     text: Result<String, AllocError>,
-    options: &PlanOptions,
     fault: PrintFault,
-) -> Result<(), Fail> {
-    refuses(rt, alloc, text?.as_bytes(), options, fault);
+) -> Result<(), AllocError> {
+    let text = text?;
+    refuses(rt, alloc, text.as_bytes(), &options(rt, (10, 0, 0)), fault);
     Ok(())
+}
+
+/// The same of the text of these parts.
+pub(crate) fn refuses_parts(
+    rt: &impl Abort,
+    alloc: Global,
+    parts: &[Part],
+    fault: PrintFault,
+) -> Result<(), AllocError> {
+    refuses_text(rt, alloc, text_of(alloc, parts), fault)
+}
+
+/// Asserts that the text of these parts is printed, in so many steps, as the text of those lines.
+pub(crate) fn prints_parts(
+    rt: &impl Abort,
+    alloc: Global,
+    parts: &[Part],
+    steps: u64,
+    lines: &[Part],
+) -> Result<(), AllocError> {
+    prints_text(
+        rt,
+        alloc,
+        text_of(alloc, parts),
+        steps,
+        text_of(alloc, lines),
+    )
 }

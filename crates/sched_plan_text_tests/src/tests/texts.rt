@@ -1,29 +1,29 @@
 use std::alloc::{AllocError, Global};
 
-/// The JSON text of a node of this name over both plans.
-pub(crate) fn node(
-    alloc: Global,
-    name: &str,
-    first: &str,
-    second: &str,
-) -> Result<String, AllocError> {
-    format!(in alloc; "{{\"{name}\":[{first},{second}]}}")
-}
+/// A part of a text, and how often it stands there.
+pub(crate) type Part = (&'static str, usize);
 
-/// Nodes of this name over `forever`, nested on the left so many times.
-pub(crate) fn nested(alloc: Global, name: &str, times: u64) -> Result<String, AllocError> {
-    let mut text = String::from_str(alloc, "\"forever\"")?;
-    for _ in 0..times {
-        text = node(alloc, name, text.as_str(), "\"forever\"")?;
+/// The text of these parts, one after the other.
+pub(crate) fn text_of(alloc: Global, parts: &[Part]) -> Result<String, AllocError> {
+    let mut text = String::new(alloc);
+    for (part, times) in parts {
+        for _ in 0..*times {
+            text.push_str(part)?;
+        }
     }
     Ok(text)
 }
 
-/// `forever` under so many nodes of this name.
-pub(crate) fn under(alloc: Global, name: &str, times: u64) -> Result<String, AllocError> {
-    let mut text = String::from_str(alloc, "\"forever\"")?;
-    for _ in 0..times {
-        text = format!(in alloc; "{{\"{name}\":{text}}}")?;
+/// A full tree of so many levels over these leaves, by what stands before, between and after two of its trees.
+pub(crate) fn tree(
+    alloc: Global,
+    leaf: &str,
+    (open, between, close): (&str, &str, &str),
+    levels: u64,
+) -> Result<String, AllocError> {
+    let mut text = String::from_str(alloc, leaf)?;
+    for _ in 0..levels {
+        text = format!(in alloc; "{open}{text}{between}{text}{close}")?;
     }
     Ok(text)
 }
