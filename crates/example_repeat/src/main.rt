@@ -57,18 +57,26 @@ fn print_polls<R: Eprint>(rt: &R, begun: &[Moment]) -> io::Result<()> {
 // The last size that was polled.
 fn poll<R: Runtime + RandomSource + AllocGlobal + Wait>(rt: &R, path: &str) -> Result<u64> {
     let alloc = rt.alloc();
+    let clock = SystemClock::new(rt)?;
     let driver = Driver::new(alloc, each_boundary(alloc)?)?;
     let call = Call::new(alloc, FileSize { rt, path });
     let repeat = Repeat::new(alloc, call, driver);
-    let timed = Timed::new(alloc, repeat, SystemClock::new(rt)?, MidWords);
-    let mut repeat = block_on(rt, timed)?;
+    let mut repeat = block_on(rt, Timed::new(alloc, repeat, clock, MidWords))?;
+    told(rt, &mut repeat)
+}
+
+// What came of it, after a line for each poll.
+fn told<R: Files + Eprint>(rt: &R, repeat: &mut Repeat<Call<FileSize<'_, R>>>) -> Result<u64> {
     print_polls(rt, repeat.begun())?;
     match repeat.take_ending() {
-        Some(RepeatEnding::ScheduleDone) => {}
-        Some(RepeatEnding::Failed(fault)) => return Err(fault.value.into()),
+        Some(RepeatEnding::ScheduleDone) => last_size(repeat.effect().runs()),
+        Some(RepeatEnding::Failed(fault)) => Err(fault.value.into()),
         _ => bail!("the repeat broke off"),
     }
-    match repeat.effect().runs().last() {
+}
+
+fn last_size(runs: &[Ran]) -> Result<u64> {
+    match runs.last() {
         Some(Ran::Won(size)) => Ok(size.get()),
         _ => bail!("it was not polled"),
     }
