@@ -72,14 +72,17 @@ Join of (Recurs(Millis { millis: 1 })) and (Lone(Millis { millis: 50 }))
 Follow of (Recurs(Millis { millis: 2 })) and (Spaced(Millis { millis: 50 }))
 
 {"feed":[{"spaced":10},"identity"]}
-Feed of (Spaced(Millis { millis: 10 })) and (Identity)
+Feed of (Spaced(Millis { millis: 10 })) and (Identity)"#;
 
-{"follow":[{"meet":["forever",{"fixed":7}]},{"join":[{"recurs":1},"forever"]}]}
-Follow of (Meet of (Forever) and (Fixed(Millis { millis: 7 }))) and (Join of (Recurs(Millis { millis: 1 })) and (Forever))"#;
+const PAIRS_OF_PAIRS: &str = "{\"follow\":[{\"meet\":[\"forever\",{\"fixed\":7}]},\
+    {\"join\":[{\"recurs\":1},\"forever\"]}]}\n\
+    Follow of (Meet of (Forever) and (Fixed(Millis { millis: 7 }))) \
+    and (Join of (Recurs(Millis { millis: 1 })) and (Forever))";
 
 #[test]
 fn nodes_over_two_plans_are_read(rt: HostRuntime) -> Result<(), Fail> {
-    reads(&rt, rt.alloc(), PAIRS)
+    reads(&rt, rt.alloc(), PAIRS)?;
+    reads(&rt, rt.alloc(), PAIRS_OF_PAIRS)
 }
 
 const DELAYS: &str = r#"{"add":[3,{"spaced":10}]}

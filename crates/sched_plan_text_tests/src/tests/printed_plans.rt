@@ -177,8 +177,8 @@ fn is_written_whole(rt: &impl Abort, alloc: Global, options: &PlanOptions, lines
     assert_eq!(rt; calls, 8);
 }
 
-// Asserts how much was taken, and by how many writes, where the write after so many fails. Each write but the last is of
-// 8,192 bytes or a line's end more.
+// Asserts how much was taken, and by how many writes, where the write after so many fails. Each write but the last is
+// of 8,192 bytes or a line's end more.
 fn assert_cut(rt: &impl Abort, taken: usize, calls: u64, works: u64) {
     assert!(rt; taken as u64 / 8192 >= works, "at write {works}");
     assert_eq!(rt; calls.checked_sub(works), Some(1));

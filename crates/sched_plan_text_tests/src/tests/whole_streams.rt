@@ -101,8 +101,8 @@ fn assert_put(rt: &impl Abort, put: (Put, Option<&[u8]>), want: (Put, Option<&[u
     assert_eq!(rt; put, want);
 }
 
-// Asserts what a writing to such a writer answers, and how much of the text the writer has then. Answers how many writes
-// were made.
+// Asserts what a writing to such a writer answers, and how much of the text the writer has then. Answers how many
+// writes were made.
 fn puts(rt: &impl Abort, writer: Halting<Vec<u8>>, want: Put, taken: usize) -> u64 {
     let (put, writer) = putting(writer);
     assert_put(rt, (put, Some(&writer.inner)), (want, TEXT.get(..taken)));

@@ -21,6 +21,6 @@ returns c =
     let extended : c.extend_from_slice.new.self.items ≡ before.windows.items ++ noted = search rules in
     let pushed : c.push_reserved.new.self.items ≡ before.ends.items ++ end ∷ [] = search rules in
     rw (pushed, extended)
-        (one_taken quota before.ends.items end before.pass own c.join-pass.result before.windows.items noted
-        c.requires.taken e.law (omega (arith, ap (λ (h : Held). length h.has.tickets) p.pass, e.granted, here.had)) (ap (λ (h : Held). length h.has.requests) is_own ∙ here.asked)
-        same c.join-pass.ensures.of c.join-pass.ensures.joined c.join-pass.ensures.sound.once)
+    (one_taken quota before.ends.items end before.pass own c.join-pass.result before.windows.items noted
+    c.requires.taken e.law (omega (arith, ap (λ (h : Held). length h.has.tickets) p.pass, e.granted, here.had)) (ap (λ (h : Held). length h.has.requests) is_own ∙ here.asked)
+    same c.join-pass.ensures.of c.join-pass.ensures.joined c.join-pass.ensures.sound.once)
