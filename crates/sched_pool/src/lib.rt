@@ -13,8 +13,6 @@ mod ends;
 mod faults;
 pub mod laws;
 mod runs;
-#[cfg(test)]
-mod tests;
 mod works;
 
 pub use boards::{Board, MAX_JOBS, MAX_WORKERS};

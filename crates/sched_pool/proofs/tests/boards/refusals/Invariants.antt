@@ -1,5 +1,0 @@
-use Rattle.sched_pool.proofs.tests.boards.refusals.Given as goal
-
--- the budget of this test
-abbrev pub ghosts-refuses : goal.ghosts-refuses
-ghosts-refuses g a = record { budget = a.budget.now }

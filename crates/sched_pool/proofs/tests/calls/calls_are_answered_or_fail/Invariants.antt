@@ -1,5 +1,0 @@
-use Rattle.sched_pool.proofs.tests.calls.calls_are_answered_or_fail.Given as goal
-
--- the budget of this board
-abbrev pub ghosts-calls_two : goal.ghosts-calls_two
-ghosts-calls_two g a = record { budget = a.budget.now }

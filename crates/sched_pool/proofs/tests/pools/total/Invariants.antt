@@ -1,5 +1,0 @@
-use Rattle.sched_pool.proofs.tests.pools.total.Given as goal
-
--- the budget of this pool
-abbrev pub ghosts-runs_all : goal.ghosts-runs_all
-ghosts-runs_all g a = record { budget = a.budget.now }

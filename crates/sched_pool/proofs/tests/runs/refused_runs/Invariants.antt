@@ -1,5 +1,0 @@
-use Rattle.sched_pool.proofs.tests.runs.refused_runs.Given as goal
-
--- the budget of this test
-abbrev pub ghosts-stops : goal.ghosts-stops
-ghosts-stops g a = record { budget = a.budget.now }

@@ -1,5 +1,0 @@
-use Rattle.sched_pool.proofs.tests.watchers.a_watched_job_is_cancelled.Given as goal
-
--- the budget of this test
-abbrev pub ghosts-watches : goal.ghosts-watches
-ghosts-watches g a = record { budget = a.budget.now }

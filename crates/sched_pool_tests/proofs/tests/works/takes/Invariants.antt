@@ -1,0 +1,5 @@
+use Rattle.sched_pool.specs.Portion.{IsShareOf}
+use Rattle.sched_pool_tests.proofs.tests.works.takes.Given as goal
+
+abbrev pub invariant-loop-step : goal.invariant-loop-step
+invariant-loop-step g l = IsShareOf l.board.claims l.share

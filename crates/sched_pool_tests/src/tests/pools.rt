@@ -1,0 +1,71 @@
+//! Pools on threads of their own, and their totals.
+ghost use Rattle.std.specs.Prelude.{◌≡◌};
+ghost use Rattle.sched_pool.specs.Held.{IsOf};
+
+use super::*;
+use sched_pool::{Gate, OpenGate};
+use std::alloc::AllocGlobal;
+use std::marker::Brand;
+use std::random::RandomSource;
+use std::sync::Wait;
+use std::thread::Threads;
+
+// So many jobs, each of which wants three tickets, run on so many threads until all are over. Answers how many tickets
+// they were granted.
+fn runs_all<R, N: Naming + Send + Sync, Q: Gate + Sync>(
+    rt: &R,
+    alloc: Global,
+    budget: &Budget,
+    mut pass: Pass,
+    jobs: usize,
+    threads: usize,
+    gate: &Q,
+) -> (Pass, u64)
+where
+    R: Threads + Wait + RandomSource + AllocGlobal + Abort + Sync,
+    requires name { budget.now ≡ N.budget }
+    requires of { IsOf budget.now pass }
+    ensures { IsOf budget.entry.now result.0 }
+{
+    let board: Board<Scripted, N> = board_of(rt, alloc, budget, &mut pass, jobs, 3);
+    let stations = stations(rt, alloc, threads);
+    let end = board
+        .run(rt, alloc, pass, stations, gate, 100_000_000)
+        .ok()
+        .expect(rt, "all jobs are over");
+    assert_eq!(rt; end.jobs.len(), jobs);
+    (end.pass, end.granted)
+}
+
+/// How many tickets a pool of so many jobs, on so many threads, draws on a budget of its own.
+pub(super) fn total<R, Q: Gate + Sync>(
+    rt: &R,
+    alloc: Global,
+    limit: u64,
+    size: (usize, usize),
+    gate: &Q,
+) -> u64
+where
+    R: Threads + Wait + RandomSource + AllocGlobal + Abort + Sync,
+{
+    let (budget, pass) = Budget::new(alloc, limit).expect(rt, "the limit is in range");
+    let (pass, granted) = runs_all::<_, Brand, _>(rt, alloc, &budget, pass, size.0, size.1, gate);
+    assert_eq!(rt; budget.close(pass).ok(), Some(granted));
+    granted
+}
+
+// 4,096 jobs want 12,288.
+#[test]
+fn tickets_are_spent_to_the_last(rt: HostRuntime) {
+    for limit in [0, 5, 10_000] {
+        assert_eq!(rt; total(&rt, rt.alloc(), limit, (4096, 16), &OpenGate), limit);
+    }
+}
+
+// 16 jobs want 48 tickets, and 20 are there.
+#[test]
+fn the_same_total_each_time(rt: HostRuntime) {
+    for _ in 0..200u32 {
+        assert_eq!(rt; total(&rt, rt.alloc(), 20, (16, 16), &OpenGate), 20);
+    }
+}
