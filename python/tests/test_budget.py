@@ -10,6 +10,7 @@ from typing import Any, List, Tuple
 
 import pytest
 
+from draws import drawn_by
 from hikebox import Budget, BudgetClosed, BudgetError, BudgetInUse, RetryState, Retrying, recurs
 
 
@@ -114,20 +115,7 @@ def test_as_a_context() -> None:
 def test_16_threads_draw_each_ticket_once() -> None:
     limit = 200_000
     budget = Budget(limit)
-    drawn: List[List[int]] = [[] for _ in range(16)]
-
-    def work(mine: List[int]) -> None:
-        while True:
-            ticket = budget.draw()
-            if ticket is None:
-                return
-            mine.append(ticket)
-
-    threads = [threading.Thread(target=work, args=(mine,)) for mine in drawn]
-    for thread in threads:
-        thread.start()
-    for thread in threads:
-        thread.join()
+    drawn = drawn_by(16, budget.draw)
     assert sorted(ticket for mine in drawn for ticket in mine) == list(range(limit))
     assert budget.close() == limit
     for mine in drawn:

@@ -8,7 +8,6 @@ import os
 import pickle
 import subprocess
 import sys
-import threading
 import time
 from pathlib import Path
 from typing import Any, Dict, List, Tuple
@@ -16,6 +15,7 @@ from typing import Any, Dict, List, Tuple
 import pytest
 from conftest import HERE, python_environment
 
+from draws import drawn_by
 from hikebox import AsyncRetrying, BudgetError, Ending, Retrying, StoreError, StoreLost, recurs, spaced, state_of
 from hikebox.leased import FileStore, Leased, Range, RedisStore
 
@@ -242,20 +242,7 @@ def test_coroutines_draw_on_it_and_others_go_on_meanwhile(tmp_path: Path) -> Non
 
 def test_threads_draw_each_ticket_once(tmp_path: Path) -> None:
     leased = Leased(FileStore(tmp_path / "counts"), "a", limit=20_000, lease=100)
-    drawn: List[List[int]] = [[] for _ in range(8)]
-
-    def work(mine: List[int]) -> None:
-        while True:
-            ticket = leased.draw()
-            if ticket is None:
-                return
-            mine.append(ticket)
-
-    threads = [threading.Thread(target=work, args=(mine,)) for mine in drawn]
-    for thread in threads:
-        thread.start()
-    for thread in threads:
-        thread.join()
+    drawn = drawn_by(8, leased.draw)
     assert sorted(ticket for mine in drawn for ticket in mine) == list(range(20_000))
     assert leased.granted == 20_000
 

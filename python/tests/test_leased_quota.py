@@ -8,7 +8,6 @@ import os
 import pickle
 import subprocess
 import sys
-import threading
 import time
 from collections import Counter
 from pathlib import Path
@@ -17,6 +16,7 @@ from typing import Any, Counter as Counts, Dict, List, Optional, Tuple
 import pytest
 from conftest import HERE, python_environment
 
+from draws import drawn_by, repeated
 from hikebox import AsyncRetrying, Ending, Retrying, StoreError, StoreLost, TermsError, Usage, recurs, spaced, state_of
 from hikebox.leased import FileStore, Leased, LeasedQuota, QuotaRange, RedisStore, _Requests
 from hikebox.quota import Terms
@@ -315,24 +315,7 @@ def test_coroutines_draw_on_it_and_others_go_on_meanwhile(tmp_path: Path) -> Non
 
 def test_threads_draw_each_ticket_once(tmp_path: Path) -> None:
     quota = LeasedQuota(FileStore(tmp_path / "counts"), "a", 4000, 0.5, LONG, lease=100)
-    drawn: List[List[int]] = [[] for _ in range(8)]
-    ready = threading.Barrier(8)
-
-    def work(mine: List[int]) -> None:
-        for _ in range(1000):
-            quota.deposit()
-        ready.wait()
-        while True:
-            ticket = quota.draw()
-            if ticket is None:
-                return
-            mine.append(ticket)
-
-    threads = [threading.Thread(target=work, args=(mine,)) for mine in drawn]
-    for thread in threads:
-        thread.start()
-    for thread in threads:
-        thread.join()
+    drawn = drawn_by(8, quota.draw, first=repeated(quota.deposit, 1000))
     assert sorted(ticket for mine in drawn for ticket in mine) == list(range(8000))
     assert quota.granted == 8000
 

@@ -13,6 +13,7 @@ from typing import Any, List, Tuple
 
 import pytest
 
+from draws import drawn_by, repeated
 from hikebox import (
     AsyncRetrying,
     BudgetClosed,
@@ -288,25 +289,8 @@ def test_a_pass_with_one_part_left_is_exchanged(clock: VirtualClock) -> None:
 
 def test_16_threads_draw_all_of_a_window_each_ticket_once(clock: VirtualClock) -> None:
     quota = Quota(10, 0.25, 60, clock=clock)
-    drawn: List[List[int]] = [[] for _ in range(16)]
     # 16 * 2,000 requests give 8,000 tickets, beside the ten
-    ready = threading.Barrier(16)
-
-    def work(mine: List[int]) -> None:
-        for _ in range(2000):
-            quota.deposit()
-        ready.wait()
-        while True:
-            ticket = quota.draw()
-            if ticket is None:
-                return
-            mine.append(ticket)
-
-    threads = [threading.Thread(target=work, args=(mine,)) for mine in drawn]
-    for thread in threads:
-        thread.start()
-    for thread in threads:
-        thread.join()
+    drawn = drawn_by(16, quota.draw, first=repeated(quota.deposit, 2000))
     assert sorted(ticket for mine in drawn for ticket in mine) == list(range(8010))
     assert all(mine == sorted(mine) for mine in drawn)
     assert quota.seen() == Usage(window=0, asked=32_000, given=8010, left=0)
