@@ -1,13 +1,14 @@
-//! Retries by the crate `hikebox` beside the crates `retry` and `backoff`, and draws beside tower's budget: the least
-//! nanoseconds of many rounds, which take turns. No run waits.
+//! Retries by the crate `hikebox` beside the crates `retry` and `backoff`, and draws of a budget and of a quota beside
+//! tower's budget: the least nanoseconds of many rounds, which take turns. No run waits.
 
-use hikebox::{Budget, Policy};
+use hikebox::{Budget, Policy, Quota};
 use std::hint::black_box;
 use std::time::{Duration, Instant};
 
 const ROUNDS: u32 = 200;
 const CALLS: u32 = 200;
 const MOST: u64 = 1 << 32;
+const WINDOW: Duration = Duration::from_secs(10);
 
 fn main() {
     for failures in [0, 3] {
@@ -32,12 +33,24 @@ fn retries(failures: u32) {
 
 fn draws() {
     let mut pass = Budget::new(MOST).and_then(|budget| budget.pass()).expect("a pass");
-    let budget = tower::retry::budget::Budget::new(Duration::from_secs(10), 1_000_000, 1.0);
-    let [ours, tower] = least([&mut || pass.draw().is_some(), &mut || {
-        budget.deposit();
-        budget.withdraw().is_ok()
-    }]);
-    println!("a draw: hikebox {ours:.1} ns, tower's deposit and withdraw {tower:.1} ns");
+    let mut share = Quota::new(1_000_000, 1.0, WINDOW).and_then(|quota| quota.pass()).expect("a pass");
+    let tower = tower::retry::budget::Budget::new(WINDOW, 1_000_000, 1.0);
+    let [draw, deposit_and_draw, deposit_and_withdraw] = least([
+        &mut || pass.draw().is_some(),
+        &mut || {
+            share.deposit();
+            share.draw().is_some()
+        },
+        &mut || {
+            tower.deposit();
+            tower.withdraw().is_ok()
+        },
+    ]);
+    println!("a draw of a budget: hikebox {draw:.1} ns");
+    println!(
+        "a request counted and a retry drawn for it: hikebox's quota {deposit_and_draw:.1} ns, tower's budget \
+         {deposit_and_withdraw:.1} ns"
+    );
 }
 
 /// A call that fails so many times and then succeeds.
