@@ -62,7 +62,7 @@ def exported():
 
 def structs():
     header = without_comments((TOP / "include/hikebox.h").read_text())
-    replies = without_comments((TOP / "crates/sched_handle/src/replies.rt").read_text())
+    replies = "".join(without_comments(file.read_text()) for file in sorted((TOP / "crates/sched_reply/src").glob("*.rt")))
     for rattle, c in STRUCTS.items():
         here = re.search(r"typedef struct \{([^}]*)\} " + c + ";", header).group(1)
         there = re.search(r"#\[repr\(C\)\]\s*#\[derive\([^)]*\)\]\s*pub struct " + rattle + r" \{([^}]*)\}", replies).group(1)

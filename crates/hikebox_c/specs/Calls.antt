@@ -4,11 +4,11 @@ use Rattle.std.specs.Global.{Global}
 use Rattle.std_alloc.specs.declared.boxed.Box.{Box}
 use Rattle.sched_handle.specs.Fills.{Fills}
 use Rattle.sched_handle.specs.Held.{kind_of}
-use Rattle.sched_handle.specs.Status.{code_of}
+use Rattle.sched_reply.specs.Status.{code_of}
 use Rattle.sched_handle.specs.declared.held.Held.{Held}
 use Rattle.sched_handle.specs.declared.held.Kind.{Kind}
-use Rattle.sched_handle.specs.declared.status.Status.{Status}
-use Rattle.sched_handle.specs.declared.status.Status.TheVariants.{Empty, WrongKind, Full}
+use Rattle.sched_reply.specs.declared.status.Status.{Status}
+use Rattle.sched_reply.specs.declared.status.Status.TheVariants.{Empty, WrongKind, Full}
 
 -- an answer stands in its place, and the status is 0; a reason is told by its number, and the place is as it was
 abbrev pub Tells : {A : Type 0} → ℕ → A → A → Result A Status → Type 0

@@ -2,11 +2,11 @@
 use Rattle.std.specs.Prelude.{◌≡◌, ◌⊎◌, ℕ, ◌<◌, List, ◌++◌, length, drop, string_bytes, Result, Ok, Err, String}
 use Rattle.std.specs.Global.{Global}
 use Rattle.sched_handle.specs.Drivers.{Nexts}
-use Rattle.sched_handle.specs.Status.{code_of}
+use Rattle.sched_reply.specs.Status.{code_of}
 use Rattle.sched_handle.specs.declared.held.Held.{Held}
-use Rattle.sched_handle.specs.declared.replies.Decided.{Decided}
-use Rattle.sched_handle.specs.declared.status.Status.{Status}
-use Rattle.sched_handle.specs.declared.status.Status.TheVariants.{NoRoom}
+use Rattle.sched_reply.specs.declared.replies.Decided.{Decided}
+use Rattle.sched_reply.specs.declared.status.Status.{Status}
+use Rattle.sched_reply.specs.declared.status.Status.TheVariants.{NoRoom}
 
 -- these bytes are written where there is room for them
 abbrev pub IsWritten : List ℕ → ℕ → List ℕ → List ℕ → Type 0

@@ -3,8 +3,8 @@ use Rattle.std.specs.Prelude.{◌≡◌, ℕ, List, [], Option, Some, None, Resu
 use Rattle.std.specs.Global.{Global}
 use Rattle.sched_check_text.specs.Faults.{FindsFault, told_text}
 use Rattle.sched_check_text.specs.declared.faults.ToldFault.{ToldFault}
-use Rattle.sched_handle.specs.declared.status.Status.{Status}
-use Rattle.sched_handle.specs.declared.status.Status.TheVariants.{NoMemory}
+use Rattle.sched_reply.specs.declared.status.Status.{Status}
+use Rattle.sched_reply.specs.declared.status.Status.TheVariants.{NoMemory}
 
 -- the text of a fault, and an empty one of none
 abbrev pub fault_text : Option ToldFault → List ℕ

@@ -1,6 +1,6 @@
 -- What the calls on policies tell.
 use Rattle.std.specs.Prelude.{ℕ}
-use Rattle.sched_handle.specs.declared.replies.Size.{Size}
+use Rattle.sched_reply.specs.declared.replies.Size.{Size}
 
 -- a size by its numbers
 abbrev pub size_of : ℕ → ℕ → Size

@@ -10,9 +10,9 @@ use Rattle.sched_handle.specs.Retries.{Polls, drawn_on, GivesBack}
 use Rattle.sched_handle.specs.declared.held.Held.{Held}
 use Rattle.sched_handle.specs.declared.held.Kind.{Kind}
 use Rattle.sched_handle.specs.declared.held.Kind.TheVariants as kind
-use Rattle.sched_handle.specs.declared.replies.Reply.{Reply}
-use Rattle.sched_handle.specs.declared.status.Status.{Status}
-use Rattle.sched_handle.specs.declared.status.Status.TheVariants.{Empty, Full, TooLarge, NoSuchReport, DrawsElsewhere}
+use Rattle.sched_reply.specs.declared.replies.Reply.{Reply}
+use Rattle.sched_reply.specs.declared.status.Status.{Status}
+use Rattle.sched_reply.specs.declared.status.Status.TheVariants.{Empty, Full, TooLarge, NoSuchReport, DrawsElsewhere}
 use Rattle.hikebox_c.specs.Calls.{Puts, OnHeld, MakesWith, OfKind}
 use Rattle.hikebox_c.specs.Shared.{NoneJoined}
 

@@ -1,11 +1,11 @@
 -- What the calls on passes of budgets and of quotas do with two handles, and when they close what is shared.
 use Rattle.std.specs.Prelude.{◌≡◌, ℕ, Option, Some, None, Result, Err}
-use Rattle.sched_handle.specs.Status.{code_of}
+use Rattle.sched_reply.specs.Status.{code_of}
 use Rattle.sched_handle.specs.declared.held.Held.{Held}
 use Rattle.sched_handle.specs.declared.held.Held.TheVariants.{Room}
 use Rattle.sched_handle.specs.declared.held.Kind.{Kind}
-use Rattle.sched_handle.specs.declared.status.Status.{Status}
-use Rattle.sched_handle.specs.declared.status.Status.TheVariants.{Empty}
+use Rattle.sched_reply.specs.declared.status.Status.{Status}
+use Rattle.sched_reply.specs.declared.status.Status.TheVariants.{Empty}
 use Rattle.hikebox_c.specs.Calls.{OfKind}
 
 -- what a handle holds of this: nothing where it is only room

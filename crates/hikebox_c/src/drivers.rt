@@ -4,9 +4,9 @@ ghost use Rattle.sched_time.specs.declared.numbers.TheConstants.{FAR};
 ghost use Rattle.sched_handle.specs.Drivers.{Resets, Planned, CountsEvents, LastNumber, LastText};
 ghost use Rattle.sched_handle.specs.Fills.{Frees};
 ghost use Rattle.sched_handle.specs.Policies.{Drives};
-ghost use Rattle.sched_handle.specs.Status.{told};
+ghost use Rattle.sched_reply.specs.Status.{told};
 ghost use Rattle.sched_handle.specs.declared.held.Kind.TheVariants as kind;
-ghost use Rattle.sched_handle.specs.declared.status.Status.TheVariants as status;
+ghost use Rattle.sched_reply.specs.declared.status.Status.TheVariants as status;
 ghost use Rattle.hikebox_c.specs.Calls.{Tells, Kept, OnHeld, MakesWith};
 ghost use Rattle.hikebox_c.specs.Drivers.{TellsText, NextsAt};
 

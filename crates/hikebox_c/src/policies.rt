@@ -2,9 +2,9 @@
 ghost use Rattle.std.specs.Prelude.{◌≡◌, ◌≢◌};
 ghost use Rattle.sched_handle.specs.Fills.{Frees};
 ghost use Rattle.sched_handle.specs.Policies.{ReadsPolicy, Copies, Sizes, nowhere};
-ghost use Rattle.sched_handle.specs.Status.{code_of};
+ghost use Rattle.sched_reply.specs.Status.{code_of};
 ghost use Rattle.sched_handle.specs.declared.held.Kind.TheVariants as kind;
-ghost use Rattle.sched_handle.specs.declared.status.Status.TheVariants as status;
+ghost use Rattle.sched_reply.specs.declared.status.Status.TheVariants as status;
 ghost use Rattle.hikebox_c.specs.Calls.{Tells, Kept, OnHeld, Makes, MakesWith};
 ghost use Rattle.hikebox_c.specs.Policies.{size_of};
 

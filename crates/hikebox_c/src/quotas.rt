@@ -4,9 +4,9 @@ ghost use Rattle.sched_time.specs.declared.numbers.TheConstants.{FAR};
 ghost use Rattle.sched_handle.specs.Fills.{Frees};
 ghost use Rattle.sched_handle.specs.Quotas.{MakesQuota, terms_of, Deposits, DrawsOnQuota, SeesQuota, SplitsQuota};
 ghost use Rattle.sched_handle.specs.Quotas.{CountsQuota, AreOfOneQuota, JoinsQuota, ClosesQuota};
-ghost use Rattle.sched_handle.specs.Status.{told, code_of};
+ghost use Rattle.sched_reply.specs.Status.{told, code_of};
 ghost use Rattle.sched_handle.specs.declared.held.Kind.TheVariants as kind;
-ghost use Rattle.sched_handle.specs.declared.status.Status.TheVariants as status;
+ghost use Rattle.sched_reply.specs.declared.status.Status.TheVariants as status;
 ghost use Rattle.hikebox_c.specs.Calls.{Tells, Kept, OnHeld, Makes, MakesWith};
 ghost use Rattle.hikebox_c.specs.Shared.{JoinsHeld, ClosesHeld};
 

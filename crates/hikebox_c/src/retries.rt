@@ -6,9 +6,9 @@ ghost use Rattle.sched_handle.specs.Passes.{Joins};
 ghost use Rattle.sched_handle.specs.Quotas.{JoinsQuota};
 ghost use Rattle.sched_handle.specs.Retries.{Retries, RetriesOnQuota, RetriesUnlimited};
 ghost use Rattle.sched_handle.specs.Retries.{Sees, Cancels, IsOfItsBudget, IsOfItsQuota};
-ghost use Rattle.sched_handle.specs.Status.{told};
+ghost use Rattle.sched_reply.specs.Status.{told};
 ghost use Rattle.sched_handle.specs.declared.held.Kind.TheVariants as kind;
-ghost use Rattle.sched_handle.specs.declared.status.Status.TheVariants as status;
+ghost use Rattle.sched_reply.specs.declared.status.Status.TheVariants as status;
 ghost use Rattle.hikebox_c.specs.Calls.{Tells, Kept, OnHeld, MakesWith};
 ghost use Rattle.hikebox_c.specs.Retries.{NewRetry, Reports, PollsAt, EndsHeld};
 

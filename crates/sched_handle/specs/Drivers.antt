@@ -12,14 +12,14 @@ use Rattle.sched_step.specs.StateOf.{event_of}
 use Rattle.sched_driver.specs.Driven.{Driven, last_output, next_start_of, after}
 use Rattle.sched_driver.specs.Driver.{HasRoom}
 use Rattle.sched_handle.specs.Held.{kind_of, IsOther, OtherKind}
-use Rattle.sched_handle.specs.Replies.{decided_of}
+use Rattle.sched_reply.specs.Replies.{decided_of}
 use Rattle.sched_handle.specs.declared.held.Held.{Held}
 use Rattle.sched_handle.specs.declared.held.Held.TheVariants.{Driver}
 use Rattle.sched_handle.specs.declared.held.Kind.TheVariants as kind
-use Rattle.sched_handle.specs.declared.replies.Decided.{Decided}
-use Rattle.sched_handle.specs.declared.status.Status.{Status}
-use Rattle.sched_handle.specs.declared.status.Status.TheVariants.{WrongKind, Backwards, JournalFull, NoMemory}
-use Rattle.sched_handle.specs.declared.status.Status.TheVariants.{NoOutput, NotANumber}
+use Rattle.sched_reply.specs.declared.replies.Decided.{Decided}
+use Rattle.sched_reply.specs.declared.status.Status.{Status}
+use Rattle.sched_reply.specs.declared.status.Status.TheVariants.{WrongKind, Backwards, JournalFull, NoMemory}
+use Rattle.sched_reply.specs.declared.status.Status.TheVariants.{NoOutput, NotANumber}
 
 -- an event is refused for this reason
 abbrev pub NextRefuses : Driven → ℕ → Status → Type 0

@@ -4,8 +4,8 @@ use Rattle.sched_handle.specs.declared.held.Held.{Held}
 use Rattle.sched_handle.specs.declared.held.Held.TheVariants.{Room, Policy, Driver, Pass, Quota, Retry}
 use Rattle.sched_handle.specs.declared.held.Kind.{Kind}
 use Rattle.sched_handle.specs.declared.held.Kind.TheVariants as kind
-use Rattle.sched_handle.specs.declared.status.Status.{Status}
-use Rattle.sched_handle.specs.declared.status.Status.TheVariants.{WrongKind, NoMemory}
+use Rattle.sched_reply.specs.declared.status.Status.{Status}
+use Rattle.sched_reply.specs.declared.status.Status.TheVariants.{WrongKind, NoMemory}
 
 abbrev pub kind_of : Held → Kind
 kind_of Room = kind.Room

@@ -1,7 +1,5 @@
 -- What the calls on journals answer.
-use Rattle.std.specs.Prelude.{◌≡◌, ◌≢◌, ◌⊎◌, ℕ, List, length, slice_get, Option, Some, None, Result, Ok, Err}
-use Rattle.sched_plan.specs.Datum.{as_number}
-use Rattle.sched_plan.specs.declared.history.Event.{Event}
+use Rattle.std.specs.Prelude.{◌≡◌, ◌≢◌, ◌⊎◌, ℕ, length, Result, Ok, Err}
 use Rattle.sched_driver.specs.Driven.{Driven}
 use Rattle.sched_retry.specs.Retrying.{Retrying}
 use Rattle.sched_host.specs.declared.drawing.Drawing.{Drawing}
@@ -9,20 +7,10 @@ use Rattle.sched_handle.specs.Held.{kind_of, IsOther}
 use Rattle.sched_handle.specs.declared.held.Held.{Held}
 use Rattle.sched_handle.specs.declared.held.Held.TheVariants.{Driver, Retry}
 use Rattle.sched_handle.specs.declared.held.Kind.TheVariants as kind
-use Rattle.sched_handle.specs.declared.replies.Noted.{Noted}
-use Rattle.sched_handle.specs.declared.status.Status.{Status}
-use Rattle.sched_handle.specs.declared.status.Status.TheVariants.{WrongKind, NoEvent, NotANumber}
-
--- an event is answered by its moment, its words and its input, where that is a number
-abbrev pub NotedEvent : Option Event → Result Noted Status → Type 0
-NotedEvent (Some e) (Ok n) = (n.now ≡ e.now) × (n.words ≡ e.words) × (as_number e.input ≡ Some n.input)
-NotedEvent (Some e) (Err s) = (s ≡ NotANumber) × (as_number e.input ≡ None)
-NotedEvent None (Ok n) = ⊥
-NotedEvent None (Err s) = s ≡ NoEvent
-
--- the event of this number of a journal, counted from 0
-abbrev pub NotedAt : List Event → ℕ → Result Noted Status → Type 0
-NotedAt journal index r = NotedEvent (slice_get journal index) r
+use Rattle.sched_reply.specs.Events.{NotedAt}
+use Rattle.sched_reply.specs.declared.events.Noted.{Noted}
+use Rattle.sched_reply.specs.declared.status.Status.{Status}
+use Rattle.sched_reply.specs.declared.status.Status.TheVariants.{WrongKind}
 
 -- the event of this number of a driver's journal
 abbrev pub DriverNoted : ℕ → Held → Result Noted Status → Type 0

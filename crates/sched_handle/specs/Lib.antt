@@ -1,8 +1,6 @@
 pub mod Handle
-pub mod Status
 pub mod Held
 pub mod Fills
-pub mod Replies
 pub mod Policies
 pub mod Drivers
 pub mod Passes

@@ -11,9 +11,9 @@ use Rattle.sched_handle.specs.Held.{IsOther, OtherKind}
 use Rattle.sched_handle.specs.declared.held.Held.{Held}
 use Rattle.sched_handle.specs.declared.held.Held.TheVariants.{Room, Pass}
 use Rattle.sched_handle.specs.declared.held.Kind.TheVariants as kind
-use Rattle.sched_handle.specs.declared.status.Status.{Status}
-use Rattle.sched_handle.specs.declared.status.Status.TheVariants.{NoMemory, LimitTooLarge, Fixed, NoTicket}
-use Rattle.sched_handle.specs.declared.status.Status.TheVariants.{TooManyPasses, PassesOut}
+use Rattle.sched_reply.specs.declared.status.Status.{Status}
+use Rattle.sched_reply.specs.declared.status.Status.TheVariants.{NoMemory, LimitTooLarge, Fixed, NoTicket}
+use Rattle.sched_reply.specs.declared.status.Status.TheVariants.{TooManyPasses, PassesOut}
 
 -- a budget of this limit is not made for this reason
 abbrev pub NotMade : ℕ → Status → Type 0

@@ -7,11 +7,11 @@ use Rattle.sched_handle.specs.Held.{kind_of, IsOther, Wants}
 use Rattle.sched_handle.specs.declared.held.Held.{Held}
 use Rattle.sched_handle.specs.declared.held.Held.TheVariants.{Policy, Driver}
 use Rattle.sched_handle.specs.declared.held.Kind.TheVariants as kind
-use Rattle.sched_handle.specs.declared.replies.Place.{Place}
-use Rattle.sched_handle.specs.declared.replies.Size.{Size}
-use Rattle.sched_handle.specs.declared.status.Status.{Status}
-use Rattle.sched_handle.specs.declared.status.Status.TheVariants.{NotJson, NotAPolicy, OutOfRange, TooDeep}
-use Rattle.sched_handle.specs.declared.status.Status.TheVariants.{TooMany, NoMemory}
+use Rattle.sched_reply.specs.declared.replies.Place.{Place}
+use Rattle.sched_reply.specs.declared.replies.Size.{Size}
+use Rattle.sched_reply.specs.declared.status.Status.{Status}
+use Rattle.sched_reply.specs.declared.status.Status.TheVariants.{NotJson, NotAPolicy, OutOfRange, TooDeep}
+use Rattle.sched_reply.specs.declared.status.Status.TheVariants.{TooMany, NoMemory}
 use Rattle.std.specs.Global.{Global}
 use Rattle.std_alloc.specs.declared.boxed.Box.{Box}
 

@@ -13,10 +13,10 @@ use Rattle.sched_handle.specs.Held.{IsOther, OtherKind}
 use Rattle.sched_handle.specs.declared.held.Held.{Held}
 use Rattle.sched_handle.specs.declared.held.Held.TheVariants.{Room, Quota}
 use Rattle.sched_handle.specs.declared.held.Kind.TheVariants as kind
-use Rattle.sched_handle.specs.declared.replies.Usage.{Usage}
-use Rattle.sched_handle.specs.declared.status.Status.{Status}
-use Rattle.sched_handle.specs.declared.status.Status.TheVariants.{ReserveTooLarge, ShareTooLarge, PeriodTooShort, TooLarge}
-use Rattle.sched_handle.specs.declared.status.Status.TheVariants.{NoMemory, NoTicket, TooManyPasses, PassesOut}
+use Rattle.sched_reply.specs.declared.replies.Usage.{Usage}
+use Rattle.sched_reply.specs.declared.status.Status.{Status}
+use Rattle.sched_reply.specs.declared.status.Status.TheVariants.{ReserveTooLarge, ShareTooLarge, PeriodTooShort, TooLarge}
+use Rattle.sched_reply.specs.declared.status.Status.TheVariants.{NoMemory, NoTicket, TooManyPasses, PassesOut}
 
 abbrev pub terms_of : ℕ → ℕ → ℕ → Terms
 terms_of reserve share period = record { reserve = reserve; share = share; period = period }

@@ -27,9 +27,9 @@ use Rattle.sched_handle.specs.declared.held.Held.{Held}
 use Rattle.sched_handle.specs.declared.held.Held.TheVariants.{Room, Policy, Pass, Quota, Retry}
 use Rattle.sched_handle.specs.declared.held.Kind.{Kind}
 use Rattle.sched_handle.specs.declared.held.Kind.TheVariants as kind
-use Rattle.sched_handle.specs.declared.replies.Reply.{Reply}
-use Rattle.sched_handle.specs.declared.status.Status.{Status}
-use Rattle.sched_handle.specs.declared.status.Status.TheVariants.{WrongKind, NoMemory, NoRun}
+use Rattle.sched_reply.specs.declared.replies.Reply.{Reply}
+use Rattle.sched_reply.specs.declared.status.Status.{Status}
+use Rattle.sched_reply.specs.declared.status.Status.TheVariants.{WrongKind, NoMemory, NoRun}
 
 -- the number by which C knows how a retry ended
 abbrev pub how_number : How → ℕ

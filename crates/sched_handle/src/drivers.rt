@@ -1,15 +1,17 @@
 //! Calls on drivers.
 ghost use Rattle.std.specs.Prelude.{◌≡◌, IfOk, IfErr};
+ghost use Rattle.std.specs.Borrow.{LendsIfOk, sem};
+ghost use Rattle.sched_driver.specs.contracts.drivers.Driver.{the_row as driver_row};
 ghost use Rattle.sched_handle.specs.Held.{IsOther};
 ghost use Rattle.sched_handle.specs.Drivers.{Nexts, Resets, Planned, CountsEvents, LastNumber, LastText};
+ghost use Rattle.sched_handle.specs.contracts.held.Held.{the_row as held_row};
 ghost use Rattle.sched_handle.specs.declared.held.Held.TheVariants as what;
 ghost use Rattle.sched_handle.specs.declared.held.Kind.TheVariants as kind;
 
 use crate::held::Held;
-use crate::replies::Decided;
-use crate::status::Status;
 use sched_driver::{DriveFault, Driver};
 use sched_plan::Val;
+use sched_reply::{Decided, Status};
 use sched_time::{Millis, Tick};
 use std::alloc::Global;
 
@@ -18,18 +20,12 @@ impl Held {
     pub fn next(&mut self, alloc: Global, tick: Tick, input: Millis) -> Result<Decided, Status>
         ensures { Nexts self.old tick input result self.new }
     {
-        match self {
-            Held::Driver(driver) => match driver.next(alloc, tick, Val::from(input)) {
-                Ok(decision) => Ok(Decided::of(decision.start())),
-                Err(DriveFault::Backwards { floor: _ }) => Err(Status::Backwards),
-                Err(DriveFault::JournalFull) => Err(Status::JournalFull),
-                Err(DriveFault::NoMemory) => Err(Status::NoMemory),
-            },
-            Held::Room => Err(Status::WrongKind),
-            Held::Policy(_) => Err(Status::WrongKind),
-            Held::Pass(_) => Err(Status::WrongKind),
-            Held::Quota(_) => Err(Status::WrongKind),
-            Held::Retry(_) => Err(Status::WrongKind),
+        let driver = self.driver_mut()?;
+        match driver.next(alloc, tick, Val::from(input)) {
+            Ok(decision) => Ok(Decided::of(decision.start())),
+            Err(DriveFault::Backwards { floor: _ }) => Err(Status::Backwards),
+            Err(DriveFault::JournalFull) => Err(Status::JournalFull),
+            Err(DriveFault::NoMemory) => Err(Status::NoMemory),
         }
     }
 
@@ -37,17 +33,9 @@ impl Held {
     pub fn reset(&mut self) -> Result<(), Status>
         ensures { Resets self.old result self.new }
     {
-        match self {
-            Held::Driver(driver) => {
-                driver.reset();
-                Ok(())
-            }
-            Held::Room => Err(Status::WrongKind),
-            Held::Policy(_) => Err(Status::WrongKind),
-            Held::Pass(_) => Err(Status::WrongKind),
-            Held::Quota(_) => Err(Status::WrongKind),
-            Held::Retry(_) => Err(Status::WrongKind),
-        }
+        let driver = self.driver_mut()?;
+        driver.reset();
+        Ok(())
     }
 
     /// The driver, where it is one.
@@ -62,6 +50,19 @@ impl Held {
             Held::Pass(_) => Err(Status::WrongKind),
             Held::Quota(_) => Err(Status::WrongKind),
             Held::Retry(_) => Err(Status::WrongKind),
+        }
+    }
+
+    /// The same, to be changed.
+    fn driver_mut(&mut self) -> Result<&mut Driver, Status>
+        ensures* lends { sem 𝓛 (LendsIfOk held_row driver_row self.entry result what.Driver self.old) }
+        ensures ok { IfOk result (λ driver. self.old ≡ what.Driver driver.now) }
+        ensures err { IfErr result (IsOther kind.Driver self.old) }
+    {
+        if let Held::Driver(driver) = self {
+            Ok(driver)
+        } else {
+            Err(Status::WrongKind)
         }
     }
 

@@ -1,12 +1,12 @@
 //! What a handle holds.
 ghost use Rattle.std.specs.Prelude.{◌≡◌, IfOk, IfErr};
 ghost use Rattle.sched_handle.specs.Held.{kind_of};
-ghost use Rattle.sched_handle.specs.declared.status.Status.TheVariants as status;
+ghost use Rattle.sched_reply.specs.declared.status.Status.TheVariants as status;
 
-use crate::status::Status;
 use sched_driver::Driver;
 use sched_host::{Drawing, HostRetry, QuotaWorker, Worker};
 use sched_plan::Plan;
+use sched_reply::Status;
 use std::alloc::Global;
 use std::mem;
 
@@ -73,7 +73,7 @@ impl Held {
     pub(crate) fn within(self, mut room: Box<Held>) -> Box<Held>
         ensures { result.value ≡ self }
     {
-        let _ = mem::replace(&mut *room, self);
+        drop(mem::replace(&mut *room, self));
         room
     }
 }

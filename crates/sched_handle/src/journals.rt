@@ -1,14 +1,12 @@
 //! Calls on journals.
 ghost use Rattle.std.specs.Prelude.{◌≡◌, IfOk, IfErr};
 ghost use Rattle.sched_handle.specs.Held.{IsOther};
-ghost use Rattle.sched_handle.specs.Journals.{NotedAt, DriverNoted, RetryNoted, CountsSteps, IsStepped};
+ghost use Rattle.sched_handle.specs.Journals.{DriverNoted, RetryNoted, CountsSteps, IsStepped};
 ghost use Rattle.sched_handle.specs.declared.held.Kind.TheVariants as kind;
 
 use crate::held::Held;
-use crate::replies::Noted;
-use crate::status::Status;
 use sched_driver::Driver;
-use sched_plan::Event;
+use sched_reply::{Noted, Status, noted_at};
 
 impl Held {
     /// The event of this number, counted from 0, of the driver's journal.
@@ -48,23 +46,5 @@ impl Held {
             Held::Pass(_) => Err(Status::WrongKind),
             Held::Quota(_) => Err(Status::WrongKind),
         }
-    }
-}
-
-// The event of this number of a journal, as C sees it.
-#[tactic(auto, using(crate::proofs::EventAt::noted_there, crate::proofs::EventAt::none_there))]
-fn noted_at(journal: &[Event], index: u64) -> Result<Noted, Status>
-    ensures { NotedAt journal.now index result }
-{
-    let Some(event) = journal.get(index as usize) else {
-        return Err(Status::NoEvent);
-    };
-    match event.input.as_num() {
-        Some(input) => Ok(Noted {
-            now: event.now.get(),
-            input: input.get(),
-            words: event.words,
-        }),
-        None => Err(Status::NotANumber),
     }
 }

@@ -9,11 +9,8 @@ mod journals;
 mod passes;
 mod policies;
 mod quotas;
-mod replies;
 mod retries;
-mod status;
 
 pub use handle::Handle;
 pub use held::{Held, Kind};
-pub use replies::{Decided, Noted, Place, Reply, Size, Usage, put_text, tell, tick_at};
-pub use status::Status;
+pub use sched_reply::{Decided, Noted, Place, Reply, Size, Status, Usage, put_text, tell, tick_at};

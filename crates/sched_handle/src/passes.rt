@@ -1,15 +1,18 @@
 //! Calls on passes.
 ghost use Rattle.std.specs.Prelude.{◌≡◌, ◌≢◌, true, false, IfOk, IfErr, OnOk, IfSome, IfNone};
+ghost use Rattle.std.specs.Borrow.{LendsIfOk, sem};
 ghost use Rattle.sched_ticket.specs.View.{part_of, with_split};
-ghost use Rattle.sched_handle.specs.Held.{kind_of};
+ghost use Rattle.sched_host.specs.contracts.worker.Worker.{the_row as worker_row};
+ghost use Rattle.sched_handle.specs.Held.{kind_of, IsOther};
 ghost use Rattle.sched_handle.specs.Passes.{MakesBudget, Draws, Splits, NoSplit, Raises, CountsTickets};
 ghost use Rattle.sched_handle.specs.Passes.{IsShareOf, Joins, Closes};
+ghost use Rattle.sched_handle.specs.contracts.held.Held.{the_row as held_row};
 ghost use Rattle.sched_handle.specs.declared.held.Held.TheVariants as what;
 ghost use Rattle.sched_handle.specs.declared.held.Kind.TheVariants as kind;
 
 use crate::held::{Held, Kind};
-use crate::status::Status;
 use sched_host::{CloseFault, Worker};
+use sched_reply::Status;
 use sched_ticket::TicketFault;
 use std::alloc::Global;
 use std::mem;
@@ -45,16 +48,10 @@ impl Held {
     pub fn draw(&mut self) -> Result<u64, Status>
         ensures { Draws self.old result self.new }
     {
-        match self {
-            Held::Pass(worker) => match worker.draw() {
-                Some(ticket) => Ok(ticket),
-                None => Err(Status::NoTicket),
-            },
-            Held::Room => Err(Status::WrongKind),
-            Held::Policy(_) => Err(Status::WrongKind),
-            Held::Driver(_) => Err(Status::WrongKind),
-            Held::Quota(_) => Err(Status::WrongKind),
-            Held::Retry(_) => Err(Status::WrongKind),
+        let worker = self.pass_mut()?;
+        match worker.draw() {
+            Some(ticket) => Ok(ticket),
+            None => Err(Status::NoTicket),
         }
     }
 
@@ -62,37 +59,22 @@ impl Held {
     pub fn split(&mut self, alloc: Global) -> Result<Box<Held>, Status>
         ensures { Splits self.old result self.new }
     {
-        match self {
-            Held::Pass(worker) => {
-                let room = Held::Room.boxed(alloc)?;
-                let part = split_off(worker)?;
-                Ok(Held::Pass(part).within(room))
-            }
-            Held::Room => Err(Status::WrongKind),
-            Held::Policy(_) => Err(Status::WrongKind),
-            Held::Driver(_) => Err(Status::WrongKind),
-            Held::Quota(_) => Err(Status::WrongKind),
-            Held::Retry(_) => Err(Status::WrongKind),
-        }
+        let worker = self.pass_mut()?;
+        let (part, room) = split_off(alloc, worker)?;
+        Ok(Held::Pass(part).within(room))
     }
 
     /// Makes the limit of a rising budget the greater of itself and `to`, and answers it.
     pub fn raise(&mut self, to: u64) -> Result<u64, Status>
         ensures { Raises to self.old result self.new }
     {
-        match self {
-            Held::Pass(worker) => match worker.raise(to) {
-                Ok(limit) => Ok(limit),
-                Err(TicketFault::LimitTooLarge) => Err(Status::LimitTooLarge),
-                Err(TicketFault::NoMemory) => Err(Status::NoMemory),
-                Err(TicketFault::TooManyPasses) => Err(Status::TooManyPasses),
-                Err(TicketFault::Fixed) => Err(Status::Fixed),
-            },
-            Held::Room => Err(Status::WrongKind),
-            Held::Policy(_) => Err(Status::WrongKind),
-            Held::Driver(_) => Err(Status::WrongKind),
-            Held::Quota(_) => Err(Status::WrongKind),
-            Held::Retry(_) => Err(Status::WrongKind),
+        let worker = self.pass_mut()?;
+        match worker.raise(to) {
+            Ok(limit) => Ok(limit),
+            Err(TicketFault::LimitTooLarge) => Err(Status::LimitTooLarge),
+            Err(TicketFault::NoMemory) => Err(Status::NoMemory),
+            Err(TicketFault::TooManyPasses) => Err(Status::TooManyPasses),
+            Err(TicketFault::Fixed) => Err(Status::Fixed),
         }
     }
 
@@ -124,7 +106,7 @@ impl Held {
         let Some(other) = other.into_worker() else {
             return;
         };
-        let _ = mem::replace(self, Held::Pass(this.join(other)));
+        drop(mem::replace(self, Held::Pass(this.join(other))));
     }
 
     /// Closes the budget where this pass stands for all its passes. Where nothing is left of the pass, room is.
@@ -141,10 +123,23 @@ impl Held {
         match this.close(alloc) {
             Ok(tickets) => Ok(tickets),
             Err(CloseFault::PassesOut(worker)) => {
-                let _ = mem::replace(self, Held::Pass(worker));
+                drop(mem::replace(self, Held::Pass(worker)));
                 Err(Status::PassesOut)
             }
             Err(CloseFault::NoMemory) => Err(Status::NoMemory),
+        }
+    }
+
+    // The worker to be changed, where it is a pass.
+    pub(crate) fn pass_mut(&mut self) -> Result<&mut Worker, Status>
+        ensures* lends { sem 𝓛 (LendsIfOk held_row worker_row self.entry result what.Pass self.old) }
+        ensures ok { IfOk result (λ worker. self.old ≡ what.Pass worker.now) }
+        ensures err { IfErr result (IsOther kind.Pass self.old) }
+    {
+        if let Held::Pass(worker) = self {
+            Ok(worker)
+        } else {
+            Err(Status::WrongKind)
         }
     }
 
@@ -155,17 +150,29 @@ impl Held {
     {
         match self {
             Held::Pass(worker) => Some(worker),
-            Held::Room => None,
-            Held::Policy(_) => None,
-            Held::Driver(_) => None,
-            Held::Quota(_) => None,
-            Held::Retry(_) => None,
+            other => {
+                drop(other);
+                None
+            }
         }
     }
 }
 
+// A worker that is split off this one, and room for what is to hold it.
+pub(crate) fn split_off(alloc: Global, worker: &mut Worker) -> Result<(Worker, Box<Held>), Status>
+    ensures budget { worker.new.budget ≡ worker.old.budget }
+    ensures ok { IfOk result
+        (λ part. (part.0.budget ≡ worker.old.budget) × (part.0.pass.has ≡ part_of worker.old.pass.has)) }
+    ensures kept { OnOk result (worker.new.pass.has ≡ with_split worker.old.pass.has) }
+    ensures err { IfErr result (NoSplit worker.old worker.new) }
+{
+    let room = Held::Room.boxed(alloc)?;
+    let part = parted(worker)?;
+    Ok((part, room))
+}
+
 // A worker that is split off this one.
-pub(crate) fn split_off(worker: &mut Worker) -> Result<Worker, Status>
+fn parted(worker: &mut Worker) -> Result<Worker, Status>
     ensures budget { worker.new.budget ≡ worker.old.budget }
     ensures ok { IfOk result
         (λ part. (part.budget ≡ worker.old.budget) × (part.pass.has ≡ part_of worker.old.pass.has)) }

@@ -6,11 +6,10 @@ ghost use Rattle.sched_handle.specs.declared.held.Held.TheVariants as what;
 ghost use Rattle.sched_handle.specs.declared.held.Kind.TheVariants as kind;
 
 use crate::held::Held;
-use crate::replies::{Place, Size};
-use crate::status::Status;
 use sched_driver::Driver;
 use sched_json::{TextFault, read_text};
 use sched_plan::Plan;
+use sched_reply::{Place, Size, Status};
 use std::alloc::Global;
 
 impl Held {

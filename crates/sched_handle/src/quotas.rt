@@ -1,18 +1,20 @@
 //! Calls on passes of quotas.
 ghost use Rattle.std.specs.Prelude.{◌≡◌, ◌≢◌, IfOk, IfErr, OnOk, IfSome, IfNone};
+ghost use Rattle.std.specs.Borrow.{LendsIfOk, sem};
 ghost use Rattle.sched_quota.specs.View.{part_of, without_part};
-ghost use Rattle.sched_handle.specs.Held.{kind_of};
+ghost use Rattle.sched_host.specs.contracts.quota_worker.QuotaWorker.{the_row as worker_row};
+ghost use Rattle.sched_handle.specs.Held.{kind_of, IsOther};
 ghost use Rattle.sched_handle.specs.Quotas.{MakesQuota, terms_of, Deposits, DrawsOnQuota, SeesQuota};
 ghost use Rattle.sched_handle.specs.Quotas.{SplitsQuota, NoQuotaSplit, CountsQuota};
 ghost use Rattle.sched_handle.specs.Quotas.{AreOfQuota, JoinsQuota, ClosesQuota};
+ghost use Rattle.sched_handle.specs.contracts.held.Held.{the_row as held_row};
 ghost use Rattle.sched_handle.specs.declared.held.Held.TheVariants as what;
 ghost use Rattle.sched_handle.specs.declared.held.Kind.TheVariants as kind;
 
 use crate::held::{Held, Kind};
-use crate::replies::Usage;
-use crate::status::Status;
 use sched_host::{CloseFault, QuotaWorker};
 use sched_quota::{MAX_RESERVE, MAX_SHARE, QuotaFault, Terms};
+use sched_reply::{Status, Usage};
 use sched_time::{Millis, Moment};
 use std::alloc::Global;
 use std::mem;
@@ -51,33 +53,19 @@ impl Held {
     pub fn deposit(&mut self, now: Moment) -> Result<(), Status>
         ensures { Deposits now self.old result self.new }
     {
-        match self {
-            Held::Quota(worker) => {
-                worker.deposit(now);
-                Ok(())
-            }
-            Held::Room => Err(Status::WrongKind),
-            Held::Policy(_) => Err(Status::WrongKind),
-            Held::Driver(_) => Err(Status::WrongKind),
-            Held::Pass(_) => Err(Status::WrongKind),
-            Held::Retry(_) => Err(Status::WrongKind),
-        }
+        let worker = self.quota_mut()?;
+        worker.deposit(now);
+        Ok(())
     }
 
     /// Draws a ticket of the quota.
     pub fn draw_quota(&mut self, now: Moment) -> Result<u64, Status>
         ensures { DrawsOnQuota now self.old result self.new }
     {
-        match self {
-            Held::Quota(worker) => match worker.draw(now) {
-                Some(ticket) => Ok(ticket),
-                None => Err(Status::NoTicket),
-            },
-            Held::Room => Err(Status::WrongKind),
-            Held::Policy(_) => Err(Status::WrongKind),
-            Held::Driver(_) => Err(Status::WrongKind),
-            Held::Pass(_) => Err(Status::WrongKind),
-            Held::Retry(_) => Err(Status::WrongKind),
+        let worker = self.quota_mut()?;
+        match worker.draw(now) {
+            Some(ticket) => Ok(ticket),
+            None => Err(Status::NoTicket),
         }
     }
 
@@ -85,40 +73,23 @@ impl Held {
     pub fn usage(&mut self, now: Moment) -> Result<Usage, Status>
         ensures { SeesQuota now self.old result self.new }
     {
-        match self {
-            Held::Quota(worker) => {
-                let seen = worker.seen(now);
-                Ok(Usage {
-                    window: seen.window,
-                    asked: seen.asked,
-                    given: seen.given,
-                    left: seen.left,
-                })
-            }
-            Held::Room => Err(Status::WrongKind),
-            Held::Policy(_) => Err(Status::WrongKind),
-            Held::Driver(_) => Err(Status::WrongKind),
-            Held::Pass(_) => Err(Status::WrongKind),
-            Held::Retry(_) => Err(Status::WrongKind),
-        }
+        let worker = self.quota_mut()?;
+        let seen = worker.seen(now);
+        Ok(Usage {
+            window: seen.window,
+            asked: seen.asked,
+            given: seen.given,
+            left: seen.left,
+        })
     }
 
     /// Splits a pass of the quota off, for which there is no memory wanted once it is split.
     pub fn split_quota(&mut self, alloc: Global) -> Result<Box<Held>, Status>
         ensures { SplitsQuota self.old result self.new }
     {
-        match self {
-            Held::Quota(worker) => {
-                let room = Held::Room.boxed(alloc)?;
-                let part = split_off_quota(worker)?;
-                Ok(Held::Quota(part).within(room))
-            }
-            Held::Room => Err(Status::WrongKind),
-            Held::Policy(_) => Err(Status::WrongKind),
-            Held::Driver(_) => Err(Status::WrongKind),
-            Held::Pass(_) => Err(Status::WrongKind),
-            Held::Retry(_) => Err(Status::WrongKind),
-        }
+        let worker = self.quota_mut()?;
+        let (part, room) = split_off_quota(alloc, worker)?;
+        Ok(Held::Quota(part).within(room))
     }
 
     /// How many tickets of the quota were drawn with this pass, and with those joined into it.
@@ -149,7 +120,7 @@ impl Held {
         let Some(other) = other.into_quota_worker() else {
             return;
         };
-        let _ = mem::replace(self, Held::Quota(this.join(other)));
+        drop(mem::replace(self, Held::Quota(this.join(other))));
     }
 
     /// Closes the quota where this pass has all its parts. Where nothing is left of the pass, room is.
@@ -166,10 +137,23 @@ impl Held {
         match worker.close(alloc) {
             Ok(tickets) => Ok(tickets),
             Err(CloseFault::PassesOut(worker)) => {
-                let _ = mem::replace(self, Held::Quota(worker));
+                drop(mem::replace(self, Held::Quota(worker)));
                 Err(Status::PassesOut)
             }
             Err(CloseFault::NoMemory) => Err(Status::NoMemory),
+        }
+    }
+
+    // The worker to be changed, where it is a pass of a quota.
+    pub(crate) fn quota_mut(&mut self) -> Result<&mut QuotaWorker, Status>
+        ensures* lends { sem 𝓛 (LendsIfOk held_row worker_row self.entry result what.Quota self.old) }
+        ensures ok { IfOk result (λ worker. self.old ≡ what.Quota worker.now) }
+        ensures err { IfErr result (IsOther kind.Quota self.old) }
+    {
+        if let Held::Quota(worker) = self {
+            Ok(worker)
+        } else {
+            Err(Status::WrongKind)
         }
     }
 
@@ -180,17 +164,33 @@ impl Held {
     {
         match self {
             Held::Quota(worker) => Some(worker),
-            Held::Room => None,
-            Held::Policy(_) => None,
-            Held::Driver(_) => None,
-            Held::Pass(_) => None,
-            Held::Retry(_) => None,
+            other => {
+                drop(other);
+                None
+            }
         }
     }
 }
 
+// A worker that is split off this one, and room for what is to hold it.
+pub(crate) fn split_off_quota(
+    alloc: Global,
+    worker: &mut QuotaWorker,
+) -> Result<(QuotaWorker, Box<Held>), Status>
+    ensures quota { worker.new.quota ≡ worker.old.quota }
+    ensures ok { IfOk result
+        (λ part. (part.0.quota ≡ worker.old.quota) × (part.0.pass.has ≡ part_of worker.old.pass.has)) }
+    ensures kept { OnOk result (worker.new.pass.has ≡ without_part worker.old.pass.has) }
+    ensures err { IfErr result (NoQuotaSplit worker.old) }
+    ensures unchanged { IfErr result (λ _. worker.new ≡ worker.old) }
+{
+    let room = Held::Room.boxed(alloc)?;
+    let part = parted(worker)?;
+    Ok((part, room))
+}
+
 // A worker that is split off this one.
-pub(crate) fn split_off_quota(worker: &mut QuotaWorker) -> Result<QuotaWorker, Status>
+fn parted(worker: &mut QuotaWorker) -> Result<QuotaWorker, Status>
     ensures quota { worker.new.quota ≡ worker.old.quota }
     ensures ok { IfOk result
         (λ part. (part.quota ≡ worker.old.quota) × (part.pass.has ≡ part_of worker.old.pass.has)) }

@@ -8,12 +8,11 @@ ghost use Rattle.sched_handle.specs.declared.held.Kind.TheVariants as kind;
 use crate::held::{Held, Kind};
 use crate::passes::split_off;
 use crate::quotas::split_off_quota;
-use crate::replies::Reply;
-use crate::status::Status;
 use sched_draws::Unlimited;
 use sched_driver::Driver;
 use sched_effect::Ran;
 use sched_host::{Drawing, HostRetry, Next, QuotaWorker, Worker};
+use sched_reply::{Reply, Status};
 use sched_task::{How, RunFault};
 use sched_time::Tick;
 use std::alloc::Global;
@@ -24,19 +23,10 @@ impl Held {
         ensures { Retries policy.now pass.old result pass.new }
     {
         let driver = policy.fresh_driver(alloc)?;
-        match pass {
-            Held::Pass(worker) => {
-                let room = Held::Room.boxed(alloc)?;
-                let part = split_off(worker)?;
-                let drawing = Drawing::Budget(part.into_drawing());
-                Ok(fresh(alloc, driver, drawing).within(room))
-            }
-            Held::Room => Err(Status::WrongKind),
-            Held::Policy(_) => Err(Status::WrongKind),
-            Held::Driver(_) => Err(Status::WrongKind),
-            Held::Quota(_) => Err(Status::WrongKind),
-            Held::Retry(_) => Err(Status::WrongKind),
-        }
+        let worker = pass.pass_mut()?;
+        let (part, room) = split_off(alloc, worker)?;
+        let drawing = Drawing::Budget(part.into_drawing());
+        Ok(fresh(alloc, driver, drawing).within(room))
     }
 
     /// The same with a pass that is split off a quota's.
@@ -48,19 +38,10 @@ impl Held {
         ensures { RetriesOnQuota policy.now quota.old result quota.new }
     {
         let driver = policy.fresh_driver(alloc)?;
-        match quota {
-            Held::Quota(worker) => {
-                let room = Held::Room.boxed(alloc)?;
-                let part = split_off_quota(worker)?;
-                let drawing = Drawing::Quota(part.into_drawing());
-                Ok(fresh(alloc, driver, drawing).within(room))
-            }
-            Held::Room => Err(Status::WrongKind),
-            Held::Policy(_) => Err(Status::WrongKind),
-            Held::Driver(_) => Err(Status::WrongKind),
-            Held::Pass(_) => Err(Status::WrongKind),
-            Held::Retry(_) => Err(Status::WrongKind),
-        }
+        let worker = quota.quota_mut()?;
+        let (part, room) = split_off_quota(alloc, worker)?;
+        let drawing = Drawing::Quota(part.into_drawing());
+        Ok(fresh(alloc, driver, drawing).within(room))
     }
 
     /// The same, drawing on nothing.
@@ -157,11 +138,10 @@ impl Held {
                     Drawing::Unlimited(_) => Held::Room,
                 }
             }
-            Held::Room => Held::Room,
-            Held::Policy(_) => Held::Room,
-            Held::Driver(_) => Held::Room,
-            Held::Pass(_) => Held::Room,
-            Held::Quota(_) => Held::Room,
+            other => {
+                drop(other);
+                Held::Room
+            }
         }
     }
 }

@@ -1,8 +1,8 @@
 use Rattle.std.proofs.Common.{◌≡◌, ℕ, List, Result, Ok, Err, IfOk, OnErr, refl, subst}
 use Rattle.sched_time.specs.declared.numbers.Tick.{Tick}
 use Rattle.sched_handle.specs.Retries.{Polls}
-use Rattle.sched_handle.specs.Status.{told}
-use Rattle.sched_handle.specs.declared.status.Status.{Status}
+use Rattle.sched_reply.specs.Status.{told}
+use Rattle.sched_reply.specs.declared.status.Status.{Status}
 use Rattle.hikebox_c.specs.Calls.{Tells}
 use Rattle.hikebox_c.proofs.retries.hikebox_retry_poll.Goals as goal
 

@@ -4,12 +4,12 @@ use Rattle.sched_handle.specs.declared.held.Held.TheVariants.{Policy, Pass}
 use Rattle.sched_host.specs.declared.drawing.Drawing.TheVariants.{Budget}
 use Rattle.sched_handle.proofs.held.Held.retry.Goals as goal
 
-pub returns-in_ok-part-in-Pass : goal.returns-in_ok-part-in-Pass
-returns-in_ok-part-in-Pass c =
+pub returns : goal.returns
+returns c =
     let driver = c.in_ok-driver.driver in
-    let part = c.in_ok-part-in-Pass in
+    let part = c.in_ok-part in
     let is_policy : c.args.policy.now ≡ Policy driver.plan = c.in_ok-driver.ensures.ok.0 in
-    let is_pass : c.args.pass.now ≡ Pass c.in-Pass.worker = c.in-Pass.is in
+    let is_pass : c.args.pass.now ≡ Pass c.in_ok-worker.worker.now = c.in_ok-worker.ensures.ok in
     let fresh : IsFresh driver.plan (Budget c.into_drawing.result) c.within.result.value = rw c.within.ensures c.fresh.ensures in
     rw (is_policy, is_pass) (
       (c.split_off.new.worker, refl, c.split_off.ensures.budget, part.ensures.kept),

@@ -1,6 +1,6 @@
 -- What calls answer.
 use Rattle.std.specs.Prelude.{ℕ, true, false, Option, Some, None}
-use Rattle.sched_handle.specs.declared.replies.Decided.{Decided}
+use Rattle.sched_reply.specs.declared.replies.Decided.{Decided}
 
 -- a start that is planned, or none
 abbrev pub decided_of : Option ℕ → Decided

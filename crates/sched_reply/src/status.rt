@@ -1,6 +1,6 @@
 //! Why a call was refused.
 ghost use Rattle.std.specs.Prelude.{◌≡◌};
-ghost use Rattle.sched_handle.specs.Status.{code_of};
+ghost use Rattle.sched_reply.specs.Status.{code_of};
 
 use thiserror::Error;
 

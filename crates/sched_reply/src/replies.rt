@@ -1,9 +1,9 @@
 //! What calls answer, as C sees it, and what they are given.
 ghost use Rattle.std.specs.Prelude.{◌≡◌, ◌<◌, ◌++◌, true, false, length, drop, IfOk, IfErr, OnOk, OnErr};
 ghost use Rattle.sched_time.specs.declared.numbers.TheConstants.{FAR};
-ghost use Rattle.sched_handle.specs.Replies.{decided_of};
-ghost use Rattle.sched_handle.specs.Status.{told};
-ghost use Rattle.sched_handle.specs.declared.status.Status.TheVariants as Status;
+ghost use Rattle.sched_reply.specs.Replies.{decided_of};
+ghost use Rattle.sched_reply.specs.Status.{told};
+ghost use Rattle.sched_reply.specs.declared.status.Status.TheVariants as Status;
 
 use crate::status::Status;
 use sched_time::{Moment, Tick};
@@ -29,15 +29,6 @@ pub struct Size {
 pub struct Decided {
     pub start: u64,
     pub goes_on: bool,
-}
-
-/// An event of a journal: its moment, its input and its random words.
-#[repr(C)]
-#[derive(Clone, Copy)]
-pub struct Noted {
-    pub now: u64,
-    pub input: u64,
-    pub words: [u32; 4],
 }
 
 /// What a retry is at.

@@ -1,7 +1,7 @@
 -- The numbers by which C knows the statuses; 0 is that of a call that is done.
 use Rattle.std.specs.Prelude.{ℕ, Result, Ok, Err}
-use Rattle.sched_handle.specs.declared.status.Status.{Status}
-use Rattle.sched_handle.specs.declared.status.Status.TheVariants as status
+use Rattle.sched_reply.specs.declared.status.Status.{Status}
+use Rattle.sched_reply.specs.declared.status.Status.TheVariants as status
 
 abbrev pub code_of : Status → ℕ
 code_of status.Empty = 1

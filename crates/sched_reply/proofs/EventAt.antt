@@ -2,9 +2,9 @@
 use Rattle.std.proofs.Common.{◌≡◌, ℕ, ◌<◌, ◌≤◌, List, length, get_or, Some, None, Result, refl, sym, subst}
 use Rattle.std.proofs.lemmas.Option.{slice_get_read, slice_get_past}
 use Rattle.sched_plan.specs.declared.history.Event.{Event}
-use Rattle.sched_handle.specs.Journals.{NotedEvent, NotedAt}
-use Rattle.sched_handle.specs.declared.replies.Noted.{Noted}
-use Rattle.sched_handle.specs.declared.status.Status.{Status}
+use Rattle.sched_reply.specs.Events.{NotedEvent, NotedAt}
+use Rattle.sched_reply.specs.declared.events.Noted.{Noted}
+use Rattle.sched_reply.specs.declared.status.Status.{Status}
 
 pub noted_there : (h : List Event) (k : ℕ) (e : Event) (r : Result Noted Status) → k < length h → e ≡ get_or h k e →
     NotedEvent (Some e) r → NotedAt h k r
