@@ -15,7 +15,9 @@ use counted::Counted;
 use futures::task::{Context, Doorbell, Poll, Queue};
 use sched_driver::Driver;
 use sched_plan::Plan;
-use sched_run::{Call, How, OnBudget, Ran, Repeat, Retry, RetryOr, Scripted, Task};
+use sched_run::{
+    Call, Draws, Effect, Fallback, How, OnBudget, Ran, Repeat, Retry, RetryOr, Scripted, Task,
+};
 use sched_ticket::Budget;
 use sched_time::{Millis, Moment, Tick};
 use shown::Shown;
@@ -52,6 +54,16 @@ fn poll_each(rt: &HostRuntime, cx: &mut Context<'_>) -> Option<()> {
     poll_call(rt, cx)
 }
 
+// Polls the task eight times, and drops it.
+fn poll_task<T: Task + Shown>(
+    rt: &HostRuntime,
+    name: &str,
+    mut task: T,
+    cx: &mut Context<'_>,
+) -> Option<()> {
+    poll_all(rt, name, &mut task, cx)
+}
+
 // Polls the task eight times, and prints what it shows after each poll.
 fn poll_all<T: Task + Shown>(
     rt: &HostRuntime,
@@ -69,41 +81,80 @@ fn poll_all<T: Task + Shown>(
 
 // A retry of five failures and a success.
 fn poll_retry(rt: &HostRuntime, cx: &mut Context<'_>) -> Option<()> {
-    let alloc = rt.alloc();
-    let effect = scripted(alloc, &[lost(), lost(), lost(), lost(), lost(), won()])?;
-    let driver = spaced(alloc, 9)?;
-    let (budget, pass) = Budget::new(alloc, 9).ok()?;
-    let mut retry = Retry::new(alloc, effect, driver, OnBudget::new(pass, &budget));
-    poll_all(rt, "retry", &mut retry, cx)
-}
-
-// A retry that fails until its schedule is done, and then asks its fallback.
-fn poll_retry_or(rt: &HostRuntime, cx: &mut Context<'_>) -> Option<()> {
-    let alloc = rt.alloc();
-    let effect = scripted(alloc, &[lost()])?;
-    let driver = spaced(alloc, 4)?;
-    let (budget, pass) = Budget::new(alloc, 9).ok()?;
-    let drawing = OnBudget::new(pass, &budget);
-    let mut retry = RetryOr::new(alloc, effect, driver, drawing, Spare::new(alloc));
-    poll_all(rt, "retry_or", &mut retry, cx)
-}
-
-// A repeat that succeeds until its schedule is done.
-fn poll_repeat(rt: &HostRuntime, cx: &mut Context<'_>) -> Option<()> {
-    let alloc = rt.alloc();
-    let effect = scripted(alloc, &[won()])?;
-    let mut repeat = Repeat::new(alloc, effect, spaced(alloc, 5)?);
-    poll_all(rt, "repeat", &mut repeat, cx)
+    let script = [lost(), lost(), lost(), lost(), lost(), won()];
+    let effect = scripted(rt.alloc(), &script)?;
+    retries(rt, "retry", effect, cx)
 }
 
 // A retry of calls, of which five fail and the sixth succeeds.
 fn poll_call(rt: &HostRuntime, cx: &mut Context<'_>) -> Option<()> {
-    let alloc = rt.alloc();
-    let effect = Call::new(alloc, Counted::new(5));
-    let driver = spaced(alloc, 9)?;
-    let (budget, pass) = Budget::new(alloc, 9).ok()?;
-    let mut retry = Retry::new(alloc, effect, driver, OnBudget::new(pass, &budget));
-    poll_all(rt, "call", &mut retry, cx)
+    let effect = Call::new(rt.alloc(), Counted::new(5));
+    retries(rt, "call", effect, cx)
+}
+
+// A retry of this effect, nine times at most, by a budget of its own.
+fn retries<X: Effect>(rt: &HostRuntime, name: &str, effect: X, cx: &mut Context<'_>) -> Option<()>
+    requires { X.fresh effect }
+{
+    let (budget, pass) = Budget::new(rt.alloc(), 9).ok()?;
+    retries_by(rt, name, effect, OnBudget::new(pass, &budget), cx)
+}
+
+// The same, by what draws its tickets.
+fn retries_by<X: Effect, D: Draws>(
+    rt: &HostRuntime,
+    name: &str,
+    effect: X,
+    drawing: D,
+    cx: &mut Context<'_>,
+) -> Option<()>
+    requires { X.fresh effect }
+{
+    let driver = spaced(rt.alloc(), 9)?;
+    let retry = Retry::new(rt.alloc(), effect, driver, drawing);
+    poll_task(rt, name, retry, cx)
+}
+
+// A retry that fails until its schedule is done, and then asks its fallback.
+fn poll_retry_or(rt: &HostRuntime, cx: &mut Context<'_>) -> Option<()> {
+    let (budget, pass) = Budget::new(rt.alloc(), 9).ok()?;
+    falls_back(rt, OnBudget::new(pass, &budget), cx)
+}
+
+// The same, by what draws its tickets.
+fn falls_back<D: Draws>(rt: &HostRuntime, drawing: D, cx: &mut Context<'_>) -> Option<()> {
+    let effect = scripted(rt.alloc(), &[lost()])?;
+    let both = (effect, Spare::new(rt.alloc()));
+    retries_or(rt, both, drawing, cx)
+}
+
+// A retry of this effect with this fallback, four times at most.
+fn retries_or<X: Effect, D: Draws, F: Fallback<X>>(
+    rt: &HostRuntime,
+    both: (X, F),
+    drawing: D,
+    cx: &mut Context<'_>,
+) -> Option<()>
+    requires { X.fresh both.0 }
+{
+    let driver = spaced(rt.alloc(), 4)?;
+    let retry = RetryOr::new(rt.alloc(), both.0, driver, drawing, both.1);
+    poll_task(rt, "retry_or", retry, cx)
+}
+
+// A repeat that succeeds until its schedule is done.
+fn poll_repeat(rt: &HostRuntime, cx: &mut Context<'_>) -> Option<()> {
+    let effect = scripted(rt.alloc(), &[won()])?;
+    repeats(rt, effect, cx)
+}
+
+// A repeat of this effect, five times at most.
+fn repeats<X: Effect>(rt: &HostRuntime, effect: X, cx: &mut Context<'_>) -> Option<()>
+    requires { X.fresh effect }
+{
+    let driver = spaced(rt.alloc(), 5)?;
+    let repeat = Repeat::new(rt.alloc(), effect, driver);
+    poll_task(rt, "repeat", repeat, cx)
 }
 
 fn lost() -> Ran {

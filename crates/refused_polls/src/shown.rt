@@ -1,8 +1,7 @@
 //! What each kind of task shows.
 
-use crate::spare::Spare;
 use sched_driver::Driver;
-use sched_run::{Draws, Effect, Ran, Repeat, Retry, RetryOr, Scripted};
+use sched_run::{Draws, Effect, Fallback, Ran, Repeat, Retry, RetryOr};
 use sched_time::Moment;
 
 /// What a task shows of its driver, its tickets and its runs.
@@ -38,7 +37,7 @@ impl<X: Effect, D: Draws> Shown for Retry<X, D> {
     }
 }
 
-impl<D: Draws> Shown for RetryOr<Scripted, D, Spare> {
+impl<X: Effect, D: Draws, F: Fallback<X>> Shown for RetryOr<X, D, F> {
     fn driver(&self) -> &Driver {
         RetryOr::driver(self)
     }
@@ -56,7 +55,7 @@ impl<D: Draws> Shown for RetryOr<Scripted, D, Spare> {
     }
 }
 
-impl Shown for Repeat<Scripted> {
+impl<X: Effect> Shown for Repeat<X> {
     fn driver(&self) -> &Driver {
         Repeat::driver(self)
     }
