@@ -1,3 +1,2 @@
-pub mod Fours
 pub mod PoolLines
 pub mod JobsFaults

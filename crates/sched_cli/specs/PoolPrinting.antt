@@ -6,7 +6,7 @@ use Rattle.sched_pool_text.specs.PoolText.{pool_text}
 use Rattle.sched_scripted_pool.specs.Batch.{AreRun}
 use Rattle.sched_plan_text.specs.declared.faults.PrintFault.{PrintFault}
 use Rattle.sched_cli.specs.JobsPrinting.{PrintsJobs}
-use Rattle.sched_cli.specs.declared.options.PoolOptions.{PoolOptions}
+use Rattle.sched_words.specs.declared.options.PoolOptions.{PoolOptions}
 
 -- the jobs were run on the budget, and this is their text
 abbrev pub RunsOnBudget : PoolOptions → List Job → List Past → List ℕ → Type 0

@@ -6,7 +6,7 @@ use Rattle.sched_pool_text.specs.PoolText.{quota_text}
 use Rattle.sched_quota_pool.specs.Batch.{AreRunOnQuota}
 use Rattle.sched_plan_text.specs.declared.faults.PrintFault.{PrintFault}
 use Rattle.sched_cli.specs.JobsPrinting.{PrintsJobs}
-use Rattle.sched_cli.specs.declared.quotas.QuotaOptions.{QuotaOptions}
+use Rattle.sched_words.specs.declared.quotas.QuotaOptions.{QuotaOptions}
 
 -- the jobs were run on the quota, and this is their text
 abbrev pub RunsOnQuota : QuotaOptions → List Job → List Past → List ℕ → Type 0

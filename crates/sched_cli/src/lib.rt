@@ -2,26 +2,18 @@
 //! plans and tells of texts.
 #![tactic(auto)]
 
-mod check;
-mod commands;
 mod ended;
-mod faults;
-mod options;
 mod pools;
 mod quota_pools;
-mod quota_words;
-mod quotas;
-mod seeded;
-mod words;
 
-pub use faults::WordsFault;
-pub use options::{Asked, MOST_TICKETS, MOST_TURNS, MOST_WORKERS, Origin, PoolOptions};
 pub use pools::print_pool;
 pub use quota_pools::print_quota_pool;
-pub use quotas::QuotaOptions;
 pub use sched_check_text::print_check;
 pub use sched_plan_text::{
     Counted, LONGEST_INPUT, MOST_STEPS, PlanCourse, PlanOptions, PrintFault, Sink, Source,
     print_course, print_plan,
 };
-pub use words::read_words;
+pub use sched_words::{
+    Asked, MOST_TICKETS, MOST_TURNS, MOST_WORKERS, Origin, PoolOptions, QuotaOptions, WordsFault,
+    read_words,
+};

@@ -6,7 +6,7 @@ ghost use Rattle.sched_cli.specs.JobsPrinting.{ReadsJobs, IsRunFault};
 ghost use Rattle.sched_cli.specs.PoolPrinting.{RunsOnBudget, PrintsPool};
 
 use crate::ended::{Ended, write_ended};
-use crate::options::PoolOptions;
+use sched_words::PoolOptions;
 use sched_jobs_json::{JobRead, read_jobs};
 use sched_plan_text::{PrintFault, Sink, Source, read_all, read_value};
 use sched_pool_text::push_total;

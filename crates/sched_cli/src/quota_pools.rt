@@ -7,7 +7,7 @@ ghost use Rattle.sched_cli.specs.QuotaPrinting.{RunsOnQuota, PrintsQuotaPool};
 
 use crate::ended::{Ended, write_ended};
 use crate::pools::jobs_in;
-use crate::quotas::QuotaOptions;
+use sched_words::QuotaOptions;
 use sched_jobs_json::JobRead;
 use sched_plan_text::{PrintFault, Sink, Source, read_all};
 use sched_pool_text::push_windows;

@@ -1,6 +1,6 @@
 //! Random words for the events of a plan.
 ghost use Rattle.std.specs.Prelude.{◌≡◌, IfOk};
-ghost use Rattle.sched_cli.specs.Seeded.{fours, seeded};
+ghost use Rattle.sched_words.specs.Seeded.{fours, seeded};
 
 use rand_core::SeedableRng;
 use rand_xoshiro::Xoshiro128PlusPlus;

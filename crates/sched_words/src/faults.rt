@@ -17,7 +17,7 @@ pub enum WordsFault {
 
 impl WordsFault {
     ghost use Rattle.std.specs.Prelude.{◌≡◌};
-    ghost use Rattle.sched_cli.specs.Status.{words_status};
+    ghost use Rattle.sched_words.specs.Status.{words_status};
 
     /// The status that the program exits with: 0 where help or the version was asked for.
     pub fn status(&self) -> u8
@@ -32,7 +32,7 @@ impl WordsFault {
 }
 
 impl From<AllocError> for WordsFault {
-    ghost use Rattle.sched_cli.specs.declared.faults.WordsFault.TheVariants.{NoMemory};
+    ghost use Rattle.sched_words.specs.declared.faults.WordsFault.TheVariants.{NoMemory};
     ghost use Rattle.std.specs.Prelude.{◌≡◌};
 
     ghost from_gives = { λ _ fault. fault ≡ NoMemory };

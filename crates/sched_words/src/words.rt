@@ -1,5 +1,5 @@
 ghost use Rattle.std.specs.Prelude.{IfOk, IfSome};
-ghost use Rattle.sched_cli.specs.Options.{AreInRange, AreInputs, AreWordsFor, PoolIsInRange, IsAskedInRange};
+ghost use Rattle.sched_words.specs.Options.{AreInRange, AreInputs, AreWordsFor, PoolIsInRange, IsAskedInRange};
 
 use crate::commands::zsched_command;
 use crate::faults::WordsFault;

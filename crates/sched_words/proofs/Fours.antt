@@ -2,7 +2,7 @@
 use Rattle.std.proofs.Common.{◌≡◌, ◌<◌, ◌-◌, ◌+◌, ℕ, suc, List, [], ◌∷◌, ◌++◌, sym, ◌∙◌, ap, append_assoc, arith}
 use Rattle.rand_core.specs.Stream.{Stream}
 use Rattle.sched_task.specs.Words.{next_four}
-use Rattle.sched_cli.specs.Seeded.{fours}
+use Rattle.sched_words.specs.Seeded.{fours}
 
 -- with the words of one event more, the words of all are those so far and those of the rest
 pub with_next : (front : List (List ℕ)) (all : List (List ℕ)) (n k : ℕ) (s : Stream) → k < n →

@@ -1,6 +1,6 @@
 use Rattle.std.specs.Prelude.{ℕ}
-use Rattle.sched_cli.specs.declared.faults.WordsFault.{WordsFault}
-use Rattle.sched_cli.specs.declared.faults.WordsFault.TheVariants as words
+use Rattle.sched_words.specs.declared.faults.WordsFault.{WordsFault}
+use Rattle.sched_words.specs.declared.faults.WordsFault.TheVariants as words
 
 -- the status that the program exits with where the command line was no task
 abbrev pub words_status : WordsFault → ℕ

@@ -1,5 +1,5 @@
-use Rattle.sched_cli.specs.Options.{AreInputs}
-use Rattle.sched_cli.proofs.words.inputs.Given as goal
+use Rattle.sched_words.specs.Options.{AreInputs}
+use Rattle.sched_words.proofs.words.inputs.Given as goal
 
 -- those so far are in range
 abbrev pub invariant-loop-number : goal.invariant-loop-number

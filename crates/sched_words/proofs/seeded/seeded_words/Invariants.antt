@@ -1,8 +1,8 @@
 use Rattle.std.proofs.Common.{◌≡◌, ◌-◌, ◌++◌}
 use Rattle.rand_core.specs.Steps.{stream_of, steps_u32}
 use Rattle.rand_xoshiro.specs.Xoshiro128.{plus_plus}
-use Rattle.sched_cli.specs.Seeded.{fours, seeded}
-use Rattle.sched_cli.proofs.seeded.seeded_words.Given as goal
+use Rattle.sched_words.specs.Seeded.{fours, seeded}
+use Rattle.sched_words.proofs.seeded.seeded_words.Given as goal
 
 -- the words so far, and those that the generator gives from here on
 abbrev pub invariant-loop : goal.invariant-loop

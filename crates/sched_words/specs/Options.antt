@@ -2,12 +2,12 @@ use Rattle.std.specs.Prelude.{◌≡◌, ℕ, ◌≤◌, ◌<◌, ◌^◌, ◌�
 use Rattle.sched_time.specs.declared.numbers.TheConstants.{FAR}
 use Rattle.sched_plan_text.specs.Course.{Course, course_of}
 use Rattle.sched_plan_text.specs.declared.options.PlanOptions.{PlanOptions}
-use Rattle.sched_cli.specs.Quotas.{QuotaIsInRange}
-use Rattle.sched_cli.specs.Seeded.{fours, seeded}
-use Rattle.sched_cli.specs.declared.options.PoolOptions.{PoolOptions}
-use Rattle.sched_cli.specs.declared.options.Origin.{Origin}
-use Rattle.sched_cli.specs.declared.options.Asked.{Asked}
-use Rattle.sched_cli.specs.declared.options.Asked.TheVariants as asked
+use Rattle.sched_words.specs.Quotas.{QuotaIsInRange}
+use Rattle.sched_words.specs.Seeded.{fours, seeded}
+use Rattle.sched_words.specs.declared.options.PoolOptions.{PoolOptions}
+use Rattle.sched_words.specs.declared.options.Origin.{Origin}
+use Rattle.sched_words.specs.declared.options.Asked.{Asked}
+use Rattle.sched_words.specs.declared.options.Asked.TheVariants as asked
 
 -- each option of a plan lies in its range
 pub record AreInRange (options : PlanOptions) : Type 0 where

@@ -1,7 +1,7 @@
 -- The options of a pool on a quota.
 use Rattle.std.specs.Prelude.{◌≤◌}
 use Rattle.sched_quota.specs.Held.{AreTerms}
-use Rattle.sched_cli.specs.declared.quotas.QuotaOptions.{QuotaOptions}
+use Rattle.sched_words.specs.declared.quotas.QuotaOptions.{QuotaOptions}
 
 -- each option of a pool on a quota lies in its range
 pub record QuotaIsInRange (options : QuotaOptions) : Type 0 where

@@ -2,9 +2,9 @@ use Rattle.std.proofs.Common.{◌≡◌, ℕ, ◌+◌, ◌-◌, List, [], ◌∷
 use Rattle.rand_core.specs.Stream.{Stream}
 use Rattle.rand_core.specs.Steps.{stream_of, steps_u32}
 use Rattle.rand_xoshiro.specs.Xoshiro128.{plus_plus}
-use Rattle.sched_cli.specs.Seeded.{fours, seeded}
-use Rattle.sched_cli.proofs.Fours.{with_next}
-use Rattle.sched_cli.proofs.seeded.seeded_words.Goals as goal
+use Rattle.sched_words.specs.Seeded.{fours, seeded}
+use Rattle.sched_words.proofs.Fours.{with_next}
+use Rattle.sched_words.proofs.seeded.seeded_words.Goals as goal
 
 pub loop-preserved : goal.loop-preserved
 loop-preserved c =

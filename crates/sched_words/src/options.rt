@@ -29,7 +29,7 @@ pub enum Asked {
 
 impl Asked {
     ghost use Rattle.std.specs.Prelude.{◌≡◌};
-    ghost use Rattle.sched_cli.specs.Options.{origin_of};
+    ghost use Rattle.sched_words.specs.Options.{origin_of};
 
     /// Where the text comes from.
     pub fn origin(&self) -> &Origin

@@ -1,7 +1,7 @@
 //! The words of a command line that ask for a pool on a quota.
 ghost use Rattle.std.specs.Prelude.{IfSome};
 ghost use Rattle.sched_quota.specs.Held.{AreTerms};
-ghost use Rattle.sched_cli.specs.Quotas.{QuotaIsInRange};
+ghost use Rattle.sched_words.specs.Quotas.{QuotaIsInRange};
 
 use crate::options::MOST_TURNS;
 use crate::quotas::QuotaOptions;

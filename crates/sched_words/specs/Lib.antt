@@ -1,0 +1,4 @@
+pub mod Seeded
+pub mod Options
+pub mod Status
+pub mod Quotas

@@ -1,0 +1,16 @@
+//! The command line of `zsched`: what its words ask for, each option in its range, or why they ask for nothing.
+#![tactic(auto)]
+
+mod check;
+mod commands;
+mod faults;
+mod options;
+mod quota_words;
+mod quotas;
+mod seeded;
+mod words;
+
+pub use faults::WordsFault;
+pub use options::{Asked, MOST_TICKETS, MOST_TURNS, MOST_WORKERS, Origin, PoolOptions};
+pub use quotas::QuotaOptions;
+pub use words::read_words;
