@@ -6,11 +6,11 @@ ghost use Rattle.sched_cli.specs.JobsPrinting.{ReadsJobs, IsRunFault};
 ghost use Rattle.sched_cli.specs.PoolPrinting.{RunsOnBudget, PrintsPool};
 
 use crate::ended::{Ended, write_ended};
-use sched_words::PoolOptions;
 use sched_jobs_json::{JobRead, read_jobs};
 use sched_plan_text::{PrintFault, Sink, Source, read_all, read_value};
 use sched_pool_text::push_total;
 use sched_scripted_pool::{Batch, BatchFault, run_batch};
+use sched_words::PoolOptions;
 use std::alloc::{AllocGlobal, Global};
 use std::random::RandomSource;
 use std::sync::Wait;

@@ -7,11 +7,11 @@ ghost use Rattle.sched_cli.specs.QuotaPrinting.{RunsOnQuota, PrintsQuotaPool};
 
 use crate::ended::{Ended, write_ended};
 use crate::pools::jobs_in;
-use sched_words::QuotaOptions;
 use sched_jobs_json::JobRead;
 use sched_plan_text::{PrintFault, Sink, Source, read_all};
 use sched_pool_text::push_windows;
 use sched_quota_pool::{QuotaBatch, QuotaBatchFault, run_on_quota};
+use sched_words::QuotaOptions;
 use std::alloc::{AllocGlobal, Global};
 use std::random::RandomSource;
 use std::sync::Wait;
