@@ -3,8 +3,6 @@ use Rattle.std.proofs.Common.{◌≡◌, inl, inr, ℕ, List, [], ◌∷◌, ◌
 use Rattle.std.proofs.lemmas.List.{append_assoc, append-nil}
 use Rattle.serde_json.specs.Data.{Data}
 use Rattle.serde_json.specs.View.{view}
-use Rattle.sched_json.specs.Forms.{Spelt, of_leaf, over_one, over_two}
-use Rattle.sched_json.specs.Node.{HasNoPlan}
 use Rattle.sched_json.specs.PlanOf.{plan_of, spelt_of}
 use Rattle.sched_json.specs.declared.faults.ReadFault.{ReadFault}
 use Rattle.sched_check.specs.declared.below.Below.{Below}
@@ -13,15 +11,8 @@ use Rattle.sched_check.specs.declared.places.Step.{Step}
 use Rattle.sched_check.specs.Checked.{IsPlanFault}
 use Rattle.sched_check.specs.Below.{IsFirstBelow}
 use Rattle.sched_check.specs.Places.{Into, place_of}
-use Rattle.sched_check.specs.PlanFaults.{AreRead, IsNext, plans_in, name_in, steps_to, FirstFault, own, below, LeadsOn}
+use Rattle.sched_check.specs.PlanFaults.{IsNext, plans_in, name_in, steps_to, FirstFault, own, below, LeadsOn}
 use Rattle.sched_check.proofs.Leads.{leads, refused, whole}
-
--- what stands on no plan has none that is refused
-pub no_plans : (spelt : Option Spelt) → HasNoPlan spelt → AreRead (plans_in spelt)
-no_plans None has = tt
-no_plans (Some (of_leaf l)) has = tt
-no_plans (Some (over_one k a)) has = absurd has
-no_plans (Some (over_two k a b)) has = absurd has
 
 -- the first of one plan is the first of two
 pub first_stays : (p q : Option ℕ × Data) (b : Below) → IsFirstBelow (p ∷ []) (Some b) → IsFirstBelow (p ∷ q ∷ []) (Some b)

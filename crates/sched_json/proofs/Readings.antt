@@ -1,17 +1,18 @@
 -- What a reading answers follows from what its parts answer.
-use Rattle.std.proofs.Common.{◌≡◌, Bool, true, false, ◌||◌, Option, Some, None, option_map, Result, Ok, Err, IsTrue, refl, sym, ◌∙◌, ap, subst}
+use Rattle.std.proofs.Common.{◌≡◌, Bool, true, false, ◌||◌, not, if◌then◌else◌, Option, Some, None, option_map, Result, Ok, Err, IsTrue, refl, sym, ◌∙◌, ap, subst}
 use Rattle.sched_plan.specs.declared.plans.PlanFault.TheVariants.{OutOfRange, TooDeep, TooMany, NoMemory}
 use Rattle.sched_json.specs.declared.faults.ReadFault.{ReadFault}
 use Rattle.sched_json.specs.declared.faults.ReadFault.TheVariants.{NotAPlan, Plan}
 use Rattle.serde_json.specs.Data.{Data, null, boolean, number, string, array, object, no_members, member}
-use Rattle.sched_plan.specs.Schedule.{Schedule, one, two}
+use Rattle.sched_plan.specs.Schedule.{Schedule, leaf, one, two, node_in_range}
+use Rattle.sched_plan.specs.Plan.{built_plan}
+use Rattle.sched_plan.specs.declared.plans.PlanFault.{PlanFault}
 use Rattle.sched_plan.specs.declared.leaves.Leaf.{Leaf}
 use Rattle.sched_plan.specs.declared.nodes.One.{One}
 use Rattle.sched_plan.specs.declared.nodes.Two.{Two}
-use Rattle.sched_json.specs.Reading.{Reading, Reads, found_value, then_read, read_on, built_node}
-use Rattle.sched_json.specs.Forms.{of_leaf, over_one, over_two, meant_by}
+use Rattle.sched_json.specs.Reading.{Reading, Reads, found_value, then_read, read_on, of_builder, built_leaf, built_node}
+use Rattle.sched_json.specs.Forms.{LacksForm, of_leaf, over_one, over_two, meant_by}
 use Rattle.sched_json.specs.Nodes.{names}
-use Rattle.sched_json.specs.Node.{IsLeaf}
 use Rattle.sched_json.specs.PlanOf.{both_plans, part_of, reading_of, reading_of_leaf, reading_of_node, spelt_of}
 
 asked_first : (a b : Bool) → IsTrue a → IsTrue (a || b)
@@ -61,8 +62,24 @@ reading_of_spelt (object no_members) = refl
 reading_of_spelt (object (member name value no_members)) = refl
 reading_of_spelt (object (member name value (member other more members))) = refl
 
-pub reads_leaf : (d : Data) (answer : Result Schedule ReadFault) → IsLeaf answer (spelt_of d) → Reads answer (reading_of d)
-reads_leaf d answer h = subst (Reads answer) (sym (reading_of_spelt d)) h.1
+-- a leaf's builder refuses it as out of range alone
+built_reads : (in_range : Bool) (s : Schedule) → let made = if not in_range then Err OutOfRange else Ok s in
+    Reads (of_builder made) (record { answer = of_builder made; asked = false })
+built_reads true s = refl
+built_reads false s = refl
+
+pub leaf_reads : (l : Leaf) (made : Result Schedule PlanFault) (answer : Result Schedule ReadFault) →
+    made ≡ built_plan (leaf l) → answer ≡ of_builder made → Reads answer (built_leaf l)
+leaf_reads l made answer e is = rw is (rw e (built_reads (node_in_range (leaf l)) (leaf l)))
+
+-- a leaf answers what its builder does
+pub leaf_read : (d : Data) (l : Leaf) (answer : Result Schedule ReadFault) → spelt_of d ≡ Some (of_leaf l) →
+    Reads answer (built_leaf l) → Reads answer (reading_of d)
+leaf_read d l answer spelt h = subst (Reads answer) (sym (reading_of_spelt d ∙ ap reading_of_node spelt)) h
+
+-- a value that has not the form of a node is no plan
+pub lacking_read : (d : Data) (fault : ReadFault) → LacksForm (spelt_of d) fault → Reads {A = Schedule} (Err fault) (reading_of d)
+lacking_read d fault h = rw h.0 (subst (Reads {A = Schedule} (Err NotAPlan)) (sym (reading_of_spelt d ∙ ap reading_of_node h.1)) refl)
 
 -- of two plans the first was read, and the second gave a fault
 pub both_plans-second : (a b : Data) (first : Schedule) (fault : ReadFault)

@@ -1,6 +1,7 @@
 ghost use Rattle.sched_plan.specs.Schedule.{Schedule};
 ghost use Rattle.sched_plan.specs.Plan.{Builds};
-ghost use Rattle.sched_json.specs.Reading.{Reads, built_node};
+ghost use Rattle.std.specs.Prelude.{◌≡◌};
+ghost use Rattle.sched_json.specs.Reading.{Reads, built_node, of_builder};
 
 use sched_plan::{Plan, PlanFault};
 use thiserror::Error;
@@ -30,6 +31,13 @@ impl From<PlanFault> for ReadFault {
 /// What a builder over other plans answered.
 pub(crate) fn built(answer: Result<Plan, PlanFault>) -> Result<Plan, ReadFault>
     ensures { (s : Schedule) → Builds answer s → Reads result (built_node s) }
+{
+    answer.map_err(ReadFault::Plan)
+}
+
+/// What a leaf's builder answered.
+pub(crate) fn refused(answer: Result<Plan, PlanFault>) -> Result<Plan, ReadFault>
+    ensures { result ≡ of_builder answer }
 {
     answer.map_err(ReadFault::Plan)
 }

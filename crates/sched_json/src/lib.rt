@@ -11,6 +11,7 @@ mod texts;
 mod words;
 
 pub use faults::ReadFault;
+pub use leaves::LeafNode;
 pub use nodes::{Node, OneNode};
 pub use plans::read_plan;
 pub use spelling::read_node;

@@ -4,15 +4,16 @@ ghost use Rattle.sched_json.specs.Reading.{Reads, built_node};
 ghost use Rattle.sched_json.specs.Node.{one_of};
 
 use crate::faults::{ReadFault, built};
+use crate::leaves::LeafNode;
 use sched_plan::{Fold, Plan, Side, Test, Two};
 use serde_json::Value;
 use std::alloc::Global;
 
-/// A node whose own form is right. Its plans are not read yet.
-#[derive(Drop)]
+/// A node whose own form is right. Its builder is not asked yet, and its plans are not read.
+#[derive(Clone, Copy)]
 pub enum Node<'a> {
     /// A recurrence of its own.
-    Leaf(Plan),
+    Leaf(LeafNode),
     /// A node over the plan that this value spells.
     One(OneNode, &'a Value),
     /// A node over the plans that these values spell.

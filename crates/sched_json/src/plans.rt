@@ -12,12 +12,12 @@ use std::alloc::Global;
 
 /// The plan that a JSON value spells, or the first fault found: of each node first its own form is looked at, then
 /// its plans from left to right, then what its builder refuses. Only a node over other plans asks for memory.
-#[tactic(auto, using(crate::proofs::Readings::reads_leaf, crate::proofs::Readings::one_read, crate::proofs::Readings::two_read))]
+#[tactic(auto, using(crate::proofs::Readings::leaf_read, crate::proofs::Readings::lacking_read, crate::proofs::Readings::one_read, crate::proofs::Readings::two_read))]
 pub fn read_plan(alloc: Global, value: &Value) -> Result<Plan, ReadFault>
     ensures { Reads result (reading_of (view value.now)) }
 {
     match read_node(value)? {
-        Node::Leaf(plan) => Ok(plan),
+        Node::Leaf(leaf) => leaf.built(),
         Node::One(node, plan) => node.over(alloc, read_plan(alloc, plan)?),
         Node::Two(node, first, second) => {
             let first = read_plan(alloc, first)?;

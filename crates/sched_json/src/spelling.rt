@@ -14,10 +14,9 @@ use crate::nodes::{Node, OneNode};
 use sched_plan::Two;
 use serde_json::{Map, Value};
 
-/// The node that a JSON value spells by its own form; a leaf is built. Its plans, which are parts of the value, are not
-/// looked at.
+/// The node that a JSON value spells by its own form. Its plans, which are parts of the value, are not looked at.
 ///
-/// Refused as `NotAPlan` where the value has not the form of a node, and as a leaf's builder refuses it.
+/// Refused as `NotAPlan` where the value has not the form of a node.
 pub fn read_node(value: &Value) -> Result<Node<'_>, ReadFault>
     ensures node { IsNode result (spelt_of (view value.now)) }
     ensures nested { IfOk result (λ node. NestsBelow node (depth (view value.now))) }
