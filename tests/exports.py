@@ -1,5 +1,6 @@
 """Compares the calls that include/hikebox.h declares with those that crates/hikebox_c exports: their names, and of each the
-types of its parameters in order. A handle's type is a struct of one pointer, whichever kind it is of."""
+types of its parameters in order. A handle's type is a struct of one pointer, whichever kind it is of. Each export makes the
+call of its name of crates/sched_calls and nothing else, and has its parameters and clauses, word for word."""
 import pathlib
 import re
 import sys
@@ -60,6 +61,26 @@ def exported():
     return calls
 
 
+def functions(crate, begins):
+    """The functions that begin so: parameters, clauses and body of each, with the white space of one line."""
+    pattern = begins + r"(\w+)\(([^)]*)\) -> u32\n(.*?)^\{\n(.*?)^\}$"
+    for file in sorted((TOP / "crates" / crate / "src").glob("*.rt")):
+        for name, *parts in re.findall(pattern, without_comments(file.read_text()), re.M | re.S):
+            yield name, [" ".join(part.split()).rstrip(",") for part in parts]
+
+
+def passed_on():
+    """Each export with what it should be by the call that it makes, where it is something else."""
+    calls = dict(functions("sched_calls", "^pub fn "))
+    exports = dict(functions("hikebox_c", r'^pub extern "C" fn hikebox_'))
+    for name in sorted({*calls, *exports}):
+        parameters, clauses, _ = calls.get(name, ("", "", ""))
+        words = ", ".join(re.findall(r"(\w+):", parameters))
+        call = f"sched_calls::{name}({words})"
+        if exports.get(name) != [parameters, clauses, call]:
+            yield name, exports.get(name), [parameters, clauses, call]
+
+
 def structs():
     header = without_comments((TOP / "include/hikebox.h").read_text())
     replies = "".join(without_comments(file.read_text()) for file in sorted((TOP / "crates/sched_reply/src").glob("*.rt")))
@@ -75,6 +96,7 @@ def main():
     is_c, is_rattle = declared(), exported()
     wrong = [f"{name}: declared {is_c.get(name)}, exported {is_rattle.get(name)}" for name in sorted({*is_c, *is_rattle}) if is_c.get(name) != is_rattle.get(name)]
     wrong += [f"{name}: declared {here}, written {there}" for name, here, there in structs() if here != there]
+    wrong += [f"{name}: exported {here}, called {there}" for name, here, there in passed_on()]
     for line in wrong:
         print(f"tests/exports.py: {line}", file=sys.stderr)
     print(f"tests/exports.py: {len(is_c)} calls compared")

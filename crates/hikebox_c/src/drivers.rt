@@ -7,26 +7,17 @@ ghost use Rattle.sched_handle.specs.Policies.{Drives};
 ghost use Rattle.sched_reply.specs.Status.{told};
 ghost use Rattle.sched_handle.specs.declared.held.Kind.TheVariants as kind;
 ghost use Rattle.sched_reply.specs.declared.status.Status.TheVariants as status;
-ghost use Rattle.hikebox_c.specs.Calls.{Tells, Kept, OnHeld, MakesWith};
-ghost use Rattle.hikebox_c.specs.Drivers.{TellsText, NextsAt};
+ghost use Rattle.sched_calls.specs.Calls.{Tells, Kept, OnHeld, MakesWith};
+ghost use Rattle.sched_calls.specs.Drivers.{TellsText, NextsAt};
 
-use sched_handle::{Decided, Handle, Kind, Status, put_text, tell, tick_at};
-use sched_time::Millis;
+use sched_handle::{Decided, Handle};
 use std::alloc::Global;
 
 #[unsafe(no_mangle)]
 pub extern "C" fn hikebox_driver_new(alloc: Global, policy: &mut Handle, driver: &mut Handle) -> u32
     ensures { MakesWith (Kept Drives) policy.old.held policy.new.held driver.old.held result driver.new.held }
 {
-    if driver.is_full(alloc) {
-        return Status::Full.code();
-    }
-    let Some(held) = policy.take(alloc) else {
-        return Status::Empty.code();
-    };
-    let made = held.driver(alloc);
-    policy.put(held);
-    driver.fill(made)
+    sched_calls::driver_new(alloc, policy, driver)
 }
 
 #[unsafe(no_mangle)]
@@ -43,18 +34,7 @@ pub extern "C" fn hikebox_driver_next(
     ensures too_large { (FAR < now) ⊎ (FAR < input) → (driver.new.held ≡ driver.old.held)
         × Tells result decision.old decision.new (Err status.TooLarge) }
 {
-    let Ok(tick) = tick_at(now, words) else {
-        return Status::TooLarge.code();
-    };
-    let Some(input) = Millis::new(input) else {
-        return Status::TooLarge.code();
-    };
-    let Some(mut held) = driver.take(alloc) else {
-        return Status::Empty.code();
-    };
-    let answer = held.next(alloc, tick, input);
-    driver.put(held);
-    tell(answer, decision)
+    sched_calls::driver_next(alloc, driver, now, words, input, decision)
 }
 
 #[unsafe(no_mangle)]
@@ -65,12 +45,7 @@ pub extern "C" fn hikebox_driver_next_start(
 ) -> u32
     ensures { OnHeld (Kept Planned) driver.old.held driver.new.held (Tells result decision.old decision.new) }
 {
-    let Some(held) = driver.take(alloc) else {
-        return Status::Empty.code();
-    };
-    let answer = held.planned();
-    driver.put(held);
-    tell(answer, decision)
+    sched_calls::driver_next_start(alloc, driver, decision)
 }
 
 #[unsafe(no_mangle)]
@@ -81,12 +56,7 @@ pub extern "C" fn hikebox_driver_last_number(
 ) -> u32
     ensures { OnHeld (Kept LastNumber) driver.old.held driver.new.held (Tells result number.old number.new) }
 {
-    let Some(held) = driver.take(alloc) else {
-        return Status::Empty.code();
-    };
-    let answer = held.last_number();
-    driver.put(held);
-    tell(answer, number)
+    sched_calls::driver_last_number(alloc, driver, number)
 }
 
 #[unsafe(no_mangle)]
@@ -99,50 +69,26 @@ pub extern "C" fn hikebox_driver_last_text(
     ensures { OnHeld (Kept LastText) driver.old.held driver.new.held
         (TellsText result text.old text.new length.old length.new) }
 {
-    let Some(held) = driver.take(alloc) else {
-        return Status::Empty.code();
-    };
-    let answer = held.last_text(alloc);
-    driver.put(held);
-    match answer {
-        Ok(output) => match put_text(output.as_str(), text, length) {
-            Ok(()) => 0,
-            Err(status) => status.code(),
-        },
-        Err(status) => status.code(),
-    }
+    sched_calls::driver_last_text(alloc, driver, text, length)
 }
 
 #[unsafe(no_mangle)]
 pub extern "C" fn hikebox_driver_events(alloc: Global, driver: &mut Handle, events: &mut u64) -> u32
     ensures { OnHeld (Kept CountsEvents) driver.old.held driver.new.held (Tells result events.old events.new) }
 {
-    let Some(held) = driver.take(alloc) else {
-        return Status::Empty.code();
-    };
-    let answer = held.events();
-    driver.put(held);
-    tell(answer, events)
+    sched_calls::driver_events(alloc, driver, events)
 }
 
 #[unsafe(no_mangle)]
 pub extern "C" fn hikebox_driver_reset(alloc: Global, driver: &mut Handle) -> u32
     ensures { OnHeld Resets driver.old.held driver.new.held (λ r. result ≡ told r) }
 {
-    let Some(mut held) = driver.take(alloc) else {
-        return Status::Empty.code();
-    };
-    let answer = held.reset();
-    driver.put(held);
-    match answer {
-        Ok(()) => 0,
-        Err(status) => status.code(),
-    }
+    sched_calls::driver_reset(alloc, driver)
 }
 
 #[unsafe(no_mangle)]
 pub extern "C" fn hikebox_driver_free(alloc: Global, driver: &mut Handle) -> u32
     ensures { Frees kind.Driver driver.old.held result driver.new.held }
 {
-    driver.free(alloc, Kind::Driver)
+    sched_calls::driver_free(alloc, driver)
 }

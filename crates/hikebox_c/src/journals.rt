@@ -1,8 +1,8 @@
 //! Journals of drivers and of retries.
 ghost use Rattle.sched_handle.specs.Journals.{DriverNoted, RetryNoted, CountsSteps};
-ghost use Rattle.hikebox_c.specs.Calls.{Tells, Kept, OnHeld};
+ghost use Rattle.sched_calls.specs.Calls.{Tells, Kept, OnHeld};
 
-use sched_handle::{Handle, Noted, Status, tell};
+use sched_handle::{Handle, Noted};
 use std::alloc::Global;
 
 #[unsafe(no_mangle)]
@@ -14,24 +14,14 @@ pub extern "C" fn hikebox_driver_event(
 ) -> u32
     ensures { OnHeld (Kept (DriverNoted index)) driver.old.held driver.new.held (Tells result event.old event.new) }
 {
-    let Some(held) = driver.take(alloc) else {
-        return Status::Empty.code();
-    };
-    let answer = held.driver_event(index);
-    driver.put(held);
-    tell(answer, event)
+    sched_calls::driver_event(alloc, driver, index, event)
 }
 
 #[unsafe(no_mangle)]
 pub extern "C" fn hikebox_retry_events(alloc: Global, retry: &mut Handle, events: &mut u64) -> u32
     ensures { OnHeld (Kept CountsSteps) retry.old.held retry.new.held (Tells result events.old events.new) }
 {
-    let Some(held) = retry.take(alloc) else {
-        return Status::Empty.code();
-    };
-    let answer = held.retry_events();
-    retry.put(held);
-    tell(answer, events)
+    sched_calls::retry_events(alloc, retry, events)
 }
 
 #[unsafe(no_mangle)]
@@ -43,10 +33,5 @@ pub extern "C" fn hikebox_retry_event(
 ) -> u32
     ensures { OnHeld (Kept (RetryNoted index)) retry.old.held retry.new.held (Tells result event.old event.new) }
 {
-    let Some(held) = retry.take(alloc) else {
-        return Status::Empty.code();
-    };
-    let answer = held.retry_event(index);
-    retry.put(held);
-    tell(answer, event)
+    sched_calls::retry_event(alloc, retry, index, event)
 }

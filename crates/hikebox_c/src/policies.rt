@@ -5,10 +5,10 @@ ghost use Rattle.sched_handle.specs.Policies.{ReadsPolicy, Copies, Sizes, nowher
 ghost use Rattle.sched_reply.specs.Status.{code_of};
 ghost use Rattle.sched_handle.specs.declared.held.Kind.TheVariants as kind;
 ghost use Rattle.sched_reply.specs.declared.status.Status.TheVariants as status;
-ghost use Rattle.hikebox_c.specs.Calls.{Tells, Kept, OnHeld, Makes, MakesWith};
-ghost use Rattle.hikebox_c.specs.Policies.{size_of};
+ghost use Rattle.sched_calls.specs.Calls.{Tells, Kept, OnHeld, Makes, MakesWith};
+ghost use Rattle.sched_calls.specs.Policies.{size_of};
 
-use sched_handle::{Handle, Held, Kind, Place, Size, Status};
+use sched_handle::{Handle, Place};
 use std::alloc::Global;
 
 #[unsafe(no_mangle)]
@@ -21,27 +21,14 @@ pub extern "C" fn hikebox_policy_read(
     ensures policy { Makes (ReadsPolicy json.now) policy.old.held result policy.new.held }
     ensures place { result ≢ code_of status.NotJson → place.new ≡ nowhere }
 {
-    *place = Place { line: 0, column: 0 };
-    if policy.is_full(alloc) {
-        return Status::Full.code();
-    }
-    let made = Held::read(alloc, json, place);
-    policy.fill(made)
+    sched_calls::policy_read(alloc, json, policy, place)
 }
 
 #[unsafe(no_mangle)]
 pub extern "C" fn hikebox_policy_copy(alloc: Global, policy: &mut Handle, copy: &mut Handle) -> u32
     ensures { MakesWith (Kept Copies) policy.old.held policy.new.held copy.old.held result copy.new.held }
 {
-    if copy.is_full(alloc) {
-        return Status::Full.code();
-    }
-    let Some(held) = policy.take(alloc) else {
-        return Status::Empty.code();
-    };
-    let made = held.copied(alloc);
-    policy.put(held);
-    copy.fill(made)
+    sched_calls::policy_copy(alloc, policy, copy)
 }
 
 #[unsafe(no_mangle)]
@@ -54,24 +41,12 @@ pub extern "C" fn hikebox_policy_size(
     ensures { OnHeld (Kept Sizes) policy.old.held policy.new.held
         (Tells result (size_of nodes.old depth.old) (size_of nodes.new depth.new)) }
 {
-    let Some(held) = policy.take(alloc) else {
-        return Status::Empty.code();
-    };
-    let size = held.size();
-    policy.put(held);
-    match size {
-        Ok(Size { nodes: n, depth: d }) => {
-            *nodes = n;
-            *depth = d;
-            0
-        }
-        Err(status) => status.code(),
-    }
+    sched_calls::policy_size(alloc, policy, nodes, depth)
 }
 
 #[unsafe(no_mangle)]
 pub extern "C" fn hikebox_policy_free(alloc: Global, policy: &mut Handle) -> u32
     ensures { Frees kind.Policy policy.old.held result policy.new.held }
 {
-    policy.free(alloc, Kind::Policy)
+    sched_calls::policy_free(alloc, policy)
 }

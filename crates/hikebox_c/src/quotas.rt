@@ -7,11 +7,10 @@ ghost use Rattle.sched_handle.specs.Quotas.{CountsQuota, AreOfOneQuota, JoinsQuo
 ghost use Rattle.sched_reply.specs.Status.{told, code_of};
 ghost use Rattle.sched_handle.specs.declared.held.Kind.TheVariants as kind;
 ghost use Rattle.sched_reply.specs.declared.status.Status.TheVariants as status;
-ghost use Rattle.hikebox_c.specs.Calls.{Tells, Kept, OnHeld, Makes, MakesWith};
-ghost use Rattle.hikebox_c.specs.Shared.{JoinsHeld, ClosesHeld};
+ghost use Rattle.sched_calls.specs.Calls.{Tells, Kept, OnHeld, Makes, MakesWith};
+ghost use Rattle.sched_calls.specs.Shared.{JoinsHeld, ClosesHeld};
 
-use sched_handle::{Handle, Held, Kind, Status, Usage, tell};
-use sched_time::Moment;
+use sched_handle::{Handle, Usage};
 use std::alloc::Global;
 
 #[unsafe(no_mangle)]
@@ -24,11 +23,7 @@ pub extern "C" fn hikebox_quota_new(
 ) -> u32
     ensures { Makes (MakesQuota (terms_of reserve share period)) quota.old.held result quota.new.held }
 {
-    if quota.is_full(alloc) {
-        return Status::Full.code();
-    }
-    let made = Held::quota(alloc, reserve, share, period);
-    quota.fill(made)
+    sched_calls::quota_new(alloc, reserve, share, period, quota)
 }
 
 #[unsafe(no_mangle)]
@@ -36,18 +31,7 @@ pub extern "C" fn hikebox_quota_deposit(alloc: Global, quota: &mut Handle, now: 
     ensures deposit { now ≤ FAR → OnHeld (Deposits now) quota.old.held quota.new.held (λ r. result ≡ told r) }
     ensures too_large { FAR < now → (quota.new.held ≡ quota.old.held) × (result ≡ code_of status.TooLarge) }
 {
-    let Some(now) = Moment::new(now) else {
-        return Status::TooLarge.code();
-    };
-    let Some(mut held) = quota.take(alloc) else {
-        return Status::Empty.code();
-    };
-    let answer = held.deposit(now);
-    quota.put(held);
-    match answer {
-        Ok(()) => 0,
-        Err(status) => status.code(),
-    }
+    sched_calls::quota_deposit(alloc, quota, now)
 }
 
 #[unsafe(no_mangle)]
@@ -62,15 +46,7 @@ pub extern "C" fn hikebox_quota_draw(
     ensures too_large { FAR < now → (quota.new.held ≡ quota.old.held)
         × Tells result ticket.old ticket.new (Err status.TooLarge) }
 {
-    let Some(now) = Moment::new(now) else {
-        return Status::TooLarge.code();
-    };
-    let Some(mut held) = quota.take(alloc) else {
-        return Status::Empty.code();
-    };
-    let answer = held.draw_quota(now);
-    quota.put(held);
-    tell(answer, ticket)
+    sched_calls::quota_draw(alloc, quota, now, ticket)
 }
 
 #[unsafe(no_mangle)]
@@ -85,30 +61,14 @@ pub extern "C" fn hikebox_quota_seen(
     ensures too_large { FAR < now → (quota.new.held ≡ quota.old.held)
         × Tells result usage.old usage.new (Err status.TooLarge) }
 {
-    let Some(now) = Moment::new(now) else {
-        return Status::TooLarge.code();
-    };
-    let Some(mut held) = quota.take(alloc) else {
-        return Status::Empty.code();
-    };
-    let answer = held.usage(now);
-    quota.put(held);
-    tell(answer, usage)
+    sched_calls::quota_seen(alloc, quota, now, usage)
 }
 
 #[unsafe(no_mangle)]
 pub extern "C" fn hikebox_quota_split(alloc: Global, quota: &mut Handle, part: &mut Handle) -> u32
     ensures { MakesWith SplitsQuota quota.old.held quota.new.held part.old.held result part.new.held }
 {
-    if part.is_full(alloc) {
-        return Status::Full.code();
-    }
-    let Some(mut held) = quota.take(alloc) else {
-        return Status::Empty.code();
-    };
-    let made = held.split_quota(alloc);
-    quota.put(held);
-    part.fill(made)
+    sched_calls::quota_split(alloc, quota, part)
 }
 
 #[unsafe(no_mangle)]
@@ -116,56 +76,26 @@ pub extern "C" fn hikebox_quota_join(alloc: Global, quota: &mut Handle, other: &
     requires { AreOfOneQuota quota.old.held other.old.held }
     ensures { JoinsHeld kind.Quota JoinsQuota quota.old.held other.old.held result quota.new.held other.new.held }
 {
-    let Some(mut held) = quota.take(alloc) else {
-        return Status::Empty.code();
-    };
-    if held.kind() != Kind::Quota {
-        quota.put(held);
-        return Status::WrongKind.code();
-    }
-    let Some(with) = other.take(alloc) else {
-        quota.put(held);
-        return Status::Empty.code();
-    };
-    if with.kind() != Kind::Quota {
-        quota.put(held);
-        other.put(with);
-        return Status::WrongKind.code();
-    }
-    held.join_quota(Box::into_inner(with));
-    quota.put(held);
-    0
+    sched_calls::quota_join(alloc, quota, other)
 }
 
 #[unsafe(no_mangle)]
 pub extern "C" fn hikebox_quota_count(alloc: Global, quota: &mut Handle, tickets: &mut u64) -> u32
     ensures { OnHeld (Kept CountsQuota) quota.old.held quota.new.held (Tells result tickets.old tickets.new) }
 {
-    let Some(held) = quota.take(alloc) else {
-        return Status::Empty.code();
-    };
-    let answer = held.count_quota();
-    quota.put(held);
-    tell(answer, tickets)
+    sched_calls::quota_count(alloc, quota, tickets)
 }
 
 #[unsafe(no_mangle)]
 pub extern "C" fn hikebox_quota_close(alloc: Global, quota: &mut Handle, tickets: &mut u64) -> u32
     ensures { ClosesHeld ClosesQuota quota.old.held quota.new.held (Tells result tickets.old tickets.new) }
 {
-    let Some(mut held) = quota.take(alloc) else {
-        return Status::Empty.code();
-    };
-    let answer = held.close_quota(alloc);
-    if held.kind() != Kind::Room {
-        quota.put(held);
-    }
-    tell(answer, tickets)
+    sched_calls::quota_close(alloc, quota, tickets)
 }
 
 #[unsafe(no_mangle)]
 pub extern "C" fn hikebox_quota_free(alloc: Global, quota: &mut Handle) -> u32
     ensures { Frees kind.Quota quota.old.held result quota.new.held }
 {
-    quota.free(alloc, Kind::Quota)
+    sched_calls::quota_free(alloc, quota)
 }

@@ -9,12 +9,10 @@ ghost use Rattle.sched_handle.specs.Retries.{Sees, Cancels, IsOfItsBudget, IsOfI
 ghost use Rattle.sched_reply.specs.Status.{told};
 ghost use Rattle.sched_handle.specs.declared.held.Kind.TheVariants as kind;
 ghost use Rattle.sched_reply.specs.declared.status.Status.TheVariants as status;
-ghost use Rattle.hikebox_c.specs.Calls.{Tells, Kept, OnHeld, MakesWith};
-ghost use Rattle.hikebox_c.specs.Retries.{NewRetry, Reports, PollsAt, EndsHeld};
+ghost use Rattle.sched_calls.specs.Calls.{Tells, Kept, OnHeld, MakesWith};
+ghost use Rattle.sched_calls.specs.Retries.{NewRetry, PollsAt, EndsHeld};
 
-use sched_effect::Ran;
-use sched_handle::{Handle, Held, Kind, Reply, Status, tell, tick_at};
-use sched_time::Millis;
+use sched_handle::{Handle, Reply};
 use std::alloc::Global;
 
 #[unsafe(no_mangle)]
@@ -28,20 +26,7 @@ pub extern "C" fn hikebox_retry_new(
         retry.old.held result retry.new.held }
     ensures policy { policy.new.held ≡ policy.old.held }
 {
-    if retry.is_full(alloc) {
-        return Status::Full.code();
-    }
-    let Some(plan) = policy.take(alloc) else {
-        return Status::Empty.code();
-    };
-    let Some(mut held) = pass.take(alloc) else {
-        policy.put(plan);
-        return Status::Empty.code();
-    };
-    let made = Held::retry(alloc, &plan, &mut held);
-    policy.put(plan);
-    pass.put(held);
-    retry.fill(made)
+    sched_calls::retry_new(alloc, policy, pass, retry)
 }
 
 #[unsafe(no_mangle)]
@@ -55,20 +40,7 @@ pub extern "C" fn hikebox_retry_on_quota(
         retry.old.held result retry.new.held }
     ensures policy { policy.new.held ≡ policy.old.held }
 {
-    if retry.is_full(alloc) {
-        return Status::Full.code();
-    }
-    let Some(plan) = policy.take(alloc) else {
-        return Status::Empty.code();
-    };
-    let Some(mut held) = quota.take(alloc) else {
-        policy.put(plan);
-        return Status::Empty.code();
-    };
-    let made = Held::retry_on_quota(alloc, &plan, &mut held);
-    policy.put(plan);
-    quota.put(held);
-    retry.fill(made)
+    sched_calls::retry_on_quota(alloc, policy, quota, retry)
 }
 
 #[unsafe(no_mangle)]
@@ -80,15 +52,7 @@ pub extern "C" fn hikebox_retry_unlimited(
     ensures { MakesWith (Kept RetriesUnlimited) policy.old.held policy.new.held
         retry.old.held result retry.new.held }
 {
-    if retry.is_full(alloc) {
-        return Status::Full.code();
-    }
-    let Some(plan) = policy.take(alloc) else {
-        return Status::Empty.code();
-    };
-    let made = Held::retry_unlimited(alloc, &plan);
-    policy.put(plan);
-    retry.fill(made)
+    sched_calls::retry_unlimited(alloc, policy, retry)
 }
 
 #[unsafe(no_mangle)]
@@ -106,66 +70,21 @@ pub extern "C" fn hikebox_retry_poll(
     ensures too_large { FAR < now → (retry.new.held ≡ retry.old.held)
         × Tells result next.old next.new (Err status.TooLarge) }
 {
-    let Ok(tick) = tick_at(now, words) else {
-        return Status::TooLarge.code();
-    };
-    let report = match reported(report, code) {
-        Ok(report) => report,
-        Err(status) => return status.code(),
-    };
-    let Some(mut held) = retry.take(alloc) else {
-        return Status::Empty.code();
-    };
-    let answer = held.poll(alloc, &tick, report);
-    retry.put(held);
-    tell(answer, next)
-}
-
-// The run that is reported, if any.
-fn reported(report: u32, code: u64) -> Result<Option<Ran>, Status>
-    ensures { Reports report code result }
-{
-    if report == 0 {
-        return Ok(None);
-    }
-    if report > 2 {
-        return Err(Status::NoSuchReport);
-    }
-    match Millis::new(code) {
-        None => Err(Status::TooLarge),
-        Some(code) => Ok(Some(if report == 1 {
-            Ran::Won(code)
-        } else {
-            Ran::Lost(code)
-        })),
-    }
+    sched_calls::retry_poll(alloc, retry, now, words, report, code, next)
 }
 
 #[unsafe(no_mangle)]
 pub extern "C" fn hikebox_retry_see(alloc: Global, retry: &mut Handle, next: &mut Reply) -> u32
     ensures { OnHeld (Kept Sees) retry.old.held retry.new.held (Tells result next.old next.new) }
 {
-    let Some(held) = retry.take(alloc) else {
-        return Status::Empty.code();
-    };
-    let answer = held.see();
-    retry.put(held);
-    tell(answer, next)
+    sched_calls::retry_see(alloc, retry, next)
 }
 
 #[unsafe(no_mangle)]
 pub extern "C" fn hikebox_retry_cancel(alloc: Global, retry: &mut Handle) -> u32
     ensures { OnHeld Cancels retry.old.held retry.new.held (λ r. result ≡ told r) }
 {
-    let Some(mut held) = retry.take(alloc) else {
-        return Status::Empty.code();
-    };
-    let answer = held.cancel();
-    retry.put(held);
-    match answer {
-        Ok(()) => 0,
-        Err(status) => status.code(),
-    }
+    sched_calls::retry_cancel(alloc, retry)
 }
 
 #[unsafe(no_mangle)]
@@ -173,30 +92,7 @@ pub extern "C" fn hikebox_retry_end(alloc: Global, retry: &mut Handle, pass: &mu
     requires { IsOfItsBudget retry.old.held pass.old.held }
     ensures { EndsHeld kind.Pass Joins retry.old.held pass.old.held result retry.new.held pass.new.held }
 {
-    let Some(held) = retry.take(alloc) else {
-        return Status::Empty.code();
-    };
-    if held.kind() != Kind::Retry {
-        retry.put(held);
-        return Status::WrongKind.code();
-    }
-    let Some(mut to) = pass.take(alloc) else {
-        retry.put(held);
-        return Status::Empty.code();
-    };
-    if to.kind() != Kind::Pass {
-        retry.put(held);
-        pass.put(to);
-        return Status::WrongKind.code();
-    }
-    if held.draws_on() != Kind::Pass {
-        retry.put(held);
-        pass.put(to);
-        return Status::DrawsElsewhere.code();
-    }
-    to.join(Box::into_inner(held).into_pass());
-    pass.put(to);
-    0
+    sched_calls::retry_end(alloc, retry, pass)
 }
 
 #[unsafe(no_mangle)]
@@ -208,35 +104,12 @@ pub extern "C" fn hikebox_retry_end_on_quota(
     requires { IsOfItsQuota retry.old.held quota.old.held }
     ensures { EndsHeld kind.Quota JoinsQuota retry.old.held quota.old.held result retry.new.held quota.new.held }
 {
-    let Some(held) = retry.take(alloc) else {
-        return Status::Empty.code();
-    };
-    if held.kind() != Kind::Retry {
-        retry.put(held);
-        return Status::WrongKind.code();
-    }
-    let Some(mut to) = quota.take(alloc) else {
-        retry.put(held);
-        return Status::Empty.code();
-    };
-    if to.kind() != Kind::Quota {
-        retry.put(held);
-        quota.put(to);
-        return Status::WrongKind.code();
-    }
-    if held.draws_on() != Kind::Quota {
-        retry.put(held);
-        quota.put(to);
-        return Status::DrawsElsewhere.code();
-    }
-    to.join_quota(Box::into_inner(held).into_pass());
-    quota.put(to);
-    0
+    sched_calls::retry_end_on_quota(alloc, retry, quota)
 }
 
 #[unsafe(no_mangle)]
 pub extern "C" fn hikebox_retry_free(alloc: Global, retry: &mut Handle) -> u32
     ensures { Frees kind.Retry retry.old.held result retry.new.held }
 {
-    retry.free(alloc, Kind::Retry)
+    sched_calls::retry_free(alloc, retry)
 }

@@ -3,8 +3,8 @@ use Rattle.sched_time.specs.declared.numbers.Tick.{Tick}
 use Rattle.sched_handle.specs.Retries.{Polls}
 use Rattle.sched_reply.specs.Status.{told}
 use Rattle.sched_reply.specs.declared.status.Status.{Status}
-use Rattle.hikebox_c.specs.Calls.{Tells}
-use Rattle.hikebox_c.proofs.retries.hikebox_retry_poll.Goals as goal
+use Rattle.sched_calls.specs.Calls.{Tells}
+use Rattle.sched_calls.proofs.retries.retry_poll.Goals as goal
 
 -- a tick is its moment and its words
 tick_is : (t : Tick) (now : ℕ) (words : List ℕ) → t.now ≡ now → t.words ≡ words →

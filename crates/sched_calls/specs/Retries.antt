@@ -13,8 +13,8 @@ use Rattle.sched_handle.specs.declared.held.Kind.TheVariants as kind
 use Rattle.sched_reply.specs.declared.replies.Reply.{Reply}
 use Rattle.sched_reply.specs.declared.status.Status.{Status}
 use Rattle.sched_reply.specs.declared.status.Status.TheVariants.{Empty, Full, TooLarge, NoSuchReport, DrawsElsewhere}
-use Rattle.hikebox_c.specs.Calls.{Puts, OnHeld, MakesWith, OfKind}
-use Rattle.hikebox_c.specs.Shared.{NoneJoined}
+use Rattle.sched_calls.specs.Calls.{Puts, OnHeld, MakesWith, OfKind}
+use Rattle.sched_calls.specs.Shared.{NoneJoined}
 
 -- a retry of what the first handle holds is made with what the second holds; the policy is asked for before the pass
 abbrev pub NewRetry : (Held → Held → Result (Box Held Global) Status → Held → Type 0) → Option Held → Option Held →

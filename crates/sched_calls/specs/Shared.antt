@@ -6,7 +6,7 @@ use Rattle.sched_handle.specs.declared.held.Held.TheVariants.{Room}
 use Rattle.sched_handle.specs.declared.held.Kind.{Kind}
 use Rattle.sched_reply.specs.declared.status.Status.{Status}
 use Rattle.sched_reply.specs.declared.status.Status.TheVariants.{Empty}
-use Rattle.hikebox_c.specs.Calls.{OfKind}
+use Rattle.sched_calls.specs.Calls.{OfKind}
 
 -- what a handle holds of this: nothing where it is only room
 abbrev pub held_of : Held → Option Held

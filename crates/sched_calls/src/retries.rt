@@ -1,0 +1,229 @@
+//! Retries.
+ghost use Rattle.std.specs.Prelude.{◌≡◌, ◌<◌, ◌≤◌, Err};
+ghost use Rattle.sched_time.specs.declared.numbers.TheConstants.{FAR};
+ghost use Rattle.sched_handle.specs.Fills.{Frees};
+ghost use Rattle.sched_handle.specs.Passes.{Joins};
+ghost use Rattle.sched_handle.specs.Quotas.{JoinsQuota};
+ghost use Rattle.sched_handle.specs.Retries.{Retries, RetriesOnQuota, RetriesUnlimited};
+ghost use Rattle.sched_handle.specs.Retries.{Sees, Cancels, IsOfItsBudget, IsOfItsQuota};
+ghost use Rattle.sched_reply.specs.Status.{told};
+ghost use Rattle.sched_handle.specs.declared.held.Kind.TheVariants as kind;
+ghost use Rattle.sched_reply.specs.declared.status.Status.TheVariants as status;
+ghost use Rattle.sched_calls.specs.Calls.{Tells, Kept, OnHeld, MakesWith};
+ghost use Rattle.sched_calls.specs.Retries.{NewRetry, Reports, PollsAt, EndsHeld};
+
+use sched_effect::Ran;
+use sched_handle::{Handle, Held, Kind, Reply, Status, tell, tick_at};
+use sched_time::Millis;
+use std::alloc::Global;
+
+/// Puts a retry that has not begun into `retry`, with a copy of the policy and a pass split off `pass`.
+pub fn retry_new(alloc: Global, policy: &mut Handle, pass: &mut Handle, retry: &mut Handle) -> u32
+    ensures retry { NewRetry Retries policy.old.held pass.old.held pass.new.held
+        retry.old.held result retry.new.held }
+    ensures policy { policy.new.held ≡ policy.old.held }
+{
+    if retry.is_full(alloc) {
+        return Status::Full.code();
+    }
+    let Some(plan) = policy.take(alloc) else {
+        return Status::Empty.code();
+    };
+    let Some(mut held) = pass.take(alloc) else {
+        policy.put(plan);
+        return Status::Empty.code();
+    };
+    let made = Held::retry(alloc, &plan, &mut held);
+    policy.put(plan);
+    pass.put(held);
+    retry.fill(made)
+}
+
+/// The same with a pass that is split off a quota's.
+pub fn retry_on_quota(
+    alloc: Global,
+    policy: &mut Handle,
+    quota: &mut Handle,
+    retry: &mut Handle,
+) -> u32
+    ensures retry { NewRetry RetriesOnQuota policy.old.held quota.old.held quota.new.held
+        retry.old.held result retry.new.held }
+    ensures policy { policy.new.held ≡ policy.old.held }
+{
+    if retry.is_full(alloc) {
+        return Status::Full.code();
+    }
+    let Some(plan) = policy.take(alloc) else {
+        return Status::Empty.code();
+    };
+    let Some(mut held) = quota.take(alloc) else {
+        policy.put(plan);
+        return Status::Empty.code();
+    };
+    let made = Held::retry_on_quota(alloc, &plan, &mut held);
+    policy.put(plan);
+    quota.put(held);
+    retry.fill(made)
+}
+
+/// The same with no pass: each retry that the policy goes on to is granted.
+pub fn retry_unlimited(alloc: Global, policy: &mut Handle, retry: &mut Handle) -> u32
+    ensures { MakesWith (Kept RetriesUnlimited) policy.old.held policy.new.held
+        retry.old.held result retry.new.held }
+{
+    if retry.is_full(alloc) {
+        return Status::Full.code();
+    }
+    let Some(plan) = policy.take(alloc) else {
+        return Status::Empty.code();
+    };
+    let made = Held::retry_unlimited(alloc, &plan);
+    policy.put(plan);
+    retry.fill(made)
+}
+
+/// Steps the retry at `now`, with what is reported of its run, and writes what is to be done.
+pub fn retry_poll(
+    alloc: Global,
+    retry: &mut Handle,
+    now: u64,
+    words: &[u32; 4],
+    report: u32,
+    code: u64,
+    next: &mut Reply,
+) -> u32
+    ensures poll { now ≤ FAR → PollsAt now words.now report code retry.old.held retry.new.held
+        (Tells result next.old next.new) }
+    ensures too_large { FAR < now → (retry.new.held ≡ retry.old.held)
+        × Tells result next.old next.new (Err status.TooLarge) }
+{
+    let Ok(tick) = tick_at(now, words) else {
+        return Status::TooLarge.code();
+    };
+    let report = match reported(report, code) {
+        Ok(report) => report,
+        Err(status) => return status.code(),
+    };
+    let Some(mut held) = retry.take(alloc) else {
+        return Status::Empty.code();
+    };
+    let answer = held.poll(alloc, &tick, report);
+    retry.put(held);
+    tell(answer, next)
+}
+
+// The run that is reported, if any.
+fn reported(report: u32, code: u64) -> Result<Option<Ran>, Status>
+    ensures { Reports report code result }
+{
+    if report == 0 {
+        return Ok(None);
+    }
+    if report > 2 {
+        return Err(Status::NoSuchReport);
+    }
+    match Millis::new(code) {
+        None => Err(Status::TooLarge),
+        Some(code) => Ok(Some(if report == 1 {
+            Ran::Won(code)
+        } else {
+            Ran::Lost(code)
+        })),
+    }
+}
+
+/// Writes what is to be done, without a step.
+pub fn retry_see(alloc: Global, retry: &mut Handle, next: &mut Reply) -> u32
+    ensures { OnHeld (Kept Sees) retry.old.held retry.new.held (Tells result next.old next.new) }
+{
+    let Some(held) = retry.take(alloc) else {
+        return Status::Empty.code();
+    };
+    let answer = held.see();
+    retry.put(held);
+    tell(answer, next)
+}
+
+/// Ends a retry that is not over as cancelled, whatever run is under way.
+pub fn retry_cancel(alloc: Global, retry: &mut Handle) -> u32
+    ensures { OnHeld Cancels retry.old.held retry.new.held (λ r. result ≡ told r) }
+{
+    let Some(mut held) = retry.take(alloc) else {
+        return Status::Empty.code();
+    };
+    let answer = held.cancel();
+    retry.put(held);
+    match answer {
+        Ok(()) => 0,
+        Err(status) => status.code(),
+    }
+}
+
+/// Frees the retry and joins its pass, with the tickets that it was granted, into `pass`.
+pub fn retry_end(alloc: Global, retry: &mut Handle, pass: &mut Handle) -> u32
+    requires { IsOfItsBudget retry.old.held pass.old.held }
+    ensures { EndsHeld kind.Pass Joins retry.old.held pass.old.held result retry.new.held pass.new.held }
+{
+    let Some(held) = retry.take(alloc) else {
+        return Status::Empty.code();
+    };
+    if held.kind() != Kind::Retry {
+        retry.put(held);
+        return Status::WrongKind.code();
+    }
+    let Some(mut to) = pass.take(alloc) else {
+        retry.put(held);
+        return Status::Empty.code();
+    };
+    if to.kind() != Kind::Pass {
+        retry.put(held);
+        pass.put(to);
+        return Status::WrongKind.code();
+    }
+    if held.draws_on() != Kind::Pass {
+        retry.put(held);
+        pass.put(to);
+        return Status::DrawsElsewhere.code();
+    }
+    to.join(Box::into_inner(held).into_pass());
+    pass.put(to);
+    0
+}
+
+/// The same of a retry that draws on a quota, into a pass of that quota.
+pub fn retry_end_on_quota(alloc: Global, retry: &mut Handle, quota: &mut Handle) -> u32
+    requires { IsOfItsQuota retry.old.held quota.old.held }
+    ensures { EndsHeld kind.Quota JoinsQuota retry.old.held quota.old.held result retry.new.held quota.new.held }
+{
+    let Some(held) = retry.take(alloc) else {
+        return Status::Empty.code();
+    };
+    if held.kind() != Kind::Retry {
+        retry.put(held);
+        return Status::WrongKind.code();
+    }
+    let Some(mut to) = quota.take(alloc) else {
+        retry.put(held);
+        return Status::Empty.code();
+    };
+    if to.kind() != Kind::Quota {
+        retry.put(held);
+        quota.put(to);
+        return Status::WrongKind.code();
+    }
+    if held.draws_on() != Kind::Quota {
+        retry.put(held);
+        quota.put(to);
+        return Status::DrawsElsewhere.code();
+    }
+    to.join_quota(Box::into_inner(held).into_pass());
+    quota.put(to);
+    0
+}
+
+/// Frees the retry and its pass: what it drew on can't be closed then.
+pub fn retry_free(alloc: Global, retry: &mut Handle) -> u32
+    ensures { Frees kind.Retry retry.old.held result retry.new.held }
+{
+    retry.free(alloc, Kind::Retry)
+}
