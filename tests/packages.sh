@@ -2,7 +2,7 @@
 # tests/packages.sh PACKAGE..: installs those of these packages of Debian that are missing, where that can be done, and
 # else names them. One run at a time: scripts that run side by side call it.
 set -euo pipefail
-exec 9>"${TMPDIR:-/tmp}/hikebox-packages.lock"
+exec 9>"${TMPDIR:-/tmp}/hikebox-packages-$UID.lock"
 flock 9
 
 missing=()
