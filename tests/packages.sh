@@ -19,7 +19,7 @@ log=$(mktemp)
 trap 'rm -f "$log"' EXIT
 # (RUNLEVEL keeps a server that is installed from being started)
 export RUNLEVEL=1 DEBIAN_FRONTEND=noninteractive
-if ! { apt-get update && apt-get install -y --no-install-recommends "${missing[@]}"; } >"$log" 2>&1; then
+if ! { apt-get update && apt-get install -y --no-install-recommends "${missing[@]}"; } >"$log" 2>&1 9>&-; then
   tail -n 20 "$log" >&2
   echo "tests/packages.sh: can't be installed: ${missing[*]}" >&2
   exit 1
