@@ -12,8 +12,8 @@ failed=0
 rt=$(command -v rt || echo /opt/rattle/bin/rt)
 toolchain=$(dirname "$("$rt" doc)")/toolchain/bin
 "$top/bin/build" zsched plan --steps 0 <"$top/plans/three-times.json"
-"$top/bin/build" refused_growths
-"$top/bin/build" refused_polls
+"$top/bin/build" check_refused_growths
+"$top/bin/build" check_refused_polls
 compiler=("$toolchain/clang" "-fuse-ld=$toolchain/ld.lld")
 [ -x "$toolchain/clang" ] || compiler=(cc)
 "${compiler[@]}" -O1 -shared -fPIC -nostdlib -o "$work/refuse.so" "$top/tests/refuse.c"
@@ -128,9 +128,9 @@ refuses_jobs() {
 # Each growth of a program that makes a refused call again: where one was refused, the line with the fault is the line
 # before, and all others are as they are without a refusal. Each of the 24 calls is refused at least once.
 refuses_calls() {
-  local program=$top/crates/refused_growths/out/refused_growths
+  local program=$top/crates/check_refused_growths/out/check_refused_growths
   local growth=0 status
-  cp "$top/crates/refused_growths/stdout" "$work/out.whole"
+  cp "$top/crates/check_refused_growths/stdout" "$work/out.whole"
   : >"$work/shown"
   while :; do
     growth=$((growth + 1))
@@ -140,14 +140,14 @@ refuses_calls() {
     if grep '^NoMemory: ' "$work/out" >>"$work/shown"; then
       [ "$status" = 0 ] && grep -v '^NoMemory: ' "$work/out" | cmp -s - "$work/out.whole" &&
         awk '/^NoMemory: / && $0 != "NoMemory: " before { exit 1 } { before = $0 }' "$work/out" ||
-        wrong "$growth" "$status" refused_growths
+        wrong "$growth" "$status" check_refused_growths
     else
-      [ "$status" = 5 ] && is_front || wrong "$growth" "$status" refused_growths
+      [ "$status" = 5 ] && is_front || wrong "$growth" "$status" check_refused_growths
     fi
   done
   [ "$status" = 0 ] && cmp -s "$work/out" "$work/out.whole" && [ "$(sort -u "$work/shown" | wc -l)" = 24 ] ||
-    wrong none "$status" refused_growths
-  echo "tests/refused_memory.sh: refused_growths: $(wc -l <"$work/shown") of $((growth - 1)) growths refused in a call"
+    wrong none "$status" check_refused_growths
+  echo "tests/refused_memory.sh: check_refused_growths: $(wc -l <"$work/shown") of $((growth - 1)) growths refused in a call"
 }
 
 # breaks_for_good: one task is broken by want of memory at one poll. It is ready from then on and shows no change, and its
@@ -171,9 +171,9 @@ breaks_for_good() {
 # Each growth of a program that polls tasks. Polls are refused one in as many different ways as there are growths of
 # the lists and outputs in them. One that is refused after the last line, where the queue ends, changes nothing.
 refuses_polls() {
-  local program=$top/crates/refused_polls/out/refused_polls
+  local program=$top/crates/check_refused_polls/out/check_refused_polls
   local growth=0 status
-  cp "$top/crates/refused_polls/stdout" "$work/out.whole"
+  cp "$top/crates/check_refused_polls/stdout" "$work/out.whole"
   : >"$work/shown"
   while :; do
     growth=$((growth + 1))
@@ -181,16 +181,16 @@ refuses_polls() {
     with_refused "$growth" "$program" || status=$?
     [ -s "$work/refused" ] || break
     if grep -m 1 'Broken(NoMemory)' "$work/out" >>"$work/shown"; then
-      [ "$status" = 0 ] && breaks_for_good || wrong "$growth" "$status" refused_polls
+      [ "$status" = 0 ] && breaks_for_good || wrong "$growth" "$status" check_refused_polls
     elif [ "$status" = 0 ]; then
-      cmp -s "$work/out" "$work/out.whole" || wrong "$growth" "$status" refused_polls
+      cmp -s "$work/out" "$work/out.whole" || wrong "$growth" "$status" check_refused_polls
     else
-      [ "$status" = 5 ] && is_front || wrong "$growth" "$status" refused_polls
+      [ "$status" = 5 ] && is_front || wrong "$growth" "$status" check_refused_polls
     fi
   done
   [ "$status" = 0 ] && cmp -s "$work/out" "$work/out.whole" && [ "$(sort -u "$work/shown" | wc -l)" = 38 ] ||
-    wrong none "$status" refused_polls
-  echo "tests/refused_memory.sh: refused_polls: $(wc -l <"$work/shown") of $((growth - 1)) growths refused in a poll"
+    wrong none "$status" check_refused_polls
+  echo "tests/refused_memory.sh: check_refused_polls: $(wc -l <"$work/shown") of $((growth - 1)) growths refused in a poll"
 }
 
 refuses 0 "$(cat "$top/plans/three-times.json")" plan

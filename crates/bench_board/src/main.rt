@@ -8,16 +8,16 @@ ghost use Rattle.sched_ticket.specs.Held.{IsOf};
 ghost use Rattle.sched_task_law.specs.Past.{nothing_yet};
 
 use futures::task::{Context, Poll};
-use sched_draws::OnBudget;
 use sched_driver::Driver;
 use sched_effect::{Code, Effect, Ran};
 use sched_plan::Plan;
 use sched_pool::Board;
+use sched_pool_worker::{OpenGate, Station};
 use sched_retry::Retry;
 use sched_task::{MidWords, VirtualClock};
 use sched_ticket::{Budget, Naming, Pass};
+use sched_ticket_draws::OnBudget;
 use sched_time::{Millis, Moment, NoMemory};
-use sched_worker::{OpenGate, Station};
 use std::alloc::{AllocGlobal, Global};
 use std::marker::Brand;
 use std::random::RandomSource;

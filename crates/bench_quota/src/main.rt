@@ -4,9 +4,9 @@
 #![tactic(auto)]
 
 ghost use Rattle.std.specs.Prelude.{◌≡◌, ◌≤◌, All, IfOk};
-ghost use Rattle.sched_quota.specs.Held.{IsOf};
+ghost use Rattle.sched_ticket_quota.specs.Held.{IsOf};
 
-use sched_quota::{Pass, Quota, QuotaFault, Terms, Usage};
+use sched_ticket_quota::{Pass, Quota, QuotaFault, Terms, Usage};
 use sched_time::{Millis, Moment};
 use std::alloc::{AllocError, Global};
 use std::thread::{Threads, map_vec};

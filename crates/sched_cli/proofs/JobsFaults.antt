@@ -5,20 +5,20 @@ use Rattle.serde_json.specs.Read.{read}
 use Rattle.serde_json.specs.View.{view}
 use Rattle.serde_json.specs.declared.value.Value.{Value}
 use Rattle.sched_plan.specs.declared.plans.PlanFault.TheVariants as builder
-use Rattle.sched_json.specs.declared.faults.ReadFault.{ReadFault}
-use Rattle.sched_json.specs.declared.faults.ReadFault.TheVariants as reading
+use Rattle.sched_plan_json.specs.declared.faults.ReadFault.{ReadFault}
+use Rattle.sched_plan_json.specs.declared.faults.ReadFault.TheVariants as reading
 use Rattle.sched_task_law.specs.Past.{Past}
-use Rattle.sched_jobs_json.specs.Each.{Lists}
-use Rattle.sched_jobs_json.specs.JobsOf.{reading_of_jobs}
-use Rattle.sched_plan_text.specs.Refusal.{refusal_of}
-use Rattle.sched_plan_text.specs.Printing.{ReadsValue}
-use Rattle.sched_jobs_json.specs.Job.{Job}
-use Rattle.sched_plan_text.specs.Whole.{IsWholeInput}
+use Rattle.sched_pool_json.specs.Each.{Lists}
+use Rattle.sched_pool_json.specs.JobsOf.{reading_of_jobs}
+use Rattle.sched_cli_plan.specs.Refusal.{refusal_of}
+use Rattle.sched_cli_plan.specs.Printing.{ReadsValue}
+use Rattle.sched_pool_json.specs.Job.{Job}
+use Rattle.sched_cli_plan.specs.Whole.{IsWholeInput}
 use Rattle.sched_cli.specs.JobsPrinting.{SpellsJobs, ReadsJobs, IsRunFault, WritesPool, PrintsJobs}
-use Rattle.sched_plan_text.specs.declared.faults.PrintFault.{PrintFault}
-use Rattle.sched_plan_text.specs.declared.faults.PrintFault.TheVariants.{ReadFailed, TooLong, NotJson, NotAPlan}
-use Rattle.sched_plan_text.specs.declared.faults.PrintFault.TheVariants.{OutOfRange, TooDeep, TooMany, NoMemory}
-use Rattle.sched_plan_text.specs.declared.faults.PrintFault.TheVariants.{NotStarted, WriteFailed, Unfinished, Mixed}
+use Rattle.sched_cli_plan.specs.declared.faults.PrintFault.{PrintFault}
+use Rattle.sched_cli_plan.specs.declared.faults.PrintFault.TheVariants.{ReadFailed, TooLong, NotJson, NotAPlan}
+use Rattle.sched_cli_plan.specs.declared.faults.PrintFault.TheVariants.{OutOfRange, TooDeep, TooMany, NoMemory}
+use Rattle.sched_cli_plan.specs.declared.faults.PrintFault.TheVariants.{NotStarted, WriteFailed, Unfinished, Mixed}
 
 module _ (Runs : List Job → List Past → List ℕ → Type 0) (may : Type 0)
     (l m t : Option (List ℕ)) (bytes : List ℕ) (whole : IsWholeInput l m bytes) where

@@ -4,12 +4,12 @@ use Rattle.std.proofs.lemmas.List.{append-nil}
 use Rattle.std.proofs.KnownBytes.{Appends-nil}
 use Rattle.sched_task_law.specs.Past.{Past}
 use Rattle.sched_pool_text.specs.PoolText.{job_text, lines_from}
-use Rattle.sched_plan_text.specs.Printing.{WritesText}
-use Rattle.sched_plan_text.specs.Whole.{IsFront, WritesFront, WritesAllBut, StopsWriting}
-use Rattle.sched_plan_text.specs.declared.faults.PrintFault.{PrintFault}
-use Rattle.sched_plan_text.proofs.Printed.{IsFront-trans}
-use Rattle.sched_plan_text.proofs.PrintSteps.{front_of_text}
-use Rattle.sched_plan_text.proofs.Written.{grows, moves, stops}
+use Rattle.sched_cli_plan.specs.Printing.{WritesText}
+use Rattle.sched_cli_plan.specs.Whole.{IsFront, WritesFront, WritesAllBut, StopsWriting}
+use Rattle.sched_cli_plan.specs.declared.faults.PrintFault.{PrintFault}
+use Rattle.sched_cli_plan.proofs.Printed.{IsFront-trans}
+use Rattle.sched_cli_plan.proofs.PrintSteps.{front_of_text}
+use Rattle.sched_cli_plan.proofs.Written.{grows, moves, stops}
 
 -- the lines of the jobs before this one are written but for what is pending
 pub record IsPrintedTo (ends : List Past) (n : ℕ) (pending : List ℕ) (old new : Option (List ℕ)) : Type 0 where

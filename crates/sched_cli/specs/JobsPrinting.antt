@@ -4,19 +4,19 @@ use Rattle.std.specs.List.{list_all}
 use Rattle.std.specs.Io.KnownBytes.{Appends, Keeps}
 use Rattle.std.specs.declared.alloc.Global.{Global}
 use Rattle.sched_plan.specs.declared.plans.PlanFault.TheVariants as refused
-use Rattle.sched_json.specs.declared.faults.ReadFault.{ReadFault}
-use Rattle.sched_json.specs.declared.faults.ReadFault.TheVariants as reading
+use Rattle.sched_plan_json.specs.declared.faults.ReadFault.{ReadFault}
+use Rattle.sched_plan_json.specs.declared.faults.ReadFault.TheVariants as reading
 use Rattle.sched_task.specs.declared.endings.How.{How}
 use Rattle.sched_task.specs.declared.endings.How.TheVariants.{Won, ScheduleDone, BudgetRefused}
 use Rattle.sched_task_law.specs.Past.{Past}
-use Rattle.sched_jobs_json.specs.Job.{Job}
-use Rattle.sched_jobs_json.specs.JobsOf.{jobs_of}
-use Rattle.sched_plan_text.specs.Whole.{StopsReading, WritesFront}
-use Rattle.sched_plan_text.specs.Printing.{Spells, SpellsNothing, IsInput}
-use Rattle.sched_plan_text.specs.declared.faults.PrintFault.{PrintFault}
-use Rattle.sched_plan_text.specs.declared.faults.PrintFault.TheVariants.{ReadFailed, TooLong, NotJson, NotAPlan}
-use Rattle.sched_plan_text.specs.declared.faults.PrintFault.TheVariants.{OutOfRange, TooDeep, TooMany, NoMemory}
-use Rattle.sched_plan_text.specs.declared.faults.PrintFault.TheVariants.{NotStarted, WriteFailed, Unfinished, Mixed}
+use Rattle.sched_pool_json.specs.Job.{Job}
+use Rattle.sched_pool_json.specs.JobsOf.{jobs_of}
+use Rattle.sched_cli_plan.specs.Whole.{StopsReading, WritesFront}
+use Rattle.sched_cli_plan.specs.Printing.{Spells, SpellsNothing, IsInput}
+use Rattle.sched_cli_plan.specs.declared.faults.PrintFault.{PrintFault}
+use Rattle.sched_cli_plan.specs.declared.faults.PrintFault.TheVariants.{ReadFailed, TooLong, NotJson, NotAPlan}
+use Rattle.sched_cli_plan.specs.declared.faults.PrintFault.TheVariants.{OutOfRange, TooDeep, TooMany, NoMemory}
+use Rattle.sched_cli_plan.specs.declared.faults.PrintFault.TheVariants.{NotStarted, WriteFailed, Unfinished, Mixed}
 
 -- the bytes spell these jobs
 abbrev pub SpellsJobs : List ℕ → List Job → Type 0

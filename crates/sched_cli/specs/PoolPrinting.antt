@@ -1,12 +1,12 @@
 -- What printing a pool on a budget does.
 use Rattle.std.specs.Prelude.{◌≡◌, ℕ, List, Option, Result}
 use Rattle.sched_task_law.specs.Past.{Past}
-use Rattle.sched_jobs_json.specs.Job.{Job}
+use Rattle.sched_pool_json.specs.Job.{Job}
 use Rattle.sched_pool_text.specs.PoolText.{pool_text}
 use Rattle.sched_scripted_pool.specs.Batch.{AreRun}
-use Rattle.sched_plan_text.specs.declared.faults.PrintFault.{PrintFault}
+use Rattle.sched_cli_plan.specs.declared.faults.PrintFault.{PrintFault}
 use Rattle.sched_cli.specs.JobsPrinting.{PrintsJobs}
-use Rattle.sched_words.specs.declared.options.PoolOptions.{PoolOptions}
+use Rattle.sched_cli_words.specs.declared.options.PoolOptions.{PoolOptions}
 
 -- the jobs were run on the budget, and this is their text
 abbrev pub RunsOnBudget : PoolOptions → List Job → List Past → List ℕ → Type 0

@@ -1,12 +1,12 @@
 //! What is printed of jobs that have ended.
 ghost use Rattle.std.specs.Prelude.{◌≡◌, ◌++◌, string_bytes};
 ghost use Rattle.sched_pool_text.specs.PoolText.{lines_from};
-ghost use Rattle.sched_plan_text.specs.Printing.{WritesText};
-ghost use Rattle.sched_plan_text.specs.Whole.{count_of_writes};
+ghost use Rattle.sched_cli_plan.specs.Printing.{WritesText};
+ghost use Rattle.sched_cli_plan.specs.Whole.{count_of_writes};
 ghost use Rattle.sched_cli.specs.JobsPrinting.{WritesPool, is_answered, all_answered};
 
+use sched_cli_plan::{PrintFault, Sink, put_all, put_long};
 use sched_effect::{Effect, Scripted};
-use sched_plan_text::{PrintFault, Sink, put_all, put_long};
 use sched_pool_job::JobEnd;
 use sched_pool_text::push_line;
 use sched_task::How;

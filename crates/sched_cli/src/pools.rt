@@ -1,16 +1,16 @@
 //! Printing a pool on a budget.
 ghost use Rattle.std.specs.Prelude.{◌≡◌, ◌≤◌, ◌++◌, length, string_bytes, vec_len, IfOk, IfErr};
 ghost use Rattle.sched_pool_text.specs.PoolText.{lines_from};
-ghost use Rattle.sched_plan_text.specs.Whole.{count_of_reads, count_of_writes};
+ghost use Rattle.sched_cli_plan.specs.Whole.{count_of_reads, count_of_writes};
 ghost use Rattle.sched_cli.specs.JobsPrinting.{ReadsJobs, IsRunFault};
 ghost use Rattle.sched_cli.specs.PoolPrinting.{RunsOnBudget, PrintsPool};
 
 use crate::ended::{Ended, write_ended};
-use sched_jobs_json::{JobRead, read_jobs};
-use sched_plan_text::{PrintFault, Sink, Source, read_all, read_value};
+use sched_cli_plan::{PrintFault, Sink, Source, read_all, read_value};
+use sched_cli_words::PoolOptions;
+use sched_pool_json::{JobRead, read_jobs};
 use sched_pool_text::push_total;
 use sched_scripted_pool::{Batch, BatchFault, run_batch};
-use sched_words::PoolOptions;
 use std::alloc::{AllocGlobal, Global};
 use std::random::RandomSource;
 use std::sync::Wait;

@@ -1,17 +1,17 @@
 //! Printing a pool on a quota.
 ghost use Rattle.std.specs.Prelude.{◌≡◌, ◌++◌, string_bytes, IfOk, IfErr};
 ghost use Rattle.sched_pool_text.specs.PoolText.{lines_from};
-ghost use Rattle.sched_plan_text.specs.Whole.{count_of_reads, count_of_writes};
+ghost use Rattle.sched_cli_plan.specs.Whole.{count_of_reads, count_of_writes};
 ghost use Rattle.sched_cli.specs.JobsPrinting.{IsRunFault};
 ghost use Rattle.sched_cli.specs.QuotaPrinting.{RunsOnQuota, PrintsQuotaPool};
 
 use crate::ended::{Ended, write_ended};
 use crate::pools::jobs_in;
-use sched_jobs_json::JobRead;
-use sched_plan_text::{PrintFault, Sink, Source, read_all};
+use sched_cli_plan::{PrintFault, Sink, Source, read_all};
+use sched_cli_words::QuotaOptions;
+use sched_pool_json::JobRead;
 use sched_pool_text::push_windows;
 use sched_quota_pool::{QuotaBatch, QuotaBatchFault, run_on_quota};
-use sched_words::QuotaOptions;
 use std::alloc::{AllocGlobal, Global};
 use std::random::RandomSource;
 use std::sync::Wait;

@@ -2,7 +2,7 @@
 use Rattle.std.specs.Prelude.{◌≡◌, ℕ, Bool, true, false, List, [], ◌∷◌, Option, Some, None, Result, Ok, Err}
 use Rattle.rand_core.specs.Stream.{Stream}
 use Rattle.sched_time.specs.declared.numbers.Tick.{Tick}
-use Rattle.sched_draws.specs.Grants.{Grants}
+use Rattle.sched_ticket_draws.specs.Grants.{Grants}
 use Rattle.sched_effect.specs.Runs.{ran_by}
 use Rattle.sched_effect.specs.declared.ran.Ran.{Ran}
 use Rattle.sched_task.specs.Course.{Answered}

@@ -7,11 +7,11 @@ ghost use Rattle.sched_closure.specs.Calls.{calling, Turn, HandsOut};
 
 use crate::turns::{begin_run, end_run, next_tick};
 use rand_core::Rng;
-use sched_draws::Draws;
 use sched_effect::Coded;
 use sched_host::{HostRetry, Next};
 use sched_retry::Ending;
 use sched_task::Clock;
+use sched_ticket_draws::Draws;
 use std::alloc::AllocGlobal;
 use std::sync::Wait;
 

@@ -3,7 +3,6 @@ ghost use Rattle.sched_ticket.specs.Held.{IsOf};
 ghost use Rattle.sched_task_law.specs.Past.{nothing_yet};
 
 use super::retry_call;
-use sched_draws::{OnBudget, Unlimited};
 use sched_driver::Driver;
 use sched_effect::Ran;
 use sched_host::HostRetry;
@@ -11,6 +10,7 @@ use sched_plan::{Plan, PlanFault};
 use sched_retry::Ending;
 use sched_task::{Clock, How, MidWords, VirtualClock};
 use sched_ticket::{Budget, Pass};
+use sched_ticket_draws::{OnBudget, Unlimited};
 use sched_time::{Millis, Moment};
 use std::alloc::{AllocGlobal, Global};
 use std::cell::Cell;

@@ -8,11 +8,11 @@ ghost use Rattle.sched_host.specs.Host.{HostPoll};
 ghost use Rattle.sched_closure.specs.Calls.{start_in, ComesTo, HandsOut, Begins};
 
 use rand_core::Rng;
-use sched_draws::Draws;
 use sched_effect::{Coded, Ran};
 use sched_host::{HostRetry, Next};
 use sched_retry::Ending;
 use sched_task::{Clock, How, RunFault, four_words};
+use sched_ticket_draws::Draws;
 use sched_time::Tick;
 use std::alloc::Global;
 

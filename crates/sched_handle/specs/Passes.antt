@@ -4,7 +4,7 @@ use Rattle.std.specs.Global.{Global}
 use Rattle.std_alloc.specs.declared.boxed.Box.{Box}
 use Rattle.sched_ticket.specs.View.{terms, first_view, part_of, with_split, joined_view}
 use Rattle.sched_ticket.specs.Calls.{Drew, DrawRefused, SplitRefused, Raised, IsWhole}
-use Rattle.sched_draws.specs.Budgets.{OfBudget}
+use Rattle.sched_ticket_draws.specs.Budgets.{OfBudget}
 use Rattle.sched_host.specs.Worker.{CloseFails}
 use Rattle.sched_host.specs.declared.close.CloseFault.TheVariants as close
 use Rattle.sched_handle.specs.Held.{IsOther, OtherKind}

@@ -1,8 +1,8 @@
 -- What bytes are read as, and what the calls on a policy do.
 use Rattle.std.specs.Prelude.{◌≡◌, ℕ, List, [], Result, Ok, Err}
 use Rattle.sched_plan.specs.Schedule.{Schedule, nodes_of, depth_of}
-use Rattle.sched_json.specs.Texts.{ReadsText}
-use Rattle.sched_json.specs.declared.texts.TextFault.TheVariants as text
+use Rattle.sched_plan_json.specs.Texts.{ReadsText}
+use Rattle.sched_plan_json.specs.declared.texts.TextFault.TheVariants as text
 use Rattle.sched_handle.specs.Held.{kind_of, IsOther, Wants}
 use Rattle.sched_handle.specs.declared.held.Held.{Held}
 use Rattle.sched_handle.specs.declared.held.Held.TheVariants.{Policy, Driver}

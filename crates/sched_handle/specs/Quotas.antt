@@ -3,12 +3,12 @@ use Rattle.std.specs.Prelude.{◌≡◌, ℕ, ◌<◌, ◌≤◌, length, Option
 use Rattle.std.specs.Global.{Global}
 use Rattle.std_alloc.specs.declared.boxed.Box.{Box}
 use Rattle.sched_time.specs.declared.numbers.TheConstants.{FAR}
-use Rattle.sched_quota.specs.View.{first_view, part_of, without_part, joined_view}
-use Rattle.sched_quota.specs.Held.{AreTerms}
-use Rattle.sched_quota.specs.Calls.{Deposited, Drew, DrawRefused, Told, IsWhole}
-use Rattle.sched_quota.specs.declared.view.Terms.{Terms}
-use Rattle.sched_quota.specs.declared.pass.Usage.{Usage as Seen}
-use Rattle.sched_draws.specs.Quotas.{OfQuota}
+use Rattle.sched_ticket_quota.specs.View.{first_view, part_of, without_part, joined_view}
+use Rattle.sched_ticket_quota.specs.Held.{AreTerms}
+use Rattle.sched_ticket_quota.specs.Calls.{Deposited, Drew, DrawRefused, Told, IsWhole}
+use Rattle.sched_ticket_quota.specs.declared.view.Terms.{Terms}
+use Rattle.sched_ticket_quota.specs.declared.pass.Usage.{Usage as Seen}
+use Rattle.sched_ticket_draws.specs.Quotas.{OfQuota}
 use Rattle.sched_handle.specs.Held.{IsOther, OtherKind}
 use Rattle.sched_handle.specs.declared.held.Held.{Held}
 use Rattle.sched_handle.specs.declared.held.Held.TheVariants.{Room, Quota}

@@ -8,10 +8,10 @@ use Rattle.sched_effect.specs.declared.ran.Ran.{Ran}
 use Rattle.sched_task.specs.declared.endings.How.{How}
 use Rattle.sched_task.specs.declared.endings.How.TheVariants as how
 use Rattle.sched_task.specs.declared.endings.RunFault.TheVariants as fault
-use Rattle.sched_draws.specs.Budgets.{OfBudget}
-use Rattle.sched_draws.specs.Quotas.{OfQuota}
+use Rattle.sched_ticket_draws.specs.Budgets.{OfBudget}
+use Rattle.sched_ticket_draws.specs.Quotas.{OfQuota}
 use Rattle.sched_ticket.specs.View.{part_of, with_split}
-use Rattle.sched_quota.specs.View.{part_of as quota_part_of, without_part}
+use Rattle.sched_ticket_quota.specs.View.{part_of as quota_part_of, without_part}
 use Rattle.sched_task_law.specs.Past.{Past, nothing_yet}
 use Rattle.sched_retry.specs.Retrying.{Retrying, gives_up}
 use Rattle.sched_host.specs.Host.{HostPoll, hears, next_of}

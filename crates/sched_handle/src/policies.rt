@@ -7,8 +7,8 @@ ghost use Rattle.sched_handle.specs.declared.held.Kind.TheVariants as kind;
 
 use crate::held::Held;
 use sched_driver::Driver;
-use sched_json::{TextFault, read_text};
 use sched_plan::Plan;
+use sched_plan_json::{TextFault, read_text};
 use sched_reply::{Place, Size, Status};
 use std::alloc::Global;
 

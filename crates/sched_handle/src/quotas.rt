@@ -1,7 +1,7 @@
 //! Calls on passes of quotas.
 ghost use Rattle.std.specs.Prelude.{◌≡◌, ◌≢◌, IfOk, IfErr, OnOk, IfSome, IfNone};
 ghost use Rattle.std.specs.Borrow.{LendsIfOk, sem};
-ghost use Rattle.sched_quota.specs.View.{part_of, without_part};
+ghost use Rattle.sched_ticket_quota.specs.View.{part_of, without_part};
 ghost use Rattle.sched_host.specs.contracts.quota_worker.QuotaWorker.{the_row as worker_row};
 ghost use Rattle.sched_handle.specs.Held.{kind_of, IsOther};
 ghost use Rattle.sched_handle.specs.Quotas.{MakesQuota, terms_of, Deposits, DrawsOnQuota, SeesQuota};
@@ -13,8 +13,8 @@ ghost use Rattle.sched_handle.specs.declared.held.Kind.TheVariants as kind;
 
 use crate::held::{Held, Kind};
 use sched_host::{CloseFault, QuotaWorker};
-use sched_quota::{MAX_RESERVE, MAX_SHARE, QuotaFault, Terms};
 use sched_reply::{Status, Usage};
+use sched_ticket_quota::{MAX_RESERVE, MAX_SHARE, QuotaFault, Terms};
 use sched_time::{Millis, Moment};
 use std::alloc::Global;
 use std::mem;

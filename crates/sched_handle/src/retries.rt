@@ -8,12 +8,12 @@ ghost use Rattle.sched_handle.specs.declared.held.Kind.TheVariants as kind;
 use crate::held::{Held, Kind};
 use crate::passes::split_off;
 use crate::quotas::split_off_quota;
-use sched_draws::Unlimited;
 use sched_driver::Driver;
 use sched_effect::Ran;
 use sched_host::{Drawing, HostRetry, Next, QuotaWorker, Worker};
 use sched_reply::{Reply, Status};
 use sched_task::{How, RunFault};
+use sched_ticket_draws::Unlimited;
 use sched_time::Tick;
 use std::alloc::Global;
 

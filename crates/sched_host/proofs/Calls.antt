@@ -6,7 +6,7 @@ use Rattle.sched_effect.specs.declared.ran.Ran.{Ran}
 use Rattle.sched_task.specs.declared.endings.How.{How}
 use Rattle.sched_task.specs.declared.endings.How.TheVariants as how
 use Rattle.sched_task.specs.declared.endings.RunFault.TheVariants.{NoMemory}
-use Rattle.sched_draws.specs.Grants.{Grants, Lawful}
+use Rattle.sched_ticket_draws.specs.Grants.{Grants, Lawful}
 use Rattle.sched_task_law.specs.Kind.{retry}
 use Rattle.sched_task_law.specs.Law.{is_refused}
 use Rattle.sched_task_law.specs.Past.{waits_for, is_under_way}

@@ -2,12 +2,12 @@
 use Rattle.std.specs.Prelude.{◌≡◌, ℕ, Bool, false, refl}
 use Rattle.std.proofs.Common.{ap}
 use Rattle.sched_ticket.specs.Held.{Name as BudgetName}
-use Rattle.sched_quota.specs.Held.{Name as QuotaName}
-use Rattle.sched_draws.specs.Budgets.{OfBudget, budget_grants, budget_lawful}
-use Rattle.sched_draws.specs.Counted.{count_after}
-use Rattle.sched_draws.specs.Freely.{free_grants, free_lawful}
-use Rattle.sched_draws.specs.Grants.{Grants, Lawful}
-use Rattle.sched_draws.specs.Quotas.{OfQuota, quota_grants, quota_lawful}
+use Rattle.sched_ticket_quota.specs.Held.{Name as QuotaName}
+use Rattle.sched_ticket_draws.specs.Budgets.{OfBudget, budget_grants, budget_lawful}
+use Rattle.sched_ticket_draws.specs.Counted.{count_after}
+use Rattle.sched_ticket_draws.specs.Freely.{free_grants, free_lawful}
+use Rattle.sched_ticket_draws.specs.Grants.{Grants, Lawful}
+use Rattle.sched_ticket_draws.specs.Quotas.{OfQuota, quota_grants, quota_lawful}
 use Rattle.sched_host.specs.declared.drawing.Drawing.{Drawing}
 use Rattle.sched_host.specs.declared.drawing.Drawing.TheVariants.{Budget, Quota, Unlimited}
 

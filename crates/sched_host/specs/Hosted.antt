@@ -1,7 +1,7 @@
 -- What contracts see of a host's retry and of its runs.
 use Rattle.std.specs.Prelude.{ℕ, ◌+◌, ◌<◌, ◌≤◌, Option, is_some}
 use Rattle.sched_task.specs.declared.endings.How.{How}
-use Rattle.sched_draws.specs.Grants.{Grants}
+use Rattle.sched_ticket_draws.specs.Grants.{Grants}
 use Rattle.sched_task_law.specs.Law.{is_refused}
 use Rattle.sched_task_law.specs.Runner.{Runs}
 use Rattle.sched_retry.specs.Retrying.{Retrying, retrying}

@@ -6,11 +6,11 @@ use Rattle.sched_ticket.specs.declared.view.Mark.TheVariants.{Shared}
 use Rattle.sched_ticket.specs.declared.view.View.{View}
 use Rattle.sched_ticket.specs.declared.fault.TicketFault.{TicketFault}
 use Rattle.sched_ticket.specs.declared.fault.TicketFault.TheVariants.{LimitTooLarge, NoMemory, TooManyPasses, Fixed}
-use Rattle.sched_quota.specs.declared.view.View.{View as QuotaView}
-use Rattle.sched_quota.specs.declared.fault.QuotaFault.{QuotaFault}
-use Rattle.sched_quota.specs.declared.fault.QuotaFault.TheVariants as quota
-use Rattle.sched_draws.specs.Budgets.{OfBudget}
-use Rattle.sched_draws.specs.Quotas.{OfQuota}
+use Rattle.sched_ticket_quota.specs.declared.view.View.{View as QuotaView}
+use Rattle.sched_ticket_quota.specs.declared.fault.QuotaFault.{QuotaFault}
+use Rattle.sched_ticket_quota.specs.declared.fault.QuotaFault.TheVariants as quota
+use Rattle.sched_ticket_draws.specs.Budgets.{OfBudget}
+use Rattle.sched_ticket_draws.specs.Quotas.{OfQuota}
 use Rattle.sched_host.specs.declared.close.CloseFault.{CloseFault}
 use Rattle.sched_host.specs.declared.close.CloseFault.TheVariants as close
 

@@ -1,9 +1,9 @@
 //! What a host's retry draws by: one type for a budget, a quota and nothing.
 ghost use Rattle.std.specs.Prelude.{◌≡◌};
 
-use sched_draws::{Draws, OnBudget, OnQuota, Unlimited};
-use sched_quota::Quota;
 use sched_ticket::Budget;
+use sched_ticket_draws::{Draws, OnBudget, OnQuota, Unlimited};
+use sched_ticket_quota::Quota;
 use sched_time::Moment;
 use std::sync::Arc;
 

@@ -1,14 +1,14 @@
 //! A quota as one worker holds it.
 ghost use Rattle.std.specs.Prelude.{◌≡◌, ◌<◌, ◌∷◌, length, IfOk, IfErr, OnOk, IfSome, IfNone, MatchOption};
-ghost use Rattle.sched_quota.specs.View.{first_view, part_of, without_part, joined_view};
-ghost use Rattle.sched_quota.specs.Steps.{IsSound};
-ghost use Rattle.sched_quota.specs.Held.{AreTerms};
-ghost use Rattle.sched_quota.specs.Calls.{RefusesTerms, Deposited, Drew, DrawRefused, Told, IsWhole};
+ghost use Rattle.sched_ticket_quota.specs.View.{first_view, part_of, without_part, joined_view};
+ghost use Rattle.sched_ticket_quota.specs.Steps.{IsSound};
+ghost use Rattle.sched_ticket_quota.specs.Held.{AreTerms};
+ghost use Rattle.sched_ticket_quota.specs.Calls.{RefusesTerms, Deposited, Drew, DrawRefused, Told, IsWhole};
 ghost use Rattle.sched_host.specs.Worker.{QuotaSplitFails, QuotaCloseFails};
 
 use crate::close::CloseFault;
-use sched_draws::OnQuota;
-use sched_quota::{Pass, Quota, QuotaFault, Terms, Usage};
+use sched_ticket_draws::OnQuota;
+use sched_ticket_quota::{Pass, Quota, QuotaFault, Terms, Usage};
 use sched_time::Moment;
 use std::alloc::Global;
 use std::marker::Model;
@@ -22,11 +22,11 @@ pub struct QuotaWorker {
 }
 
 impl Model for QuotaWorker {
-    ghost use Rattle.sched_draws.specs.Quotas.{OfQuota};
+    ghost use Rattle.sched_ticket_draws.specs.Quotas.{OfQuota};
 
     ghost Value = { OfQuota };
 
-    ghost use Rattle.sched_quota.specs.Held.{IsOf};
+    ghost use Rattle.sched_ticket_quota.specs.Held.{IsOf};
 
     ghost view = { λ w. record { pass = w.pass; quota = w.quota.value } };
 

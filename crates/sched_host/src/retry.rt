@@ -8,11 +8,11 @@ ghost use Rattle.sched_retry.specs.Retrying.{RetryLaw, gives_up};
 ghost use Rattle.sched_host.specs.Host.{HostPoll, hears, next_of, Rests, by_code};
 
 use crate::runs::HostRuns;
-use sched_draws::Draws;
 use sched_driver::Driver;
 use sched_effect::Ran;
 use sched_retry::Ending;
 use sched_task::{How, RunFault};
+use sched_ticket_draws::Draws;
 use sched_time::{Millis, Moment, Tick};
 use std::alloc::Global;
 use std::marker::Model;

@@ -8,8 +8,8 @@ ghost use Rattle.sched_ticket.specs.Calls.{Drew, DrawRefused, Raised, RefusesLim
 ghost use Rattle.sched_host.specs.Worker.{SplitFails, CloseFails};
 
 use crate::close::CloseFault;
-use sched_draws::OnBudget;
 use sched_ticket::{Budget, Pass, TicketFault};
+use sched_ticket_draws::OnBudget;
 use std::alloc::Global;
 use std::marker::Model;
 use std::sync::Arc;
@@ -22,7 +22,7 @@ pub struct Worker {
 }
 
 impl Model for Worker {
-    ghost use Rattle.sched_draws.specs.Budgets.{OfBudget};
+    ghost use Rattle.sched_ticket_draws.specs.Budgets.{OfBudget};
 
     ghost Value = { OfBudget };
 

@@ -2,7 +2,7 @@
 use Rattle.std.proofs.Common.{ℕ, List, Option, sym, ap, subst}
 use Rattle.std.specs.Prelude.{All, slice_index_or}
 use Rattle.sched_ticket.specs.Held.{Name}
-use Rattle.sched_claim.specs.Portion.{Portion, IsShareOf}
+use Rattle.sched_pool_claim.specs.Portion.{Portion, IsShareOf}
 use Rattle.sched_pool.specs.Boards.{Boarded, SharedOut}
 
 pub are_shares : (board after : Boarded) (workers : ℕ) (shares : List Portion) → SharedOut board workers shares after →

@@ -2,10 +2,10 @@
 use denote.Param.Send.{IsSend, IsSync, sendable}
 use Rattle.std.proofs.Crossing.{crosses}
 use Rattle.sched_ticket.proofs.budget.Budget.TheSendSync as budget
-use Rattle.sched_claim.proofs.claims.Claims.TheSendSync as claims
+use Rattle.sched_pool_claim.proofs.claims.Claims.TheSendSync as claims
 use Rattle.sched_pool_job.proofs.Sends.{job_sends}
-use Rattle.sched_worker.specs.contracts.stations.Station as Station
-use Rattle.sched_claim.proofs.shares.Share.TheSendSync as share
+use Rattle.sched_pool_worker.specs.contracts.stations.Station as Station
+use Rattle.sched_pool_claim.proofs.shares.Share.TheSendSync as share
 use Rattle.sched_pool.specs.contracts.boards.Board as Board
 use Rattle.sched_pool.specs.contracts.runs.Shift as Shift
 use Rattle.sched_pool.specs.contracts.runs.Worker as Worker

@@ -2,7 +2,7 @@
 use Rattle.std.specs.Prelude.{◌≡◌, ◌<◌, ◌≤◌, ℕ, false, List, length, Option, Some, None, IsSome, IfSome, All}
 use Rattle.sched_ticket.specs.View.{terms}
 use Rattle.sched_ticket.specs.Held.{Name}
-use Rattle.sched_claim.specs.Portion.{Portion, IsNewOf}
+use Rattle.sched_pool_claim.specs.Portion.{Portion, IsNewOf}
 use Rattle.sched_pool.specs.declared.faults.AddFault.{AddFault}
 use Rattle.sched_pool.specs.declared.faults.AddFault.TheVariants as add
 use Rattle.sched_pool.specs.declared.faults.ShareFault.{ShareFault}

@@ -5,13 +5,13 @@ ghost use Rattle.sched_pool_job.specs.Jobs.{IsSeen};
 ghost use Rattle.sched_pool.specs.Boards.{Boarded, RefusesAdd, RefusesShares, SharedOut};
 
 use crate::faults::{AddFault, AddRefused, ShareFault};
-use sched_claim::{Claimed, Claims, Share};
-use sched_draws::OnBudget;
 use sched_effect::Effect;
+use sched_pool_claim::{Claimed, Claims, Share};
 use sched_pool_job::{Job, Seen};
 use sched_retry::Retry;
 use sched_task::Task;
 use sched_ticket::{Budget, Naming};
+use sched_ticket_draws::OnBudget;
 use std::alloc::Global;
 use std::marker::Model;
 use std::sync::{Mutex, Wait};

@@ -1,9 +1,9 @@
 //! What a board refuses.
 
-use sched_draws::OnBudget;
 use sched_effect::Effect;
 use sched_retry::Retry;
 use sched_ticket::Budget;
+use sched_ticket_draws::OnBudget;
 use std::fmt;
 use thiserror::Error;
 

@@ -1,7 +1,7 @@
 //! Running a board on threads.
 ghost use Rattle.std.specs.Prelude.{◌≡◌, ◌≤◌, true, false, vec_len, vec_capacity, All, IfOk, IfErr};
 ghost use Rattle.sched_ticket.specs.Held.{IsOf};
-ghost use Rattle.sched_claim.specs.Portion.{IsShareOf};
+ghost use Rattle.sched_pool_claim.specs.Portion.{IsShareOf};
 ghost use Rattle.sched_pool.specs.Ends.{IsEnd};
 ghost use Rattle.sched_pool.specs.Runs.{all_over, StopFits};
 ghost use Rattle.sched_pool.specs.declared.runs.Effort.{Effort};
@@ -10,13 +10,13 @@ use crate::boards::Board;
 use crate::ends::PoolEnd;
 use crate::faults::ShareFault;
 use rand_core::Rng;
-use sched_claim::Share;
 use sched_effect::Effect;
+use sched_pool_claim::Share;
 use sched_pool_job::JobEnd;
+use sched_pool_worker::{Finish, Gate, Station};
 use sched_task::Clock;
 use sched_ticket::{Naming, Pass};
 use sched_time::NoMemory;
-use sched_worker::{Finish, Gate, Station};
 use std::alloc::{AllocGlobal, Global};
 use std::fmt;
 use std::marker::Model;
@@ -78,7 +78,7 @@ struct Worker<'b, 'a, R, X: Effect, N: Naming, C, G, Q> {
 }
 
 impl<'b, 'a, R, X: Effect, N: Naming, C, G, Q> Model for Worker<'b, 'a, R, X, N, C, G, Q> {
-    ghost use Rattle.sched_claim.specs.Portion.{Portion, IsShareOf};
+    ghost use Rattle.sched_pool_claim.specs.Portion.{Portion, IsShareOf};
 
     ghost Value = { Portion };
 

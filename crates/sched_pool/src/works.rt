@@ -1,17 +1,17 @@
 //! One worker of a board.
 ghost use Rattle.std.specs.Prelude.{◌≡◌, ◌<◌, ◌≤◌, [], length};
-ghost use Rattle.sched_claim.specs.Portion.{IsShareOf};
+ghost use Rattle.sched_pool_claim.specs.Portion.{IsShareOf};
 ghost use Rattle.sched_wheel.specs.Polled.{IsLeft};
-ghost use Rattle.sched_worker.specs.Working.{WentOn};
-ghost use Rattle.sched_worker.specs.declared.works.Finish.{Finish};
+ghost use Rattle.sched_pool_worker.specs.Working.{WentOn};
+ghost use Rattle.sched_pool_worker.specs.declared.works.Finish.{Finish};
 
 use crate::boards::Board;
 use rand_core::Rng;
-use sched_claim::Share;
 use sched_effect::Effect;
+use sched_pool_claim::Share;
+use sched_pool_worker::{Gate, Station, Worked, work_through};
 use sched_task::Clock;
 use sched_ticket::Naming;
-use sched_worker::{Gate, Station, Worked, work_through};
 use std::alloc::AllocGlobal;
 use std::random::RandomSource;
 use std::sync::Wait;

@@ -8,8 +8,8 @@ use Rattle.sched_effect.specs.declared.ran.Ran.{Ran}
 use Rattle.sched_task.specs.declared.endings.How.{How}
 use Rattle.sched_task.specs.declared.endings.How.TheVariants.{Won, ScheduleDone, BudgetRefused, Failed, Cancelled, Broken}
 use Rattle.sched_ticket.specs.Held.{Name}
-use Rattle.sched_draws.specs.Grants.{Grants}
-use Rattle.sched_draws.specs.Budgets.{OfBudget, budget_grants}
+use Rattle.sched_ticket_draws.specs.Grants.{Grants}
+use Rattle.sched_ticket_draws.specs.Budgets.{OfBudget, budget_grants}
 use Rattle.sched_task_law.specs.Kind.{Kind, retry}
 use Rattle.sched_task_law.specs.Past.{Past, schedule_is_done, is_under_way, waits_for}
 use Rattle.sched_task_law.specs.Poll.{Happened, stays, cannot_begin, runs_on, cannot_run, ends, breaks, stops_done, stops_denied, recurs, asks, cannot_ask, falls, May, after}

@@ -4,7 +4,7 @@ use Rattle.std.proofs.Crossing.{crosses}
 use Rattle.sched_driver.proofs.Sends.{driver_sends}
 use Rattle.sched_ticket.proofs.pass.Pass.TheSendSync as pass
 use Rattle.sched_ticket.proofs.budget.Budget.TheSendSync as budget
-use Rattle.sched_draws.specs.contracts.on_budget.OnBudget as OnBudget
+use Rattle.sched_ticket_draws.specs.contracts.on_budget.OnBudget as OnBudget
 use Rattle.sched_task_law.specs.contracts.runner.Runner as Runner
 use Rattle.sched_retry.specs.contracts.retry.Retry as Retry
 use Rattle.sched_pool_job.specs.contracts.jobs.Job as Job

@@ -2,8 +2,8 @@
 use Rattle.std.specs.Prelude.{◌≡◌, ℕ, ◌+◌, ◌<◌, None, is_some, IfSome}
 use Rattle.std.specs.Coded.{Coded, coded_ℕ}
 use Rattle.sched_ticket.specs.Held.{Name}
-use Rattle.sched_draws.specs.Budgets.{OfBudget}
-use Rattle.sched_draws.specs.declared.on_budget.OnBudget.{the_code}
+use Rattle.sched_ticket_draws.specs.Budgets.{OfBudget}
+use Rattle.sched_ticket_draws.specs.declared.on_budget.OnBudget.{the_code}
 use Rattle.sched_task_law.specs.Past.{bit}
 use Rattle.sched_task_law.specs.Law.{is_stop}
 use Rattle.sched_retry.specs.Retrying.{Retrying}

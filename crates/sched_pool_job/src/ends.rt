@@ -5,11 +5,11 @@ ghost use Rattle.sched_task_law.specs.Past.{bit};
 ghost use Rattle.sched_task_law.specs.Law.{Law, is_stop};
 ghost use Rattle.sched_retry.specs.Ending.{EndingFits};
 
-use sched_draws::Draws;
 use sched_driver::Driver;
 use sched_effect::{Coded, Effect};
 use sched_retry::{Ending, Retry, Whole};
 use sched_task::How;
+use sched_ticket_draws::Draws;
 use sched_time::Moment;
 use std::marker::Model;
 

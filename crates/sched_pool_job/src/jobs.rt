@@ -10,11 +10,11 @@ ghost use Rattle.sched_pool_job.specs.Ends.{IsRefusedBy};
 use crate::ends::JobEnd;
 use crate::sights::Seen;
 use futures::task::{Context, Poll};
-use sched_draws::OnBudget;
 use sched_effect::Effect;
 use sched_retry::Retry;
 use sched_task::{How, Task};
 use sched_ticket::{Budget, Naming, Pass};
+use sched_ticket_draws::OnBudget;
 use sched_time::{Moment, Tick};
 use std::alloc::Global;
 use std::marker::{Model, PhantomData};
@@ -27,7 +27,7 @@ pub struct Job<'a, X: Effect, N: Naming> {
 }
 
 impl<'a, X: Effect, N: Naming> Model for Job<'a, X, N> {
-    ghost use Rattle.sched_draws.specs.Budgets.{OfBudget};
+    ghost use Rattle.sched_ticket_draws.specs.Budgets.{OfBudget};
     ghost use Rattle.sched_retry.specs.Retrying.{Retrying, coded_retrying};
     ghost use Rattle.sched_pool_job.specs.Jobs.{IsJob, coded_of_budget};
 
@@ -90,7 +90,7 @@ impl<'a, X: Effect, N: Naming> Task for Job<'a, X, N> {
     ghost use Rattle.std.specs.Prelude.{◌≡◌};
     ghost use Rattle.sched_task_law.specs.Kind.{retry};
     ghost use Rattle.sched_task_law.specs.Past.{waits_for as start_of, waits_for-over};
-    ghost use Rattle.sched_draws.specs.Budgets.{budget_grants};
+    ghost use Rattle.sched_ticket_draws.specs.Budgets.{budget_grants};
     ghost use Rattle.sched_retry.specs.Retrying.{RetryPoll, gives_up as given_up};
 
     ghost ended = { λ v. v.past.over };

@@ -4,7 +4,7 @@ use Rattle.std.specs.Prelude.{Vec, IfSome, IsSomeAnd}
 use Rattle.std.specs.declared.alloc.Global.{Global}
 use Rattle.std.specs.List.{Contains}
 use Rattle.std.proofs.lemmas.List.Elements.{Contains-append_left, Contains-append_right, Contains-append_cases, Contains-push, Contains-push_cases}
-use Rattle.sched_quota.specs.Windows.{window_of}
+use Rattle.sched_ticket_quota.specs.Windows.{window_of}
 use Rattle.sched_quota_pool.specs.Windows.{HaveSame, HasDistinct}
 
 -- one more number

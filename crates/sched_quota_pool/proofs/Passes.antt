@@ -1,9 +1,9 @@
 -- What a pass's requests are after each call.
 use Rattle.std.proofs.Common.{◌≡◌, ℕ, inl, inr, ◌≤◌, true, false, length, refl, ap, ◌∙◌, arith}
-use Rattle.sched_quota.specs.Calls.{Turned, Deposited}
-use Rattle.sched_quota.specs.declared.view.Terms.{Terms}
-use Rattle.sched_quota.specs.declared.view.View.{View}
-use Rattle.sched_draws.specs.Quotas.{OfQuota, QuotaDrew}
+use Rattle.sched_ticket_quota.specs.Calls.{Turned, Deposited}
+use Rattle.sched_ticket_quota.specs.declared.view.Terms.{Terms}
+use Rattle.sched_ticket_quota.specs.declared.view.View.{View}
+use Rattle.sched_ticket_draws.specs.Quotas.{OfQuota, QuotaDrew}
 use Rattle.sched_quota_pool.specs.Driven.{IsUnused}
 
 -- a pass that comes to a window keeps its requests

@@ -7,8 +7,8 @@ use Rattle.sched_task.specs.declared.endings.How.{How}
 use Rattle.sched_task_law.specs.Kind.{retry}
 use Rattle.sched_task_law.specs.Poll.{Happened, stays, cannot_begin, runs_on, cannot_run, ends, breaks, stops_done, stops_denied, recurs, asks, cannot_ask, falls}
 use Rattle.sched_wheel.specs.Polled.{Standing, Poll, polled, ArePolls}
-use Rattle.sched_quota.specs.Held.{Name}
-use Rattle.sched_draws.specs.Quotas.{OfQuota, quota_grants}
+use Rattle.sched_ticket_quota.specs.Held.{Name}
+use Rattle.sched_ticket_draws.specs.Quotas.{OfQuota, quota_grants}
 use Rattle.sched_retry.specs.Retrying.{Retrying, DrawsIn, RetryPoll}
 use Rattle.sched_pool_job.proofs.Kept.{polled_untaken}
 use Rattle.sched_quota_pool.specs.Driven.{IsDriven}

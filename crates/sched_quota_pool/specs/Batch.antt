@@ -1,14 +1,14 @@
 -- What is true of jobs that were run on one quota.
 use Rattle.std.specs.Prelude.{◌≡◌, ℕ, ◌≤◌, List, map, length, All}
 use Rattle.sched_ticket.specs.Lists.{total, times}
-use Rattle.sched_quota.specs.Windows.{window_of, allowed, count_in}
-use Rattle.sched_quota.specs.Held.{Name, Held, IsOf}
-use Rattle.sched_quota.specs.declared.view.Terms.{Terms}
-use Rattle.sched_quota.specs.declared.view.View.{View}
+use Rattle.sched_ticket_quota.specs.Windows.{window_of, allowed, count_in}
+use Rattle.sched_ticket_quota.specs.Held.{Name, Held, IsOf}
+use Rattle.sched_ticket_quota.specs.declared.view.Terms.{Terms}
+use Rattle.sched_ticket_quota.specs.declared.view.View.{View}
 use Rattle.sched_task_law.specs.Kind.{retry}
 use Rattle.sched_task_law.specs.Past.{Past}
 use Rattle.sched_task_law.specs.Law.{Law}
-use Rattle.sched_jobs_json.specs.Job.{Job}
+use Rattle.sched_pool_json.specs.Job.{Job}
 use Rattle.sched_scripted_job.specs.Ends.{AreEndsOf}
 use Rattle.sched_quota_pool.specs.Windows.{HaveSame, HasDistinct}
 

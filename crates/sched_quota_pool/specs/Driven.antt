@@ -1,8 +1,8 @@
 -- A quota's passes before and while the jobs run.
 use Rattle.std.specs.Prelude.{◌≡◌, [], length, is_some}
-use Rattle.sched_quota.specs.Held.{Name}
-use Rattle.sched_quota.specs.declared.view.View.{View}
-use Rattle.sched_draws.specs.Quotas.{OfQuota}
+use Rattle.sched_ticket_quota.specs.Held.{Name}
+use Rattle.sched_ticket_quota.specs.declared.view.View.{View}
+use Rattle.sched_ticket_draws.specs.Quotas.{OfQuota}
 use Rattle.sched_retry.specs.Retrying.{Retrying}
 
 -- a pass with which nothing was drawn and no request was counted

@@ -1,18 +1,18 @@
 //! Running jobs on one quota.
 ghost use Rattle.std.specs.Prelude.{◌≡◌, length, All, IfOk, OnOk};
-ghost use Rattle.sched_quota.specs.Held.{AreTerms, IsOf, Name};
-ghost use Rattle.sched_quota.specs.Calls.{IsWhole};
+ghost use Rattle.sched_ticket_quota.specs.Held.{AreTerms, IsOf, Name};
+ghost use Rattle.sched_ticket_quota.specs.Calls.{IsWhole};
 ghost use Rattle.sched_quota_pool.specs.Driven.{IsDriven, IsUnused};
 ghost use Rattle.sched_quota_pool.specs.Batch.{AreRunOnQuota, AreTaken};
 ghost use Rattle.sched_quota_pool.specs.Windows.{HasDistinct};
 
 use crate::retries::{QuotaRetry, retries_of};
 use sched_effect::Scripted;
-use sched_jobs_json::JobRead;
 use sched_pool_job::JobEnd;
-use sched_quota::{Pass, Quota, QuotaFault, Terms};
+use sched_pool_json::JobRead;
 use sched_scripted_job::are_ends_of;
 use sched_task::{MidWords, VirtualClock};
+use sched_ticket_quota::{Pass, Quota, QuotaFault, Terms};
 use sched_time::{Moment, NoMemory};
 use sched_wheel::{LoopStop, WheelLoop};
 use std::alloc::{AllocError, AllocGlobal, Global};

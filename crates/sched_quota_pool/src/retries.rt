@@ -1,15 +1,15 @@
 //! The jobs as retries on a quota.
 ghost use Rattle.std.specs.Prelude.{◌≡◌, [], All, IfOk};
-ghost use Rattle.sched_quota.specs.Held.{IsOf};
+ghost use Rattle.sched_ticket_quota.specs.Held.{IsOf};
 ghost use Rattle.sched_quota_pool.specs.Driven.{IsDriven, IsUnused};
 
 use crate::batches::QuotaBatchFault;
 use crate::tallies::Tally;
 use sched_effect::Scripted;
-use sched_jobs_json::JobRead;
-use sched_quota::{Pass, Quota};
+use sched_pool_json::JobRead;
 use sched_retry::Retry;
 use sched_scripted_job::retry_of;
+use sched_ticket_quota::{Pass, Quota};
 use sched_time::Moment;
 use std::alloc::Global;
 

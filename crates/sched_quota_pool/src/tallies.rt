@@ -1,12 +1,12 @@
 //! Draws on a quota that tell the windows of the tickets.
 ghost use Rattle.std.specs.Prelude.{◌≡◌, ◌∷◌, [], map, IfSome, IsSomeAnd, IsTrue};
 ghost use Rattle.std.specs.List.{Contains};
-ghost use Rattle.sched_quota.specs.Held.{IsOf};
-ghost use Rattle.sched_quota.specs.Windows.{window_of};
+ghost use Rattle.sched_ticket_quota.specs.Held.{IsOf};
+ghost use Rattle.sched_ticket_quota.specs.Windows.{window_of};
 ghost use Rattle.sched_quota_pool.specs.Windows.{HaveSame};
 
-use sched_draws::{Draws, RefersTo};
-use sched_quota::{Pass, Quota};
+use sched_ticket_draws::{Draws, RefersTo};
+use sched_ticket_quota::{Pass, Quota};
 use sched_time::Moment;
 use std::alloc::Global;
 use std::marker::Model;
@@ -25,9 +25,9 @@ pub struct Tally<Q: RefersTo<Quota>> {
 
 impl<Q: RefersTo<Quota>> Model for Tally<Q> {
     ghost use Rattle.std.specs.Prelude.{map, IfSome};
-    ghost use Rattle.sched_quota.specs.Held.{IsOf};
-    ghost use Rattle.sched_quota.specs.Windows.{window_of};
-    ghost use Rattle.sched_draws.specs.Quotas.{OfQuota};
+    ghost use Rattle.sched_ticket_quota.specs.Held.{IsOf};
+    ghost use Rattle.sched_ticket_quota.specs.Windows.{window_of};
+    ghost use Rattle.sched_ticket_draws.specs.Quotas.{OfQuota};
     ghost use Rattle.sched_quota_pool.specs.Windows.{HaveSame};
 
     ghost Value = { OfQuota };
@@ -69,7 +69,7 @@ impl<Q: RefersTo<Quota>> Tally<Q> {
 }
 
 impl<Q: RefersTo<Quota>> Draws for Tally<Q> {
-    ghost use Rattle.sched_draws.specs.Quotas.{quota_grants, quota_lawful};
+    ghost use Rattle.sched_ticket_draws.specs.Quotas.{quota_grants, quota_lawful};
 
     ghost grants = { quota_grants };
 

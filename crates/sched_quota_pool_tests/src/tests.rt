@@ -1,9 +1,9 @@
 //! Jobs on a quota, worked by hand: the lines of jobs and the total.
 use sched_effect::Effect;
-use sched_jobs_json::{JobRead, read_jobs};
+use sched_pool_json::{JobRead, read_jobs};
 use sched_pool_text::{push_line, push_windows};
-use sched_quota::{MAX_RESERVE, MAX_SHARE, Terms};
 use sched_quota_pool::{QuotaBatch, run_on_quota};
+use sched_ticket_quota::{MAX_RESERVE, MAX_SHARE, Terms};
 use sched_time::Millis;
 use serde_json::Value;
 use std::alloc::{AllocGlobal, Global};

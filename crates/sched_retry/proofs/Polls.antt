@@ -7,7 +7,7 @@ use Rattle.sched_task.specs.declared.endings.How.{How}
 use Rattle.sched_task.specs.declared.endings.How.TheVariants as how
 use Rattle.sched_task.specs.declared.endings.RunFault.{RunFault}
 use Rattle.sched_task.specs.declared.endings.RunFault.TheVariants.{NoMemory}
-use Rattle.sched_draws.specs.Grants.{Grants, Lawful}
+use Rattle.sched_ticket_draws.specs.Grants.{Grants, Lawful}
 use Rattle.sched_task_law.specs.Kind.{Kind, retry, draws, calls, final}
 use Rattle.sched_task_law.specs.Lists.{last_element}
 use Rattle.sched_task_law.specs.Past.{Past, schedule_is_done, is_under_way, is_stopped, waits_for}

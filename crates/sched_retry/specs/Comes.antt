@@ -2,7 +2,7 @@
 use Rattle.std.specs.Prelude.{◌≡◌, ◌⊎◌, ℕ, true, false, Option, Some, None}
 use Rattle.sched_time.specs.declared.numbers.Tick.{Tick}
 use Rattle.sched_effect.specs.declared.ran.Ran.TheVariants as ran
-use Rattle.sched_draws.specs.Grants.{Grants}
+use Rattle.sched_ticket_draws.specs.Grants.{Grants}
 use Rattle.sched_task_law.specs.Runner.{Runs, with_run, with_finished}
 use Rattle.sched_task_law.specs.Attempt.{Breaks, Stepped}
 use Rattle.sched_retry.specs.declared.endings.Ending.{Ending}

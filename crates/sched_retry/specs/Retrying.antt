@@ -3,7 +3,7 @@ use Rattle.std.specs.Prelude.{◌≡◌, ℕ, ◌+◌, ◌-◌, Bool, true, fals
 use Rattle.std.specs.Coded.{Coded, code_by, coded×, coded_ℕ, coded_bool}
 use Rattle.sched_time.specs.declared.numbers.Tick.{Tick}
 use Rattle.sched_task.specs.declared.endings.How.{How}
-use Rattle.sched_draws.specs.Grants.{Grants}
+use Rattle.sched_ticket_draws.specs.Grants.{Grants}
 use Rattle.sched_task_law.specs.Kind.{Kind}
 use Rattle.sched_task_law.specs.Past.{Past}
 use Rattle.sched_task_law.specs.Poll.{Happened, stops_denied, recurs, OnePoll, cancelled}

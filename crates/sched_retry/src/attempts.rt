@@ -4,10 +4,10 @@ ghost use Rattle.sched_retry.specs.Comes.{Comes};
 
 use crate::endings::Ending;
 use futures::task::{Context, Poll};
-use sched_draws::Draws;
 use sched_effect::{Coded, Effect};
 use sched_task::RunFault;
 use sched_task_law::{Polled, Runner};
+use sched_ticket_draws::Draws;
 use sched_time::Tick;
 use std::alloc::Global;
 

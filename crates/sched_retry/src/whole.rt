@@ -1,10 +1,10 @@
 //! A retry, taken apart.
 
 use crate::endings::Ending;
-use sched_draws::Draws;
 use sched_driver::Driver;
 use sched_effect::Effect;
 use sched_task::How;
+use sched_ticket_draws::Draws;
 use sched_time::Moment;
 
 /// All that a retry had.

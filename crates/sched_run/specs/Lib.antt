@@ -7,13 +7,13 @@ pub use Rattle.sched_plan.specs.Answer
 pub use Rattle.sched_driver.specs.Driven
 pub use Rattle.sched_driver.specs.Driver
 pub use Rattle.sched_ticket.specs.Held
-pub use Rattle.sched_quota.specs.Held as QuotaHeld
-pub use Rattle.sched_quota.specs.Calls as QuotaCalls
-pub use Rattle.sched_draws.specs.Counted
-pub use Rattle.sched_draws.specs.Grants
-pub use Rattle.sched_draws.specs.Budgets
-pub use Rattle.sched_draws.specs.Quotas
-pub use Rattle.sched_draws.specs.Freely
+pub use Rattle.sched_ticket_quota.specs.Held as QuotaHeld
+pub use Rattle.sched_ticket_quota.specs.Calls as QuotaCalls
+pub use Rattle.sched_ticket_draws.specs.Counted
+pub use Rattle.sched_ticket_draws.specs.Grants
+pub use Rattle.sched_ticket_draws.specs.Budgets
+pub use Rattle.sched_ticket_draws.specs.Quotas
+pub use Rattle.sched_ticket_draws.specs.Freely
 pub use Rattle.sched_task.specs.Polls
 pub use Rattle.sched_task.specs.Course
 pub use Rattle.sched_task.specs.Words

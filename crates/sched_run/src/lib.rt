@@ -20,16 +20,12 @@ pub use futures::executor::block_on;
 pub use futures::task::{Context, Poll};
 pub use rand_core::Rng;
 pub use sched_closure::retry_call;
-pub use sched_draws::{Draws, OnBudget, OnQuota, RefersTo, Unlimited};
 pub use sched_driver::{DriveFault, Driver, Event};
 pub use sched_effect::{
     Action, Call, Code, Coded, Effect, Fallback, FutureAction, FutureCall, Ran, Scripted, Tagged,
 };
 pub use sched_host::{HostRetry, Next};
 pub use sched_plan::{Fold, Plan, PlanFault, Test, Val};
-pub use sched_quota::{
-    Pass as QuotaPass, PassesOut as QuotaPassesOut, Quota, QuotaFault, Terms, Usage,
-};
 pub use sched_repeat::{Repeat, RepeatEnding};
 pub use sched_retry::{Ending, Retry};
 pub use sched_retry_or::{RetryOr, RetryOrEnding};
@@ -38,4 +34,8 @@ pub use sched_task::{
     VirtualClock, four_words,
 };
 pub use sched_ticket::{Budget, Pass, PassesOut, Refusal, TicketFault};
+pub use sched_ticket_draws::{Draws, OnBudget, OnQuota, RefersTo, Unlimited};
+pub use sched_ticket_quota::{
+    Pass as QuotaPass, PassesOut as QuotaPassesOut, Quota, QuotaFault, Terms, Usage,
+};
 pub use sched_time::{Decision, FAR, Interval, Millis, Moment, NoMemory, Tick};

@@ -2,7 +2,7 @@
 use Rattle.std.specs.Prelude.{◌≡◌, List, [], ◌∷◌}
 use Rattle.sched_effect.specs.Played.{Follows}
 use Rattle.sched_task_law.specs.Past.{Past}
-use Rattle.sched_jobs_json.specs.Job.{Job}
+use Rattle.sched_pool_json.specs.Job.{Job}
 
 -- a job ended so: with its plan, and its finished runs are its script's in order, the last one repeated
 pub record IsEndOf (job : Job) (v : Past) : Type 0 where

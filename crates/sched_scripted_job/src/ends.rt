@@ -3,8 +3,8 @@ ghost use Rattle.std.specs.Prelude.{◌≡◌, IsTrue};
 ghost use Rattle.sched_scripted_job.specs.Ends.{IsEndOf, AreEndsOf};
 
 use sched_effect::{Ran, Scripted};
-use sched_jobs_json::JobRead;
 use sched_pool_job::JobEnd;
+use sched_pool_json::JobRead;
 
 /// Whether each job that was read has its end, in order: with its plan, and with its script.
 pub fn are_ends_of(jobs: &[JobRead], ends: &[JobEnd<Scripted>]) -> bool

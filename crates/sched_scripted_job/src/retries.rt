@@ -2,11 +2,11 @@
 ghost use Rattle.std.specs.Prelude.{◌≡◌, false, IfOk};
 ghost use Rattle.sched_task_law.specs.Past.{nothing_yet};
 
-use sched_draws::Draws;
 use sched_driver::Driver;
 use sched_effect::Scripted;
-use sched_jobs_json::JobRead;
+use sched_pool_json::JobRead;
 use sched_retry::Retry;
+use sched_ticket_draws::Draws;
 use sched_time::NoMemory;
 use std::alloc::Global;
 

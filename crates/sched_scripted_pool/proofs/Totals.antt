@@ -6,7 +6,7 @@ use Rattle.sched_ticket.specs.Calls.{IsWhole}
 use Rattle.sched_ticket.specs.declared.view.Terms.{Terms}
 use Rattle.sched_task_law.specs.Past.{Past}
 use Rattle.sched_pool.specs.Ends.{TotalsAgree}
-use Rattle.sched_jobs_json.specs.Job.{Job}
+use Rattle.sched_pool_json.specs.Job.{Job}
 use Rattle.sched_scripted_job.specs.Ends.{AreEndsOf}
 use Rattle.sched_scripted_pool.specs.Batch.{AreRun, IsNewEnd}
 

@@ -6,7 +6,7 @@ use Rattle.sched_task_law.specs.Kind.{retry}
 use Rattle.sched_task_law.specs.Past.{Past}
 use Rattle.sched_task_law.specs.Law.{Law}
 use Rattle.sched_pool.specs.Ends.{has_refused, IsEnd}
-use Rattle.sched_jobs_json.specs.Job.{Job}
+use Rattle.sched_pool_json.specs.Job.{Job}
 use Rattle.sched_scripted_job.specs.Ends.{AreEndsOf}
 
 -- The jobs ended so on a budget of this limit, which gave out so many tickets.

@@ -7,15 +7,15 @@ ghost use Rattle.sched_scripted_pool.specs.Batch.{AreRun, IsNewEnd};
 
 use crate::retries::boarded;
 use sched_effect::Scripted;
-use sched_jobs_json::JobRead;
 use sched_pool::laws::totals_agree;
 use sched_pool::{PoolEnd, PoolStop};
 use sched_pool_job::JobEnd;
+use sched_pool_json::JobRead;
+use sched_pool_worker::{OpenGate, Station};
 use sched_scripted_job::are_ends_of;
 use sched_task::{MidWords, VirtualClock};
 use sched_ticket::{Budget, Naming, Pass, TicketFault};
 use sched_time::{Moment, NoMemory};
-use sched_worker::{OpenGate, Station};
 use std::alloc::{AllocError, AllocGlobal, Global};
 use std::marker::Brand;
 use std::random::RandomSource;

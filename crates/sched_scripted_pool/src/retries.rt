@@ -3,12 +3,12 @@ ghost use Rattle.std.specs.Prelude.{◌≡◌, ◌≤◌, ◌<◌, ◌+◌, [], 
 ghost use Rattle.sched_ticket.specs.Held.{IsOf};
 
 use crate::batches::BatchFault;
-use sched_draws::OnBudget;
 use sched_effect::Scripted;
-use sched_jobs_json::JobRead;
 use sched_pool::{AddFault, Board};
+use sched_pool_json::JobRead;
 use sched_scripted_job::retry_of;
 use sched_ticket::{Budget, Naming, Pass};
+use sched_ticket_draws::OnBudget;
 use std::alloc::Global;
 
 /// A board with a retry of each job, in order, each with a pass of its own split off. The pass keeps its tickets.

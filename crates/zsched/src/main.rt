@@ -3,7 +3,7 @@
 
 ghost use Rattle.std.specs.Prelude.{◌≡◌, MatchResult};
 ghost use Rattle.std.specs.Process.{exit_status};
-ghost use Rattle.sched_plan_text.specs.PrintStatus.{print_status};
+ghost use Rattle.sched_cli_plan.specs.PrintStatus.{print_status};
 
 use sched_cli::{
     Asked, Counted, Origin, PrintFault, WordsFault, print_check, print_course, print_plan,

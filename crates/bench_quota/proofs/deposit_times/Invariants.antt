@@ -1,4 +1,4 @@
-use Rattle.sched_quota.specs.Held.{IsOf}
+use Rattle.sched_ticket_quota.specs.Held.{IsOf}
 use Rattle.bench_quota.proofs.deposit_times.Given as goal
 
 abbrev pub invariant-loop : goal.invariant-loop

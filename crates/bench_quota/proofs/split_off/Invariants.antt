@@ -1,5 +1,5 @@
 use Rattle.std.specs.Prelude.{All}
-use Rattle.sched_quota.specs.Held.{IsOf}
+use Rattle.sched_ticket_quota.specs.Held.{IsOf}
 use Rattle.bench_quota.proofs.split_off.Given as goal
 
 abbrev pub invariant-loop : goal.invariant-loop

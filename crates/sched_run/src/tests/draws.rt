@@ -1,5 +1,5 @@
 //! Retries by each value of `Draws`. A retry tells the tickets that it was granted itself, the value those of all.
-ghost use Rattle.sched_quota.specs.Held.{IsOf};
+ghost use Rattle.sched_ticket_quota.specs.Held.{IsOf};
 
 use super::calls::{Cache, Calls};
 use super::plays::{play_drawing, play_drawing_or};

@@ -3,7 +3,7 @@ use Rattle.std.proofs.lemmas.List.{drop_more, drop_all}
 use Rattle.std.proofs.lemmas.Result.{err_from_is_err_and}
 use Rattle.sched_task_law.specs.Past.{Past}
 use Rattle.sched_pool_text.specs.PoolText.{line_text, job_text}
-use Rattle.sched_plan_text.proofs.Written.{closes}
+use Rattle.sched_cli_plan.proofs.Written.{closes}
 use Rattle.sched_cli.proofs.PoolLines.{pool_stopped, pool_goes_on, pool_stopped_in_line, pool_ends}
 use Rattle.sched_cli.proofs.ended.write_lines.Goals as goal
 

@@ -1,5 +1,5 @@
 use Rattle.std.proofs.Common.{◌++◌, ℕ, List, string_bytes, subst}
-use Rattle.sched_jobs_json.specs.Job.{Job}
+use Rattle.sched_pool_json.specs.Job.{Job}
 use Rattle.sched_pool_text.specs.PoolText.{lines_from}
 use Rattle.sched_cli.specs.JobsPrinting.{SpellsJobs}
 use Rattle.sched_cli.specs.QuotaPrinting.{RunsOnQuota}

@@ -1,5 +1,5 @@
 use Rattle.std.proofs.Common.{◌+◌, ◌≤◌, vec_len, vec_capacity, All}
-use Rattle.sched_claim.specs.Portion.{IsShareOf}
+use Rattle.sched_pool_claim.specs.Portion.{IsShareOf}
 use Rattle.sched_pool.proofs.runs.crew.Given as goal
 
 abbrev pub invariant-loop-share : goal.invariant-loop-share

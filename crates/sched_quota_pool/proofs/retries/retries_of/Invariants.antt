@@ -1,5 +1,5 @@
 use Rattle.std.specs.Prelude.{All}
-use Rattle.sched_quota.specs.Held.{IsOf}
+use Rattle.sched_ticket_quota.specs.Held.{IsOf}
 use Rattle.sched_quota_pool.specs.Driven.{IsDriven, IsUnused}
 use Rattle.sched_quota_pool.proofs.retries.retries_of.Given as goal
 

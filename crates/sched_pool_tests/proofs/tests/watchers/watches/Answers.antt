@@ -5,7 +5,7 @@ use denote.RattleType.{RattleType}
 use denote.Struct.Tuple.{TupleAt}
 use mathlib.Core.List.{[], ◌∷◌}
 use Rattle.std.proofs.Crossing.{crosses}
-use Rattle.sched_claim.proofs.shares.Share.TheSendSync as share
+use Rattle.sched_pool_claim.proofs.shares.Share.TheSendSync as share
 use Rattle.sched_effect.specs.contracts.ran.Code as Code
 use Rattle.sched_effect.specs.contracts.ran.CodeCoded.TheImpl as coded
 use Rattle.sched_task.specs.contracts.clocks.VirtualClock as VirtualClock

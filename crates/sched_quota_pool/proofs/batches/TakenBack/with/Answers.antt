@@ -1,7 +1,7 @@
 use Rattle.std.proofs.Common.{rules, ◌≡◌, [], ◌∷◌, ◌++◌, map, length, ap, ◌∙◌, arith}
-use Rattle.sched_quota.specs.Windows.{window_of}
-use Rattle.sched_quota.specs.Held.{Held}
-use Rattle.sched_draws.specs.Quotas.{OfQuota}
+use Rattle.sched_ticket_quota.specs.Windows.{window_of}
+use Rattle.sched_ticket_quota.specs.Held.{Held}
+use Rattle.sched_ticket_draws.specs.Quotas.{OfQuota}
 use Rattle.sched_quota_pool.specs.Windows.{HaveSame}
 use Rattle.sched_quota_pool.proofs.Taken.{one_taken}
 use Rattle.sched_quota_pool.proofs.batches.TakenBack.with.Goals as goal

@@ -1,0 +1,196 @@
+//! Faults of plans with their places.
+use super::{refuses, tells};
+use sched_cli_plan::PrintFault;
+use std::alloc::{AllocError, Global};
+use std::test::Fail;
+
+// The text so many levels deep below nodes of this name, each over one plan.
+fn under(alloc: Global, name: &str, times: u64, last: &str) -> Result<String, AllocError> {
+    let mut text = String::new(alloc);
+    for _ in 0..times {
+        text.push_str("{\"")?;
+        text.push_str(name)?;
+        text.push_str("\":")?;
+    }
+    text.push_str(last)?;
+    for _ in 0..times {
+        text.push_str("}")?;
+    }
+    Ok(text)
+}
+
+// A plan that has the same plan twice.
+fn twice(alloc: Global, plan: &str) -> Result<String, AllocError> {
+    format!(in alloc; "{{\"meet\":[{plan},{plan}]}}")
+}
+
+#[test]
+fn values_that_are_no_node(rt: HostRuntime) -> Result<(), Fail> {
+    let table = [
+        ("7", "top: a plan is a string or an object of one member\n"),
+        (
+            "null",
+            "top: a plan is a string or an object of one member\n",
+        ),
+        (
+            "{}",
+            "top: a plan is a string or an object of one member, and this has 0\n",
+        ),
+        (
+            r#"{"recurs":1,"spaced":1}"#,
+            "top: a plan is a string or an object of one member, and this has 2\n",
+        ),
+        (
+            r#"{"follow":["forever",{"add_out":["forever"]}]}"#,
+            "follow[1].add_out: a plan is a string or an object of one member\n",
+        ),
+    ];
+    refuses(&rt, rt.alloc(), &table, PrintFault::NotAPlan)
+}
+
+#[test]
+fn names_that_no_node_has(rt: HostRuntime) -> Result<(), Fail> {
+    let table = [
+        (
+            r#"{"meet":[{"recurs":1},{"cap":[1,{"exponental":[100,2]}]}]}"#,
+            "meet[1].cap[1]: no node is called \"exponental\"; did you mean \"exponential\"?\n",
+        ),
+        (r#""never""#, "top: no node is called \"never\"\n"),
+        (r#""""#, "top: no node is called \"\"\n"),
+        (r#"{"retry":3}"#, "top: no node is called \"retry\"\n"),
+        (
+            r#"{"gather":["sum","forevr"]}"#,
+            "gather[1]: no node is called \"forevr\"; did you mean \"forever\"?\n",
+        ),
+        (
+            r#"{"Recurs":3}"#,
+            "top: no node is called \"Recurs\"; did you mean \"recurs\"?\n",
+        ),
+    ];
+    refuses(&rt, rt.alloc(), &table, PrintFault::NotAPlan)
+}
+
+#[test]
+fn nodes_that_have_not_their_own_form(rt: HostRuntime) -> Result<(), Fail> {
+    let alloc = rt.alloc();
+    let table = [
+        (
+            r#"{"recurs":-1}"#,
+            "top",
+            r#""recurs" is spelt {"recurs":N}, N from 0 to 4611686018427387903"#,
+        ),
+        (
+            r#"{"first":{"recurs":1.5}}"#,
+            "first",
+            r#""recurs" is spelt {"recurs":N}, N from 0 to 4611686018427387903"#,
+        ),
+        (r#"{"forever":1}"#, "top", r#""forever" is spelt "forever""#),
+        (
+            r#""lone""#,
+            "top",
+            r#""lone" is spelt {"lone":D}, D from 0 to 4611686018427387903"#,
+        ),
+        (
+            r#"{"exponential":[1]}"#,
+            "top",
+            r#""exponential" is spelt {"exponential":[D,F]}, D from 0 to 4611686018427387903, F from 1 to 1000"#,
+        ),
+        (
+            r#"{"meet":[{"fixed":0},"forever","forever"]}"#,
+            "top",
+            r#""meet" is spelt {"meet":[PLAN,PLAN]}"#,
+        ),
+        (
+            r#"{"join":["forever",{"add":["1",{"fixed":0}]}]}"#,
+            "join[1]",
+            r#""add" is spelt {"add":[D,PLAN]}, D from 0 to 4611686018427387903"#,
+        ),
+        (
+            r#"{"jitter":[0,800,1200,{"jitter":[0,-1,2,{"fixed":0}]}]}"#,
+            "jitter[3]",
+            "\"jitter\" is spelt {\"jitter\":[LANE,LEAST,MOST,PLAN]}, LANE from 0 to 3, \
+                LEAST at most MOST, MOST at most 10000",
+        ),
+        (
+            r#"{"second":{"gate":["input",true,"below",1,{"gather":["min","forever"]}]}}"#,
+            "second.gate[4]",
+            r#""gather" is spelt {"gather":[KIND,PLAN]}, KIND "sum", "count", "max" or "list""#,
+        ),
+    ];
+    for (text, place, hint) in &table {
+        let line = format!(in alloc; "{place}: {hint}\n")?;
+        tells(&rt, alloc, text, line.as_str(), Err(PrintFault::NotAPlan))?;
+    }
+    let text = r#"{"gate":["input",true,"above",1,"forever"]}"#;
+    let line =
+        "top: \"gate\" is spelt {\"gate\":[SIDE,WANT,TEST,N,PLAN]}, SIDE \"input\" or \"output\", \
+        WANT true or false, TEST \"below\", \"at_least\" or \"equal\", N from 0 to 4611686018427387903\n";
+    tells(&rt, alloc, text, line, Err(PrintFault::NotAPlan))
+}
+
+#[test]
+fn numbers_out_of_their_ranges(rt: HostRuntime) -> Result<(), Fail> {
+    let table = [
+        (
+            r#"{"nothing":{"windowed":0}}"#,
+            "nothing: \"windowed\" is spelt {\"windowed\":D}, D from 1 to 4611686018427387903\n",
+        ),
+        (
+            r#"{"renew":[0,{"recurs":3}]}"#,
+            "top: \"renew\" is spelt {\"renew\":[D,PLAN]}, D from 1 to 4611686018427387903\n",
+        ),
+        (
+            r#"{"within":[1,{"unfold":[0,0,4611686018427387904]}]}"#,
+            "within[1]: \"unfold\" is spelt {\"unfold\":[S,M,A]}, each from 0 to 4611686018427387903\n",
+        ),
+        (
+            r#"{"meet":[{"spaced":4611686018427387904},{"recurs":-1}]}"#,
+            "meet[0]: \"spaced\" is spelt {\"spaced\":D}, D from 0 to 4611686018427387903\n",
+        ),
+        (
+            r#"{"set":[1,{"renew_idle":[5,{"linear":4611686018427387904}]}]}"#,
+            "set[1].renew_idle[1]: \"linear\" is spelt {\"linear\":D}, D from 0 to 4611686018427387903\n",
+        ),
+    ];
+    refuses(&rt, rt.alloc(), &table, PrintFault::OutOfRange)
+}
+
+#[test]
+fn the_first_fault_from_the_left_and_the_innermost_is_told(rt: HostRuntime) -> Result<(), Fail> {
+    let alloc = rt.alloc();
+    let table = [
+        (
+            r#"{"renew":[0,{"recurs":-1}]}"#,
+            "renew[1]: \"recurs\" is spelt {\"recurs\":N}, N from 0 to 4611686018427387903\n",
+        ),
+        (
+            r#"{"feed":[{"join":["forever",7]},{"fixed":0}]}"#,
+            "feed[0].join[1]: a plan is a string or an object of one member\n",
+        ),
+        (
+            r#"{"meet":[7,7]}"#,
+            "meet[0]: a plan is a string or an object of one member\n",
+        ),
+    ];
+    refuses(&rt, alloc, &table, PrintFault::NotAPlan)
+}
+
+#[test]
+fn plans_that_are_too_deep_or_have_too_many_nodes(rt: HostRuntime) -> Result<(), Fail> {
+    let alloc = rt.alloc();
+    let deep = under(alloc, "nothing", 32, "\"forever\"")?;
+    let line = "top: a plan is at most 32 deep\n";
+    tells(&rt, alloc, deep.as_str(), line, Err(PrintFault::TooDeep))?;
+    let deeper = under(alloc, "first", 34, "\"forever\"")?;
+    let line = "first.first: a plan is at most 32 deep\n";
+    tells(&rt, alloc, deeper.as_str(), line, Err(PrintFault::TooDeep))?;
+    let mut wide = String::from_str(alloc, "\"forever\"")?;
+    for _ in 0..8 {
+        wide = twice(alloc, wide.as_str())?;
+    }
+    let line = "top: a plan has at most 256 nodes\n";
+    tells(&rt, alloc, wide.as_str(), line, Err(PrintFault::TooMany))?;
+    let text = format!(in alloc; "{{\"cap\":[9,{wide}]}}")?;
+    let line = "cap[1]: a plan has at most 256 nodes\n";
+    tells(&rt, alloc, text.as_str(), line, Err(PrintFault::TooMany))
+}

@@ -1,0 +1,10 @@
+use Rattle.std.specs.Prelude.{ℕ}
+use Rattle.sched_cli_plan.specs.declared.counts.Counted.{Counted}
+
+-- the stream that is counted
+abbrev pub inner_of : {T : Type 0} → Counted T → T
+inner_of counted = counted.inner
+
+-- how many of its calls have failed, modulo 2^64
+abbrev pub failures_of : {T : Type 0} → Counted T → ℕ
+failures_of counted = counted.failures

@@ -1,0 +1,38 @@
+use sched_cli_plan::PrintFault;
+use std::alloc::{AllocError, Global};
+use std::process::Abort;
+
+// Each fault, its line and its status.
+const FAULTS: [(PrintFault, &str, u8); 12] = [
+    (PrintFault::ReadFailed, "zsched: read failed", 4),
+    (PrintFault::TooLong, "zsched: input too long", 3),
+    (PrintFault::NotJson, "zsched: not JSON", 3),
+    (PrintFault::NotAPlan, "zsched: not a plan", 3),
+    (PrintFault::OutOfRange, "zsched: number out of range", 3),
+    (PrintFault::TooDeep, "zsched: too deep", 3),
+    (PrintFault::TooMany, "zsched: too many nodes", 3),
+    (PrintFault::NoMemory, "zsched: no memory", 5),
+    (PrintFault::NotStarted, "zsched: worker not started", 7),
+    (PrintFault::WriteFailed, "zsched: write failed", 4),
+    (PrintFault::Unfinished, "zsched: not finished", 6),
+    (PrintFault::Mixed, "zsched: jobs mixed up", 8),
+];
+
+#[test]
+fn each_fault_of_printing_has_its_line_and_status(rt: HostRuntime) -> Result<(), AllocError> {
+    for (fault, line, status) in &FAULTS {
+        assert_told(&rt, rt.alloc(), *fault, (line, *status))?;
+    }
+    Ok(())
+}
+
+fn assert_told(
+    rt: &impl Abort,
+    alloc: Global,
+    fault: PrintFault,
+    told: (&str, u8),
+) -> Result<(), AllocError> {
+    let line = fault.to_string(alloc)?;
+    assert_eq!(rt; (line.as_str(), fault.status()), told);
+    Ok(())
+}

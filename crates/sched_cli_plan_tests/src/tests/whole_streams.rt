@@ -1,0 +1,171 @@
+use super::fakes::Halting;
+use sched_cli_plan::{Counted, PrintFault, Sink, Source, put_all, read_all};
+use std::alloc::{AllocError, Global};
+use std::io::{Read, Write};
+use std::process::Abort;
+
+const TEXT: &[u8] = b"0: (0, 0) next 100\n";
+
+// What `read_all` answers of this input, how many of its reads failed, and the reader.
+fn reading(
+    alloc: Global,
+    reader: Halting<&[u8]>,
+) -> (Result<Vec<u8>, PrintFault>, u64, Halting<&[u8]>) {
+    let mut reader = Counted::new(reader);
+    let answer = read_all(alloc, &mut reader);
+    (answer, reader.failures(), reader.into_inner())
+}
+
+// Asserts that the whole text is read, at most so many bytes a read.
+fn reads_by(rt: &impl Abort, alloc: Global, text: &[u8], step: usize) -> Result<(), PrintFault> {
+    let (answer, failures, _) = reading(alloc, Halting::steady(text, step));
+    let bytes = answer?;
+    assert_eq!(rt; (bytes.as_slice(), failures), (text, 0));
+    Ok(())
+}
+
+#[test]
+fn reads_the_whole_input_whatever_a_read_gives(rt: HostRuntime) -> Result<(), PrintFault> {
+    for step in [1usize, 2, 7, 19, 100] {
+        reads_by(&rt, rt.alloc(), TEXT, step)?;
+    }
+    reads_by(&rt, rt.alloc(), &[], 1)
+}
+
+// What a reading answers whose read after so many fails: its fault. Beside it, how many reads failed and were made.
+fn failing(alloc: Global, works: u64) -> (Option<PrintFault>, u64, u64) {
+    let (answer, failures, reader) = reading(alloc, Halting::failing_after(TEXT, 1, works));
+    (answer.err(), failures, reader.calls)
+}
+
+#[test]
+fn a_failed_read_ends_the_reading(rt: HostRuntime) {
+    for works in 0..20u64 {
+        let failed = (Some(PrintFault::ReadFailed), 1, works + 1);
+        assert_eq!(rt; failing(rt.alloc(), works), failed);
+    }
+}
+
+// What `read_all` answers of an input of this many bytes: their number. Beside it, how many reads it made and how many
+// bytes it left.
+fn counted(
+    alloc: Global,
+    length: usize,
+    step: usize,
+) -> Result<(Result<usize, PrintFault>, u64, usize), AllocError> {
+    let text = vec![in alloc; b' '; length]?;
+    let (answer, _, reader) = reading(alloc, Halting::steady(text.as_slice(), step));
+    Ok((
+        answer.map(|bytes| bytes.len()),
+        reader.calls,
+        reader.inner.len(),
+    ))
+}
+
+// Asserts what is read of an input of so many bytes, by so many reads, and how many bytes they leave.
+fn assert_read(
+    rt: &impl Abort,
+    alloc: Global,
+    (length, step): (usize, usize),
+    read: (Result<usize, PrintFault>, u64, usize),
+) -> Result<(), AllocError> {
+    assert_eq!(rt; counted(alloc, length, step)?, read);
+    Ok(())
+}
+
+#[test]
+fn the_longest_input_is_read_and_one_byte_more_is_refused(
+    rt: HostRuntime,
+) -> Result<(), AllocError> {
+    let alloc = rt.alloc();
+    let too_long = Err(PrintFault::TooLong);
+    for (step, reads) in [(1usize, 1048577u64), (8192, 129), (1048577, 129)] {
+        assert_read(&rt, alloc, (1048576, step), (Ok(1048576), reads, 0))?;
+        assert_read(&rt, alloc, (1048577, step), (too_long, reads, 0))?;
+        assert_read(&rt, alloc, (1050000, step), (too_long, reads, 1423))?;
+    }
+    Ok(())
+}
+
+// What a writing of the text answers, and how many of its writes fail.
+type Put = (Result<(), PrintFault>, u64);
+
+// The same of this writer, and the writer.
+fn putting(writer: Halting<Vec<u8>>) -> (Put, Halting<Vec<u8>>) {
+    let mut writer = Counted::new(writer);
+    let answer = put_all(&mut writer, TEXT);
+    ((answer, writer.failures()), writer.into_inner())
+}
+
+fn assert_put(rt: &impl Abort, put: (Put, Option<&[u8]>), want: (Put, Option<&[u8]>)) {
+    assert_eq!(rt; put, want);
+}
+
+// Asserts what a writing to such a writer answers, and how much of the text the writer has then. Answers how many
+// writes were made.
+fn puts(rt: &impl Abort, writer: Halting<Vec<u8>>, want: Put, taken: usize) -> u64 {
+    let (put, writer) = putting(writer);
+    assert_put(rt, (put, Some(&writer.inner)), (want, TEXT.get(..taken)));
+    writer.calls
+}
+
+#[test]
+fn a_writer_that_fails_after_k_bytes_has_the_first_k(rt: HostRuntime) {
+    let failed = (Err(PrintFault::WriteFailed), 1);
+    for works in 0..19usize {
+        let writer = Halting::failing_after(Vec::new(rt.alloc()), 1, works as u64);
+        assert_eq!(rt; puts(&rt, writer, failed, works), works as u64 + 1);
+    }
+}
+
+#[test]
+fn the_whole_text_is_written_whatever_a_write_takes(rt: HostRuntime) {
+    for step in [1usize, 2, 7, 19, 100] {
+        let writer = Halting::steady(Vec::new(rt.alloc()), step);
+        puts(&rt, writer, (Ok(()), 0), TEXT.len());
+    }
+}
+
+// Writes the text to a writer that takes no byte, and then no byte. Answers what both answer and how many writes have
+// failed then, how many were made, and how many bytes were taken.
+fn taking_none(alloc: Global) -> (Put, (Option<usize>, u64), u64, usize) {
+    let mut writer = Counted::new(Halting::steady(Vec::new(alloc), 0));
+    let put = put_all(&mut writer, TEXT);
+    let failures = writer.failures();
+    let wrote = writer.write(&[]).ok();
+    let after = (wrote, writer.failures());
+    let writer = writer.into_inner();
+    ((put, failures), after, writer.calls, writer.inner.len())
+}
+
+#[test]
+fn a_write_that_takes_no_byte_has_failed(rt: HostRuntime) {
+    let want = ((Err(PrintFault::WriteFailed), 1), (Some(0), 1), 2, 0);
+    assert_eq!(rt; taking_none(rt.alloc()), want);
+}
+
+// The second of three reads fails.
+#[test]
+fn counts_each_failed_read_and_no_other(rt: HostRuntime) {
+    let mut buf = [0u8; 4];
+    let mut reader = Counted::new(Halting::failing_after(TEXT, 2, 1));
+    let first = reader.read(&mut buf).ok();
+    let second = reader.read(&mut buf).ok();
+    let third = reader.read(&mut buf).ok();
+    assert_eq!(rt; [first, second, third], [Some(2), None, Some(2)]);
+    assert_eq!(rt; reader.failures(), 1);
+    assert_eq!(rt; buf[..2], TEXT[2..4]);
+}
+
+// So does the second of three writes.
+#[test]
+fn counts_each_failed_write_and_no_other(rt: HostRuntime) {
+    let mut writer = Counted::new(Halting::failing_after(Vec::new(rt.alloc()), 2, 1));
+    let first = writer.write(TEXT).ok();
+    let second = writer.write(TEXT).ok();
+    let third = writer.write(&TEXT[2..]).ok();
+    let failures = writer.failures();
+    let writer = writer.into_inner();
+    assert_eq!(rt; [first, second, third], [Some(2), None, Some(2)]);
+    assert_eq!(rt; (failures, writer.inner.as_slice()), (1, &TEXT[..4]));
+}

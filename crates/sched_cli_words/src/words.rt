@@ -1,0 +1,161 @@
+ghost use Rattle.std.specs.Prelude.{IfOk, IfSome};
+ghost use Rattle.sched_cli_words.specs.Options.{AreInRange, AreInputs, AreWordsFor, PoolIsInRange, IsAskedInRange};
+
+use crate::commands::zsched_command;
+use crate::faults::WordsFault;
+use crate::options::{Asked, MOST_TICKETS, MOST_TURNS, MOST_WORKERS, Origin, PoolOptions};
+use crate::quota_words::quota_options;
+use crate::seeded::seeded_words;
+use clap::error::ErrorKind;
+use clap::{ArgMatches, Error};
+use sched_cli_plan::{MOST_STEPS, PlanCourse, PlanOptions};
+use sched_time::{Millis, Moment};
+use std::alloc::{AllocError, Global};
+
+/// Reads a command line, with the program's own name as its first word.
+///
+/// Refused with `Bad` where the subcommand is missing or unknown, an option is unknown, comes twice, lacks its value or
+/// stands beside one that takes its place, or a value is no decimal number in its range; with `Help` and the text to
+/// show where help or the version was asked for; and with `NoMemory`.
+pub fn read_words(alloc: Global, words: &[&str]) -> Result<Asked, WordsFault>
+    ensures { IfOk result IsAskedInRange }
+{
+    match zsched_command(alloc)?.try_get_matches_from(words) {
+        Ok(matches) => asked(alloc, &matches),
+        Err(error) => Err(refused(alloc, &error)),
+    }
+}
+
+// What the words ask for. `Bad` where a value is missing or outside its range.
+fn asked(alloc: Global, matches: &ArgMatches<'_>) -> Result<Asked, WordsFault>
+    ensures { IfOk result IsAskedInRange }
+{
+    let (name, options) = matches.subcommand().ok_or(WordsFault::Bad)?;
+    let origin = origin(alloc, options)?;
+    match name {
+        "plan" => plan(alloc, options, origin),
+        "pool" => pool(options, origin),
+        "check" => Ok(Asked::Check(origin)),
+        _ => Err(WordsFault::Bad),
+    }
+}
+
+// Where the text is read from: standard input where no word or `-` is given.
+fn origin(alloc: Global, options: &ArgMatches<'_>) -> Result<Origin, AllocError> {
+    match options.get_str("file") {
+        None | Some("-") => Ok(Origin::StandardInput),
+        Some(name) => Ok(Origin::File(String::from_str(alloc, name)?)),
+    }
+}
+
+// A plan with a course of its own where inputs or words of events are given.
+fn plan(alloc: Global, options: &ArgMatches<'_>, origin: Origin) -> Result<Asked, WordsFault>
+    ensures { IfOk result IsAskedInRange }
+{
+    let plain = plan_options(options).ok_or(WordsFault::Bad)?;
+    if !options.contains_id("inputs") && !options.contains_id("words") {
+        return Ok(Asked::Plan(plain, origin));
+    }
+    let inputs = inputs(alloc, options, plain.input)?;
+    let words = words_of(alloc, options, plain.steps, plain.word)?;
+    match PlanCourse::new(plain.steps, plain.from, plain.took, inputs, words) {
+        Some(course) => Ok(Asked::Course(course, origin)),
+        None => Err(WordsFault::Bad),
+    }
+}
+
+fn plan_options(options: &ArgMatches<'_>) -> Option<PlanOptions>
+    ensures { IfSome result AreInRange }
+{
+    let steps = options.get_one::<u64>("steps")?;
+    if steps > MOST_STEPS {
+        return None;
+    }
+    let from = Moment::new(options.get_one("from")?)?;
+    let took = Millis::new(options.get_one("took")?)?;
+    let input = Millis::new(options.get_one("input")?)?;
+    let word = options.get_one("word")?;
+    Some(PlanOptions {
+        steps,
+        from,
+        took,
+        input,
+        word,
+    })
+}
+
+// The inputs of events: those that are given, or this one.
+fn inputs(alloc: Global, options: &ArgMatches<'_>, input: Millis) -> Result<Vec<Millis>, WordsFault>
+    ensures { IfOk result (λ inputs. AreInputs inputs.items) }
+{
+    let Some(given) = options.get_many::<u64>("inputs") else {
+        return Ok(Vec::from_slice(alloc, &[input])?);
+    };
+    let mut inputs = Vec::new(alloc);
+    for number in given {
+        let number = number.map_err(|_| WordsFault::Bad)?;
+        let input = Millis::new(number).ok_or(WordsFault::Bad)?;
+        if inputs.push(input).is_err() {
+            return Err(WordsFault::NoMemory);
+        }
+    }
+    Ok(inputs)
+}
+
+// The words of events: those of the seed that is given, or the same word at each.
+fn words_of(
+    alloc: Global,
+    options: &ArgMatches<'_>,
+    steps: u64,
+    word: u32,
+) -> Result<Vec<[u32; 4]>, AllocError>
+    ensures { IfOk result (λ words. AreWordsFor steps words.items) }
+{
+    match options.get_one::<u64>("words") {
+        Some(seed) => seeded_words(alloc, seed, steps.max(1)),
+        None => Vec::from_slice(alloc, &[[word; 4]]),
+    }
+}
+
+// A pool on a quota where one is given, or else on a budget.
+fn pool(options: &ArgMatches<'_>, origin: Origin) -> Result<Asked, WordsFault>
+    ensures { IfOk result IsAskedInRange }
+{
+    match options.get_str("quota") {
+        Some(text) => {
+            let quota = quota_options(options, text).ok_or(WordsFault::Bad)?;
+            Ok(Asked::Quota(quota, origin))
+        }
+        None => {
+            let budget = pool_options(options).ok_or(WordsFault::Bad)?;
+            Ok(Asked::Pool(budget, origin))
+        }
+    }
+}
+
+fn pool_options(options: &ArgMatches<'_>) -> Option<PoolOptions>
+    ensures { IfSome result PoolIsInRange }
+{
+    let workers = options.get_one::<u64>("workers")?;
+    let budget = options.get_one::<u64>("budget")?;
+    let turns = options.get_one::<u64>("turns")?;
+    if workers < 1 || workers > MOST_WORKERS || budget > MOST_TICKETS || turns > MOST_TURNS {
+        return None;
+    }
+    Some(PoolOptions {
+        workers,
+        budget,
+        turns,
+    })
+}
+
+fn refused(alloc: Global, error: &Error) -> WordsFault {
+    match error.kind() {
+        ErrorKind::OutOfMemory => WordsFault::NoMemory,
+        ErrorKind::DisplayHelp | ErrorKind::DisplayVersion => match error.to_string(alloc) {
+            Ok(text) => WordsFault::Help(text),
+            Err(_) => WordsFault::NoMemory,
+        },
+        _ => WordsFault::Bad,
+    }
+}

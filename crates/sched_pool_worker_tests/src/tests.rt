@@ -1,0 +1,11 @@
+//! One worker with the jobs of its share, played step by step.
+use sched_pool_worker::{Finish, Gate, OpenGate, Station, Worked, work_through};
+
+mod gates;
+mod jobs;
+mod plays;
+mod rows;
+
+fn after(turns: u64, finish: Finish) -> Worked {
+    Worked { turns, finish }
+}

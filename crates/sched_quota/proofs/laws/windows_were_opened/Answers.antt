@@ -1,5 +1,0 @@
-use Rattle.sched_quota.proofs.Views.{windows_were_opened}
-use Rattle.sched_quota.proofs.laws.windows_were_opened.Goals as goal
-
-pub returns : goal.returns
-returns c = windows_were_opened

@@ -1,5 +1,0 @@
-use Rattle.sched_quota.proofs.Views.{words_stay_small}
-use Rattle.sched_quota.proofs.laws.words_stay_small.Goals as goal
-
-pub returns : goal.returns
-returns c = words_stay_small

@@ -1,5 +1,0 @@
-use Rattle.sched_quota.specs.Held.{IsOf}
-use Rattle.sched_quota_tests.proofs.tests.passes.draw_on.Given as goal
-
-abbrev pub invariant-loop-window : goal.invariant-loop-window
-invariant-loop-window l = IsOf l.quota l.pass

@@ -1,5 +1,0 @@
-use Rattle.sched_quota.specs.Held.{IsOf}
-use Rattle.sched_quota_tests.proofs.tests.threads.draw_all.Given as goal
-
-abbrev pub invariant-loop : goal.invariant-loop
-invariant-loop l = IsOf l.quota l.pass

@@ -1,9 +1,0 @@
-use Rattle.std.specs.Prelude.{All}
-use Rattle.sched_quota.specs.Held.{IsOf}
-use Rattle.sched_quota_tests.proofs.tests.threads.split_off.Given as goal
-
-abbrev pub invariant-loop : goal.invariant-loop
-invariant-loop l = record {
-  of : IsOf l.quota l.pass;
-  passes : All (IsOf l.quota) l.passes.items;
-}

@@ -1,5 +1,0 @@
-use Rattle.sched_quota.specs.Held.{IsOf}
-use Rattle.sched_quota_tests.proofs.tests.threads.windows_fill.Given as goal
-
-abbrev pub invariant-loop-window : goal.invariant-loop-window
-invariant-loop-window g l = IsOf l.quota l.pass

@@ -1,0 +1,71 @@
+-- What contracts see of what draws on a quota, and a draw of it.
+use Rattle.std.specs.Prelude.{◌≡◌, ℕ, ◌≤◌, ◌⊎◌, Bool, true, false, length, refl}
+use Rattle.std.proofs.Common.{inl, inr, arith, ap, subst, sym}
+use Rattle.sched_ticket_quota.specs.Held.{Name, Held, IsOf}
+use Rattle.sched_ticket_quota.specs.Calls.{Turned, Drew, DrawRefused, HasNoRoom}
+use Rattle.sched_ticket_quota.specs.declared.view.Terms.{Terms}
+use Rattle.sched_ticket_quota.specs.declared.view.View.{View}
+use Rattle.sched_ticket_draws.specs.Counted.{count_after}
+use Rattle.sched_ticket_draws.specs.Grants.{Grants, Lawful}
+
+-- a quota, and a pass of it
+pub record OfQuota : Type 0 where
+  pub pass : Held
+  pub quota : Name
+
+-- a draw at a moment: the pass gained a ticket of the moment's window or of a later one, or it was refused
+abbrev pub QuotaDrew : OfQuota → ℕ → Bool → OfQuota → Type 0
+QuotaDrew d now true e = (e.quota ≡ d.quota) × (t : ℕ) × Drew d.quota.terms now d.pass.has t e.pass.has
+QuotaDrew d now false e = (e.quota ≡ d.quota) × DrawRefused d.quota.terms now d.pass.has e.pass.has
+
+-- so many tickets were found given in the latest window as its requests allow, or 64 races were lost
+abbrev pub NoneLeft : Terms → View → Type 0
+NoneLeft k v = HasNoRoom k v ⊎ (64 ≤ v.losses)
+
+abbrev pub quota_grants : Grants OfQuota
+quota_grants = record {
+  Name = Name;
+  name = λ d. d.quota;
+  granted = λ d. length d.pass.has.tickets;
+  drew = QuotaDrew;
+  refused = λ d. NoneLeft d.quota.terms d.pass.has;
+  stands = λ d. IsOf d.quota d.pass;
+}
+
+-- a pass that comes to a window keeps its tickets
+Turned-tickets : (k : Terms) (now : ℕ) (v u : View) → Turned k now v u → u.tickets ≡ v.tickets
+Turned-tickets k now v u turned = elim turned [
+  | inl there ↦ ap (λ (v : View). v.tickets) there.1
+  | inr comes ↦ elim comes [
+    | inl meets ↦ ap (λ (v : View). v.tickets) meets.3
+    | inr opens ↦ ap (λ (v : View). v.tickets) opens.5
+  ]
+]
+
+QuotaDrew-keeps : (d : OfQuota) (now : ℕ) (got : Bool) (e : OfQuota) → QuotaDrew d now got e → e.quota ≡ d.quota
+QuotaDrew-keeps d now true e drew = drew.0
+QuotaDrew-keeps d now false e drew = drew.0
+
+QuotaDrew-counts : (d : OfQuota) (now : ℕ) (got : Bool) (e : OfQuota) → QuotaDrew d now got e →
+    length e.pass.has.tickets ≡ count_after got (length d.pass.has.tickets)
+QuotaDrew-counts d now true e drew =
+    let won = drew.2.2 in
+    let kept = Turned-tickets d.quota.terms now d.pass.has drew.2.0 drew.2.1 in
+    rw (won.gained, won.tries.same, kept) (omega arith)
+QuotaDrew-counts d now false e drew =
+    let kept = Turned-tickets d.quota.terms now d.pass.has drew.1.0 drew.1.1 in
+    rw (drew.1.2.tries.same, kept) refl
+
+QuotaDrew-denies : (d : OfQuota) (now : ℕ) (e : OfQuota) → QuotaDrew d now false e →
+    NoneLeft e.quota.terms e.pass.has
+QuotaDrew-denies d now e drew = elim drew.1.2.reason [
+  | inl full ↦ inl (subst (λ (q : Name). HasNoRoom q.terms e.pass.has) (sym drew.0) full)
+  | inr lost ↦ inr (omega (arith, lost))
+]
+
+pub quota_lawful : Lawful quota_grants
+quota_lawful = record {
+  keeps = QuotaDrew-keeps;
+  counts = QuotaDrew-counts;
+  denies = QuotaDrew-denies;
+}

@@ -1,0 +1,51 @@
+//! Draws on nothing.
+ghost use Rattle.std.specs.Prelude.{◌≡◌};
+
+use crate::draws::Draws;
+use sched_time::Moment;
+use std::marker::Model;
+
+/// No budget: each draw is granted, and counted. Only after 18446744073709551615 draws it refuses, and for good.
+/// Contracts see it as the number of draws.
+#[derive(Drop)]
+pub struct Unlimited {
+    granted: u64,
+}
+
+impl Model for Unlimited {
+    ghost use Rattle.std.specs.Prelude.{ℕ};
+
+    ghost Value = { ℕ };
+
+    ghost view = { λ d. d.granted };
+}
+
+impl Unlimited {
+    /// What has granted nothing yet.
+    pub fn new() -> Unlimited
+        ensures { result ≡ 0 }
+    {
+        Unlimited { granted: 0 }
+    }
+}
+
+impl Draws for Unlimited {
+    ghost use Rattle.sched_ticket_draws.specs.Freely.{free_grants, free_lawful};
+
+    ghost grants = { free_grants };
+
+    ghost lawful = { free_lawful };
+
+    fn draw(&mut self, _now: Moment) -> bool {
+        if self.granted < u64::MAX {
+            self.granted += 1;
+            true
+        } else {
+            false
+        }
+    }
+
+    fn granted(&self) -> u64 {
+        self.granted
+    }
+}

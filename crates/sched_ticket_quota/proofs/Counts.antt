@@ -1,0 +1,95 @@
+-- What the rule says of the words, and of all views together.
+use Rattle.std.proofs.Common.{◌≡◌, ℕ, ◌+◌, ◌-◌, ◌<◌, ◌≤◌, min, List, set, cond, ap, arith, lt_of_not-le, lt-ltb, le-ltb}
+use mathlib.Core.Logic.{dite}
+use mathlib.Core.Option.{some}
+use native.Mathlib.Decide.{dec_le}
+use lib.ListN.{get_elem?}
+use Rattle.sched_ticket.specs.Lists.{total, below, is}
+use Rattle.sched_ticket.proofs.Sums.{total-set, total-one, term_le, total-le, below-one, below-is, once_below-le, from, below-from, none_from}
+use Rattle.sched_ticket_quota.specs.Windows.{window_of, first_of, within}
+use Rattle.sched_ticket_quota.specs.Rule.{ticket_weight, request_weight, tickets_in, requests_in, weights, may_count, IsDealt, IsCounted, IsSeen, IsFound, IsOrderly}
+use Rattle.sched_ticket_quota.specs.Steps.{IsNoLater, IsLater, IsSound}
+use Rattle.sched_ticket_quota.specs.declared.view.Terms.{Terms}
+use Rattle.sched_ticket_quota.specs.declared.view.View.{View}
+use Rattle.sched_ticket_quota.proofs.Numbers.{below-within}
+
+pub may_count-yes : (v : View) → v.told < 12884901888000000000 → may_count v ≡ v.weight
+may_count-yes v h = ap (λ b. cond b v.weight 0) (lt-ltb v.told 12884901888000000000 h)
+
+pub may_count-no : (v : View) → 12884901888000000000 ≤ v.told → may_count v ≡ 0
+may_count-no v h = ap (λ b. cond b v.weight 0) (le-ltb v.told 12884901888000000000 h)
+
+pub may_count-le : (v : View) → may_count v ≤ v.weight
+may_count-le v = dite (dec_le 12884901888000000000 v.told)
+    (λ full. omega (arith, may_count-no v full)) (λ not. omega (arith, may_count-yes v (lt_of_not-le not)))
+
+pub all_may_count : (views : List View) → total may_count views ≤ weights views
+all_may_count views = total-le may_count (λ (v : View). v.weight) views (λ i u at. may_count-le u)
+
+-- one view changes, and not in this
+pub total-same : (p : View → ℕ) (views : List View) (j : ℕ) (v w : View) → get_elem? views j ≡ some v → p w ≡ p v → total p (set views j w) ≡ total p views
+total-same p views j v w at same = omega (arith, total-set p views j v w at)
+
+-- one view has more
+pub total-more : (p : View → ℕ) (views : List View) (j : ℕ) (v w : View) → get_elem? views j ≡ some v → p v ≤ p w → total p views ≤ total p (set views j w)
+total-more p views j v w at more = omega (arith, total-set p views j v w at)
+
+module _ (asked latest : ℕ) (views : List View) (c : IsCounted asked latest views) where
+  -- as many requests were counted in the latest window as its word says
+  pub seen_at : IsSeen (requests_in views) asked
+  seen_at =
+      let w : ℕ = window_of asked in
+      let a : ℕ = first_of w in
+      let h : ℕ → ℕ = within a 4294967296 in
+      let up : below h asked ≤ below h (first_of latest) + total (request_weight h) views = c.all h in
+      let here : below h asked ≡ min (asked - a) 4294967296 = below-within a 4294967296 asked in
+      let before : below h (first_of latest) ≡ min (first_of latest - a) 4294967296 = below-within a 4294967296 (first_of latest) in
+      let start = c.from in
+      let low : latest ≤ w = omega arith in
+      omega arith
+
+module _ (drawn window : ℕ) (views : List View) (d : IsDealt drawn window views) where
+  -- as many tickets were given in the latest window as its word says
+  pub found_at : IsFound (tickets_in views) drawn
+  found_at w low high =
+      let a : ℕ = first_of w in
+      let h : ℕ → ℕ = within a 4294967296 in
+      let from = d.from in
+      let to = d.to in
+      let begun : 0 < window → first_of window < drawn = d.begun in
+      let same : window ≡ w = dite (dec_le 1 window) (λ some-window. let s = begun some-window in omega arith) (λ none. omega arith) in
+      let start : first_of window ≡ a = ap first_of same in
+      let up : below h drawn ≤ below h (first_of window) + total (ticket_weight h) views = d.all h in
+      let here : below h drawn ≡ min (drawn - a) 4294967296 = below-within a 4294967296 drawn in
+      let before : below h (first_of window) ≡ min (first_of window - a) 4294967296 = below-within a 4294967296 (first_of window) in
+      omega arith
+
+  -- the next ticket comes after all tickets of each pass
+  pub is_later : (by : ℕ) (v : View) (t : ℕ) → get_elem? views by ≡ some v → drawn ≤ t → t < 17496587910722355200 → IsLater v t
+  is_later by v t at past small =
+      let none : total (from t) v.tickets ≡ 0 = omega (arith, term_le (ticket_weight (from t)) views by v at, d.once (from t), below-from t drawn past) in
+      (none_from t v.tickets none, omega (arith, term_le (ticket_weight (λ _. 1)) views by v at, d.once (λ _. 1), below-one drawn, total-one v.tickets), small)
+
+module _ (k : Terms) (drawn window asked latest : ℕ) (views : List View) (o : IsOrderly k drawn window asked latest views) where
+  pub asked_le : asked ≤ 17496587906427387904
+  asked_le = omega (arith, o.counted.small)
+
+  pub drawn_le : drawn ≤ 17496587910722355200
+  drawn_le = omega (arith, o.dealt.to, o.behind, asked_le)
+
+  module _ (by : ℕ) (v : View) (at : get_elem? views by ≡ some v) where
+    -- what a pass has found is of no window past the latest
+    pub no_later : IsNoLater v.found asked
+    no_later =
+        let f = (o.each by v at).found in
+        let to = o.dealt.to in
+        let behind = o.behind in
+        let low : window ≤ window_of asked = omega arith in
+        omega arith
+
+    pub is_sound : IsSound v
+    is_sound = record {
+      once = λ x. omega (arith, term_le (ticket_weight (is x)) views by v at, o.dealt.once (is x), below-is x drawn, once_below-le x drawn);
+      few_tickets = omega (arith, term_le (ticket_weight (λ _. 1)) views by v at, o.dealt.once (λ _. 1), below-one drawn, total-one v.tickets, drawn_le);
+      few_parts = omega (arith, term_le (λ (u : View). u.weight) views by v at, o.parts);
+    }

@@ -1,0 +1,8 @@
+use Rattle.sched_ticket_quota.proofs.Views.{refusals_are_just, sight_is_true}
+use Rattle.sched_ticket_quota.proofs.laws.refusals_are_just.Goals as goal
+
+pub returns-clause-refusals : goal.returns-clause-refusals
+returns-clause-refusals c = refusals_are_just
+
+pub returns-clause-sight : goal.returns-clause-sight
+returns-clause-sight c = sight_is_true

@@ -1,0 +1,5 @@
+use Rattle.sched_ticket_quota.proofs.Views.{windows_were_opened}
+use Rattle.sched_ticket_quota.proofs.laws.windows_were_opened.Goals as goal
+
+pub returns : goal.returns
+returns c = windows_were_opened

@@ -1,0 +1,43 @@
+//! What holds of a quota between any two atomic steps, for any number of passes, draws, deposits, splits and joins.
+//! Each function does nothing: its contract is a law of the table's rule.
+ghost use Rattle.sched_ticket_quota.specs.Laws.{TicketsStandOnce, RequestsStandOnce, WindowsAreKept, WindowsAreSmall};
+ghost use Rattle.sched_ticket_quota.specs.Laws.{LatestIsCounted, RefusalsAreJust, SightIsTrue, WindowsWereOpened};
+ghost use Rattle.sched_ticket_quota.specs.Laws.{PartsAreKept, SpentHasNothing, WordsStaySmall};
+
+/// No ticket is given twice, and no request is counted twice.
+pub fn numbers_stand_once()
+    ensures tickets { TicketsStandOnce }
+    ensures requests { RequestsStandOnce }
+{}
+
+/// In each window the tickets given never pass the reserve and the share of the requests counted in it so far, nor
+/// 4294967296. All requests of the latest window are counted in it.
+pub fn windows_are_kept()
+    ensures kept { WindowsAreKept }
+    ensures small { WindowsAreSmall }
+    ensures counted { LatestIsCounted }
+{}
+
+/// A pass finds no ticket left only where at least as many tickets were given in that window as the requests that it
+/// read allow; what a pass has seen was counted.
+pub fn refusals_are_just()
+    ensures refusals { RefusalsAreJust }
+    ensures sight { SightIsTrue }
+{}
+
+/// The latest window is the first, one that a pass opened, or one that follows windows whose 4294967296 requests were
+/// all counted.
+pub fn windows_were_opened()
+    ensures { WindowsWereOpened }
+{}
+
+/// The passes' parts are 2^62 in all, and what stands for no part has nothing.
+pub fn parts_are_kept()
+    ensures parts { PartsAreKept }
+    ensures spent { SpentHasNothing }
+{}
+
+/// No word wraps.
+pub fn words_stay_small()
+    ensures { WordsStaySmall }
+{}

@@ -1,0 +1,79 @@
+//! The rule of a quota's table, and its kinds of atomic step.
+//!
+//! | Step | On the word | The stepping pass |
+//! |---|---|---|
+//! | `Read` | requests are read | has seen them |
+//! | `Open` | requests become a window's first number, where they are less | has opened that window, and seen them |
+//! | `Count` | 1 more request | gains its number |
+//! | `Find` | draws are read | has found them |
+//! | `Win` | draws become the one after its next ticket, where they are what it found | gains the ticket, or a loss |
+//! | `Part` | none changes | gives some of its parts to a new pass |
+//! | `Merge` | none changes | takes in another pass, which is spent |
+//! | `Learn` | none changes | learns that its tickets are distinct |
+ghost use Rattle.sched_ticket_quota.specs.Rule.{IsKept};
+ghost use Rattle.sched_ticket_quota.specs.View.{first_view, blank_view, without_part, part_of, joined_view};
+ghost use Rattle.sched_ticket_quota.specs.Steps.{reads, opens, counts, finds, wins, learns};
+
+use crate::view::{Terms, View};
+use atomic_table::{Join, Play, Split, TableRule};
+
+/// The rule of the table behind every quota.
+pub(crate) struct Rule;
+
+impl TableRule<u8, View, Terms> for Rule {
+    ghost holds = { IsKept };
+
+    ghost first = { first_view };
+}
+
+pub(crate) struct Read;
+
+impl Play<u8, View> for Read {
+    ghost then = { reads };
+}
+
+pub(crate) struct Open;
+
+impl Play<u8, View> for Open {
+    ghost then = { opens };
+}
+
+pub(crate) struct Count;
+
+impl Play<u8, View> for Count {
+    ghost then = { counts };
+}
+
+pub(crate) struct Find;
+
+impl Play<u8, View> for Find {
+    ghost then = { finds };
+}
+
+pub(crate) struct Win;
+
+impl Play<u8, View> for Win {
+    ghost then = { wins };
+}
+
+pub(crate) struct Part;
+
+impl Split<View> for Part {
+    ghost left = { without_part };
+
+    ghost right = { part_of };
+}
+
+pub(crate) struct Merge;
+
+impl Join<View> for Merge {
+    ghost both = { joined_view };
+
+    ghost spent = { blank_view };
+}
+
+pub(crate) struct Learn;
+
+impl Play<u8, View> for Learn {
+    ghost then = { learns };
+}

@@ -1,0 +1,37 @@
+//! What is refused, and the texts of faults.
+use super::terms;
+use sched_ticket_quota::{PassesOut, Quota, QuotaFault};
+use std::test::Fail;
+
+#[test]
+fn terms_have_bounds(rt: HostRuntime) {
+    for (reserve, share, period, fault) in [
+        (4294967297, 0, 1, Some(QuotaFault::ReserveTooLarge)),
+        (0, 1000001, 1, Some(QuotaFault::ShareTooLarge)),
+        (0, 0, 0, Some(QuotaFault::PeriodTooShort)),
+        (4294967296, 1000000, 1, None),
+    ] {
+        let made = Quota::new(rt.alloc(), terms(reserve, share, period));
+        assert_eq!(rt; made.err(), fault, "{reserve} {share} {period}");
+    }
+}
+
+#[test]
+fn faults_say_why(rt: HostRuntime) -> Result<(), Fail> {
+    let texts = format!(in rt.alloc();
+        "{}; {}; {}; {}; {}; {}",
+        QuotaFault::ReserveTooLarge,
+        QuotaFault::ShareTooLarge,
+        QuotaFault::PeriodTooShort,
+        QuotaFault::NoMemory,
+        QuotaFault::TooManyPasses,
+        PassesOut
+    )?;
+    assert_eq!(rt;
+        texts.as_str(),
+        "the reserve is more than 4294967296 tickets a window; the share is more than 1000 tickets a request; \
+         the window is shorter than 1 ms; no memory; the pass has no part to give; \
+         another pass of the quota is alive or was dropped"
+    );
+    Ok(())
+}

@@ -1,0 +1,193 @@
+//! Quotas of several threads.
+ghost use Rattle.std.specs.Prelude.{All, IfOk};
+ghost use Rattle.sched_ticket_quota.specs.Held.{IsOf};
+
+use super::{at, closes, terms};
+use sched_ticket_quota::{Pass, Quota};
+use sched_time::Moment;
+use std::alloc::{AllocError, Global};
+use std::test::Fail;
+use std::thread::{Threads, map_vec};
+
+const MANY: u64 = 1000000;
+
+fn deposit_times(quota: &Quota, mut pass: Pass, now: Moment, requests: u64) -> Pass
+    requires { IsOf quota.now pass }
+    ensures { IsOf quota.now result }
+{
+    for _ in 0..requests {
+        pass.deposit(quota, now);
+    }
+    pass
+}
+
+// Counts so many requests, and draws until nothing is left. A draw that lost its races is tried again.
+fn draw_all(
+    alloc: Global,
+    quota: &Quota,
+    pass: Pass,
+    now: Moment,
+    requests: u64,
+) -> Result<(Pass, Vec<u64>), AllocError>
+    requires { IsOf quota.now pass }
+    ensures { IfOk result (λ r. IsOf quota.now r.0) }
+{
+    let mut pass = deposit_times(quota, pass, now, requests);
+    let mut drawn = Vec::new(alloc);
+    for _ in 0..MANY {
+        if let Some(ticket) = pass.draw(quota, now) {
+            drawn.push(ticket)?;
+        } else if pass.seen(quota, now).left == 0 {
+            break;
+        }
+    }
+    Ok((pass, drawn))
+}
+
+fn split_off(
+    alloc: Global,
+    quota: &Quota,
+    pass: &mut Pass,
+    workers: u64,
+) -> Result<Vec<Pass>, AllocError>
+    requires { IsOf quota.now pass.old }
+    ensures of { IsOf quota.now pass.new }
+    ensures passes { IfOk result (λ v. All (IsOf quota.now) v.items) }
+{
+    let mut passes = Vec::new(alloc);
+    for _ in 0..workers {
+        let Ok(part) = pass.split(quota) else {
+            return Err(AllocError);
+        };
+        passes.push(part).map_err(AllocError::from)?;
+    }
+    Ok(passes)
+}
+
+fn draw_beside<R: Threads + Sync>(
+    rt: &R,
+    alloc: Global,
+    quota: &Quota,
+    passes: Vec<Pass>,
+    now: Moment,
+    requests: u64,
+) -> Result<Vec<Result<(Pass, Vec<u64>), AllocError>>, AllocError>
+    requires { All (IsOf quota.now) passes.items }
+    ensures { IfOk result (λ v. All (λ r. IfOk r (λ t. IsOf quota.now t.0)) v.items) }
+{
+    map_vec(
+        rt,
+        passes,
+        &|pass: Pass| { draw_all(alloc, quota, pass, now, requests) },
+    )
+}
+
+// One pass, and all tickets from the least on.
+fn join_all(
+    alloc: Global,
+    quota: &Quota,
+    mut pass: Pass,
+    mut done: Vec<Result<(Pass, Vec<u64>), AllocError>>,
+) -> Result<(Pass, Vec<u64>), AllocError>
+    requires pass { IsOf quota.now pass }
+    requires done { All (λ r. IfOk r (λ t. IsOf quota.now t.0)) done.items }
+    ensures { IfOk result (λ r. IsOf quota.now r.0) }
+{
+    let mut all = Vec::new(alloc);
+    while let Some(next) = done.pop() {
+        let (other, drawn) = next?;
+        pass = pass.join(other, quota);
+        all.extend_from_slice(drawn.as_slice())?;
+    }
+    all.sort()?;
+    Ok((pass, all))
+}
+
+// So many threads draw what a window has, each after so many requests.
+fn drained<R: Threads + Sync>(
+    rt: &R,
+    alloc: Global,
+    quota: &Quota,
+    mut pass: Pass,
+    now: Moment,
+    of: (u64, u64),
+) -> Result<(Pass, Vec<u64>), AllocError>
+    requires { IsOf quota.now pass }
+    ensures { IfOk result (λ r. IsOf quota.now r.0) }
+{
+    let (workers, requests) = of;
+    let passes = split_off(alloc, quota, &mut pass, workers)?;
+    let done = draw_beside(rt, alloc, quota, passes, now, requests)?;
+    join_all(alloc, quota, pass, done)
+}
+
+const ROUNDS: u64 = 50;
+
+// Whether these are the least tickets, in order.
+fn count_up(tickets: &[u64]) -> bool {
+    for (place, ticket) in tickets.iter().enumerate() {
+        if *ticket != place as u64 {
+            return false;
+        }
+    }
+    true
+}
+
+fn sixteen_draw<R: Threads + Sync>(rt: &R, alloc: Global) -> Result<bool, Fail> {
+    let (quota, pass) = Quota::new(alloc, terms(40010, 0, 1000))?;
+    let (pass, all) = drained(rt, alloc, &quota, pass, at(0), (16, 0))?;
+    let each_once = all.len() == 40010 && count_up(all.as_slice());
+    Ok(each_once && quota.close(pass).ok() == Some(40010))
+}
+
+#[test]
+fn sixteen_threads(rt: HostRuntime) -> Result<(), Fail> {
+    for round in 0..ROUNDS {
+        assert!(rt; sixteen_draw(&rt, rt.alloc())?, "round {round}");
+    }
+    Ok(())
+}
+
+const WINDOWS: u64 = 1000;
+
+// Whether each ticket is of this window.
+fn are_of(tickets: &[u64], window: u64) -> bool {
+    for ticket in tickets {
+        if *ticket / 4294967296 != window {
+            return false;
+        }
+    }
+    true
+}
+
+// Eight threads in each window, and then this one, which finds what a thread left before the others' requests came:
+// 3 of the reserve, and 10 of 8 * 5 requests.
+fn windows_fill<R: Threads + Sync>(
+    rt: &R,
+    alloc: Global,
+    quota: &Quota,
+    mut pass: Pass,
+) -> Result<(Pass, bool), AllocError>
+    requires { IsOf quota.now pass }
+    ensures { IfOk result (λ r. IsOf quota.now r.0) }
+{
+    let mut full = true;
+    for window in 0..WINDOWS {
+        let now = at(window * 10);
+        let (joined, all) = drained(rt, alloc, quota, pass, now, (8, 5))?;
+        let (mine, rest) = draw_all(alloc, quota, joined, now, 0)?;
+        pass = mine;
+        full &= all.len().wrapping_add(rest.len()) == 13;
+        full &= are_of(all.as_slice(), window);
+    }
+    Ok((pass, full))
+}
+
+#[test]
+fn eight_threads_over_windows(rt: HostRuntime) -> Result<(), Fail> {
+    let (quota, pass) = Quota::new(rt.alloc(), terms(3, 250, 10))?;
+    let (pass, full) = windows_fill(&rt, rt.alloc(), &quota, pass)?;
+    assert!(rt; full);
+    closes(&rt, quota, pass, 13000);
+    Ok(())
+}
