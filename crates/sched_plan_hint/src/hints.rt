@@ -9,7 +9,7 @@ use std::fmt::Write;
 
 const PLAN_WANTED: &str = "a plan is a string or an object of one member";
 
-/// Adds what is wanted at the fault of a plan.
+/// Adds what is wanted where a plan has this fault, at this value. Fails only with `NoMemory`.
 pub fn push_plan_hint(
     alloc: Global,
     text: &mut String,

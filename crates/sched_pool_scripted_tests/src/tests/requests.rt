@@ -1,5 +1,5 @@
 //! The requests of first runs.
-use super::{AMPLE, batch_of, leaves};
+use super::{AMPLE, REFUSED, batch_of, leaves};
 use sched_time::Moment;
 use std::alloc::AllocGlobal;
 use std::process::Abort;

@@ -1,5 +1,5 @@
 //! Which windows give tickets.
-use super::{AMPLE, leaves};
+use super::{AMPLE, FULL, REFUSED, WON, leaves};
 use std::test::Fail;
 
 // It loses three times, and tries again 100 ms after each failure.
