@@ -86,11 +86,20 @@ def apply(text: str, crate: pathlib.Path) -> None:
         raise BadEdit("it replaces nothing")
 
 
+def layers() -> dict[str, int]:
+    """The place of each crate in crates.txt, where each stands on lines above its own."""
+    lines = (TOP / "crates.txt").read_text(encoding="utf-8").splitlines()
+    names = [re.split(r"[ :]", line)[0] for line in lines if line and not line.startswith("#")]
+    return {name: place for place, name in enumerate(names)}
+
+
 def read_edits() -> tuple[list[Edit], list[str]]:
-    """All edits in the order of their paths, and what is wrong with those that are bad."""
+    """All edits, those of the lowest crates first, and what is wrong with those that are bad."""
     edits: list[Edit] = []
     faults: list[str] = []
-    for path in sorted(TOP.glob("crates/*/must-fail/*.edit")):
+    places = layers()
+    paths = TOP.glob("crates/*/must-fail/*.edit")
+    for path in sorted(paths, key=lambda path: (places.get(path.parent.parent.name, len(places)), path.name)):
         crate = path.parent.parent
         text = path.read_text(encoding="utf-8")
         try:
