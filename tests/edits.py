@@ -5,8 +5,8 @@ The first line of each edit says which promise it breaks, with the group that th
 `# limit: A plan is at most 32 nodes deep, and a deeper one is refused.`
 
     tests/edits.py          prints the list
-    tests/edits.py --check  compares it with the list in docs/TESTING.md, and looks whether every edit has such a line and
-                            can be applied; it fails with a line for each fault
+    tests/edits.py --check  compares it with the list in docs/TESTING.md, and looks whether every edit
+                            has such a line and can be applied; it fails with a line for each fault
     tests/edits.py --write  puts it into docs/TESTING.md
 """
 
@@ -140,7 +140,7 @@ def faults_of(edits: list[Edit]) -> list[str]:
     for edit in edits:
         other = first.setdefault(edit.promise, edit)
         if other is not edit:
-            faults.append(f"{edit.crate}/{edit.name} breaks the promise of {other.crate}/{other.name}: one of them is enough")
+            faults.append(f"{edit.crate}/{edit.name} breaks the promise of {other.crate}/{other.name}: one is enough")
     wanted, found = listed(edits).splitlines(), parts_of_page()[1].splitlines()
     faults += difflib.unified_diff(found, wanted, "docs/TESTING.md", "tests/edits.py", lineterm="", n=0)
     return faults
