@@ -44,11 +44,6 @@ pub record IsCounted (m : Sat) (n w o : ℕ) (r : Bool) : Type 0 where
   pub unsole : m.0.mark ≢ Sole
   pub fixed : m.0.terms.rises ≡ false → m.0.floor ≡ m.0.terms.limit
 
--- a job's pass is of this budget, and the job was granted as many tickets as the pass has
-pub record IsJobOf (b : Name) (p : Held) (granted : ℕ) : Type 0 where
-  pub of : IsOf b p
-  pub counted : granted ≡ length p.has.tickets
-
 -- the name of no budget
 abbrev pub nobody : Name
 nobody = record {

@@ -5,5 +5,4 @@ pub mod Steps
 pub mod Held
 pub mod Calls
 pub mod Laws
-pub mod Drains
 pub mod Fault

@@ -9,12 +9,10 @@
 mod budget;
 mod fault;
 pub mod laws;
-pub mod locked;
 mod naming;
 mod pass;
 mod rule;
 mod view;
-pub mod workers;
 
 pub use budget::{Budget, MAX_LIMIT};
 pub use fault::{PassesOut, TicketFault};

@@ -3,8 +3,8 @@ ghost use Rattle.std.specs.Prelude.{All, IfOk};
 ghost use Rattle.sched_ticket.specs.Held.{IsOf};
 
 use super::closes;
-use sched_ticket::locked::drawn_by_two;
-use sched_ticket::workers::drain;
+use crate::locked::drawn_by_two;
+use crate::workers::drain;
 use sched_ticket::{Budget, Pass};
 use std::alloc::{AllocError, Global};
 use std::process::Abort;

@@ -1,13 +1,9 @@
 //! The smallest use of a named budget: jobs under locks, whose passes are of one budget by their type.
-//! An example of the theorem, which tests alone call.
 ghost use Rattle.std.specs.Prelude.{◌≡◌, ◌+◌, ◌≤◌, false, length, IfOk, IfErr, IfSome, IfNone};
 ghost use Rattle.sched_ticket.specs.Held.{IsOf};
 ghost use Rattle.sched_ticket.specs.Calls.{Drew, DrawRefused, RefusesLimit};
 
-use crate::budget::Budget;
-use crate::fault::TicketFault;
-use crate::naming::Naming;
-use crate::pass::Pass;
+use sched_ticket::{Budget, Naming, Pass, TicketFault};
 use std::alloc::Global;
 use std::marker::{Brand, Model, PhantomData};
 use std::sync::{Mutex, Wait};
@@ -23,7 +19,8 @@ pub struct Job<N: Naming> {
 }
 
 impl<N: Naming> Model for Job<N> {
-    ghost use Rattle.sched_ticket.specs.Held.{Held, IsJobOf};
+    ghost use Rattle.sched_ticket.specs.Held.{Held};
+    ghost use Rattle.sched_ticket_tests.specs.Jobs.{IsJobOf};
 
     ghost Value = { Held };
 

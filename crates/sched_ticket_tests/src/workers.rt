@@ -1,13 +1,10 @@
 //! Many threads on one budget: each draws until it is refused, and their passes are joined.
-//! The theorem's example over any number of threads, which tests alone call.
 ghost use Rattle.std.specs.Prelude.{◌≡◌, ℕ, ◌+◌, ◌<◌, ◌≤◌, [], length, vec_len, All, IfOk, IfErr};
 ghost use Rattle.sched_ticket.specs.Lists.{total, times, once_below, IsSame};
 ghost use Rattle.sched_ticket.specs.Held.{IsOf};
-ghost use Rattle.sched_ticket.specs.Drains.{RefusesDrain, IsSplitFault};
+ghost use Rattle.sched_ticket_tests.specs.Drains.{RefusesDrain, IsSplitFault};
 
-use crate::budget::Budget;
-use crate::fault::TicketFault;
-use crate::pass::Pass;
+use sched_ticket::{Budget, Pass, TicketFault};
 use std::alloc::{AllocError, Global};
 use std::thread::{Threads, map_vec};
 use thiserror::Error;
@@ -34,7 +31,7 @@ pub enum DrainFault {
 
 impl From<TicketFault> for DrainFault {
     ghost use Rattle.std.specs.Prelude.{◌≡◌};
-    ghost use Rattle.sched_ticket.specs.declared.workers.DrainFault.TheVariants.{Refused};
+    ghost use Rattle.sched_ticket_tests.specs.declared.workers.DrainFault.TheVariants.{Refused};
 
     ghost from_gives = { λ fault e. e ≡ Refused fault };
 
@@ -45,7 +42,7 @@ impl From<TicketFault> for DrainFault {
 
 impl From<AllocError> for DrainFault {
     ghost use Rattle.std.specs.Prelude.{◌≡◌};
-    ghost use Rattle.sched_ticket.specs.declared.workers.DrainFault.TheVariants.{Refused};
+    ghost use Rattle.sched_ticket_tests.specs.declared.workers.DrainFault.TheVariants.{Refused};
     ghost use Rattle.sched_ticket.specs.declared.fault.TicketFault.TheVariants.{NoMemory};
 
     ghost from_gives = { λ _ e. e ≡ Refused NoMemory };

@@ -1,7 +1,7 @@
 use Rattle.std.proofs.Common.{◌-◌, length}
 use Rattle.sched_ticket.specs.Lists.{IsSame}
 use Rattle.sched_ticket.specs.Held.{IsOf}
-use Rattle.sched_ticket.proofs.workers.draw_all.Given as goal
+use Rattle.sched_ticket_tests.proofs.workers.draw_all.Given as goal
 
 abbrev pub invariant-loop-ticket : goal.invariant-loop-ticket
 invariant-loop-ticket l = record {

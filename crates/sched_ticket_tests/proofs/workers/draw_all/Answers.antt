@@ -1,7 +1,7 @@
 use Rattle.std.proofs.Common.{[], ◌∷◌, ap, arith}
 use Rattle.sched_ticket.specs.Lists.{total}
 use Rattle.sched_ticket.proofs.Sums.{total-append}
-use Rattle.sched_ticket.proofs.workers.draw_all.Goals as goal
+use Rattle.sched_ticket_tests.proofs.workers.draw_all.Goals as goal
 
 pub loop-ticket-preserved : goal.loop-ticket-preserved
 loop-ticket-preserved c = record {

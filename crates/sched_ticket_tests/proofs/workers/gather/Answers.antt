@@ -3,7 +3,7 @@ use Rattle.std.proofs.lemmas.Grind.{common_steps}
 use Rattle.sched_ticket.specs.Lists.{total}
 use Rattle.sched_ticket.specs.declared.view.View.{View}
 use Rattle.sched_ticket.proofs.Sums.{total-append}
-use Rattle.sched_ticket.proofs.workers.gather.Goals as goal
+use Rattle.sched_ticket_tests.proofs.workers.gather.Goals as goal
 
 pub loop-haul-preserved : goal.loop-haul-preserved
 loop-haul-preserved c =

@@ -1,4 +1,4 @@
-use Rattle.sched_ticket.proofs.locked.drawn_by_two.Given as goal
+use Rattle.sched_ticket_tests.proofs.locked.drawn_by_two.Given as goal
 
 -- the budget of this call
 abbrev pub ghosts-two_jobs : goal.ghosts-two_jobs

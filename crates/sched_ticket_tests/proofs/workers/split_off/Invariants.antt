@@ -1,7 +1,7 @@
 use Rattle.std.proofs.Common.{◌≡◌, [], vec_len}
 use Rattle.std.specs.Prelude.{All}
 use Rattle.sched_ticket.specs.Held.{IsOf}
-use Rattle.sched_ticket.proofs.workers.split_off.Given as goal
+use Rattle.sched_ticket_tests.proofs.workers.split_off.Given as goal
 
 abbrev pub invariant-loop : goal.invariant-loop
 invariant-loop l = record {

@@ -2,7 +2,7 @@ use Rattle.std.proofs.Common.{◌≡◌, ℕ, ◌+◌, ◌≤◌, length, vec_le
 use Rattle.std.specs.Prelude.{All, IfOk}
 use Rattle.sched_ticket.specs.Lists.{total}
 use Rattle.sched_ticket.specs.Held.{IsOf}
-use Rattle.sched_ticket.proofs.workers.gather.Given as goal
+use Rattle.sched_ticket_tests.proofs.workers.gather.Given as goal
 
 abbrev pub invariant-loop-haul : goal.invariant-loop-haul
 invariant-loop-haul l = record {
