@@ -10,7 +10,7 @@ const MOST_EDITS: usize = 2;
 const LONGEST_WORD: usize = 76;
 
 // Each node with how it is spelt, in the order in which the nearest name is looked for.
-const NODES: [(&str, &str); 30] = [
+const NODES: [(&str, &str); 32] = [
     ("forever", r#""forever""#),
     ("recurs", r#"{"recurs":N}, N from 0 to 4611686018427387903"#),
     ("spaced", r#"{"spaced":D}, D from 0 to 4611686018427387903"#),
@@ -31,6 +31,11 @@ const NODES: [(&str, &str); 30] = [
     (
         "fibonacci",
         r#"{"fibonacci":D}, D from 0 to 4611686018427387903"#,
+    ),
+    (
+        "decorrelated",
+        "{\"decorrelated\":[LANE,D,F,MOST]}, LANE from 0 to 3, D from 0 to MOST, F from 1000 to 1000000, \
+         MOST from D to 4611686018427387903",
     ),
     ("elapsed", r#""elapsed""#),
     ("identity", r#""identity""#),
@@ -72,6 +77,10 @@ const NODES: [(&str, &str); 30] = [
     (
         "within",
         r#"{"within":[D,PLAN]}, D from 0 to 4611686018427387903"#,
+    ),
+    (
+        "ends_by",
+        r#"{"ends_by":[D,PLAN]}, D from 0 to 4611686018427387903"#,
     ),
     (
         "renew",

@@ -31,6 +31,7 @@ from .log import after_log, before_log, before_sleep_log
 from .policy import (
     Policy,
     Step,
+    decorrelated,
     elapsed,
     exponential,
     exponential_milli,
@@ -88,6 +89,7 @@ __all__ = [
     "before_log",
     "before_sleep_log",
     "code_of",
+    "decorrelated",
     "elapsed",
     "exponential",
     "exponential_milli",

@@ -16,6 +16,7 @@ from .errors import Fault, PolicyError
 __all__ = [
     "Policy",
     "Step",
+    "decorrelated",
     "elapsed",
     "exponential",
     "exponential_milli",
@@ -323,6 +324,14 @@ class Policy:
         """But done once this much time has passed since the first event. ZIO's `upTo`, JSON's `within`."""
         return Policy._of_tree({"within": [seconds(duration), self._tree]})
 
+    def ends_by(self, duration: Duration) -> Policy:
+        """But done where the next call would start later than this after the first event, so that none does.
+
+        >>> [step.next_ms for step in spaced(0.45).ends_by(1).preview()]
+        [450, 900, None]
+        """
+        return Policy._of_tree({"ends_by": [seconds(duration), self._tree]})
+
     def renew(self, duration: Duration) -> Policy:
         """Begun anew at the first event at which this much time has passed since it last began."""
         return Policy._of_tree({"renew": [seconds(duration), self._tree]})
@@ -523,6 +532,19 @@ def fibonacci(one: Duration) -> Policy:
     return Policy._of_tree({"fibonacci": seconds(one)})
 
 
+def decorrelated(base: Duration, longest: Duration, factor: float = 3, *, lane: int = 0) -> Policy:
+    """Waits at random, each time from the base up to the factor times the wait before, and never longer than `longest`.
+
+    What AWS calls decorrelated jitter. The first wait is picked as if the base had been waited before. The factor, from
+    1 to 1000, is rounded to thousandths. Which random number picks, `lane` says, as for `Policy.jittered`.
+
+    >>> [step.next_ms for step in decorrelated(0.1, 10).preview(3)]
+    [200, 550, 1125]
+    """
+    thousandths = _thousandths(factor, 1000000)
+    return Policy._of_tree({"decorrelated": [_whole(lane, 3), seconds(base), thousandths, seconds(longest)]})
+
+
 def elapsed() -> Policy:
     """Goes on at once, and gives the time since the first event, in milliseconds."""
     return Policy._of_tree("elapsed")
@@ -556,6 +578,7 @@ _METHODS = {
     "cap": "cap",
     "add_out": "add_output",
     "within": "up_to",
+    "ends_by": "ends_by",
     "renew": "renew",
     "renew_idle": "renew_idle",
     "first": "first",
@@ -574,6 +597,9 @@ def _spelt(tree: Any) -> str:
         return f"{_as_operand(left, name)} {_OPERATORS[name]} {_as_operand(right, None)}"
     if name == "exponential_milli" and own[1] % 1000:
         return f"exponential({seconds_text(own[0])}, {own[1] / 1000!r})"
+    if name == "decorrelated":
+        lane, base, factor, longest = own
+        return f"decorrelated({seconds_text(base)}, {seconds_text(longest)}, {factor / 1000:g}{_in_lane(lane)})"
     if not plans:
         return f"{name}({_parameters(name, own)})"
     under = _as_operand(plans[0], None)
@@ -585,9 +611,12 @@ def _spelt(tree: Any) -> str:
         side, want, test, number = own
         return f"{under}.{'while' if want else 'until'}_{side}({test}={number})"
     if name == "jitter":
-        lane = f", lane={own[0]}" if own[0] else ""
-        return f"{under}.jittered({own[1] / 1000:g}, {own[2] / 1000:g}{lane})"
+        return f"{under}.jittered({own[1] / 1000:g}, {own[2] / 1000:g}{_in_lane(own[0])})"
     return f"{under}.{_METHODS[name]}({', '.join(seconds_text(number) for number in own)})"
+
+
+def _in_lane(lane: int) -> str:
+    return f", lane={lane}" if lane else ""
 
 
 def _parameters(name: str, own: List[Any]) -> str:
