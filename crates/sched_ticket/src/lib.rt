@@ -11,6 +11,7 @@ mod fault;
 pub mod laws;
 pub mod locked;
 mod naming;
+pub mod parts;
 mod pass;
 mod rule;
 mod view;
