@@ -1,4 +1,5 @@
 pub mod Lists
+pub mod Parts
 pub mod View
 pub mod Rule
 pub mod Steps

@@ -10,6 +10,7 @@ mod budget;
 mod fault;
 pub mod laws;
 mod naming;
+pub mod parts;
 mod pass;
 mod rule;
 mod view;
