@@ -15,6 +15,8 @@ use Rattle.sched_task_law.specs.Codes.{coded_how}
 use Rattle.sched_retry.specs.Retrying.{Retrying, RetryLaw}
 use Rattle.sched_run_machine.specs.Drives.{Stepped, Refused}
 use Rattle.sched_run_machine.specs.Next.{HostPoll}
+use Rattle.sched_run_machine.specs.declared.next.Next.{Next}
+use Rattle.sched_run_machine.specs.declared.next.Next.TheVariants.{Poll, Run, Wait, Over}
 
 -- a machine with a driver of R, which draws by a value of D
 pub record Machine (R D : Type 0) : Type 0 where
@@ -37,6 +39,21 @@ coded_machine {R} {D} coded_driver coded_drawing =
 -- a report is heard where a run is under way and the machine is not over
 abbrev pub is_told : {R D : Type 0} → Machine R D → Bool
 is_told m = not (is_some m.over) && m.under_way
+
+-- what is to be done tells whether the machine is over, and whether a run is under way
+abbrev pub Finds : {R D : Type 0} → Machine R D → Next → Type 0
+Finds m (Over ended) = m.over ≡ Some ended
+Finds m Run = (m.over ≡ None) × (m.under_way ≡ true)
+Finds m Poll = (m.over ≡ None) × (m.under_way ≡ false)
+Finds m (Wait start) = (m.over ≡ None) × (m.under_way ≡ false)
+
+-- how a run that is told may end a machine: a success does, and a failure does not as one, nor as cancelled
+abbrev pub EndsAs : Ran → Option How → Type 0
+EndsAs (Won code) over = over ≡ Some how.Won
+EndsAs (Lost code) (Some how.Won) = ⊥
+EndsAs (Lost code) (Some how.Failed) = ⊥
+EndsAs (Lost code) (Some how.Cancelled) = ⊥
+EndsAs (Lost code) _ = Unit {0}
 
 -- one that is not over is cancelled
 abbrev pub cancelled : {R D : Type 0} → Machine R D → Machine R D

@@ -1,9 +1,9 @@
 //! The machine of a retry.
-ghost use Rattle.std.specs.Prelude.{◌≡◌, ◌+◌, [], ◌∷◌, None, MatchBool};
+ghost use Rattle.std.specs.Prelude.{◌≡◌, ◌+◌, [], ◌∷◌, true, None, MatchBool};
 ghost use Rattle.sched_plan.specs.Schedule.{Schedule};
 ghost use Rattle.sched_retry.specs.Retrying.{Retrying, gives_up};
 ghost use Rattle.sched_run_machine.specs.Drives.{unstepped};
-ghost use Rattle.sched_run_machine.specs.Machine.{begins, unbegun, is_told, cancelled, StandsFor, Polls, Ends};
+ghost use Rattle.sched_run_machine.specs.Machine.{begins, unbegun, is_told, cancelled, StandsFor, Polls, Finds, Ends, EndsAs};
 ghost use Rattle.sched_run_machine.specs.Next.{next_of, Rests};
 
 use crate::drives::Drives;
@@ -89,6 +89,7 @@ impl<R: Drives, D: Draws> Machine<R, D> {
         ensures heard { result ≡ is_told self.old }
         ensures told { MatchBool result
             (Polls R.stands R.keeps D.grants self.old tick.entry.now (ran ∷ []) self.new) (self.new ≡ self.old) }
+        ensures ends { result ≡ true → EndsAs ran self.new.over }
     {
         if self.over.is_some() {
             return false;
@@ -105,7 +106,8 @@ impl<R: Drives, D: Draws> Machine<R, D> {
 
     /// What the host is to do.
     pub fn next(&self) -> Next
-        ensures { (v : Retrying D) → StandsFor R.stands R.keeps D.grants self.now v → result ≡ next_of v.past }
+        ensures finds { Finds self.now result }
+        ensures next { (v : Retrying D) → StandsFor R.stands R.keeps D.grants self.now v → result ≡ next_of v.past }
     {
         if let Some(how) = self.over {
             return Next::Over(how);
