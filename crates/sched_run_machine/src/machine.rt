@@ -1,5 +1,5 @@
 //! The machine of a retry.
-ghost use Rattle.std.specs.Prelude.{◌≡◌, ◌+◌, [], ◌∷◌, true, None, MatchBool};
+ghost use Rattle.std.specs.Prelude.{◌≡◌, ◌+◌, [], ◌∷◌, true, false, None};
 ghost use Rattle.sched_plan.specs.Schedule.{Schedule};
 ghost use Rattle.sched_retry.specs.Retrying.{Retrying, gives_up};
 ghost use Rattle.sched_run_machine.specs.Drives.{unstepped};
@@ -87,9 +87,10 @@ impl<R: Drives, D: Draws> Machine<R, D> {
     /// retry waits for the start planned. A refused step ends it as `Broken`.
     pub fn report(&mut self, alloc: Global, tick: &Tick, ran: Ran) -> bool
         ensures heard { result ≡ is_told self.old }
-        ensures told { MatchBool result
-            (Polls R.stands R.keeps D.grants self.old tick.entry.now (ran ∷ []) self.new) (self.new ≡ self.old) }
+        ensures told { result ≡ true →
+            Polls R.stands R.keeps D.grants self.old tick.entry.now (ran ∷ []) self.new }
         ensures ends { result ≡ true → EndsAs ran self.new.over }
+        ensures unchanged { result ≡ false → self.new ≡ self.old }
     {
         if self.over.is_some() {
             return false;
@@ -119,6 +120,13 @@ impl<R: Drives, D: Draws> Machine<R, D> {
             Some(start) => Next::Wait(start),
             None => Next::Poll,
         }
+    }
+
+    /// How it ended, or `None` where it is not over.
+    pub fn over(&self) -> Option<How>
+        ensures { result ≡ self.now.over }
+    {
+        self.over
     }
 
     /// Ends a retry that is not over as `Cancelled`; one that is over stays as it is.

@@ -1,10 +1,10 @@
-use Rattle.std.proofs.Common.{sym, ◌∙◌}
+use Rattle.std.proofs.Common.{refl, sym, ◌∙◌}
 use Rattle.sched_task_law.proofs.Fields.{none_of}
 use Rattle.sched_run_machine.proofs.Calls.{polled_as, left, ends_run}
 use Rattle.sched_run_machine.proofs.machine.Machine.report.Goals as goal
 
 pub returns-clause-told : goal.returns-clause-told
-returns-clause-told g c =
+returns-clause-told g c = λ _.
     let ended = c.end_run-self-inside in
     polled_as g.R.Drives.stands g.R.Drives.keeps g.D.Draws.grants g.met.D.Draws.lawful _ c.args.tick.now c.args.self.now _ _ c.self.view_is
     (ends_run g.R.Drives.stands g.R.Drives.keeps g.D.Draws.grants g.met.D.Draws.lawful
@@ -13,4 +13,4 @@ returns-clause-told g c =
 
 pub invariant_of-self : goal.invariant_of-self
 invariant_of-self g c =
-    left g.R.Drives.stands g.R.Drives.keeps g.D.Draws.grants g.met.D.Draws.lawful _ c.args.tick.now c.args.self.now _ _ c.self.view_is (returns-clause-told g c) c.self.invariant
+    left g.R.Drives.stands g.R.Drives.keeps g.D.Draws.grants g.met.D.Draws.lawful _ c.args.tick.now c.args.self.now _ _ c.self.view_is (returns-clause-told g c refl) c.self.invariant
