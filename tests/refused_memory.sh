@@ -24,26 +24,14 @@ cc -O1 -shared -fPIC -nostdlib -o "$shared/refuse.so" "$top/tests/refuse.c"
 printf 'zsched: no memory\n' >"$shared/no_memory"
 printf 'zsched: worker not started\n' >"$shared/not_started"
 printf 'zsched: not finished\n' >"$shared/not_finished"
-tried=0
+beside=$shared
+. "$top/tests/beside.sh"
 
-# beside COMMAND..: starts a function that tries a run, in a folder of its own, once a processor is free for it
-beside() {
-  while [ "$(jobs -rp | wc -l)" -ge "$(nproc)" ]; do wait -n || true; done
-  tried=$((tried + 1))
-  (
-    trap - EXIT
-    work=$shared/$tried
-    failed=0
-    mkdir "$work"
-    "$@"
-    [ "$failed" = 1 ] || : >"$work/passed"
-  ) &
-}
-
-# Waits for all of them, and fails where one did not pass.
-all_passed() {
-  wait
-  [ "$tried" -gt 0 ] && [ "$(find "$shared" -mindepth 2 -name passed | wc -l)" = "$tried" ]
+# tries FUNCTION WORD..: one of the functions below, as it is run beside others: it fails where that found something wrong
+tries() {
+  failed=0
+  "$@"
+  [ "$failed" = 0 ]
 }
 
 # with_refused GROWTH PROGRAM WORD..: a run in which this growth is refused; $work/refused is empty where none was, and
@@ -226,49 +214,51 @@ refuses_stored() {
 
 # Plans, jobs and command lines of all kinds.
 tries_zsched() {
-  beside refuses_stored
-  beside refuses 0 '{"follow":[{"recurs":2},{"fixed":50}]}' plan --steps 5
-  beside refuses 0 '{"gather":["list",{"renew":[100,{"follow":[{"recurs":1},{"spaced":60}]}]}]}' plan --steps 5
-  beside refuses 0 '{"gather":["list",{"gather":["list",{"recurs":3}]}]}' plan
-  beside refuses 0 '{"renew":[50,{"follow":[{"recurs":1},{"lone":30}]}]}' plan --took 25 --steps 5
-  beside refuses 0 '{"renew_idle":[100,{"exponential":[30,2]}]}' plan --steps 5
-  beside refuses 0 '{"feed":[{"join":[{"recurs":1},{"spaced":10}]},{"first":"identity"}]}' plan --steps 4
-  beside refuses 0 '{"add_out":{"cap":[15,{"jitter":[0,500,1500,{"linear":10}]}]}}' plan --steps 4
-  beside refuses 0 '{"nothing":{"join":[{"feed":["identity",{"fibonacci":3}]},{"within":[9,"elapsed"]}]}}' plan --steps 4
-  beside refuses 3 '{"meet":[{"fixed":0},"forever"]}' plan
-  beside refuses 3 '{"meet":[' plan
-  beside refuses 2 '' plan --steps 4097
-  beside refuses 0 '' plan --help
-  beside refuses 0 '' --version
-  beside refuses 0 '' plan "$top/plans/three-times.json"
-  beside refuses 4 '' plan "$top/plans/none.json"
-  beside refuses 0 "$(cat "$top/plans/jittered-back-off.json")" plan --words 7 --inputs 3,5
-  beside refuses 3 '[{"plan":{"recurs":3},"runs":[{"lost":7},{"won":-1}]}]' pool
-  beside refuses 3 '[{"plan":"forever","runs":[]}]' pool
-  beside refuses 2 '' pool --workers 17
-  beside refuses 2 '' pool --quota 1/2/0
-  beside refuses 0 "$(cat "$top/plans/back-off.json")" check
-  beside refuses 0 "$(cat "$top/jobs/three-calls.json")" check
-  beside refuses_spared 3 '{"meet":[{"recurs":1},{"cap":[1,{"exponental":[100,2]}]}]}' check
-  beside refuses 3 '[{"plan":{"fixed":0},"runs":[{"won":1}]}]' check
-  beside refuses 3 '{"meet":[' check
+  local job three_calls workers input
+  beside tries refuses_stored
+  beside tries refuses 0 '{"follow":[{"recurs":2},{"fixed":50}]}' plan --steps 5
+  beside tries refuses 0 '{"gather":["list",{"renew":[100,{"follow":[{"recurs":1},{"spaced":60}]}]}]}' plan --steps 5
+  beside tries refuses 0 '{"gather":["list",{"gather":["list",{"recurs":3}]}]}' plan
+  beside tries refuses 0 '{"renew":[50,{"follow":[{"recurs":1},{"lone":30}]}]}' plan --took 25 --steps 5
+  beside tries refuses 0 '{"renew_idle":[100,{"exponential":[30,2]}]}' plan --steps 5
+  beside tries refuses 0 '{"feed":[{"join":[{"recurs":1},{"spaced":10}]},{"first":"identity"}]}' plan --steps 4
+  beside tries refuses 0 '{"add_out":{"cap":[15,{"jitter":[0,500,1500,{"linear":10}]}]}}' plan --steps 4
+  beside tries refuses 0 '{"nothing":{"join":[{"feed":["identity",{"fibonacci":3}]},{"within":[9,"elapsed"]}]}}' plan --steps 4
+  beside tries refuses 3 '{"meet":[{"fixed":0},"forever"]}' plan
+  beside tries refuses 3 '{"meet":[' plan
+  beside tries refuses 2 '' plan --steps 4097
+  beside tries refuses 0 '' plan --help
+  beside tries refuses 0 '' --version
+  beside tries refuses 0 '' plan "$top/plans/three-times.json"
+  beside tries refuses 4 '' plan "$top/plans/none.json"
+  beside tries refuses 0 "$(cat "$top/plans/jittered-back-off.json")" plan --words 7 --inputs 3,5
+  beside tries refuses 3 '[{"plan":{"recurs":3},"runs":[{"lost":7},{"won":-1}]}]' pool
+  beside tries refuses 3 '[{"plan":"forever","runs":[]}]' pool
+  beside tries refuses 2 '' pool --workers 17
+  beside tries refuses 2 '' pool --quota 1/2/0
+  beside tries refuses 0 "$(cat "$top/plans/back-off.json")" check
+  beside tries refuses 0 "$(cat "$top/jobs/three-calls.json")" check
+  beside tries refuses_spared 3 '{"meet":[{"recurs":1},{"cap":[1,{"exponental":[100,2]}]}]}' check
+  beside tries refuses 3 '[{"plan":{"fixed":0},"runs":[{"won":1}]}]' check
+  beside tries refuses 3 '{"meet":[' check
   job='{"plan":{"recurs":3},"runs":[{"lost":7}]}'
   three_calls=$(cat "$top/jobs/three-calls.json")
   for workers in 1 2; do
     for input in "[$job,$job,$job,$job]" "$three_calls" \
       '[{"plan":{"gather":["list",{"recurs":3}]},"runs":[{"lost":7}]},{"plan":"forever","runs":[{"won":1}]}]'; do
-      beside refuses_jobs $workers ' of 100' "$input" --workers $workers
+      beside tries refuses_jobs $workers ' of 100' "$input" --workers $workers
     done
   done
-  beside refuses_jobs 0 ' in 1 windows' "[$job,$job,$job,$job]" --quota 100/0/1000
-  beside refuses_jobs 0 ' in 1 windows' "$three_calls" --quota 100/0/1000
+  beside tries refuses_jobs 0 ' in 1 windows' "[$job,$job,$job,$job]" --quota 100/0/1000
+  beside tries refuses_jobs 0 ' in 1 windows' "$three_calls" --quota 100/0/1000
 }
 
 # The programs of crates.
 tries_crates() {
-  beside refuses_calls
-  beside refuses_polls
+  beside tries refuses_calls
+  beside tries refuses_polls
 }
 
 "tries_$1"
 all_passed
+echo "tests/refused_memory.sh: each growth of $started runs refused in turn"
