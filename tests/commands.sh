@@ -41,7 +41,7 @@ wants() {
 makes_old() {
   local files=$1
   shift
-  cp -a "$tree" "$work/changed"
+  cp -al "$tree" "$work/changed"
   (cd "$work/changed" && "$@")
   wants 0 "$files" '' "$work/changed/bin/digest" --changed
   rm -rf "$work/changed"
@@ -50,7 +50,9 @@ makes_old() {
 # is_alive PROCESS: it has neither ended nor waits to be buried
 is_alive() { grep -qs '^State:[[:space:]][^ZX]' "/proc/$1/status"; }
 
-append() { echo >>"$1"; }
+# (each puts another file in the place of the one that is there, which has a second link)
+append() { sed -i '$a\
+// more' "$1"; }
 replace() { sed -i "$1" "$2"; }
 
 # Which files of dist/ a change makes old.
@@ -71,7 +73,7 @@ changes() {
   makes_old '' append crates/sched_run/src/lib.rt
   makes_old '' append crates/sched_task/src/tests.rt
   makes_old '' append crates/sched_plan_tests/src/lib.rt
-  makes_old '' append crates/zsched/stdin
+  makes_old '' append crates/zsched/stdout
   makes_old '' touch crates/sched_time/must-fail/new.edit
   makes_old '' append README.md
   makes_old '' append docs/C.md
@@ -167,6 +169,36 @@ with_kit() {
       failed=1
     }
   done
+}
+
+# bin/check adds up what passed in `rt ci`, in the comparison of dist/ and in bin/test, here by scripts in their place. A fault
+# of each of them is counted, also where it told nothing.
+counts() {
+  local checks=$work/checks line
+  mkdir -p "$checks/bin" "$checks/dist"
+  cp bin/check bin/crates bin/kit "$checks/bin"
+  echo built >"$checks/dist/zsched"
+  printf '#!/bin/sh\nmkdir "$2"\necho "$BUILT" >"$2/zsched"\nexit $DIST\n' >"$checks/bin/dist"
+  printf '#!/bin/sh\nexit 0\n' >"$checks/bin/build"
+  printf '#!/bin/sh\n[ "$1" = --strict ] || exit 0\necho "$TESTED"\n[ "$TESTED" = "3 passed, 0 failed" ]\n' >"$checks/bin/test"
+  chmod +x "$checks"/bin/*
+  export LINE BUILT DIST TESTED
+  while IFS='|' read -r LINE BUILT DIST TESTED status line; do
+    got=0
+    "$checks/bin/check" >"$work/out" 2>&1 </dev/null || got=$?
+    tried=$((tried + 1))
+    [ "$(tail -n 1 "$work/out")" = "$line" ] && [ "$got" = "$status" ] || {
+      echo "tests/commands.sh: bin/check ($LINE|$BUILT|$DIST|$TESTED): status $got, wanted $status; $(tail -n 1 "$work/out"), wanted $line" >&2
+      failed=1
+    }
+  done <<'END'
+9 passed, 0 failed|built|0|3 passed, 0 failed|0|13 passed, 0 failed
+8 passed, 1 failed|built|0|3 passed, 0 failed|1|8 passed, 1 failed
+9 passed, 0 failed|other|0|3 passed, 0 failed|1|12 passed, 1 failed
+9 passed, 0 failed|built|1|3 passed, 0 failed|1|9 passed, 2 failed
+9 passed, 0 failed|built|0|2 passed, 1 failed|1|12 passed, 1 failed
+9 passed, 0 failed|built|0|killed|1|10 passed, 1 failed
+END
   export HIKEBOX_RT=$work/no-kit
 }
 
@@ -200,6 +232,7 @@ runs_zsched
 costs_little
 without_kit
 with_kit
+counts
 runs_tests
 [ "$failed" = 0 ] || exit 1
 echo "tests/commands.sh: $tried runs of the programs of bin/ are as wanted"
