@@ -18,11 +18,14 @@ if $only_asks; then
   missing "$@"
   exit
 fi
+# (one run at a time installs)
+exec 9<"${BASH_SOURCE[0]}"
+flock 9
 mapfile -t names < <(missing "$@")
 [ ${#names[@]} -gt 0 ] || exit 0
 install=(apt-get install -y --no-install-recommends "${names[@]}")
 if [ "$(id -u)" != 0 ]; then
-  echo "${install[*]}" >&2
+  echo "apt-get update && ${install[*]}" >&2
   exit 1
 fi
 echo "tests/packages.sh: installing ${names[*]}" >&2
@@ -30,7 +33,7 @@ log=$(mktemp)
 trap 'rm -f "$log"' EXIT
 # (RUNLEVEL keeps a server that is installed from being started)
 export RUNLEVEL=1 DEBIAN_FRONTEND=noninteractive
-if ! { apt-get update && "${install[@]}"; } >"$log" 2>&1 </dev/null; then
+if ! { apt-get update && "${install[@]}"; } >"$log" 2>&1 </dev/null 9<&-; then
   tail -n 20 "$log" >&2
   echo "tests/packages.sh: can't be installed: ${names[*]}" >&2
   exit 1
