@@ -1,3 +1,4 @@
+# shellcheck shell=bash disable=SC2154
 # To be sourced: runs functions or commands side by side, as many as there are processors. Each has a folder of its own, and
 # prints what it wrote once it is over. The script sets `beside` to a folder for these.
 started=0

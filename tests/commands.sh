@@ -207,7 +207,7 @@ runs_tests() {
   local process id
   wants 2 '' "bin/test: there is no part nope; the parts are $(sed -n 's/^parts=(\(.*\))$/\1/p' bin/test)" bin/test nope blocks
   mkdir "$work/tmp"
-  wants 0 $'passed  blocks\n1 passed, 0 failed' '' sh -c 'TMPDIR="$1" bin/test blocks | sed "/^bin.test: [0-9]* seconds/d; s/^passed  blocks .*/passed  blocks/"' sh "$work/tmp"
+  wants 0 $'passed  blocks\n1 passed, 0 failed' '' sh -c 'TMPDIR="$1" bin/test blocks | sed "/^bin.test: /d; s/^passed  blocks .*/passed  blocks/"' sh "$work/tmp"
   printf '#!/bin/sh\nsetsid sh -c "echo \\$\\$ >%s; exec sleep 1000" &\nsleep 0.2\n' "$work/id" >tests/blocks.sh
   TMPDIR=$work/tmp bin/test blocks >"$work/out" 2>&1 && failed=1
   tried=$((tried + 1))

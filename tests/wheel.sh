@@ -35,7 +35,7 @@ again=$("$top/python/build-wheel.sh" "$folder/libhikebox.so" "$work/again")
 cmp "$wheel" "$again" || fails "two builds of the wheel differ"
 
 tried=' '
-found="/usr/bin/python3.? /usr/bin/python3.?? $HOME/.pyenv/versions/*/bin/python3"
+found="/usr/bin/python3.? /usr/bin/python3.?? ${HOME:-}/.pyenv/versions/*/bin/python3"
 for python in /usr/bin/python3 ${HIKEBOX_PYTHONS:-$found}; do
   [ -x "$python" ] || continue
   version=$("$python" -c 'import sys; print("%d.%d" % sys.version_info[:2] if sys.version_info >= (3, 9) else "")')

@@ -122,7 +122,9 @@ def test_an_attempt_that_takes_too_long(tmp_path: Path) -> None:
     assert time.monotonic() - began < 10
 
 
-def test_a_command_that_can_not_be_run(tmp_path: Path) -> None:
+def test_a_command_that_can_not_be_run(tmp_path: Path, monkeypatch: pytest.MonkeyPatch) -> None:
+    # (of a folder on the path that may not be read the system says that permission is denied)
+    monkeypatch.setenv("PATH", "/usr/bin:/bin")
     assert hikebox("run", "--", "no-such-command")[::2] == (127, "hikebox: no-such-command: command not found\n")
     status, _, errors = hikebox("run", "--", str(tmp_path))
     assert status == 126 and "ermission denied" in errors
