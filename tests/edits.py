@@ -5,8 +5,8 @@ The first line of each edit says which promise it breaks, with the group that th
 `# limit: A plan is at most 32 nodes deep, and a deeper one is refused.`
 
     tests/edits.py          prints the list
-    tests/edits.py --check  compares it with the list in docs/TESTING.md, and looks whether every edit has such a line and
-                            can be applied; it fails with a line for each fault
+    tests/edits.py --check  compares it with the list in docs/TESTING.md, and looks whether every edit
+                            has such a line and can be applied; it fails with a line for each fault
     tests/edits.py --write  puts it into docs/TESTING.md
 """
 
@@ -86,11 +86,20 @@ def apply(text: str, crate: pathlib.Path) -> None:
         raise BadEdit("it replaces nothing")
 
 
+def layers() -> dict[str, int]:
+    """The place of each crate in crates.txt, where each stands on lines above its own."""
+    lines = (TOP / "crates.txt").read_text(encoding="utf-8").splitlines()
+    names = [re.split(r"[ :]", line)[0] for line in lines if line and not line.startswith("#")]
+    return {name: place for place, name in enumerate(names)}
+
+
 def read_edits() -> tuple[list[Edit], list[str]]:
-    """All edits in the order of their paths, and what is wrong with those that are bad."""
+    """All edits, those of the lowest crates first, and what is wrong with those that are bad."""
     edits: list[Edit] = []
     faults: list[str] = []
-    for path in sorted(TOP.glob("crates/*/must-fail/*.edit")):
+    places = layers()
+    paths = TOP.glob("crates/*/must-fail/*.edit")
+    for path in sorted(paths, key=lambda path: (places.get(path.parent.parent.name, len(places)), path.name)):
         crate = path.parent.parent
         text = path.read_text(encoding="utf-8")
         try:
@@ -131,7 +140,7 @@ def faults_of(edits: list[Edit]) -> list[str]:
     for edit in edits:
         other = first.setdefault(edit.promise, edit)
         if other is not edit:
-            faults.append(f"{edit.crate}/{edit.name} breaks the promise of {other.crate}/{other.name}: one of them is enough")
+            faults.append(f"{edit.crate}/{edit.name} breaks the promise of {other.crate}/{other.name}: one is enough")
     wanted, found = listed(edits).splitlines(), parts_of_page()[1].splitlines()
     faults += difflib.unified_diff(found, wanted, "docs/TESTING.md", "tests/edits.py", lineterm="", n=0)
     return faults
