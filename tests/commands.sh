@@ -113,6 +113,23 @@ runs_zsched() {
   rm out
 }
 
+# After a change, where the kit is here, bin/zsched has bin/build build the program, here a script in its place, and runs that.
+builds_zsched() {
+  cp -p bin/build "$work/build"
+  cat >bin/build <<'END'
+#!/bin/sh
+[ "$1" != --is-built ] || exit 1
+mkdir -p crates/zsched/out
+printf '#!/bin/sh\necho "built: $*"\n' >crates/zsched/out/zsched
+chmod +x crates/zsched/out/zsched
+END
+  append crates/sched_cli/src/lib.rt
+  wants 0 'built: plan --steps 3' '' env HIKEBOX_RT=/bin/true bin/zsched plan --steps 3
+  cp "$top/crates/sched_cli/src/lib.rt" crates/sched_cli/src/lib.rt
+  rm -rf crates/zsched/out
+  cp -p "$work/build" bin/build
+}
+
 # micros COMMAND..: how long it takes
 micros() {
   local began=${EPOCHREALTIME/[.,]/}
@@ -235,6 +252,7 @@ runs_tests() {
 copy
 changes
 runs_zsched
+builds_zsched
 costs_little
 without_kit
 with_kit
