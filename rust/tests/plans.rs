@@ -5,10 +5,10 @@ use std::io::Write;
 use std::process::{Command, Stdio};
 use std::time::Duration;
 
-/// The program that the engine's crates build: where `HIKEBOX_ZSCHED` says.
+/// What the program prints that the engine's crates build: the one that `HIKEBOX_ZSCHED` names, or that of `dist/`.
 fn zsched(json: &str) -> String {
-    let program = std::env::var_os("HIKEBOX_ZSCHED").expect("HIKEBOX_ZSCHED names the program zsched");
-    let mut child = Command::new(program)
+    let of_dist = concat!(env!("CARGO_MANIFEST_DIR"), "/../dist/zsched");
+    let mut child = Command::new(std::env::var_os("HIKEBOX_ZSCHED").unwrap_or_else(|| of_dist.into()))
         .args(["plan", "--steps", "12"])
         .stdin(Stdio::piped())
         .stdout(Stdio::piped())

@@ -74,7 +74,7 @@ class Course:
         #: Whether the engine has begun the next attempt already.
         self._begun = False
         self._machine: Optional[Machine] = None
-        #: What the engine's retry draws on, and the budget that the package draws on for it, where there is one.
+        #: What the engine's retry draws on.
         self._drawn_on: Union[Budget, Quota, NoBudget] = NO_BUDGET
         self._tickets = owner._tickets
         #: Whether each attempt that failed is logged.
@@ -254,12 +254,9 @@ class Course:
             machine = Machine()
         handle = owner.policy._lend()
         try:
-            if owner._budget is not None and owner._budget._begin_retry(machine, handle):
-                self._drawn_on = owner._budget
-                self._origin = owner._budget._moment_of(self._start)
-            else:
-                NO_BUDGET._begin_retry(machine, handle)
-                self._tickets = owner._tickets if owner._budget is None else owner._budget
+            self._drawn_on = NO_BUDGET if owner._budget is None else owner._budget
+            self._drawn_on._begin_retry(machine, handle)
+            self._origin = self._drawn_on._moment_of(self._start)
         finally:
             owner.policy._give_back(handle)
         self._machine = machine

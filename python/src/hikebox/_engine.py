@@ -149,11 +149,7 @@ _retry_poll = _unchecked("hikebox_retry_poll")
 _pass_draw = _unchecked("hikebox_pass_draw")
 _quota_deposit = _unchecked("hikebox_quota_deposit")
 _quota_draw = _unchecked("hikebox_quota_draw")
-_retry_new = _library.hikebox_retry_new
-_retry_on_quota = _library.hikebox_retry_on_quota
 _retry_unlimited = _library.hikebox_retry_unlimited
-_retry_end = _library.hikebox_retry_end
-_retry_end_on_quota = _library.hikebox_retry_end_on_quota
 _retry_free = _library.hikebox_retry_free
 
 
@@ -269,9 +265,11 @@ class BasePass:
 
     __slots__ = ("handle", "at", "_ticket", "_at_ticket")
 
-    #: How the engine's calls on it begin, and the one that frees it.
+    #: How the engine's calls on it begin, the one that frees it, and those that begin and end a retry with a part of it.
     _CALLS: ClassVar[str]
     _FREE: ClassVar[Any]
+    _BEGIN: ClassVar[Any]
+    _END: ClassVar[Any]
 
     def __init__(self) -> None:
         self.handle = Handle()
@@ -280,7 +278,7 @@ class BasePass:
         self._at_ticket = byref(self._ticket)
 
     def split(self: AnyPass) -> Optional[AnyPass]:
-        """A new pass of the same, with no ticket, or None where too many are out."""
+        """A new pass of the same, with no ticket, or None where this one has a single part, which it keeps."""
         part = type(self)()
         return part if self._does("split", part.at, unless=TOO_MANY_PASSES) else None
 
@@ -320,6 +318,8 @@ class Pass(BasePass):
 
     _CALLS = "hikebox_pass_"
     _FREE = _library.hikebox_pass_free
+    _BEGIN = _library.hikebox_retry_new
+    _END = _library.hikebox_retry_end
 
     @classmethod
     def of_budget(cls, limit: int, rising: bool) -> Pass:
@@ -332,7 +332,7 @@ class Pass(BasePass):
         return made
 
     def draw(self) -> Optional[int]:
-        """A ticket, or None where the budget has none for this pass."""
+        """A ticket, or None where the budget has none left."""
         status = _pass_draw(self.at, self._at_ticket)
         if status == OK:
             return self._ticket.value
@@ -352,6 +352,8 @@ class QuotaPass(BasePass):
 
     _CALLS = "hikebox_quota_"
     _FREE = _library.hikebox_quota_free
+    _BEGIN = _library.hikebox_retry_on_quota
+    _END = _library.hikebox_retry_end_on_quota
 
     def __init__(self) -> None:
         super().__init__()
@@ -406,13 +408,10 @@ class Machine:
         self._now = c_uint64()
         self._code = c_uint64()
 
-    def begin(self, policy: PolicyHandle, drawn: Pass) -> bool:
-        """Begins a retry with a pass split off this one; False where too many are out."""
-        return _begun("hikebox_retry_new", _retry_new(policy.at, drawn.at, self.at))
-
-    def begin_on_quota(self, policy: PolicyHandle, drawn: QuotaPass) -> bool:
-        """The same on a quota: it draws at the moments of its polls. False where this pass has one part left."""
-        return _begun("hikebox_retry_on_quota", _retry_on_quota(policy.at, drawn.at, self.at))
+    def begin(self, policy: PolicyHandle, drawn: BasePass) -> bool:
+        """Begins a retry with a pass split off this one; False where that has a single part. On a quota it draws at the
+        moments of its polls."""
+        return _begun(drawn._BEGIN.__name__, drawn._BEGIN(policy.at, drawn.at, self.at))
 
     def begin_unlimited(self, policy: PolicyHandle) -> None:
         """Begins a retry that draws on nothing. `free` ends it."""
@@ -434,17 +433,11 @@ class Machine:
         if status != OK:
             raise refused("hikebox_retry_cancel", status)
 
-    def end(self, drawn: Pass) -> None:
-        """Frees the retry, over or not, and joins its pass into this one."""
-        status = _retry_end(self.at, drawn.at)
+    def end(self, drawn: BasePass) -> None:
+        """Frees the retry, over or not, and joins its pass into this one, which is of the same budget or quota."""
+        status = drawn._END(self.at, drawn.at)
         if status != OK:
-            raise refused("hikebox_retry_end", status)
-
-    def end_on_quota(self, drawn: QuotaPass) -> None:
-        """The same of a retry on a quota."""
-        status = _retry_end_on_quota(self.at, drawn.at)
-        if status != OK:
-            raise refused("hikebox_retry_end_on_quota", status)
+            raise refused(drawn._END.__name__, status)
 
     def free(self) -> None:
         """Frees the retry and its pass, where there is one: what that is of can't be closed then."""

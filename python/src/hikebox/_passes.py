@@ -136,15 +136,47 @@ class Shared(Generic[AnyPass]):
             self._out += 1
             return part
 
+    # Retries that draw on it
+
+    def _begin_retry(self, machine: Machine, policy: PolicyHandle) -> None:
+        """Begins a retry in this machine, with a pass of its own."""
+        lent = self._lend()
+        try:
+            if not machine.begin(policy, lent):
+                lent = self._exchanged(lent)
+                machine.begin(policy, lent)
+        finally:
+            self._idle.append(lent)
+
+    def _end_retry(self, machine: Machine) -> None:
+        """Takes the pass of the machine's retry back, with its tickets."""
+        lent = self._lend()
+        try:
+            machine.end(lent)
+        finally:
+            self._idle.append(lent)
+
+    def _exchanged(self, lent: AnyPass) -> AnyPass:
+        """Another pass for one that has a single part left, since retries may give their parts back to other passes
+        than they had them of. The root has so many parts that it does not run out of them."""
+        with self._lock:
+            other = self._split()
+            self._root.join(lent)
+            self._out -= 1
+            return other
+
+    def _moment_of(self, seconds: float) -> int:
+        """The engine's moment at which a retry begins that begins so many seconds on its clock."""
+        raise NotImplementedError
+
 
 class NoBudget:
     """What a retry draws on that has no budget: nothing. Its policy alone bounds it."""
 
     __slots__ = ()
 
-    def _begin_retry(self, machine: Machine, policy: PolicyHandle) -> bool:
+    def _begin_retry(self, machine: Machine, policy: PolicyHandle) -> None:
         machine.begin_unlimited(policy)
-        return True
 
     def _end_retry(self, machine: Machine) -> None:
         machine.free()

@@ -4,23 +4,19 @@ from __future__ import annotations
 
 from typing import Optional
 
-from ._engine import MOST_TICKETS, Machine, Pass, PolicyHandle
+from ._engine import MOST_TICKETS, Pass
 from ._passes import Shared
 from .errors import BudgetError, TermsError
 
 __all__ = ["Budget"]
 
 
-#: So many retries of a budget have a pass of their own, of the 65,536 that the engine makes of one. Later ones draw on
-#: those that threads share.
-MOST_RETRIES = 60000
-
-
 class Budget(Shared[Pass]):
     """A number of tickets, each of which is drawn once. A retry needs one, so no more retries happen than there are.
 
-    All threads may share it, and draw at once. `Budget(limit)` keeps its limit, `Budget.rising(limit)` has one that
-    can be raised. Closing it, or leaving it as a context, gives the exact number of tickets drawn.
+    All threads may share it, and draw at once, for any number of retries. `Budget(limit)` keeps its limit,
+    `Budget.rising(limit)` has one that can be raised. Closing it, or leaving it as a context, gives the exact number of
+    tickets drawn.
 
     >>> with Budget(2) as budget:
     ...     budget.draw(), budget.draw(), budget.draw()
@@ -32,7 +28,7 @@ class Budget(Shared[Pass]):
     processes share see `hikebox.leased`.
     """
 
-    __slots__ = ("_limit", "_rising", "_retries")
+    __slots__ = ("_limit", "_rising")
 
     _KIND = "budget"
 
@@ -41,7 +37,8 @@ class Budget(Shared[Pass]):
 
     @classmethod
     def rising(cls, limit: int) -> Budget:
-        """A budget whose limit can be raised by `raise_to`.
+        """A budget whose limit can be raised by `raise_to`. A draw that finds no ticket uses none up, so a limit raised
+        by some gives as many tickets more.
 
         >>> budget = Budget.rising(0)
         >>> budget.draw(), budget.raise_to(5), budget.draw()
@@ -57,9 +54,6 @@ class Budget(Shared[Pass]):
         _look_at_limit(limit)
         self._limit = limit
         self._rising = rising
-        #: How many retries had a pass of their own.
-        self._retries = 0
-        # Of a rising budget the first pass is the only one, and draws.
         self._open(Pass.of_budget(limit, rising))
 
     @property
@@ -75,21 +69,11 @@ class Budget(Shared[Pass]):
 
     def draw(self) -> Optional[int]:
         """A ticket, by its number from 0, or None where there is none left."""
-        if self._rising:
-            return self._draw_below()
         drawn = self._lend()
         try:
             return drawn.draw()
         finally:
             self._idle.append(drawn)
-
-    def _draw_below(self) -> Optional[int]:
-        """A ticket of a rising budget. Where there is none the engine is not asked, since it would not give the number
-        that it refuses later."""
-        self._look_at_process()
-        with self._lock:
-            self._look_open()
-            return self._root.draw() if self._root.count() < self._limit else None
 
     def raise_to(self, limit: int) -> int:
         """Makes the limit of a rising budget the greater of itself and this one, and answers it."""
@@ -106,29 +90,6 @@ class Budget(Shared[Pass]):
 
     def _made(self) -> str:
         return f"Budget.rising({self._limit})" if self._rising else f"Budget({self._limit})"
-
-    # Retries that draw on it
-
-    def _begin_retry(self, machine: Machine, policy: PolicyHandle) -> bool:
-        """Begins a retry in this machine, with a pass of its own; False where the budget has none for it."""
-        if self._rising or self._retries >= MOST_RETRIES:
-            return False
-        drawn = self._lend()
-        try:
-            if not machine.begin(policy, drawn):
-                return False
-            self._retries += 1
-            return True
-        finally:
-            self._idle.append(drawn)
-
-    def _end_retry(self, machine: Machine) -> None:
-        """Takes the pass of the machine's retry back, with its tickets."""
-        drawn = self._lend()
-        try:
-            machine.end(drawn)
-        finally:
-            self._idle.append(drawn)
 
     def _moment_of(self, seconds: float) -> int:
         """The moment at which a retry begins that begins so many seconds on its clock: a budget has no clock."""

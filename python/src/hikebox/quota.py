@@ -7,7 +7,7 @@ import time
 from dataclasses import dataclass
 from typing import Callable, NamedTuple, Optional
 
-from ._engine import MOST_SHARE, MOST_TICKETS, Machine, PolicyHandle, QuotaPass
+from ._engine import MOST_SHARE, MOST_TICKETS, QuotaPass
 from ._passes import Shared
 from ._time import Duration, moment, seconds, seconds_text
 from .errors import PolicyError, TermsError
@@ -151,36 +151,6 @@ class Quota(Shared[QuotaPass]):
 
     def _made(self) -> str:
         return f"Quota({self._terms})"
-
-    # Retries that draw on it
-
-    def _begin_retry(self, machine: Machine, policy: PolicyHandle) -> bool:
-        """Begins a retry in this machine, with a pass of its own."""
-        lent = self._lend()
-        try:
-            if not machine.begin_on_quota(policy, lent):
-                lent = self._exchanged(lent)
-                machine.begin_on_quota(policy, lent)
-            return True
-        finally:
-            self._idle.append(lent)
-
-    def _end_retry(self, machine: Machine) -> None:
-        """Takes the pass of the machine's retry back, with its tickets."""
-        lent = self._lend()
-        try:
-            machine.end_on_quota(lent)
-        finally:
-            self._idle.append(lent)
-
-    def _exchanged(self, lent: QuotaPass) -> QuotaPass:
-        """Another pass for one that has a single part left, since retries may give their parts back to other passes
-        than they had them of. The root has so many parts that it does not run out of them."""
-        with self._lock:
-            other = self._split()
-            self._root.join(lent)
-            self._out -= 1
-            return other
 
     def _moment_of(self, seconds: float) -> int:
         """The moment at which a retry begins that begins so many seconds on the quota's clock."""
