@@ -164,7 +164,7 @@ with_kit() {
     LINE=$line bin/check sched_cli sched_plan_bound >"$work/out" 2>&1 || status=$?
     tried=$((tried + 1))
     [ "$(tail -n 1 "$work/out")" = "$line" ] && [ "$status" = "${line:10:1}" ] &&
-      [ "$(cat "$work/asked")" = 'ci sched_plan_bound sched_cli_check sched_cli_check_tests sched_cli sched_cli_tests zsched sched_calls hikebox_c' ] || {
+      [ "$(cat "$work/asked")" = 'ci sched_plan_bound sched_cli_check sched_cli_check_tests sched_cli sched_cli_tests zsched' ] || {
       echo "tests/commands.sh: bin/check sched_cli sched_plan_bound: status $status, asked for $(cat "$work/asked"): $(cat "$work/out")" >&2
       failed=1
     }
