@@ -187,13 +187,8 @@ with_kit() {
     LINE=$line "$few/bin/check" middle >"$work/out" 2>&1 </dev/null || status=$?
     tried=$((tried + 1))
     [ "$(tail -n 1 "$work/out")" = "$line" ] && [ "$status" = "${line:10:1}" ] &&
-<<<<<<< HEAD
       [ "$(cat "$work/asked")" = 'ci middle middle_tests program' ] || {
       echo "tests/commands.sh: bin/check middle: status $status, asked for $(cat "$work/asked"): $(cat "$work/out")" >&2
-=======
-      [ "$(cat "$work/asked")" = 'ci sched_plan_bound sched_cli_check sched_cli_check_tests sched_cli sched_cli_tests zsched' ] || {
-      echo "tests/commands.sh: bin/check sched_cli sched_plan_bound: status $status, asked for $(cat "$work/asked"): $(cat "$work/out")" >&2
->>>>>>> 395888f45da23c826207d15a26e69b8424720b68
       failed=1
     }
   done
