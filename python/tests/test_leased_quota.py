@@ -247,6 +247,37 @@ def test_when_a_store_that_had_none_left_is_asked_again() -> None:
         assert quota.draw() is None and spent.asked == 1
 
 
+def test_a_quota_goes_on_after_an_empty_answer(tmp_path: Path) -> None:
+    now = [0.0]
+    store = FileStore(tmp_path / "counts")
+    quota = LeasedQuota(store, "a", 30, 0.2, LONG, lease=20, again_after=60, clock=lambda: now[0])
+    granted = 0
+    for _ in range(2595):
+        now[0] += 0.01
+        quota.deposit()
+        granted += quota.draw() is not None
+    # the reserve of 30, and a fifth of 2,595; the requests since it was asked last are worth less than a lease of 20
+    assert 549 - 20 < granted <= 549
+
+
+def test_a_store_that_lost_its_count_is_told_once(caplog: Any) -> None:
+    class Lost(Stub):
+        def take_of_quota(self, *how: Any) -> QuotaRange:
+            return super().take_of_quota(*how)._replace(lost=self.asked <= 3)
+
+    now = [0.0]
+    store = Lost((0, 0, 10.0, 0), (0, 0, 10.0, 0), (0, 0, 10.0, 0), (0, 2, 20.0, 0))
+    quota = LeasedQuota(store, "a", 5, 0.5, 10, spare=9, clock=lambda: now[0])
+    for now[0] in (0.0, 5.0):
+        assert quota.draw() is None
+    assert quota.seen() == Usage(7, 0, 0, 0, lost=True)
+    now[0] = 10.0
+    assert [quota.draw() for _ in range(2)] == [0, 1]
+    assert [record.getMessage() for record in caplog.records] == [
+        "a: the store may have lost its count of this window, and grants nothing of it"
+    ]
+
+
 def test_a_store_that_can_not_be_reached_grants_nothing_or_what_is_spared(caplog: Any) -> None:
     now = [0.0]
     gone = StoreError("gone")
@@ -385,6 +416,7 @@ def test_a_later_window_in_the_file_grants_nothing(tmp_path: Path) -> None:
     counts[key] = [f"{boot} {int(number) + 100}", 1, 5]
     _stores._write_counts(file, counts)
     assert LeasedQuota(store, "a", 9, 0, 1000).draw() is None
+    assert LeasedQuota(store, "a", 9, 0, 1000).seen() == Usage(int(number), 0, 0, 0, lost=True)
     counts[key] = [f"another-boot {int(number) + 100}", 9, 5]
     _stores._write_counts(file, counts)
     assert LeasedQuota(store, "a", 9, 0, 1000).seen() == Usage(int(number), 0, 0, 9)

@@ -55,8 +55,9 @@ class Leases:
         self._drawn = 0
         #: From when on the store is asked again; None for never.
         self._ask_at: Optional[float] = 0.0
-        #: Whether the store could be reached when it was asked last.
+        #: Whether the store could be reached when it was asked last, and whether it had lost its count.
         self._reached = True
+        self._lost = False
         self._spared: Optional[_Lease] = None
 
     def _take(self) -> Range:
@@ -153,9 +154,13 @@ class Leases:
             self._ask_at = self.clock() + self.again_after
             return None
         self._reached = True
+        if granted.lost and not self._lost:
+            logger.warning("%s: the store may have lost its count of this window, and grants nothing of it", self.name)
+        self._lost = granted.lost
         if granted.tickets == 0:
             self._ask_at = granted.until
             return None
+        self._ask_at = 0.0
         if self._lease is not None:
             self._past.append(self._lease.budget)
         self._lease = _Lease(granted)

@@ -30,6 +30,8 @@ class Range(NamedTuple):
     #: The moment, by the clock that was handed in, up to which they may be drawn, or None. Where there are none, the
     #: moment from which on it makes sense to ask again.
     until: Optional[float]
+    #: Whether the store may have lost what it counted of the present window, and so grants nothing of it.
+    lost: bool = False
 
 
 class QuotaRange(NamedTuple):
@@ -42,6 +44,8 @@ class QuotaRange(NamedTuple):
     #: Which window it is, and the requests that were counted in it.
     window: int
     asked: int
+    #: Whether the store may have lost what it counted of the window, and so grants nothing of it.
+    lost: bool = False
 
 
 class Store(Protocol):
@@ -117,7 +121,7 @@ class FileStore:
                 key, window, until = f"windows of {period} ms of {name}", f"{_boot()} {present.number}", present.until
             stored = counts.get(key, [window, 0])
             if _is_later(stored[0], window):
-                return Range(0, 0, until)
+                return Range(0, 0, until, lost=True)
             before = stored[1] if stored[0] == window else 0
             granted = _below(before, count, limit, until)
             if granted.tickets:
@@ -135,7 +139,7 @@ class FileStore:
             key, window = f"quota of {terms.period} ms of {name}", f"{_boot()} {present.number}"
             stored = counts.get(key, [window, 0, 0])
             if _is_later(stored[0], window):
-                return QuotaRange(0, 0, present.until, present.number, 0)
+                return QuotaRange(0, 0, present.until, present.number, 0, lost=True)
             before, requests = stored[1:] if stored[0] == window else (0, 0)
             told = asked(present.began_by)
             requests += told
@@ -284,7 +288,7 @@ class RedisStore:
                 return self._of_budget(name, count, limit)
             present, server = self._window(period, clock)
             if server is None:
-                return Range(0, 0, present.until)
+                return Range(0, 0, present.until, lost=True)
             pipe = self._transaction()
             key = f"{self._key(name)}:{period}:{present.number}"
             pipe.incrby(key, count)
@@ -299,7 +303,7 @@ class RedisStore:
         with _errors():
             present, server = self._window(terms.period, clock)
             if server is None:
-                return QuotaRange(0, 0, present.until, present.number, 0)
+                return QuotaRange(0, 0, present.until, present.number, 0, lost=True)
             key = f"{self._key(name)}:quota:{terms.period}:{present.number}"
             wanted = (asked(present.began_by), count, terms.reserve, terms.share, MOST_TICKETS, 2 * terms.period)
             pipe = self._transaction()

@@ -139,7 +139,8 @@ class LeasedQuota(Leases):
 
     def seen(self) -> Usage:
         """Tells the store the requests that were counted since it was asked last, and answers what it has of its
-        present window. It is a `StoreError` where the store can't be reached.
+        present window. It is a `StoreError` where the store can't be reached. `lost` says that the store may have lost
+        what it counted of the window, and grants nothing until the next one.
 
         A process whose calls hardly ever fail may call it now and then, so that others draw on the share of its
         requests.
@@ -150,7 +151,8 @@ class LeasedQuota(Leases):
             self._spent = False
             self._ask_at = 0.0
         given = found.first + found.tickets
-        return Usage(found.window, found.asked, given, max(0, self.terms.allowed(found.asked) - given))
+        left = 0 if found.lost else max(0, self.terms.allowed(found.asked) - given)
+        return Usage(found.window, found.asked, given, left, found.lost)
 
     def _take(self) -> Range:
         self._spent = False
@@ -160,7 +162,7 @@ class LeasedQuota(Leases):
         until = found.until
         if self._spent and self.terms.share:
             until = min(until, self.clock() + self.again_after)
-        return Range(found.first, found.tickets, until)
+        return Range(found.first, found.tickets, until, found.lost)
 
     def _asked(self, count: int) -> QuotaRange:
         return self.store.take_of_quota(self.name, self.terms, count, self._requests.take, self.clock)

@@ -50,6 +50,8 @@ class Usage:
     given: int
     #: The tickets that it may yet give for the requests counted so far.
     left: int
+    #: Of a `LeasedQuota`: whether the store may have lost its count of the window, and so grants nothing of it.
+    lost: bool = False
 
 
 class Quota(Shared[QuotaPass]):
