@@ -148,7 +148,7 @@ def test_retry_after_is_a_lower_bound(server: Server, clock: VirtualClock) -> No
         (429, {"Retry-After": "999999999"}),
         200,
     )
-    assert session(clock, recurs(9) & spaced(2), longest_retry_after=100).get(server.url).status_code == 200
+    assert session(clock, recurs(9) & spaced(2), longest=100).get(server.url).status_code == 200
     assert clock.slept[:3] == pytest.approx([7, 2, 2], abs=0.01)
     assert 57 < clock.slept[3] <= 60 and clock.slept[4] == 100
     server.says((413, {"Retry-After": "3"}), 200)
@@ -198,7 +198,7 @@ def test_redirects_draw_no_ticket(server: Server, clock: VirtualClock) -> None:
         assert [path for _, path, _ in server.requests] == ["/a", "/b", "/b", "/c"]
         server.says((302, {"Location": "/b"}), 503, 200)
         assert session(clock, recurs(5), budget=budget).get(server.url + "/a").status_code == 200
-    assert budget.count == 2
+    assert budget.granted == 2
 
 
 def test_a_budget_over_all_requests(server: Server, clock: VirtualClock) -> None:
@@ -207,7 +207,7 @@ def test_a_budget_over_all_requests(server: Server, clock: VirtualClock) -> None
         server.says(503)
         assert [one.get(server.url).status_code for _ in range(3)] == [503] * 3
         assert len(server.requests) == 3 + 4
-    assert budget.count == 4
+    assert budget.granted == 4
 
 
 def test_a_quota_over_all_requests(server: Server, clock: VirtualClock) -> None:
@@ -240,7 +240,7 @@ def test_threads_share_an_adapter(server: Server, clock: VirtualClock) -> None:
         for thread in threads:
             thread.join()
         assert len(server.requests) == 8 + 60
-    assert budget.count == 60
+    assert budget.granted == 60
 
 
 def test_a_retry_without_a_policy_is_urllib3s_own(server: Server) -> None:

@@ -13,24 +13,7 @@ engine in `libhikebox.so`, which this package calls.
 
 from ._time import FAR, Duration, Milliseconds, milliseconds
 from .budget import Budget
-from .errors import (
-    BudgetClosed,
-    BudgetError,
-    BudgetInUse,
-    EngineError,
-    Fault,
-    HikeboxError,
-    PolicyError,
-    ResultRefused,
-    StoreError,
-    StoreLost,
-    TermsError,
-    TryAgain,
-)
-from .log import after_log, before_log, before_sleep_log
-from .policy import (
-    Policy,
-    Step,
+from .builders import (
     elapsed,
     exponential,
     exponential_milli,
@@ -48,7 +31,24 @@ from .policy import (
     unfold,
     windowed,
 )
+from .errors import (
+    BudgetClosed,
+    BudgetError,
+    BudgetInUse,
+    EngineError,
+    Fault,
+    HikeboxError,
+    PolicyError,
+    ResultRefused,
+    StoreError,
+    StoreLost,
+    TermsError,
+    TryAgain,
+)
+from .log import after_log, before_log, before_sleep_log
+from .policy import Policy, Step
 from .quota import Quota, Usage
+from .repeating import AsyncRepeating, Repeating, poll_until, repeat
 from .retrying import AsyncRetrying, Attempt, Retrying, Tickets, retry
 from .state import Ending, Outcome, RetryState, Statistics, code_of, state_of
 from .version import VERSION
@@ -57,6 +57,7 @@ __version__ = VERSION
 
 __all__ = [
     "FAR",
+    "AsyncRepeating",
     "AsyncRetrying",
     "Attempt",
     "Budget",
@@ -73,6 +74,7 @@ __all__ = [
     "Policy",
     "PolicyError",
     "Quota",
+    "Repeating",
     "ResultRefused",
     "RetryState",
     "Retrying",
@@ -100,7 +102,9 @@ __all__ = [
     "lone",
     "milliseconds",
     "once",
+    "poll_until",
     "recurs",
+    "repeat",
     "retry",
     "spaced",
     "state_of",

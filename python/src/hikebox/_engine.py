@@ -14,7 +14,19 @@ from typing import Any, Callable, ClassVar, Dict, List, NamedTuple, Optional, Tu
 
 from .errors import EngineError
 
-__all__ = ["AnyPass", "Driver", "Handle", "Machine", "Pass", "PolicyHandle", "QuotaPass", "SIGNATURES", "library_path"]
+__all__ = [
+    "AnyPass",
+    "Driver",
+    "Handle",
+    "Machine",
+    "Pass",
+    "PolicyHandle",
+    "QuotaPass",
+    "SIGNATURES",
+    "lend_machine",
+    "library_path",
+    "take_machine_back",
+]
 
 OK = 0
 NO_MEMORY = 4
@@ -461,5 +473,21 @@ def _begun(call: str, status: int) -> bool:
     raise refused(call, status)
 
 
-#: Machines that hold no retry, for the next ones. Who holds a machine with a retry ends or frees it.
-machines: List[Machine] = []
+#: Machines that hold no retry, for the next ones; those of many concurrent retries are given up.
+_machines: List[Machine] = []
+_MOST_MACHINES = 64
+
+
+def lend_machine() -> Machine:
+    """A machine that holds no retry."""
+    try:
+        return _machines.pop()
+    except IndexError:
+        return Machine()
+
+
+def take_machine_back(machine: Machine) -> None:
+    """Takes a machine back, and frees its retry where it holds one."""
+    machine.free()
+    if len(_machines) < _MOST_MACHINES:
+        _machines.append(machine)

@@ -2,10 +2,13 @@
 
 from __future__ import annotations
 
+from functools import partial
 from typing import Optional
 
+from ._deprecated import deprecated
 from ._engine import MOST_TICKETS, Machine, Pass, PolicyHandle
-from ._passes import Shared
+from ._granting import Granting
+from ._passes import Passes
 from .errors import BudgetError, TermsError
 
 __all__ = ["Budget"]
@@ -16,7 +19,7 @@ __all__ = ["Budget"]
 MOST_RETRIES = 60000
 
 
-class Budget(Shared[Pass]):
+class Budget(Granting[Pass]):
     """A number of tickets, each of which is drawn once. A retry needs one, so no more retries happen than there are.
 
     All threads may share it, and draw at once. `Budget(limit)` keeps its limit, `Budget.rising(limit)` has one that
@@ -25,16 +28,14 @@ class Budget(Shared[Pass]):
     >>> with Budget(2) as budget:
     ...     budget.draw(), budget.draw(), budget.draw()
     (0, 1, None)
-    >>> budget.count
+    >>> budget.granted
     2
 
-    A budget belongs to its process: in a forked child it grants nothing and raises `BudgetError`. For one that
-    processes share see `hikebox.leased`.
+    A budget belongs to its process: a forked child has one of its own, with nothing drawn. For one that processes share
+    see `hikebox.leased`.
     """
 
     __slots__ = ("_limit", "_rising", "_retries")
-
-    _KIND = "budget"
 
     def __init__(self, limit: int) -> None:
         self._begin(limit, False)
@@ -60,7 +61,7 @@ class Budget(Shared[Pass]):
         #: How many retries had a pass of their own.
         self._retries = 0
         # Of a rising budget the first pass is the only one, and draws.
-        self._open(Pass.of_budget(limit, rising))
+        self.passes = Passes("budget", partial(Pass.of_budget, limit, rising))
 
     @property
     def limit(self) -> int:
@@ -69,69 +70,65 @@ class Budget(Shared[Pass]):
 
     @property
     def count(self) -> int:
-        """How many tickets were drawn: exact once the budget is closed, and before that without those that retries
-        still under way have drawn."""
-        return self._drawn()
+        """The old name of `granted`."""
+        deprecated("Budget.count", "Budget.granted")
+        return self.granted
 
     def draw(self) -> Optional[int]:
         """A ticket, by its number from 0, or None where there is none left."""
         if self._rising:
             return self._draw_below()
-        drawn = self._lend()
+        lent = self.passes.lend()
         try:
-            return drawn.draw()
+            return lent.draw()
         finally:
-            self._idle.append(drawn)
+            self.passes.give_back(lent)
 
     def _draw_below(self) -> Optional[int]:
         """A ticket of a rising budget. Where there is none the engine is not asked, since it would not give the number
         that it refuses later."""
-        self._look_at_process()
-        with self._lock:
-            self._look_open()
-            return self._root.draw() if self._root.count() < self._limit else None
+        with self.passes.root() as root:
+            return root.draw() if root.count() < self._limit else None
 
     def raise_to(self, limit: int) -> int:
         """Makes the limit of a rising budget the greater of itself and this one, and answers it."""
         if not self._rising:
             raise BudgetError("this budget keeps its limit: Budget.rising makes one that can be raised")
         _look_at_limit(limit)
-        self._look_at_process()
-        with self._lock:
-            self._look_open()
-            now = self._root.raise_to(limit)
+        with self.passes.root() as root:
+            now = root.raise_to(limit)
             assert now is not None, "the budget is a rising one"
             self._limit = now
             return now
 
-    def _made(self) -> str:
+    def expression(self) -> str:
         return f"Budget.rising({self._limit})" if self._rising else f"Budget({self._limit})"
 
     # Retries that draw on it
 
-    def _begin_retry(self, machine: Machine, policy: PolicyHandle) -> bool:
+    def begin_retry(self, machine: Machine, policy: PolicyHandle) -> bool:
         """Begins a retry in this machine, with a pass of its own; False where the budget has none for it."""
         if self._rising or self._retries >= MOST_RETRIES:
             return False
-        drawn = self._lend()
+        lent = self.passes.lend()
         try:
-            if not machine.begin(policy, drawn):
+            if not machine.begin(policy, lent):
                 return False
             self._retries += 1
             return True
         finally:
-            self._idle.append(drawn)
+            self.passes.give_back(lent)
 
-    def _end_retry(self, machine: Machine) -> None:
+    def end_retry(self, machine: Machine) -> None:
         """Takes the pass of the machine's retry back, with its tickets."""
-        drawn = self._lend()
+        lent = self.passes.lend()
         try:
-            machine.end(drawn)
+            machine.end(lent)
         finally:
-            self._idle.append(drawn)
+            self.passes.give_back(lent)
 
-    def _moment_of(self, seconds: float) -> int:
-        """The moment at which a retry begins that begins so many seconds on its clock: a budget has no clock."""
+    def moment_of(self, clock: float) -> int:
+        """The moment at which a retry begins: 0, since a budget has no clock."""
         return 0
 
 

@@ -1,0 +1,71 @@
+"""What `Budget` and `Quota` have in common for their users."""
+
+from __future__ import annotations
+
+from typing import Any, Generic, TypeVar
+
+from ._engine import AnyPass
+from ._passes import Passes
+from .errors import BudgetInUse
+
+__all__ = ["Granting"]
+
+Self = TypeVar("Self", bound="Granting[Any]")
+
+
+class Granting(Generic[AnyPass]):
+    """Something that grants tickets, and can be closed."""
+
+    __slots__ = ("passes", "__weakref__")
+
+    #: The engine's passes, which are handed out inside.
+    passes: Passes[AnyPass]
+
+    @property
+    def granted(self) -> int:
+        """How many tickets were drawn: exact once it is closed, and before that without those that retries still under
+        way have drawn."""
+        return self.passes.drawn()
+
+    @property
+    def closed(self) -> bool:
+        """Whether it was closed."""
+        return self.passes.closed is not None
+
+    @property
+    def generation(self) -> int:
+        """How often it began anew: in a forked child once more than in its parent."""
+        return self.passes.generation
+
+    def close(self) -> int:
+        """Ends it: how many tickets were drawn, exactly. Where a retry is still under way it is a `BudgetInUse`, and
+        nothing has changed. Closing it again gives the same number."""
+        return self.passes.close()
+
+    def __enter__(self: Self) -> Self:
+        return self
+
+    def __exit__(self, kind: Any, error: Any, trace: Any) -> None:
+        try:
+            self.close()
+        except BudgetInUse:
+            if kind is None:
+                raise
+
+    def __repr__(self) -> str:
+        state = f", closed at {self.passes.closed}" if self.closed else ""
+        return f"<{self.expression()}{state}>"
+
+    def __copy__(self: Self) -> Self:
+        return self
+
+    def __deepcopy__(self: Self, _: Any) -> Self:
+        return self
+
+    def __reduce__(self) -> Any:
+        kind = self.passes.kind
+        raise TypeError(f"a {kind} belongs to its process; hikebox.leased has {kind}s that processes share")
+
+    def expression(self) -> str:
+        """The expression that makes one like it."""
+        raise NotImplementedError
