@@ -23,7 +23,8 @@ for zsched in "$top/crates/zsched/out/zsched" "$top/dist/zsched"; do
 done
 
 "$top/tests/packages.sh" python3-pytest python3-tenacity python3-requests python3-urllib3 python3-redis redis-server mypy \
-  python3-trio python3-pip python3-setuptools python3-wheel python3-venv binutils
+  python3-trio python3-httpx python3-aiohttp python3-prometheus-client python3-pip python3-setuptools python3-wheel \
+  python3-venv binutils
 
 echo "tests/python.sh: types"
 cd "$top/python"
