@@ -584,7 +584,7 @@ def test_a_switch_leaves_all_waits_out() -> None:
 
 
 def test_the_machines_of_many_retries_at_once_are_given_up() -> None:
-    from hikebox import _engine
+    from hikebox import _machine
 
     async def main() -> int:
         gate = asyncio.Event()
@@ -606,7 +606,7 @@ def test_the_machines_of_many_retries_at_once_are_given_up() -> None:
         return runs
 
     assert asyncio.run(main()) == 4000
-    assert len(_engine._machines) <= 64
+    assert len(_machine._machines) <= 64
 
 
 def test_nothing_is_kept_of_a_retry_that_was_stopped_in_its_wait() -> None:

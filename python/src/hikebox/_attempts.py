@@ -3,7 +3,7 @@
 from __future__ import annotations
 
 from types import TracebackType
-from typing import TYPE_CHECKING, Any, Optional, Tuple, Type
+from typing import TYPE_CHECKING, Any, Optional, Tuple, Type, Union
 
 from ._course import Course, Steps
 from ._drivers import advance, answer_of, settle, settle_async
@@ -87,7 +87,7 @@ class _BaseAttempts:
         outcome = self.course.state.outcome
         return self.course.returned(None if outcome is None else outcome.result())
 
-    def judge(self, steps: Steps[Any], error: Optional[BaseException]) -> bool:
+    def judge(self, steps: Union[bool, Steps[Any]], error: Optional[BaseException]) -> bool:
         raise NotImplementedError
 
 
@@ -97,7 +97,7 @@ class Attempts(_BaseAttempts):
     def __iter__(self) -> Attempts:
         return self
 
-    def judge(self, steps: Steps[Any], error: Optional[BaseException]) -> bool:
+    def judge(self, steps: Union[bool, Steps[Any]], error: Optional[BaseException]) -> bool:
         course = self.course
         try:
             stays = settle(steps)
@@ -131,12 +131,12 @@ class AsyncAttempts(_BaseAttempts):
     def __init__(self, owner: BaseRetrying) -> None:
         super().__init__(owner)
         #: Steps that wait for something, and the exception that they judge.
-        self.pending: Optional[Tuple[Steps[Any], Any, Optional[BaseException]]] = None
+        self.pending: Optional[Tuple[Union[bool, Steps[Any]], Any, Optional[BaseException]]] = None
 
     def __aiter__(self) -> AsyncAttempts:
         return self
 
-    def judge(self, steps: Steps[Any], error: Optional[BaseException]) -> bool:
+    def judge(self, steps: Union[bool, Steps[Any]], error: Optional[BaseException]) -> bool:
         course = self.course
         try:
             done, stays = advance(steps)

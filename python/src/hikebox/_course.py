@@ -1,18 +1,21 @@
 """One retry under way, without a call, a wait or a hook of its own: what it asks for is done by who drives it.
 
 Its parts are generators. Each thing that they yield is a function and its argument: the driver calls it, awaits what it
-gives where it can, and sends that back. `hikebox._drivers` has the two drivers.
+gives where it can, and sends that back. Where nothing is to be called, a part is its answer alone, which costs less.
+`hikebox._drivers` has the two drivers.
 """
 
 from __future__ import annotations
 
 import logging
-from typing import TYPE_CHECKING, Any, Callable, Generator, List, Mapping, Optional, Tuple, TypeVar
+from math import ceil
+from typing import TYPE_CHECKING, Any, Callable, Generator, List, Mapping, Optional, Tuple, TypeVar, Union
 
-from ._engine import LOST, NO_REPORT, OVER, RUN, WAIT, Machine, lend_machine, take_machine_back
+from ._engine import LOST, NO_REPORT, OVER, RUN, WAIT
+from ._machine import Machine, lend_machine, take_machine_back
 from ._passes import NO_BUDGET, DrawnOn
 from ._preview import word_of
-from ._time import FAR, HAIR, moment_after
+from ._time import FAR, HAIR
 from .errors import ResultRefused
 from .state import ENDINGS, Ending, Outcome, RetryState
 
@@ -75,11 +78,12 @@ class Course:
         fn: Optional[Callable[..., Any]] = None,
         args: Tuple[Any, ...] = (),
         kwargs: Mapping[str, Any] = {},
+        start: Optional[float] = None,
     ) -> None:
         settings = self.settings = owner.settings
         self._counts = owner.counts
         self._clock = settings.clock
-        self.state = RetryState(owner, fn, args, kwargs, self._clock())
+        self.state = RetryState(owner, fn, args, kwargs, self._clock() if start is None else start)
         #: Whether no attempt follows, and what comes of the retry, where that is not the exception at hand.
         self.over = False
         self.answer: Optional[Outcome] = None
@@ -104,13 +108,26 @@ class Course:
 
     # An attempt
 
-    def begins(self) -> Steps[bool]:
+    def begins(self) -> Union[bool, Steps[bool]]:
         """Whether one more attempt is to be made, once the wait for it is over. The first one is a request."""
-        settings, state = self.settings, self.state
         if self.over:
             return False
+        if self._begun and self.settings.is_plain and self.settings.pause is None and self._planned() == 0.0:
+            self.waited()
+            self.state.outcome = None
+            return True
+        return self._begins()
+
+    def _begins(self) -> Steps[bool]:
+        settings, state = self.settings, self.state
         if state.outcome is not None:
-            yield from self.waits()
+            delay = self._planned()
+            for hook in settings.hooks_before_sleep:
+                yield hook, state
+            if delay > 0 and not switch.no_waits:
+                yield settings.sleeps, delay
+            elif settings.pause is not None:
+                yield settings.pause, 0
             if settings.is_stopped is not None and settings.is_stopped(state):
                 state.ending = Ending.STOPPED
                 yield from self._ends_later()
@@ -141,10 +158,20 @@ class Course:
         for hook in settings.hooks_on_success:
             yield hook, state
 
-    def raised(self, error: BaseException) -> Steps[bool]:
+    def raised(self, error: BaseException) -> Union[bool, Steps[bool]]:
         """The attempt raised this exception: False where that is to be raised now."""
+        outcome = Outcome(None, error, self.state.attempt_number)
+        if not self.settings.is_plain or not isinstance(error, self.settings.types):
+            return self._raised(error, outcome)
+        self._notes(outcome)
+        if self._asks_engine(outcome) and (self._draw is None or self._drew(self._draw())):
+            return True
+        self.over = True
+        self._gave_up(error)
+        return False
+
+    def _raised(self, error: BaseException, outcome: Outcome) -> Steps[bool]:
         settings, state = self.settings, self.state
-        outcome = Outcome(None, error, state.attempt_number)
         retried = isinstance(error, settings.types)
         if not retried and isinstance(error, Exception):
             for test in settings.tests:
@@ -163,48 +190,54 @@ class Course:
     def judges(self, outcome: Outcome) -> Steps[bool]:
         """The attempt failed so: whether the policy goes on, and there is a ticket."""
         settings, state = self.settings, self.state
-        seconds = self._seconds()
-        state.outcome = outcome
-        state.seconds_since_start = seconds
-        state.outcome_timestamp = state.start_time + seconds
+        self._notes(outcome)
         for hook in settings.hooks_after:
             yield hook, state
         if settings.is_stopped is not None and settings.is_stopped(state):
             state.ending = Ending.STOPPED
             return False
-        if not self._asks_engine(outcome, seconds):
+        if not self._asks_engine(outcome):
             return False
-        if self._draw is not None:
-            ticket = yield _called, self._draw
-            if ticket is None:
-                state.ending = Ending.BUDGET_REFUSED
-                return False
-            state.granted += 1
+        return self._draw is None or self._drew((yield _called, self._draw))
+
+    def _drew(self, ticket: Any) -> bool:
+        """Whether there was a ticket."""
+        if ticket is None:
+            self.state.ending = Ending.BUDGET_REFUSED
+            return False
+        self.state.granted += 1
         return True
+
+    def _notes(self, outcome: Outcome) -> None:
+        """Notes when and how the attempt ended."""
+        state = self.state
+        seconds = self._seconds()
+        state.outcome = outcome
+        state.seconds_since_start = seconds
+        state.outcome_timestamp = state.start_time + seconds
 
     # Between two attempts
 
-    def waits(self) -> Steps[None]:
-        """Waits for the next attempt. What is past is not slept for."""
-        settings = self.settings
-        delay = yield from self.delay()
-        if delay > 0 and not switch.no_waits:
-            yield settings.sleeps, delay
-        elif settings.pause is not None:
-            yield settings.pause, 0
-
     def delay(self) -> Steps[float]:
-        """How many seconds are waited before the next attempt."""
+        """How many seconds are waited before the next attempt, where somebody else does that."""
+        delay = self._planned()
+        for hook in self.settings.hooks_before_sleep:
+            yield hook, self.state
+        return 0.0 if switch.no_waits else delay
+
+    def _planned(self) -> float:
+        """How many seconds the policy, and who asks for more, has the retry wait. What is past is not waited for."""
         settings, state = self.settings, self.state
-        delay = max(0.0, self._until / 1000 - self._seconds())
-        asked = self._asked_for()
-        if asked > delay:
-            delay = asked
-            self._until = max(self._until, self._moment(self._seconds() + delay))
+        delay = self._until / 1000 - self._seconds() if self._until else 0.0
+        if delay < 0.0:
+            delay = 0.0
+        if settings.at_least is not None or settings.wait is not None:
+            asked = self._asked_for()
+            if asked > delay:
+                delay = asked
+                self._until = max(self._until, self._moment(self._seconds() + delay))
         state.upcoming_sleep = delay
         state.idle_for += delay
-        for hook in settings.hooks_before_sleep:
-            yield hook, state
         if self._logs:
             fields = self._fields(hikebox_delay=delay)
             text = "%s: attempt %d %s; next in %.3f s"
@@ -238,8 +271,9 @@ class Course:
         now = self._moment(seconds)
         if now < self._until:
             now = self._last = self._until
-        if machine.poll(self._origin + now, NO_REPORT, 0) != RUN:
-            state.ending = ENDINGS[machine.next.how]
+        what, detail, _ = machine.poll(self._origin + now, NO_REPORT, 0)
+        if what != RUN:
+            state.ending = ENDINGS[detail] if what == OVER else None
             raise MemoryError("the engine found no memory for one more attempt")
 
     # The end
@@ -306,24 +340,23 @@ class Course:
 
     # The engine's retry, and its clock
 
-    def _asks_engine(self, outcome: Outcome, seconds: float) -> bool:
+    def _asks_engine(self, outcome: Outcome) -> bool:
         """Whether the policy goes on, and the engine's retry drew a ticket where it does that itself."""
         settings, state = self.settings, self.state
         machine = self._machine
         if machine is None:
             machine = self._begin()
-        for lane in settings.lanes:
-            machine.words[lane] = word_of(settings.random())
-        now = self._moment(seconds)
-        what = machine.poll(self._origin + now, LOST, settings.code_for(outcome) if settings.reads_codes else 0)
-        report = machine.next
+        seconds = state.seconds_since_start or 0.0
+        words = {lane: word_of(settings.random()) for lane in settings.lanes} if settings.lanes else None
+        code = settings.code_for(outcome) if settings.reads_codes else 0
+        what, detail, granted = machine.poll(self._origin + self._moment(seconds), LOST, code, words)
         if what == OVER:
-            state.ending = ENDINGS[report.how]
+            state.ending = ENDINGS[detail]
             return False
         self._begun = what == RUN
-        self._until = report.until - self._origin if what == WAIT else 0
+        self._until = detail - self._origin if what == WAIT else 0
         if self._draw is None:
-            state.granted = report.granted
+            state.granted = granted
         return True
 
     def _begin(self) -> Machine:
@@ -344,7 +377,7 @@ class Course:
         self._origin = self._drawn_on.moment_of(self.state.start_time)
         self._machine = machine
         self._logs = logger.isEnabledFor(logging.DEBUG)
-        if machine.poll(self._origin, NO_REPORT, 0) != RUN:
+        if machine.poll(self._origin, NO_REPORT, 0)[0] != RUN:
             raise MemoryError("the engine found no memory for an attempt")
         return machine
 
@@ -355,7 +388,7 @@ class Course:
     def _moment(self, seconds: float) -> int:
         """The first whole millisecond that is not before that, never less than before, and at most the last one that
         there is."""
-        moment = moment_after(seconds)
+        moment = ceil(seconds * 1000 - HAIR)
         if moment > self._last:
             self._last = min(FAR - self._origin, moment)
         return self._last

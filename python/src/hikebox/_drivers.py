@@ -3,18 +3,24 @@
 from __future__ import annotations
 
 from types import CoroutineType
-from typing import Any, Callable, Tuple, TypeVar
+from typing import TYPE_CHECKING, Any, Callable, Tuple, TypeVar, Union
 
 from ._course import Course, Steps
+from .state import Ending
+
+if TYPE_CHECKING:
+    from .retrying import BaseRetrying
 
 __all__ = ["advance", "answer_of", "refuse_awaitable", "run", "run_async", "settle", "settle_async"]
 
 Answer = TypeVar("Answer")
 
 
-def advance(steps: Steps[Any], answer: Any = None) -> Tuple[bool, Any]:
+def advance(steps: Union[bool, Steps[Any]], answer: Any = None) -> Tuple[bool, Any]:
     """Does what the steps ask for up to their end, or up to something that has to be awaited: whether it is the end,
     and the steps' answer or what is to be awaited."""
+    if isinstance(steps, bool):
+        return True, steps
     send = steps.send
     while True:
         try:
@@ -26,63 +32,92 @@ def advance(steps: Steps[Any], answer: Any = None) -> Tuple[bool, Any]:
             return False, answer
 
 
-def settle(steps: Steps[Answer]) -> Answer:
+def settle(steps: Union[bool, Steps[Answer]]) -> Any:
     """The answer of steps of which nothing is awaited."""
-    done, answer = advance(steps)
-    if not done:
-        refuse_awaitable("what was given to a Retrying", answer)
-    settled: Answer = answer
-    return settled
+    if isinstance(steps, bool):
+        return steps
+    send, answer = steps.send, None
+    while True:
+        try:
+            function, argument = send(answer)
+        except StopIteration as done:
+            return done.value
+        answer = function(argument)
+        if hasattr(type(answer), "__await__"):
+            refuse_awaitable("what was given to a Retrying", answer)
 
 
-async def settle_async(steps: Steps[Answer]) -> Answer:
+async def settle_async(steps: Union[bool, Steps[Answer]]) -> Any:
     """The answer of steps of which some may have to be awaited."""
     done, answer = advance(steps)
     while not done:
         done, answer = advance(steps, await answer)
-    settled: Answer = answer
-    return settled
+    return answer
 
 
-def run(course: Course, fn: Callable[..., Any], args: Any, kwargs: Any) -> Any:
-    """Calls the function until its course is over."""
+def run(owner: BaseRetrying, fn: Callable[..., Any], args: Any, kwargs: Any) -> Any:
+    """Calls the function until its retry is over."""
+    settings = owner.settings
+    start = settings.clock()
+    # until something is to be done for it, a retry is only its start
+    course = None if settings.is_quiet else Course(owner, fn, args, kwargs, start)
     try:
-        while settle(course.begins()):
+        while course is None or settle(course.begins()):
             try:
                 result = fn(*args, **kwargs)
             except BaseException as error:
+                if course is None:
+                    course = Course(owner, fn, args, kwargs, start)
                 if not settle(course.raised(error)):
                     raise
             else:
                 if type(result) is CoroutineType:
-                    refuse_awaitable(course.state.name, result)
+                    refuse_awaitable(repr(fn), result)
+                if course is None:
+                    owner.counts.add(1, 0.0, Ending.WON)
+                    return result
                 settle(course.returned(result))
                 if course.over:
                     break
         return answer_of(course)
     finally:
-        course.close()
+        if course is not None:
+            course.close()
 
 
-async def run_async(course: Course, fn: Callable[..., Any], args: Any, kwargs: Any) -> Any:
-    """Awaits the function's calls until its course is over."""
+async def run_async(owner: BaseRetrying, fn: Callable[..., Any], args: Any, kwargs: Any) -> Any:
+    """Awaits the function's calls until its retry is over."""
+    settings = owner.settings
+    start = settings.clock()
+    course = None if settings.is_quiet else Course(owner, fn, args, kwargs, start)
     try:
-        while await settle_async(course.begins()):
+        goes_on = True if course is None else await settle_async(course.begins())
+        while goes_on:
             try:
                 awaitable = fn(*args, **kwargs)
                 result = await awaitable if hasattr(type(awaitable), "__await__") else _NOT_AWAITABLE
             except BaseException as error:
-                if not await settle_async(course.raised(error)):
+                if course is None:
+                    course = Course(owner, fn, args, kwargs, start)
+                judged = course.raised(error)
+                if not (judged if isinstance(judged, bool) else await settle_async(judged)):
                     raise
             else:
                 if result is _NOT_AWAITABLE:
-                    raise TypeError(f"{course.state.name} gave nothing that is awaited: a Retrying is for functions")
+                    raise TypeError(f"{fn!r} gave nothing that is awaited: a Retrying is for functions")
+                if course is None:
+                    owner.counts.add(1, 0.0, Ending.WON)
+                    return result
                 await settle_async(course.returned(result))
-                if course.over:
-                    break
-        return answer_of(course)
+            # (what waits for the next attempt is kept small, since many may wait)
+            steps = course.begins()
+            done, goes_on = advance(steps)
+            while not done:
+                done, goes_on = advance(steps, await goes_on)
+        return None if course is None else answer_of(course)
     finally:
-        course.close()
+        if course is not None:
+            course.close()
 
 
 _NOT_AWAITABLE = object()

@@ -6,8 +6,9 @@ import contextlib
 import threading
 from typing import Callable, Generic, Iterator, List, Optional, Protocol
 
-from ._engine import AnyPass, Machine, PolicyHandle
+from ._engine import AnyPass, PolicyHandle
 from ._forks import begins_anew_in_a_child
+from ._machine import Machine
 from .errors import BudgetClosed, BudgetError, BudgetInUse
 
 __all__ = ["NO_BUDGET", "DrawnOn", "NoBudget", "Passes"]

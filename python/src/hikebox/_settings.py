@@ -99,6 +99,10 @@ class Settings:
     #: What draws a ticket where the engine's retry does not, or None; and what counts a request, where the budget does.
     draw: Optional[Callable[[], Union[Optional[int], Awaitable[Optional[int]]]]] = field(init=False)
     deposit: Optional[Callable[[], Any]] = field(init=False)
+    #: Whether nothing is to be done before a first attempt, nor where it succeeds.
+    is_quiet: bool = field(init=False)
+    #: Whether nothing is to be called where an attempt fails, but the engine and what draws without a wait.
+    is_plain: bool = field(init=False)
     #: The lanes of the policy's jitters, and whether it reads codes.
     lanes: List[int] = field(init=False)
     reads_codes: bool = field(init=False)
@@ -120,8 +124,15 @@ class Settings:
         types, tests = _kinds.parts_of_on(self.on, self.awaits)
         drawn_on, draw = _drawn_on(self.budget, self.clock, self.awaits)
         hooks = {f"hooks_{name}": _kinds.hooks_of(name, getattr(self, name), self.awaits) for name in _HOOKS}
+        deposit = getattr(self.budget, "deposit", None)
+        told = (deposit, self.on_result, *hooks["hooks_before"], *hooks["hooks_on_success"])
         return {
             **hooks,
+            "is_quiet": not self.repeats and all(each is None for each in told),
+            "is_plain": self.stop is None
+            and self.fallback is None
+            and not any(hooks.values())
+            and (draw is None or drawn_on is not NO_BUDGET),
             "types": (*types, TryAgain),
             "tests": tests,
             "is_stopped": _kinds.stop_of(self.stop),
@@ -129,7 +140,7 @@ class Settings:
             "pause": pause,
             "drawn_on": drawn_on,
             "draw": draw,
-            "deposit": getattr(self.budget, "deposit", None),
+            "deposit": deposit,
         }
 
     def code_for(self, outcome: Optional[Outcome]) -> int:

@@ -8,7 +8,7 @@ from typing import Union
 
 from .errors import Fault, PolicyError
 
-__all__ = ["FAR", "HAIR", "Duration", "Milliseconds", "milliseconds", "moment", "moment_after", "seconds", "seconds_text"]
+__all__ = ["FAR", "HAIR", "Duration", "Milliseconds", "milliseconds", "moment", "seconds", "seconds_text"]
 
 #: The longest duration, in milliseconds; also the last moment and the greatest number of a policy.
 FAR = 2**62 - 1
@@ -96,15 +96,6 @@ def moment(clock: float) -> int:
     if 0 <= count <= FAR:
         return count
     return 0 if count < 0 else FAR
-
-
-def moment_after(elapsed: float) -> int:
-    """The first whole millisecond that is not before so many seconds from a start.
-
-    >>> moment_after(0.84 / 1000), moment_after(0.1 + 0.2), moment_after(2)
-    (1, 300, 2000)
-    """
-    return max(0, math.ceil(elapsed * 1000 - HAIR))
 
 
 def seconds_text(count: int) -> str:

@@ -6,8 +6,9 @@ from functools import partial
 from typing import Optional
 
 from ._deprecated import deprecated
-from ._engine import MOST_TICKETS, Machine, Pass, PolicyHandle
+from ._engine import MOST_TICKETS, Pass, PolicyHandle
 from ._granting import Granting
+from ._machine import Machine
 from ._passes import Passes
 from .errors import BudgetError, TermsError
 

@@ -8,8 +8,9 @@ from dataclasses import dataclass
 from functools import partial
 from typing import Callable, NamedTuple, Optional
 
-from ._engine import MOST_SHARE, MOST_TICKETS, Machine, PolicyHandle, QuotaPass
+from ._engine import MOST_SHARE, MOST_TICKETS, PolicyHandle, QuotaPass
 from ._granting import Granting
+from ._machine import Machine
 from ._passes import Passes
 from ._time import Duration, moment, seconds, seconds_text
 from .errors import PolicyError, TermsError

@@ -13,6 +13,7 @@ from typing import (
     Awaitable,
     Callable,
     ClassVar,
+    Coroutine,
     Dict,
     Generic,
     Iterator,
@@ -26,7 +27,6 @@ from typing import (
 )
 
 from ._attempts import AsyncAttempts, Attempt, Attempts
-from ._course import Course
 from ._drivers import run, run_async
 from ._kinds import is_async
 from ._settings import GIVEN, LONGEST, Hook, Hooks, On, Settings, Stop, Tickets
@@ -282,7 +282,7 @@ class Retrying(BaseRetrying):
 
     def __call__(self, fn: Callable[..., Result], /, *args: Any, **kwargs: Any) -> Result:
         """Calls the function until it succeeds; in the end its last exception is raised."""
-        return cast(Result, run(Course(self, fn, args, kwargs), fn, args, kwargs))
+        return cast(Result, run(self, fn, args, kwargs))
 
     #: The same, by its name.
     call = __call__
@@ -296,7 +296,7 @@ class Retrying(BaseRetrying):
 
         @functools.wraps(fn)
         def wrapped(*args: Any, **kwargs: Any) -> Any:
-            return run(Course(self, fn, args, kwargs), fn, args, kwargs)
+            return run(self, fn, args, kwargs)
 
         return wrapped
 
@@ -323,9 +323,9 @@ class AsyncRetrying(BaseRetrying):
 
     _AWAITS = True
 
-    async def __call__(self, fn: Callable[..., Awaitable[Result]], /, *args: Any, **kwargs: Any) -> Result:
+    def __call__(self, fn: Callable[..., Awaitable[Result]], /, *args: Any, **kwargs: Any) -> Coroutine[Any, Any, Result]:
         """Awaits the coroutine function's calls until one succeeds; in the end its last exception is raised."""
-        return cast(Result, await run_async(Course(self, fn, args, kwargs), fn, args, kwargs))
+        return run_async(self, fn, args, kwargs)
 
     #: The same, by its name.
     call = __call__
@@ -339,7 +339,7 @@ class AsyncRetrying(BaseRetrying):
 
         @functools.wraps(fn)
         async def wrapped(*args: Any, **kwargs: Any) -> Any:
-            return await run_async(Course(self, fn, args, kwargs), fn, args, kwargs)
+            return await run_async(self, fn, args, kwargs)
 
         return wrapped
 

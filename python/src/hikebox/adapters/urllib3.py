@@ -154,7 +154,9 @@ class PolicyRetry(Retry):
         if course is None:
             super().sleep(response)
             return
-        settle(course.waits())
+        delay = settle(course.delay())
+        if delay > 0:
+            course.settings.sleeps(delay)
         course.waited()
 
     def _deposit(self) -> None:
