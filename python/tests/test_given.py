@@ -382,6 +382,19 @@ def test_a_wait_may_be_a_function(clock: VirtualClock) -> None:
     assert clock.slept == pytest.approx([2.0, 3.0])
 
 
+def test_a_function_is_asked_once_for_each_wait(clock: VirtualClock) -> None:
+    asked: List[int] = []
+
+    def wait(state: Any) -> float:
+        asked.append(state.attempt_number)
+        return 1.0
+
+    with pytest.raises(OSError) as caught:
+        Retrying(recurs(3), wait=wait, clock=clock, sleep=clock.sleep)(fails)
+    state = state_of(caught.value)
+    assert state is not None and asked == [1, 2, 3] and state.idle_for == 3.0
+
+
 @pytest.mark.parametrize("name", ["at_least", "wait"])
 def test_what_is_asked_for_has_a_bound(name: str, clock: VirtualClock) -> None:
     how: Any = {name: lambda _: 999999999999.0, "clock": clock, "sleep": clock.sleep, "fallback": lambda _: None}

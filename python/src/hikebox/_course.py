@@ -112,7 +112,8 @@ class Course:
         """Whether one more attempt is to be made, once the wait for it is over. The first one is a request."""
         if self.over:
             return False
-        if self._begun and self.settings.is_plain and self.settings.pause is None and self._planned() == 0.0:
+        if self._begun and self.settings.is_plain and self.settings.pause is None:
+            self._planned()
             self.waited()
             self.state.outcome = None
             return True

@@ -129,8 +129,7 @@ class Settings:
         return {
             **hooks,
             "is_quiet": not self.repeats and all(each is None for each in told),
-            "is_plain": self.stop is None
-            and self.fallback is None
+            "is_plain": all(each is None for each in (self.stop, self.fallback, self.at_least, self.wait))
             and not any(hooks.values())
             and (draw is None or drawn_on is not NO_BUDGET),
             "types": (*types, TryAgain),
