@@ -1,5 +1,6 @@
 #!/usr/bin/env bash
-# How long a draw of a budget takes, of one that keeps its limit and of one that may rise, and a draw and a deposit of a
+# How long a draw of a budget takes, of one that keeps its limit and of one that may rise, each with passes that are
+# counted and by parts, and a draw and a deposit of a
 # quota, beside a bare fetch_add loop in Rust on the same machine; those of a quota beside the same arithmetic under a
 # mutex too.
 # Started by hand at the top of the repository: bench/draw.sh. It needs rt, rustc and a machine with nothing else to do.
@@ -35,6 +36,16 @@ rising_draws() {
     "$work/bench_draw" "$1" "$2" rising
 }
 
+# parted_draws THREADS DRAWS
+parted_draws() {
+    "$work/bench_draw" "$1" "$2" parts
+}
+
+# rising_parted_draws THREADS DRAWS
+rising_parted_draws() {
+    "$work/bench_draw" "$1" "$2" rising parts
+}
+
 machine
 for threads in 1 "$(nproc)"; do
     draw=$(per_call "$threads" "$work/bench_draw")
@@ -42,6 +53,9 @@ for threads in 1 "$(nproc)"; do
     echo "threads $threads: draw $draw ns, bare fetch_add $bare ns, ratio $(ratio "$draw" "$bare")"
     rising=$(per_call "$threads" rising_draws)
     echo "threads $threads: draw of a rising budget $rising ns, ratio to the other $(ratio "$rising" "$draw")"
+    parted=$(per_call "$threads" parted_draws)
+    rising=$(per_call "$threads" rising_parted_draws)
+    echo "threads $threads: draw by parts $parted ns, of a rising budget $rising ns, ratio to the first $(ratio "$parted" "$draw")"
 done
 for threads in 1 2 4; do
     bare=$(per_call "$threads" "$work/bare")

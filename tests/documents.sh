@@ -2,9 +2,11 @@
 # Compares every printed plan, pool and check in README.md and docs/ with what the program prints. A `sh` block with a
 # line `bin/zsched WORDS < plans/NAME.json`, or `< jobs/NAME.json`, or with the file's name as its last word, is followed
 # by a `text` block, its whole output; a `json` block before it, under the same heading, is the file's text. It fails where
-# one of them differs, and where no document prints a plan or a pool of these folders.
+# one of them differs, and where no document prints a plan or a pool of these folders. HIKEBOX_ZSCHED names the program,
+# that of dist/ where it does not.
 set -euo pipefail
 top=$(cd "$(dirname "${BASH_SOURCE[0]}")/.." && pwd)
+zsched=${HIKEBOX_ZSCHED:-$top/dist/zsched}
 work=$(mktemp -d)
 trap 'rm -rf "$work"' EXIT
 failed=0
@@ -46,7 +48,7 @@ compares_output() {
   local words=${command#bin/zsched } from=/dev/null
   case $words in *\<*) from=$input ;; esac
   read -r -a words <<<"${words%%<*}"
-  if ! (cd "$top" && bin/zsched "${words[@]}" <"$from") >"$work/out"; then
+  if ! (cd "$top" && "$zsched" "${words[@]}" <"$from") >"$work/out"; then
     fails "$document: $command: it ends with a fault"
   fi
   same_as "$work/out" "what $command prints"
@@ -79,8 +81,6 @@ reads_document() {
   done <"$top/$document"
   [ -z "$command" ] || fails "$document: no text follows $command"
 }
-
-"$top/bin/zsched" plan --steps 0 <<<'"forever"'
 
 for document in README.md $(cd "$top" && ls docs/*.md); do
   reads_document "$document"

@@ -1,7 +1,6 @@
 #!/usr/bin/env bash
 # Runs the built examples on the system's clock: example_retry with a file that is made 300 ms after it was started,
-# with none and with no word; and what example_repeat and example_pool print on standard error. An example that is
-# missing or older than its sources is built first.
+# with none and with no word; and what example_repeat and example_pool print on standard error. bin/build builds them.
 set -euo pipefail
 top=$(cd "$(dirname "${BASH_SOURCE[0]}")/.." && pwd)
 work=$(mktemp -d)
@@ -40,10 +39,6 @@ starts_before_its_file() {
   wait $! || status=$?
   [ "$late" -lt 450 ]
 }
-
-"$top/bin/build" example_retry data/note.txt
-"$top/bin/build" example_repeat data/note.txt
-"$top/bin/build" example_pool
 
 # The retries begin 80 to 120, 240 to 360 and 560 to 840 ms after the first run.
 for _ in 1 2 3 4 5; do ! starts_before_its_file || break; done

@@ -3,6 +3,7 @@
 //   retry BUDGET RUN..                runs a retry of the policy on standard input, whose runs end as the words say
 //                                     (won:1, lost:7, the last one repeated), and prints `zsched pool`'s line of it
 //   handles                           empty handles, full ones, those of another kind, and second frees
+//   budgets                           passes of budgets without end, and limits that are raised after refusals
 //   quotas                            quotas: windows, their borders and passes, and retries on a quota and on nothing
 //   fault                             says what is wrong with the policy on standard input, as `zsched check` does
 //   faults                            texts that are no policy, each with its fault, its place and what is wanted there
@@ -403,6 +404,55 @@ static int handles(void) {
     return wrong;
 }
 
+// Passes of a budget, split and joined without end; and a limit raised by some, whatever was refused before.
+static int budgets(void) {
+    hikebox_policy policy = HIKEBOX_INIT;
+    hikebox_pass pass = HIKEBOX_INIT, part = HIKEBOX_INIT, last = HIKEBOX_INIT, none = HIKEBOX_INIT;
+    hikebox_retry machine = HIKEBOX_INIT;
+    hikebox_next next;
+    uint64_t number;
+    wants(read_policy("{\"recurs\":1}", &policy), HIKEBOX_OK);
+    for (int rises = 0; rises < 2; rises++) {
+        wants(rises ? hikebox_budget_rising(70001, &pass) : hikebox_budget_fixed(70001, &pass), HIKEBOX_OK);
+        for (uint64_t times = 0; times < 70000; times++) {
+            wants(hikebox_pass_split(&pass, &part), HIKEBOX_OK);
+            wants(hikebox_pass_draw(&part, &number), HIKEBOX_OK);
+            holds(number == times);
+            wants(hikebox_pass_join(&pass, &part), HIKEBOX_OK);
+            wants(hikebox_retry_new(&policy, &pass, &machine), HIKEBOX_OK);
+            wants(hikebox_retry_end(&machine, &pass), HIKEBOX_OK);
+        }
+        wants(hikebox_retry_new(&policy, &pass, &machine), HIKEBOX_OK);
+        wants(hikebox_retry_poll(&machine, 0, no_words, HIKEBOX_NO_REPORT, 0, &next), HIKEBOX_OK);
+        wants(hikebox_retry_poll(&machine, 0, no_words, HIKEBOX_LOST, 7, &next), HIKEBOX_OK);
+        holds(next.granted == 1);
+        wants(hikebox_pass_close(&pass, &number), HIKEBOX_PASSES_OUT);
+        wants(hikebox_retry_end(&machine, &pass), HIKEBOX_OK);
+        wants(hikebox_pass_draw(&pass, &number), HIKEBOX_NO_TICKET);
+        wants(hikebox_pass_close(&pass, &number), HIKEBOX_OK);
+        holds(number == 70001);
+    }
+    wants(hikebox_budget_rising(1, &pass), HIKEBOX_OK);
+    wants(hikebox_pass_split(&pass, &part), HIKEBOX_OK);
+    wants(hikebox_pass_split(&part, &last), HIKEBOX_OK);
+    wants(hikebox_pass_split(&last, &none), HIKEBOX_TOO_MANY_PASSES);
+    wants(hikebox_pass_draw(&last, &number), HIKEBOX_OK);
+    for (int times = 0; times < 1000; times++) wants(hikebox_pass_draw(&part, &number), HIKEBOX_NO_TICKET);
+    wants(hikebox_pass_raise(&pass, 3, &number), HIKEBOX_OK);
+    wants(hikebox_pass_draw(&part, &number), HIKEBOX_OK);
+    holds(number == 1);
+    wants(hikebox_pass_draw(&last, &number), HIKEBOX_OK);
+    holds(number == 2);
+    wants(hikebox_pass_draw(&pass, &number), HIKEBOX_NO_TICKET);
+    wants(hikebox_pass_join(&last, &part), HIKEBOX_OK);
+    wants(hikebox_pass_close(&last, &number), HIKEBOX_PASSES_OUT);
+    wants(hikebox_pass_join(&last, &pass), HIKEBOX_OK);
+    wants(hikebox_pass_close(&last, &number), HIKEBOX_OK);
+    holds(number == 3);
+    wants(hikebox_policy_free(&policy), HIKEBOX_OK);
+    return wrong;
+}
+
 // The number of the first ticket of a window.
 static uint64_t first_of(uint64_t window) {
     return window << 32;
@@ -521,7 +571,7 @@ static void passes(void) {
     holds(tickets == 3);
     wants(hikebox_quota_join(&quota, &part), HIKEBOX_OK);
     closes(&quota, 4);
-    // A budget's 65,536 passes are no bound here.
+    // It counts no passes.
     wants(hikebox_quota_new(1, 0, 10, &quota), HIKEBOX_OK);
     for (int times = 0; times < 70000; times++) {
         wants(hikebox_quota_split(&quota, &part), HIKEBOX_OK);
@@ -758,6 +808,7 @@ int main(int count, char **words) {
     if (!strcmp(what, "plan") && count == 7) return plan(words + 2);
     if (!strcmp(what, "retry") && count > 3) return retry(words + 2, count - 2);
     if (!strcmp(what, "handles")) return handles();
+    if (!strcmp(what, "budgets")) return budgets();
     if (!strcmp(what, "quotas")) return quotas();
     if (!strcmp(what, "fault")) return fault();
     if (!strcmp(what, "faults")) return faults();

@@ -2,21 +2,19 @@
 # Calls the library from C, linked and loaded: it steps 300 random policies as `zsched plan` does, retries end as
 # `zsched pool` says, handles that are empty, full or of another kind are refused and nothing is lost, 16 threads draw
 # 10,000,000 tickets, each once, and valgrind finds no error and no leak. Each growth is refused in turn. HIKEBOX_LIB_DIR
-# names the folder of the files that bin/dist made; with no such folder they are made first.
+# names the folder of the files that bin/dist made, dist/ where it does not.
 set -euo pipefail
 top=$(cd "$(dirname "${BASH_SOURCE[0]}")/.." && pwd)
 work=$(mktemp -d)
 trap 'rm -rf "$work"' EXIT
 failed=0
-"$top/tests/packages.sh" gcc libc6-dev valgrind python3 binutils
 
 wrong() {
   echo "tests/library.sh: $*" >&2
   failed=1
 }
 
-dist=${HIKEBOX_LIB_DIR:-}
-[ -n "$dist" ] || { dist=$work/dist; "$top/bin/dist" "$dist"; }
+dist=${HIKEBOX_LIB_DIR:-$top/dist}
 zsched=$dist/zsched
 python3 "$top/tests/exports.py" || failed=1
 flags=(-std=gnu11 -Wall -Wextra -Werror -O1 "-I$dist" -pthread)
@@ -91,11 +89,11 @@ ends 5 '{"recurs":0}' '[{"won":1}]' won:1
 ends 5 '"forever"' '[{"lost":1},{"lost":2},{"lost":3},{"won":4}]' lost:1 lost:2 lost:3 won:4
 
 for program in linked loaded; do
-  for words in handles quotas faults journals; do
+  for words in handles budgets quotas faults journals; do
     "$work/$program" "$words" || wrong "$program $words"
   done
   "$work/$program" draw 16 10000000 || wrong "$program draw"
-  for words in handles quotas faults journals calls 'draw 4 20000'; do
+  for words in handles budgets quotas faults journals calls 'draw 4 20000'; do
     # shellcheck disable=SC2086
     valgrind --quiet --leak-check=full --show-leak-kinds=all --error-exitcode=9 "$work/$program" $words >"$work/out" ||
       wrong "valgrind $program $words"

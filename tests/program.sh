@@ -1,8 +1,9 @@
 #!/usr/bin/env bash
 # Runs the built program on good and bad command lines and inputs, and compares its output, its line on standard error
-# and its status with what is wanted.
+# and its status with what is wanted. HIKEBOX_ZSCHED names the program, that of dist/ where it does not.
 set -euo pipefail
 top=$(cd "$(dirname "${BASH_SOURCE[0]}")/.." && pwd)
+zsched=${HIKEBOX_ZSCHED:-$top/dist/zsched}
 work=$(mktemp -d)
 trap 'rm -rf "$work"' EXIT
 failed=0
@@ -12,7 +13,7 @@ wants() {
   local status=$1 output=$2 line=$3
   shift 3
   local got=0
-  "$top/bin/zsched" "$@" <"$work/in" >"$work/out" 2>"$work/err" || got=$?
+  "$zsched" "$@" <"$work/in" >"$work/out" 2>"$work/err" || got=$?
   printf '%b' "$output" >"$work/out.want"
   printf '%b' "$line" >"$work/err.want"
   if [ "$got" != "$status" ] || ! cmp -s "$work/out" "$work/out.want" || ! cmp -s "$work/err" "$work/err.want"; then
@@ -24,7 +25,7 @@ wants() {
 # helps WORD..: zsched shows help on standard output with these words
 helps() {
   local got=0
-  "$top/bin/zsched" "$@" </dev/null >"$work/out" 2>"$work/err" || got=$?
+  "$zsched" "$@" </dev/null >"$work/out" 2>"$work/err" || got=$?
   if [ "$got" != 0 ] || ! grep -q 'Usage: zsched' "$work/out" || [ -s "$work/err" ]; then
     echo "tests/program.sh: zsched $*: no help" >&2
     failed=1
@@ -36,7 +37,7 @@ helps() {
 wants_shared() {
   local jobs=$1 tickets=$2 got=0
   shift 2
-  "$top/bin/zsched" "$@" <"$work/in" >"$work/out" 2>"$work/err" || got=$?
+  "$zsched" "$@" <"$work/in" >"$work/out" 2>"$work/err" || got=$?
   if [ "$got" != 0 ] || [ -s "$work/err" ] || ! awk -v jobs="$jobs" -v tickets="$tickets" '
     NR > jobs { total = total $0; next }
     { job = "job " (NR - 1) ": "; granted += $NF }
@@ -60,7 +61,6 @@ repeated() {
   done
 }
 
-"$top/bin/zsched" plan --steps 0 <<<'"forever"'
 lost='{"plan":{"recurs":3},"runs":[{"lost":7}]}'
 
 cp "$top/plans/three-times.json" "$work/in"
@@ -98,7 +98,7 @@ for word in plan pool; do
   case $word in plan) folder=plans ;; pool) folder=jobs ;; esac
   for file in "$top/$folder"/*.json; do
     cp "$file" "$work/in"
-    "$top/bin/zsched" $word <"$file" >"$work/printed"
+    "$zsched" $word <"$file" >"$work/printed"
     wants 0 "$(sed 's/$/\\n/' "$work/printed" | tr -d '\n')" '' $word -
     input ''
     wants 0 "$(sed 's/$/\\n/' "$work/printed" | tr -d '\n')" '' $word "$file"
@@ -266,7 +266,7 @@ wants 3 '' 'zsched: input too long\n' pool
 # What a text is, or the place of its first fault with what is wanted there. The line on standard error and the status
 # are those of `plan` and `pool`.
 for file in "$top"/plans/*.json "$top"/jobs/*.json; do
-  "$top/bin/zsched" check "$file" >"$work/told"
+  "$zsched" check "$file" >"$work/told"
   cp "$file" "$work/in"
   wants 0 "$(sed 's/$/\\n/' "$work/told")" '' check
   wants 0 "$(sed 's/$/\\n/' "$work/told")" '' check -
@@ -318,7 +318,7 @@ printf 'zsched: write failed\n' >"$work/err.want"
 for word in plan pool check; do
   got=0
   case $word in plan | check) input '"forever"' ;; pool) input '[]' ;; esac
-  "$top/bin/zsched" $word <"$work/in" >/dev/full 2>"$work/err" || got=$?
+  "$zsched" $word <"$work/in" >/dev/full 2>"$work/err" || got=$?
   [ "$got" = 4 ] && cmp -s "$work/err" "$work/err.want" ||
     { echo "tests/program.sh: zsched $word: a write that fails: status $got" >&2; failed=1; }
 done

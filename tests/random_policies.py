@@ -17,7 +17,7 @@ def length(rng):
 
 def leaf(rng):
     name = rng.choice(["forever", "elapsed", "identity", "recurs", "spaced", "fixed", "windowed", "linear", "exponential",
-                       "exponential_milli", "fibonacci", "unfold", "lone"])
+                       "exponential_milli", "fibonacci", "decorrelated", "unfold", "lone"])
     if name in ("forever", "elapsed", "identity"):
         return name
     if name == "recurs":
@@ -28,6 +28,9 @@ def leaf(rng):
         return {name: [number(rng), rng.choice([1, 2, 3, 10])]}
     if name == "exponential_milli":
         return {name: [number(rng), rng.choice([1000, 1100, 1500, 2000, 2718])]}
+    if name == "decorrelated":
+        base, most = sorted([number(rng), number(rng)])
+        return {name: [rng.randrange(4), base, rng.choice([1000, 1500, 3000]), most]}
     if name == "unfold":
         return {name: [number(rng), rng.choice([0, 1, 2, 3]), rng.choice([0, 1, 7])]}
     return {name: number(rng)}
@@ -37,11 +40,11 @@ def policy(rng, depth):
     if depth == 0 or rng.random() < 0.2:
         return leaf(rng)
     name = rng.choice(["meet", "join", "follow", "feed", "add", "set", "cap", "add_out", "jitter", "gate", "gather", "first",
-                       "second", "nothing", "within", "renew", "renew_idle"])
+                       "second", "nothing", "within", "ends_by", "renew", "renew_idle"])
     part = policy(rng, depth - 1)
     if name in ("meet", "join", "follow", "feed"):
         return {name: [part, policy(rng, depth - 1)]}
-    if name in ("add", "set", "cap"):
+    if name in ("add", "set", "cap", "ends_by"):
         return {name: [number(rng), part]}
     if name in ("within", "renew", "renew_idle"):
         return {name: [length(rng), part]}

@@ -1,30 +1,43 @@
 #!/usr/bin/env bash
-# Refuses each growth of the built programs in turn, upwards until a run meets no refusal. Where one is refused zsched
-# has to end for want of memory, with a front of its output written; no other answer may change. A budget that was
+# refused_memory.sh zsched|crates: refuses each growth of a program in turn, upwards until a run meets no refusal.
+#
+# zsched has to end for want of memory, with a front of its output written; no other answer may change. A pool of jobs may
+# also answer that a worker was not started, or have one job that is broken. HIKEBOX_ZSCHED names the program, that of
+# dist/ where it does not.
+#
+# crates are the programs of check_refused_growths and check_refused_polls, which bin/build has built. A budget that was
 # refused, and a driver whose step was, have to be as before, and the same call has to succeed when it is made again. A
-# task whose poll was refused one has to be broken for good, with its driver as before. A pool of jobs may also answer
-# that a worker was not started, or have one job that is broken.
+# task whose poll was refused one has to be broken for good, with its driver as before.
+#
+# As many runs as there are processors are tried side by side.
 set -euo pipefail
 top=$(cd "$(dirname "${BASH_SOURCE[0]}")/.." && pwd)
-work=$(mktemp -d)
-trap 'rm -rf "$work"' EXIT
-failed=0
-rt=$(command -v rt || echo /opt/rattle/bin/rt)
-toolchain=$(dirname "$("$rt" doc)")/toolchain/bin
-"$top/bin/build" zsched plan --steps 0 <"$top/plans/three-times.json"
-"$top/bin/build" check_refused_growths
-"$top/bin/build" check_refused_polls
-compiler=("$toolchain/clang" "-fuse-ld=$toolchain/ld.lld")
-[ -x "$toolchain/clang" ] || compiler=(cc)
-"${compiler[@]}" -O1 -shared -fPIC -nostdlib -o "$work/refuse.so" "$top/tests/refuse.c"
-printf 'zsched: no memory\n' >"$work/no_memory"
-printf 'zsched: worker not started\n' >"$work/not_started"
-printf 'zsched: not finished\n' >"$work/not_finished"
+zsched=${HIKEBOX_ZSCHED:-$top/dist/zsched}
+case ${1:-} in
+  zsched | crates) ;;
+  *) echo "tests/refused_memory.sh: refused_memory.sh zsched|crates" >&2; exit 2 ;;
+esac
+shared=$(mktemp -d)
+trap 'rm -rf "$shared"' EXIT
+work=$shared
+cc -O1 -shared -fPIC -nostdlib -o "$shared/refuse.so" "$top/tests/refuse.c"
+printf 'zsched: no memory\n' >"$shared/no_memory"
+printf 'zsched: worker not started\n' >"$shared/not_started"
+printf 'zsched: not finished\n' >"$shared/not_finished"
+beside=$shared
+. "$top/tests/beside.sh"
+
+# tries FUNCTION WORD..: one of the functions below, as it is run beside others: it fails where that found something wrong
+tries() {
+  failed=0
+  "$@"
+  [ "$failed" = 0 ]
+}
 
 # with_refused GROWTH PROGRAM WORD..: a run in which this growth is refused; $work/refused is empty where none was, and
 # $work/starts has a line for each thread that was started, with the number of growths before it
 with_refused() {
-  LD_PRELOAD="$work/refuse.so" REFUSE_AT=$1 "${@:2}" >"$work/out" 2>"$work/err" 8>"$work/starts" 9>"$work/refused"
+  LD_PRELOAD="$shared/refuse.so" REFUSE_AT=$1 "${@:2}" >"$work/out" 2>"$work/err" 8>"$work/starts" 9>"$work/refused"
 }
 
 # is_front: what the run wrote is a front of the whole output
@@ -58,13 +71,13 @@ refuses_but() {
   shift 2
   local growth=0 status
   printf '%s' "$input" >"$work/in"
-  "$top/bin/zsched" "$@" <"$work/in" >"$work/out.whole" 2>"$work/err.whole" || true
+  "$zsched" "$@" <"$work/in" >"$work/out.whole" 2>"$work/err.whole" || true
   while :; do
     growth=$((growth + 1))
     status=0
-    with_refused "$growth" "$top/crates/zsched/out/zsched" "$@" <"$work/in" || status=$?
+    with_refused "$growth" "$zsched" "$@" <"$work/in" || status=$?
     [ -s "$work/refused" ] || break
-    if [ "$status" = 5 ] && cmp -s "$work/err" "$work/no_memory" && is_front; then
+    if [ "$status" = 5 ] && cmp -s "$work/err" "$shared/no_memory" && is_front; then
       no_memory=$((no_memory + 1))
     elif [ "$spares" = 0 ] || ! is_whole "$wanted"; then
       wrong "$growth" "$status" "zsched $*"
@@ -94,7 +107,7 @@ breaks_one() {
 refuses_jobs() {
   local workers=$1 tail=$2 input=$3 growth=0 no_memory=0 not_started=0 broken=0 same=0 status=0 started
   shift 3
-  local run=("$top/crates/zsched/out/zsched" pool "$@") name="zsched pool $*"
+  local run=("$zsched" pool "$@") name="zsched pool $*"
   printf '%s' "$input" >"$work/in"
   with_refused 0 "${run[@]}" <"$work/in" || wrong none $? "$name"
   cp "$work/out" "$work/out.whole"
@@ -106,12 +119,12 @@ refuses_jobs() {
     status=0
     with_refused "$growth" "${run[@]}" <"$work/in" || status=$?
     [ -s "$work/refused" ] || break
-    if [ "$status" = 5 ] && cmp -s "$work/err" "$work/no_memory" && is_front; then
+    if [ "$status" = 5 ] && cmp -s "$work/err" "$shared/no_memory" && is_front; then
       no_memory=$((no_memory + 1))
-    elif [ "$status" = 7 ] && cmp -s "$work/err" "$work/not_started" && [ ! -s "$work/out" ] &&
+    elif [ "$status" = 7 ] && cmp -s "$work/err" "$shared/not_started" && [ ! -s "$work/out" ] &&
       { [ "$workers" -gt 1 ] || [ "$growth" = "$started" ]; }; then
       not_started=$((not_started + 1))
-    elif [ "$status" = 6 ] && cmp -s "$work/err" "$work/not_finished" && breaks_one "$tail"; then
+    elif [ "$status" = 6 ] && cmp -s "$work/err" "$shared/not_finished" && breaks_one "$tail"; then
       broken=$((broken + 1))
     elif is_whole 0; then
       same=$((same + 1))
@@ -193,43 +206,59 @@ refuses_polls() {
   echo "tests/refused_memory.sh: check_refused_polls: $(wc -l <"$work/shown") of $((growth - 1)) growths refused in a poll"
 }
 
-refuses 0 "$(cat "$top/plans/three-times.json")" plan
-cmp "$work/out.whole" "$top/crates/zsched/stdout" || failed=1
-refuses 0 '{"follow":[{"recurs":2},{"fixed":50}]}' plan --steps 5
-refuses 0 '{"gather":["list",{"renew":[100,{"follow":[{"recurs":1},{"spaced":60}]}]}]}' plan --steps 5
-refuses 0 '{"gather":["list",{"gather":["list",{"recurs":3}]}]}' plan
-refuses 0 '{"renew":[50,{"follow":[{"recurs":1},{"lone":30}]}]}' plan --took 25 --steps 5
-refuses 0 '{"renew_idle":[100,{"exponential":[30,2]}]}' plan --steps 5
-refuses 0 '{"feed":[{"join":[{"recurs":1},{"spaced":10}]},{"first":"identity"}]}' plan --steps 4
-refuses 0 '{"add_out":{"cap":[15,{"jitter":[0,500,1500,{"linear":10}]}]}}' plan --steps 4
-refuses 0 '{"nothing":{"join":[{"feed":["identity",{"fibonacci":3}]},{"within":[9,"elapsed"]}]}}' plan --steps 4
-refuses 3 '{"meet":[{"fixed":0},"forever"]}' plan
-refuses 3 '{"meet":[' plan
-refuses 2 '' plan --steps 4097
-refuses 0 '' plan --help
-refuses 0 '' --version
-refuses 0 '' plan "$top/plans/three-times.json"
-refuses 4 '' plan "$top/plans/none.json"
-refuses 0 "$(cat "$top/plans/jittered-back-off.json")" plan --words 7 --inputs 3,5
-refuses 3 '[{"plan":{"recurs":3},"runs":[{"lost":7},{"won":-1}]}]' pool
-refuses 3 '[{"plan":"forever","runs":[]}]' pool
-refuses 2 '' pool --workers 17
-refuses 2 '' pool --quota 1/2/0
-refuses 0 "$(cat "$top/plans/back-off.json")" check
-refuses 0 "$(cat "$top/jobs/three-calls.json")" check
-refuses_spared 3 '{"meet":[{"recurs":1},{"cap":[1,{"exponental":[100,2]}]}]}' check
-refuses 3 '[{"plan":{"fixed":0},"runs":[{"won":1}]}]' check
-refuses 3 '{"meet":[' check
-job='{"plan":{"recurs":3},"runs":[{"lost":7}]}'
-three_calls=$(cat "$top/jobs/three-calls.json")
-for workers in 1 2; do
-  for input in "[$job,$job,$job,$job]" "$three_calls" \
-    '[{"plan":{"gather":["list",{"recurs":3}]},"runs":[{"lost":7}]},{"plan":"forever","runs":[{"won":1}]}]'; do
-    refuses_jobs $workers ' of 100' "$input" --workers $workers
+# The stored output of the program, on the plan of its stored input.
+refuses_stored() {
+  refuses 0 "$(cat "$top/plans/three-times.json")" plan
+  cmp "$work/out.whole" "$top/crates/zsched/stdout" || failed=1
+}
+
+# Plans, jobs and command lines of all kinds.
+tries_zsched() {
+  local job three_calls workers input
+  beside tries refuses_stored
+  beside tries refuses 0 '{"follow":[{"recurs":2},{"fixed":50}]}' plan --steps 5
+  beside tries refuses 0 '{"gather":["list",{"renew":[100,{"follow":[{"recurs":1},{"spaced":60}]}]}]}' plan --steps 5
+  beside tries refuses 0 '{"gather":["list",{"gather":["list",{"recurs":3}]}]}' plan
+  beside tries refuses 0 '{"renew":[50,{"follow":[{"recurs":1},{"lone":30}]}]}' plan --took 25 --steps 5
+  beside tries refuses 0 '{"renew_idle":[100,{"exponential":[30,2]}]}' plan --steps 5
+  beside tries refuses 0 '{"feed":[{"join":[{"recurs":1},{"spaced":10}]},{"first":"identity"}]}' plan --steps 4
+  beside tries refuses 0 '{"add_out":{"cap":[15,{"jitter":[0,500,1500,{"linear":10}]}]}}' plan --steps 4
+  beside tries refuses 0 '{"nothing":{"join":[{"feed":["identity",{"fibonacci":3}]},{"within":[9,"elapsed"]}]}}' plan --steps 4
+  beside tries refuses 3 '{"meet":[{"fixed":0},"forever"]}' plan
+  beside tries refuses 3 '{"meet":[' plan
+  beside tries refuses 2 '' plan --steps 4097
+  beside tries refuses 0 '' plan --help
+  beside tries refuses 0 '' --version
+  beside tries refuses 0 '' plan "$top/plans/three-times.json"
+  beside tries refuses 4 '' plan "$top/plans/none.json"
+  beside tries refuses 0 "$(cat "$top/plans/jittered-back-off.json")" plan --words 7 --inputs 3,5
+  beside tries refuses 3 '[{"plan":{"recurs":3},"runs":[{"lost":7},{"won":-1}]}]' pool
+  beside tries refuses 3 '[{"plan":"forever","runs":[]}]' pool
+  beside tries refuses 2 '' pool --workers 17
+  beside tries refuses 2 '' pool --quota 1/2/0
+  beside tries refuses 0 "$(cat "$top/plans/back-off.json")" check
+  beside tries refuses 0 "$(cat "$top/jobs/three-calls.json")" check
+  beside tries refuses_spared 3 '{"meet":[{"recurs":1},{"cap":[1,{"exponental":[100,2]}]}]}' check
+  beside tries refuses 3 '[{"plan":{"fixed":0},"runs":[{"won":1}]}]' check
+  beside tries refuses 3 '{"meet":[' check
+  job='{"plan":{"recurs":3},"runs":[{"lost":7}]}'
+  three_calls=$(cat "$top/jobs/three-calls.json")
+  for workers in 1 2; do
+    for input in "[$job,$job,$job,$job]" "$three_calls" \
+      '[{"plan":{"gather":["list",{"recurs":3}]},"runs":[{"lost":7}]},{"plan":"forever","runs":[{"won":1}]}]'; do
+      beside tries refuses_jobs $workers ' of 100' "$input" --workers $workers
+    done
   done
-done
-refuses_jobs 0 ' in 1 windows' "[$job,$job,$job,$job]" --quota 100/0/1000
-refuses_jobs 0 ' in 1 windows' "$three_calls" --quota 100/0/1000
-refuses_calls
-refuses_polls
-exit "$failed"
+  beside tries refuses_jobs 0 ' in 1 windows' "[$job,$job,$job,$job]" --quota 100/0/1000
+  beside tries refuses_jobs 0 ' in 1 windows' "$three_calls" --quota 100/0/1000
+}
+
+# The programs of crates.
+tries_crates() {
+  beside tries refuses_calls
+  beside tries refuses_polls
+}
+
+"tries_$1"
+all_passed
+echo "tests/refused_memory.sh: each growth of $started runs refused in turn"

@@ -52,6 +52,7 @@ FORMS: Dict[str, Form] = {
     "exponential": _numbers(D=_ANY, F=(1, 1000)),
     "exponential_milli": _numbers(D=_ANY, F=(1, 1000000)),
     "fibonacci": _numbers(D=_ANY),
+    "decorrelated": _numbers(LANE=(0, 3), D=_ANY, F=(1000, 1000000), MOST=_ANY),
     "unfold": _numbers(S=_ANY, M=_ANY, A=_ANY),
     "lone": _numbers(D=_ANY),
     "meet": _BOTH,
@@ -66,6 +67,7 @@ FORMS: Dict[str, Form] = {
     "add_out": _ONE,
     "jitter": Form(("number", "number", "number", "plan"), ("LANE", "LEAST", "MOST"), ((0, 3), (0, 10000), (0, 10000))),
     "within": _delay(0),
+    "ends_by": _delay(0),
     "renew": _delay(1),
     "renew_idle": _delay(1),
     "first": _ONE,
@@ -74,7 +76,7 @@ FORMS: Dict[str, Form] = {
 }
 
 #: All names, in the order in which the nearest to another is looked for.
-_ALL = ("forever", *tuple(FORMS)[:8], "elapsed", "identity", *tuple(FORMS)[8:])
+_ALL = ("forever", *tuple(FORMS)[:9], "elapsed", "identity", *tuple(FORMS)[9:])
 
 #: The words for the items that are no numbers, and what they may be.
 _WORDS = {"plan": "PLAN", "side": "SIDE", "truth": "WANT", "test": "TEST", "fold": "KIND"}
@@ -86,8 +88,12 @@ _CHOICES = {
 }
 _OWN_RANGES = {
     "unfold": f"each from 0 to {FAR}",
+    "decorrelated": f"LANE from 0 to 3, D from 0 to MOST, F from 1000 to 1000000, MOST from D to {FAR}",
     "jitter": "LANE from 0 to 3, LEAST at most MOST, MOST at most 10000",
 }
+
+#: The two numbers of a node of which the first is at most the second.
+_AT_MOST = {"decorrelated": (1, 3), "jitter": (1, 2)}
 
 _WANTED = "a plan is a string or an object of one member"
 
@@ -132,7 +138,10 @@ def _size(value: Any, place: str) -> Tuple[int, int]:
             depth = max(depth, deep + 1)
     numbers = [item for kind, item in zip(form.kinds, items) if kind == "number"]
     in_range = all(least <= number <= most for number, (least, most) in zip(numbers, form.ranges))
-    if not in_range or (name == "jitter" and numbers[1] > numbers[2]):
+    if name in _AT_MOST:
+        lesser, greater = _AT_MOST[name]
+        in_range = in_range and numbers[lesser] <= numbers[greater]
+    if not in_range:
         raise Wrong(Fault.OUT_OF_RANGE, place, _spelling(name))
     if depth > MOST_DEPTH:
         raise Wrong(Fault.TOO_DEEP, place, f"a plan is at most {MOST_DEPTH} deep")

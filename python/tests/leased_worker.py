@@ -47,7 +47,7 @@ def store_of(how: Any) -> Any:
     else:
         import redis
 
-        client = redis.Redis(port=how["port"], socket_timeout=1, socket_connect_timeout=1)
+        client = redis.Redis(host="127.0.0.1", port=how["port"], socket_timeout=1, socket_connect_timeout=1)
         store = RedisStore(client, durable=how.get("durable", False))
     if how.get("kill", "drawn") != "drawn":
         return Dying(store, how["kill"], how["number"])

@@ -74,6 +74,14 @@ def exponential_milli(b: int, k: int, history: List[Event]) -> Answer:
     return Answer(x, capped(history[-1].now + x))
 
 
+def decorrelated(lane: int, b: int, k: int, m: int, history: List[Event]) -> Answer:
+    x = b
+    for event in history:
+        y = max(b, capped(x * k // 1000))
+        x = min(m, b + (y - b) * event.words[lane] // 2**32)
+    return Answer(x, capped(history[-1].now + x))
+
+
 def delayed(x: int, history: List[Event]) -> Answer:
     return Answer(capped(x), capped(history[-1].now + capped(x)))
 
@@ -92,6 +100,7 @@ LEAVES: Dict[str, Callable[[Any, List[Event]], Answer]] = {
     "exponential": lambda v, h: delayed(v[0] * v[1] ** (len(h) - 1), h),
     "exponential_milli": lambda v, h: exponential_milli(v[0], v[1], h),
     "fibonacci": lambda a, h: delayed(a * fibonacci(len(h)), h),
+    "decorrelated": lambda v, h: decorrelated(v[0], v[1], v[2], v[3], h),
     "elapsed": lambda _, h: Answer(h[-1].now - h[0].now, h[-1].now),
     "identity": lambda _, h: Answer(h[-1].input, h[-1].now),
     "unfold": lambda v, h: Answer(iterated(v[0], lambda x: capped(v[1] * x + v[2]), len(h)), h[-1].now),
@@ -166,6 +175,12 @@ def within(value: Any, history: List[Event]) -> Answer:
     return given if history[-1].now - history[0].now < value[0] else Answer(given.output, None)
 
 
+def ends_by(value: Any, history: List[Event]) -> Answer:
+    given = answer(value[1], history)
+    late = given.start is not None and given.start > capped(history[0].now + value[0])
+    return Answer(given.output, None) if late else given
+
+
 def renew(value: Any, history: List[Event]) -> Answer:
     began = 0
     for index, event in enumerate(history):
@@ -203,6 +218,7 @@ NODES: Dict[str, Callable[[Any, List[Event]], Answer]] = {
     "add_out": lambda v, h: shifted(lambda y, x: y + x if is_number(x) else y, v, h),
     "jitter": jitter,
     "within": within,
+    "ends_by": ends_by,
     "renew": renew,
     "renew_idle": renew_idle,
     "first": lambda v, h: picked(part(0), v, h),
@@ -225,6 +241,7 @@ def some_plan(rng: random.Random, nodes: int) -> Any:
         return rng.choice([least, 1, 2, 3, 7, 50, 100, 1000, 60000, rng.randrange(1, 5000), FAR])
 
     if nodes <= 1:
+        base, most = sorted([number(), number()])
         return rng.choice(
             [
                 "forever",
@@ -238,6 +255,7 @@ def some_plan(rng: random.Random, nodes: int) -> Any:
                 {"exponential": [number(), rng.randrange(1, 5)]},
                 {"exponential_milli": [number(), rng.randrange(1, 4000)]},
                 {"fibonacci": number()},
+                {"decorrelated": [rng.randrange(4), base, rng.randrange(1000, 4001), most]},
                 {"unfold": [number(), rng.randrange(4), number()]},
                 {"lone": number()},
             ]
@@ -260,6 +278,7 @@ def some_plan(rng: random.Random, nodes: int) -> Any:
             {"add_out": plan},
             {"jitter": [rng.randrange(4), *ratios, plan]},
             {"within": [number(), plan]},
+            {"ends_by": [number(), plan]},
             {"renew": [number(1), plan]},
             {"renew_idle": [number(1), plan]},
             {"first": plan},

@@ -77,18 +77,28 @@ def test_retries_go_on_after_a_raise() -> None:
     assert budget.close() == 11
 
 
-def test_retries_past_those_with_a_pass_of_their_own(monkeypatch: Any) -> None:
-    monkeypatch.setattr("hikebox.budget.MOST_RETRIES", 3)
-    budget = Budget(16)
-    retrying = Retrying(recurs(3), budget=budget, fallback=granted_and_ending)
-
+def test_a_budget_serves_any_number_of_retries() -> None:
     def fails() -> Any:
         raise KeyError()
 
-    ended = [retrying(fails) for _ in range(7)]
-    assert ended == [(3, "SCHEDULE_DONE")] * 5 + [(1, "BUDGET_REFUSED"), (0, "BUDGET_REFUSED")]
-    assert budget._retries == 3
-    assert budget.close() == 16
+    for budget in (Budget(70_001), Budget.rising(70_001)):
+        retrying = Retrying(recurs(1), budget=budget, fallback=granted_and_ending)
+        for _ in range(70_000):
+            assert retrying(fails) == (1, "SCHEDULE_DONE")
+        assert budget.granted == 70_000
+        assert [budget.draw(), budget.draw()] == [70_000, None]
+        assert retrying(fails) == (0, "BUDGET_REFUSED")
+        assert budget.close() == 70_001
+
+
+def test_a_limit_raised_by_some_gives_as_many_more_whatever_was_refused() -> None:
+    budget = Budget.rising(0)
+    for limit, more in ((100, 100), (150, 50), (151, 1)):
+        assert budget.raise_to(limit) == limit
+        drawn = drawn_by(16, budget.draw)
+        assert sum(map(len, drawn)) == more
+        assert [budget.draw() for _ in range(1000)] == [None] * 1000
+    assert budget.close() == 151
 
 
 def test_as_a_context() -> None:

@@ -3,6 +3,7 @@
 from __future__ import annotations
 
 import argparse
+import contextlib
 import json
 import os
 import random
@@ -11,7 +12,7 @@ import subprocess
 import sys
 import time
 from pathlib import Path
-from typing import Any, List, Optional, Tuple
+from typing import Any, Iterator, List, Optional, Tuple
 
 import pytest
 import reference
@@ -29,11 +30,35 @@ def hikebox(*words: str, text: Optional[str] = None, **how: Any) -> Tuple[int, s
     return done.returncode, done.stdout, done.stderr
 
 
-def start(*words: str) -> Any:
-    command = [sys.executable, "-m", "hikebox", *words]
-    return subprocess.Popen(
-        command, stdout=subprocess.PIPE, stderr=subprocess.PIPE, text=True, env=python_environment()
-    )
+def heed_signals() -> None:
+    """Signals that whoever started the tests ignores, as a shell does of what it runs in the background, are heeded."""
+    for number in (signal.SIGHUP, signal.SIGINT, signal.SIGQUIT, signal.SIGTERM):
+        signal.signal(number, signal.SIG_DFL)
+
+
+@pytest.fixture
+def start() -> Iterator[Any]:
+    """A function that starts the program with these words. In the end it is killed, with all that it started."""
+    started: List[subprocess.Popen[str]] = []
+
+    def start(*words: str) -> Any:
+        process = subprocess.Popen(
+            [sys.executable, "-m", "hikebox", *words],
+            stdout=subprocess.PIPE,
+            stderr=subprocess.PIPE,
+            text=True,
+            env=python_environment(),
+            preexec_fn=heed_signals,
+            start_new_session=True,
+        )
+        started.append(process)
+        return process
+
+    yield start
+    for process in started:
+        with contextlib.suppress(ProcessLookupError):
+            os.killpg(process.pid, signal.SIGKILL)
+        process.communicate()
 
 
 def counting(tmp_path: Path, *ends: str) -> List[str]:
@@ -92,13 +117,15 @@ def test_an_attempt_that_takes_too_long(tmp_path: Path) -> None:
     began = time.monotonic()
     assert hikebox("run", "--timeout", "0.3", "--policy", "recurs(1)", "--", *command)[0] == 0
     assert hikebox("run", "--timeout", "0.2", "--policy", "recurs(1)", "--", "sleep", "60")[0] == 124
-    stubborn = "trap '' TERM; while :; do sleep 0.05; done"
+    stubborn = "trap '' TERM; for _ in $(seq 600); do sleep 0.05; done"
     words = ["--timeout", "0.2", "--kill-after", "0.2", "--policy", "recurs(0)", "--", "sh", "-c", stubborn]
     assert hikebox("run", *words)[0] == 124
     assert time.monotonic() - began < 10
 
 
-def test_a_command_that_can_not_be_run(tmp_path: Path) -> None:
+def test_a_command_that_can_not_be_run(tmp_path: Path, monkeypatch: pytest.MonkeyPatch) -> None:
+    # (of a folder on the path that may not be read the system says that permission is denied)
+    monkeypatch.setenv("PATH", "/usr/bin:/bin")
     assert hikebox("run", "--", "no-such-command")[::2] == (127, "hikebox: no-such-command: command not found\n")
     status, _, errors = hikebox("run", "--", str(tmp_path))
     assert status == 126 and "ermission denied" in errors
@@ -151,11 +178,11 @@ def test_input_and_output(tmp_path: Path) -> None:
     assert hikebox("run", *once, "sh", "-c", "echo x; exit 4")[:2] == (4, "x\n")
 
 
-TOLD = "trap 'echo told; exit 5' {0}; echo up; while :; do sleep 0.01; done"
+TOLD = "trap 'echo told; exit 5' {0}; echo up; for _ in $(seq 3000); do sleep 0.01; done"
 
 
 @pytest.mark.parametrize("name", ["TERM", "INT", "HUP", "QUIT"])
-def test_a_signal_goes_to_the_command_and_ends_the_run(name: str) -> None:
+def test_a_signal_goes_to_the_command_and_ends_the_run(start: Any, name: str) -> None:
     process = start("run", "--policy", "recurs(9)", "--", "sh", "-c", TOLD.format(name))
     assert process.stdout.readline() == "up\n"
     process.send_signal(getattr(signal, f"SIG{name}"))
@@ -163,7 +190,7 @@ def test_a_signal_goes_to_the_command_and_ends_the_run(name: str) -> None:
     assert process.returncode == 5
 
 
-def test_a_signal_that_kills_the_command() -> None:
+def test_a_signal_that_kills_the_command(start: Any) -> None:
     process = start("run", "--policy", "recurs(9)", "--", "sh", "-c", "echo up; exec sleep 60")
     assert process.stdout.readline() == "up\n"
     process.terminate()
@@ -171,7 +198,7 @@ def test_a_signal_that_kills_the_command() -> None:
     assert process.returncode == 128 + signal.SIGTERM
 
 
-def test_a_signal_that_ends_nothing_is_passed_on_too() -> None:
+def test_a_signal_that_ends_nothing_is_passed_on_too(start: Any) -> None:
     process = start("run", "--policy", "recurs(9)", "--", "sh", "-c", TOLD.format("USR1").replace("exit 5", "exit 0"))
     assert process.stdout.readline() == "up\n"
     process.send_signal(signal.SIGUSR1)
@@ -179,7 +206,7 @@ def test_a_signal_that_ends_nothing_is_passed_on_too() -> None:
     assert process.returncode == 0
 
 
-def test_a_signal_between_two_attempts_ends_the_run() -> None:
+def test_a_signal_between_two_attempts_ends_the_run(start: Any) -> None:
     process = start("run", "-v", "--policy", "spaced(60)", "--", "sh", "-c", "exit 7")
     assert "next in" in process.stderr.readline()
     process.send_signal(signal.SIGUSR1)

@@ -148,13 +148,13 @@ def test_a_retry_on_a_quota_as_a_machine() -> None:
     machine, policy, drawn = Machine(), read(b'{"spaced":100}'), QuotaPass.of_quota(1, 500, 1000)
     drawn.deposit(5_010)
     assert drawn.seen(5_010) == (5, 1, 0, 1)
-    assert machine.begin_on_quota(policy, drawn)
+    assert machine.begin(policy, drawn)
     assert machine.poll(5_010, _engine.NO_REPORT, 0)[0] == _engine.RUN
     assert machine.poll(5_020, _engine.LOST, 7) == (_engine.WAIT, 5_120, 1)
     assert machine.poll(5_120, _engine.NO_REPORT, 0)[0] == _engine.RUN
     assert machine.poll(5_999, _engine.LOST, 7) == (_engine.OVER, 3, 1)
     assert drawn.close() is None
-    machine.end_on_quota(drawn)
+    machine.end(drawn)
     assert drawn.draw(5_999) is None and drawn.draw(6_000) == 6 * 2**32
     assert drawn.count() == 2 == drawn.close()
 
@@ -169,7 +169,7 @@ def test_a_retry_on_nothing_as_a_machine() -> None:
         machine.end(Pass.of_budget(1, False))
     assert caught.value.status == 42
     with pytest.raises(EngineError) as caught:
-        machine.end_on_quota(QuotaPass.of_quota(1, 0, 1))
+        machine.end(QuotaPass.of_quota(1, 0, 1))
     assert caught.value.status == 42
     machine.free()
     machine.free()
@@ -178,14 +178,14 @@ def test_a_retry_on_nothing_as_a_machine() -> None:
 def test_a_retry_ends_on_what_it_draws_on_alone() -> None:
     policy, quota, budget = read(b'{"recurs":2}'), QuotaPass.of_quota(1, 0, 1), Pass.of_budget(3, False)
     machine = Machine()
-    assert machine.begin_on_quota(policy, quota)
+    assert machine.begin(policy, quota)
     with pytest.raises(EngineError) as caught:
         machine.end(budget)
     assert caught.value.status == 42
-    machine.end_on_quota(quota)
+    machine.end(quota)
     assert machine.begin(policy, budget)
     with pytest.raises(EngineError) as caught:
-        machine.end_on_quota(quota)
+        machine.end(quota)
     assert caught.value.status == 42
     machine.end(budget)
     assert (quota.close(), budget.close()) == (0, 0)

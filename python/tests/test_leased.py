@@ -412,7 +412,7 @@ def test_a_client_that_decodes_answers(redis_server: Any) -> None:
     import redis
 
     server = redis_server()
-    store = RedisStore(redis.Redis(port=server.port, decode_responses=True))
+    store = RedisStore(redis.Redis(host="127.0.0.1", port=server.port, decode_responses=True))
     store.begin("a")
     assert Leased(store, "a", limit=10).draw() == 0
 

@@ -500,7 +500,7 @@ def test_a_quota_in_redis(redis_server: Any) -> None:
     assert server.client().keys("*") == []
     time.sleep(3.2)
     first = LeasedQuota(store, "a", 4, 0.5, 3, lease=2, again_after=0.01)
-    decoding = redis.Redis(port=server.port, decode_responses=True)
+    decoding = redis.Redis(host="127.0.0.1", port=server.port, decode_responses=True)
     second = LeasedQuota(RedisStore(decoding), "a", 4, 0.5, 3, lease=2, again_after=0.01)
     while time.time() % 3 > 0.1:
         time.sleep(0.01)

@@ -20,24 +20,18 @@ use std::sync::{Arc, Mutex, MutexGuard, PoisonError};
 /// assert_eq!(budget.close().ok(), Some(2));
 /// # Ok::<(), hikebox::BudgetError>(())
 /// ```
+///
+/// It makes as many passes and retries as are wanted: a pass that is given back gives its part of the budget back.
 #[derive(Clone, Debug)]
 pub struct Budget {
-    root: Arc<Mutex<Root>>,
-}
-
-/// The first pass of a budget. Of one that may rise it is the only one: a draw that the engine refuses uses its number up,
-/// so it is asked for a ticket only where there is one, under the lock.
-#[derive(Debug)]
-struct Root {
-    pass: Handle<PassKind>,
-    /// The limit, where it may rise.
-    rising: Option<u64>,
+    /// The first pass, which others are split off and joined into.
+    root: Arc<Mutex<Handle<PassKind>>>,
 }
 
 /// The right to draw tickets of a [`Budget`], for one thread at a time. Dropped, it is given back with its tickets.
 #[derive(Debug)]
 pub struct Pass {
-    /// None of a budget that may rise.
+    /// None only while it is dropped.
     handle: Option<Handle<PassKind>>,
     budget: Budget,
     tickets: u64,
@@ -59,7 +53,7 @@ pub enum BudgetError {
     PeriodTooShort,
     /// The window is longer than 2^62 - 1 milliseconds.
     PeriodTooLong,
-    /// 65,536 passes were made of the budget.
+    /// More than 2^42 passes are alive.
     TooManyPasses,
     /// Memory is wanting.
     NoMemory,
@@ -69,10 +63,11 @@ impl Budget {
     /// A budget of `limit` tickets, at most 4,294,967,296.
     pub fn new(limit: u64) -> Result<Self, BudgetError> {
         // SAFETY: `pass` is an empty handle.
-        Self::of(Handle::filled(|pass| unsafe { engine::hikebox_budget_fixed(limit, pass) }), None)
+        Self::of(Handle::filled(|pass| unsafe { engine::hikebox_budget_fixed(limit, pass) }))
     }
 
-    /// A budget of `limit` tickets that [`Budget::raise`] may raise.
+    /// A budget of `limit` tickets that [`Budget::raise`] may raise. A draw that is refused uses no ticket up, so a limit
+    /// that is raised by some gives as many tickets more.
     ///
     /// ```
     /// use hikebox::Budget;
@@ -86,37 +81,32 @@ impl Budget {
     /// ```
     pub fn rising(limit: u64) -> Result<Self, BudgetError> {
         // SAFETY: `pass` is an empty handle.
-        Self::of(Handle::filled(|pass| unsafe { engine::hikebox_budget_rising(limit, pass) }), Some(limit))
+        Self::of(Handle::filled(|pass| unsafe { engine::hikebox_budget_rising(limit, pass) }))
     }
 
     /// Raises the limit to `to`, where it is below that, and answers the limit.
     pub fn raise(&self, to: u64) -> Result<u64, BudgetError> {
         let mut limit = 0;
-        let mut root = self.lock();
         // SAFETY: the handle holds a pass.
-        match unsafe { engine::hikebox_pass_raise(root.pass.raw(), to, &mut limit) } {
-            engine::OK => {
-                root.rising = Some(limit);
-                Ok(limit)
-            }
+        match self.with(|root| unsafe { engine::hikebox_pass_raise(root, to, &mut limit) }) {
+            engine::OK => Ok(limit),
             status => Err(BudgetError::of(status)),
         }
     }
 
     /// A pass of the budget, for a thread that draws by itself.
     pub fn pass(&self) -> Result<Pass, BudgetError> {
-        let mut handle = None;
-        if !self.rises() {
-            // SAFETY: the first handle holds a pass, and the second is empty.
-            let part = Handle::filled(|part| self.with(|root| unsafe { engine::hikebox_pass_split(root, part) }));
-            handle = Some(part.map_err(BudgetError::of)?);
-        }
-        Ok(Pass { handle, budget: self.clone(), tickets: 0 })
+        // SAFETY: the first handle holds a pass, and the second is empty.
+        let part = Handle::filled(|part| self.with(|root| unsafe { engine::hikebox_pass_split(root, part) }));
+        Ok(Pass { handle: Some(part.map_err(BudgetError::of)?), budget: self.clone(), tickets: 0 })
     }
 
     /// How many tickets were granted to retries that have ended and to passes that were given back.
     pub fn granted(&self) -> u64 {
-        self.lock().count()
+        let mut tickets = 0;
+        // SAFETY: the handle holds a pass.
+        self.with(|root| unsafe { engine::hikebox_pass_count(root, &mut tickets) });
+        tickets
     }
 
     /// Closes the budget, where no other clone of it, no pass and no retry is alive, and answers how many tickets were
@@ -128,7 +118,7 @@ impl Budget {
         };
         let mut tickets = 0;
         // SAFETY: the handle holds a pass.
-        match unsafe { engine::hikebox_pass_close(root.pass.raw(), &mut tickets) } {
+        match unsafe { engine::hikebox_pass_close(root.raw(), &mut tickets) } {
             engine::OK => Ok(tickets),
             _ => Err(Self { root: Arc::new(Mutex::new(root)) }),
         }
@@ -136,71 +126,40 @@ impl Budget {
 
     /// Lends the first pass to one call.
     pub(crate) fn with<T>(&self, call: impl FnOnce(*mut engine::Raw) -> T) -> T {
-        call(self.lock().pass.raw())
+        call(self.lock().raw())
     }
 
-    /// Whether its limit may be raised.
-    pub(crate) fn rises(&self) -> bool {
-        self.lock().rising.is_some()
-    }
-
-    /// A ticket, drawn with the first pass.
-    pub(crate) fn draw(&self) -> Option<u64> {
-        self.lock().draw()
-    }
-
-    fn lock(&self) -> MutexGuard<'_, Root> {
+    fn lock(&self) -> MutexGuard<'_, Handle<PassKind>> {
         self.root.lock().unwrap_or_else(PoisonError::into_inner)
     }
 
-    fn of(pass: Result<Handle<PassKind>, u32>, rising: Option<u64>) -> Result<Self, BudgetError> {
-        let root = Root { pass: pass.map_err(BudgetError::of)?, rising };
-        Ok(Self { root: Arc::new(Mutex::new(root)) })
-    }
-}
-
-impl Root {
-    fn draw(&mut self) -> Option<u64> {
-        let limit = self.rising.unwrap_or(u64::MAX);
-        if self.count() < limit { draw(&mut self.pass) } else { None }
-    }
-
-    /// How many tickets were drawn with it and with those joined into it.
-    fn count(&mut self) -> u64 {
-        let mut tickets = 0;
-        // SAFETY: the handle holds a pass.
-        unsafe { engine::hikebox_pass_count(self.pass.raw(), &mut tickets) };
-        tickets
+    fn of(root: Result<Handle<PassKind>, u32>) -> Result<Self, BudgetError> {
+        Ok(Self { root: Arc::new(Mutex::new(root.map_err(BudgetError::of)?)) })
     }
 }
 
 impl Pass {
-    /// A ticket that no other draw got, or `None` where none is left. Of a budget that keeps its limit it is `None` from
-    /// then on, and a draw takes no lock and no memory, and never waits. Of one that may rise it takes the budget's lock.
+    /// A ticket that no other draw got, or `None` where none is left: of a budget that keeps its limit for good, of one
+    /// that may rise until it is raised. A draw takes no lock and no memory, and never waits.
     pub fn draw(&mut self) -> Option<u64> {
-        let ticket = match &mut self.handle {
-            Some(handle) => draw(handle),
-            None => self.budget.draw(),
-        };
-        self.tickets += u64::from(ticket.is_some());
-        ticket
+        let pass = self.handle.as_mut().expect("a pass has its handle until it is dropped");
+        let mut ticket = 0;
+        // SAFETY: the handle holds a pass.
+        match unsafe { engine::hikebox_pass_draw(pass.raw(), &mut ticket) } {
+            engine::OK => {
+                self.tickets += 1;
+                Some(ticket)
+            }
+            status => {
+                debug_assert_eq!(status, engine::NO_TICKET);
+                None
+            }
+        }
     }
 
     /// How many tickets it drew.
     pub fn count(&self) -> u64 {
         self.tickets
-    }
-}
-
-fn draw(pass: &mut Handle<PassKind>) -> Option<u64> {
-    let mut ticket = 0;
-    // SAFETY: the handle holds a pass.
-    match unsafe { engine::hikebox_pass_draw(pass.raw(), &mut ticket) } {
-        engine::OK => Some(ticket),
-        status => {
-            debug_assert_eq!(status, engine::NO_TICKET);
-            None
-        }
     }
 }
 
@@ -238,7 +197,7 @@ impl fmt::Display for BudgetError {
             Self::ShareOutOfRange => "the share is not 0, nor from 0.001 to 1000 retries a request",
             Self::PeriodTooShort => "the window is shorter than a millisecond",
             Self::PeriodTooLong => "the window is longer than 2^62 - 1 milliseconds",
-            Self::TooManyPasses => "65536 passes were made of the budget",
+            Self::TooManyPasses => "more than 2^42 passes are alive",
             Self::NoMemory => "no memory",
         })
     }

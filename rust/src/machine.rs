@@ -44,16 +44,6 @@ enum DrawsOn {
     Quota(Quota),
     /// Nothing.
     Nothing,
-    /// The engine's retry draws on nothing, and each ticket is drawn here.
-    Apart(Apart),
-}
-
-/// A budget that has no pass left for a retry, or has none since its limit may rise, and what was drawn of it.
-#[derive(Debug)]
-struct Apart {
-    budget: Budget,
-    granted: u64,
-    is_refused: bool,
 }
 
 /// How a run went, with a code up to 2^62 - 1 by which the schedule knows it; a greater one counts as that.
@@ -114,32 +104,23 @@ impl Machine {
 
     pub(crate) fn on(policy: &Policy, source: &Source) -> Result<Self, BudgetError> {
         let (handle, draws_on) = match source {
-            Source::Budget(budget) => match Self::by_a_pass(policy, budget)? {
-                Some(handle) => (handle, DrawsOn::Budget(budget.clone())),
-                None => (Self::unlimited(policy)?, DrawsOn::Apart(Apart::of(budget))),
-            },
+            Source::Budget(budget) => (Self::on_budget(policy, budget)?, DrawsOn::Budget(budget.clone())),
             Source::Quota(quota) => (Self::on_quota(policy, quota)?, DrawsOn::Quota(quota.clone())),
             Source::Unlimited => (Self::unlimited(policy)?, DrawsOn::Nothing),
         };
         Ok(Self { handle: Some(handle), draws_on, words: Words::new() })
     }
 
-    /// The engine's retry with a pass of the budget, where it has one for it.
-    fn by_a_pass(policy: &Policy, budget: &Budget) -> Result<Option<Handle<RetryKind>>, BudgetError> {
-        if budget.rises() {
-            return Ok(None);
-        }
+    /// The engine's retry with a pass of the budget. The first pass has 2^62 parts, of which it takes 2^20 at most.
+    fn on_budget(policy: &Policy, budget: &Budget) -> Result<Handle<RetryKind>, BudgetError> {
         let handle = Handle::filled(|retry| {
             // SAFETY: the handles hold a policy and a pass, and `retry` is empty.
             policy.with(|policy| budget.with(|root| unsafe { engine::hikebox_retry_new(policy, root, retry) }))
         });
-        match handle.map_err(BudgetError::of) {
-            Err(BudgetError::TooManyPasses) => Ok(None),
-            handle => handle.map(Some),
-        }
+        handle.map_err(BudgetError::of)
     }
 
-    /// The engine's retry with a pass of the quota. The first pass has 2^62 parts, of which it takes 2^20 at most.
+    /// The same with a pass of the quota.
     fn on_quota(policy: &Policy, quota: &Quota) -> Result<Handle<RetryKind>, BudgetError> {
         let handle = Handle::filled(|retry| {
             // SAFETY: the handles hold a policy and a pass, and `retry` is empty.
@@ -172,29 +153,12 @@ impl Machine {
         if status != engine::OK {
             next = self.see();
         }
-        if report == engine::LOST && next.what != engine::OVER && !self.draws() {
-            self.cancel();
-        }
-        match &self.draws_on {
-            DrawsOn::Apart(apart) if apart.is_refused => Step::Over(Ended::BudgetRefused),
-            _ => step_of(next),
-        }
-    }
-
-    /// Draws a ticket where the engine's retry does not: whether there was one.
-    fn draws(&mut self) -> bool {
-        match &mut self.draws_on {
-            DrawsOn::Apart(apart) => apart.draw(),
-            DrawsOn::Budget(_) | DrawsOn::Quota(_) | DrawsOn::Nothing => true,
-        }
+        step_of(next)
     }
 
     /// How many retries it was granted.
     pub fn granted(&mut self) -> u64 {
-        match &self.draws_on {
-            DrawsOn::Apart(apart) => apart.granted,
-            DrawsOn::Budget(_) | DrawsOn::Quota(_) | DrawsOn::Nothing => self.see().granted,
-        }
+        self.see().granted
     }
 
     /// How many runs were reported.
@@ -234,21 +198,8 @@ impl Drop for Machine {
             DrawsOn::Quota(quota) => {
                 quota.with(|root| unsafe { engine::hikebox_retry_end_on_quota(handle.raw(), root) });
             }
-            DrawsOn::Nothing | DrawsOn::Apart(_) => (),
+            DrawsOn::Nothing => (),
         }
-    }
-}
-
-impl Apart {
-    fn of(budget: &Budget) -> Self {
-        Self { budget: budget.clone(), granted: 0, is_refused: false }
-    }
-
-    /// Draws a ticket: whether there was one.
-    fn draw(&mut self) -> bool {
-        self.is_refused = self.budget.draw().is_none();
-        self.granted += u64::from(!self.is_refused);
-        !self.is_refused
     }
 }
 

@@ -99,6 +99,17 @@ impl Schedule {
         Self::node("fibonacci", millis(first))
     }
 
+    /// Random delays, each from `base` up to `factor` (1 to 1000) times the one before, and none longer than `longest`;
+    /// `base` stands for the delay before the first. AWS calls it decorrelated jitter, and takes the factor 3.
+    pub fn decorrelated(base: Duration, factor: u64, longest: Duration) -> Self {
+        Self::decorrelated_milli(0, base, factor.saturating_mul(1000), longest)
+    }
+
+    /// The same with a factor of `thousandths` (1000 to 1,000,000), where the random word of the lane, 0 to 3, picks.
+    pub fn decorrelated_milli(lane: u8, base: Duration, thousandths: u64, longest: Duration) -> Self {
+        Self::node("decorrelated", format_args!("[{lane},{},{thousandths},{}]", millis(base), millis(longest)))
+    }
+
     /// Goes on at once; the output is the time since the first event.
     pub fn elapsed() -> Self {
         Self::leaf("\"elapsed\"")
@@ -223,6 +234,12 @@ impl Schedule {
     #[must_use]
     pub fn up_to(self, time: Duration) -> Self {
         self.under("within", millis(time))
+    }
+
+    /// Done where it would go on later than `time` after the first event: no call begins later than that.
+    #[must_use]
+    pub fn ends_by(self, time: Duration) -> Self {
+        self.under("ends_by", millis(time))
     }
 
     /// Begins anew at the first event that comes `time` or more after the first one of the present round.

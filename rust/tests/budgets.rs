@@ -67,6 +67,42 @@ fn what_a_rising_budget_refused_it_gives_once_it_was_raised() {
 }
 
 #[test]
+fn a_budget_counts_no_passes() {
+    let policy: Policy = r#"{"recurs":1}"#.parse().unwrap();
+    for budget in [Budget::new(70_001).unwrap(), Budget::rising(70_001).unwrap()] {
+        for _ in 0..70_000 {
+            assert_eq!(retry(&policy, &budget, || Err::<(), _>(())), Err(RetryError::ScheduleDone(())));
+        }
+        assert_eq!(budget.granted(), 70_000);
+        for _ in 0..70_000 {
+            drop(budget.pass().unwrap());
+        }
+        assert_eq!(budget.pass().unwrap().draw(), Some(70_000));
+        assert_eq!(budget.close().unwrap(), 70_001);
+    }
+}
+
+#[test]
+fn a_budget_raised_by_some_gives_as_many_more_whatever_was_refused() {
+    let budget = Budget::rising(100).unwrap();
+    for limit in [100, 150, 151] {
+        assert_eq!(budget.raise(limit), Ok(limit));
+        thread::scope(|scope| {
+            for _ in 0..16 {
+                let budget = &budget;
+                scope.spawn(move || {
+                    for _ in 0..1_000 {
+                        budget.pass().unwrap().draw();
+                    }
+                });
+            }
+        });
+        assert_eq!(budget.granted(), limit);
+    }
+    assert_eq!(budget.close().unwrap(), 151);
+}
+
+#[test]
 fn a_clone_keeps_a_budget_open() {
     let budget = Budget::new(1).unwrap();
     let clone = budget.clone();

@@ -5,10 +5,10 @@ use std::io::Write;
 use std::process::{Command, Stdio};
 use std::time::Duration;
 
-/// The program that the engine's crates build: where `HIKEBOX_ZSCHED` says.
+/// What the program prints that the engine's crates build: the one that `HIKEBOX_ZSCHED` names, or that of `dist/`.
 fn zsched(json: &str) -> String {
-    let program = std::env::var_os("HIKEBOX_ZSCHED").expect("HIKEBOX_ZSCHED names the program zsched");
-    let mut child = Command::new(program)
+    let of_dist = concat!(env!("CARGO_MANIFEST_DIR"), "/../dist/zsched");
+    let mut child = Command::new(std::env::var_os("HIKEBOX_ZSCHED").unwrap_or_else(|| of_dist.into()))
         .args(["plan", "--steps", "12"])
         .stdin(Stdio::piped())
         .stdout(Stdio::piped())
@@ -43,7 +43,7 @@ impl Numbers {
     }
 
     fn leaf(&mut self) -> Schedule {
-        match self.below(13) {
+        match self.below(15) {
             0 => Schedule::forever(),
             1 => Schedule::recurs(self.below(9)),
             2 => Schedule::spaced(self.millis()),
@@ -55,7 +55,14 @@ impl Numbers {
             8 => Schedule::fibonacci(self.millis()),
             9 => Schedule::elapsed(),
             10 => Schedule::identity(),
-            11 => Schedule::unfold(self.below(5), self.below(5), self.below(5)),
+            11 => Schedule::decorrelated(self.millis(), self.below(4) + 1, Duration::from_secs(9)),
+            12 => Schedule::decorrelated_milli(
+                self.below(4) as u8,
+                self.millis(),
+                self.below(3000) + 1000,
+                Duration::from_secs(9),
+            ),
+            13 => Schedule::unfold(self.below(5), self.below(5), self.below(5)),
             _ => Schedule::lone(self.millis()),
         }
     }
@@ -65,11 +72,11 @@ impl Numbers {
             return self.leaf();
         }
         let under = self.schedule(depth - 1);
-        match self.below(24) {
-            0 | 20 => under & self.schedule(depth - 1),
-            1 | 21 => under | self.schedule(depth - 1),
-            2 | 22 => under.then(self.schedule(depth - 1)),
-            3 | 23 => under >> self.schedule(depth - 1),
+        match self.below(25) {
+            0 | 21 => under & self.schedule(depth - 1),
+            1 | 22 => under | self.schedule(depth - 1),
+            2 | 23 => under.then(self.schedule(depth - 1)),
+            3 | 24 => under >> self.schedule(depth - 1),
             4 => under.while_input(self.test()),
             5 => under.until_input(self.test()),
             6 => under.while_output(self.test()),
@@ -85,6 +92,7 @@ impl Numbers {
             16 => under.renew_idle(self.millis()),
             17 => under.first(),
             18 => under.second(),
+            19 => under.ends_by(self.millis()),
             _ => under.nothing(),
         }
     }
@@ -109,6 +117,8 @@ fn faults_are_those_of_the_text() {
     assert!(matches!(fault(""), PolicyFault::NotJson { .. }));
     assert_eq!(fault(r#"{"fixed":0}"#), PolicyFault::OutOfRange);
     assert_eq!(fault(r#"{"exponential":[1,1001]}"#), PolicyFault::OutOfRange);
+    assert_eq!(fault(r#"{"decorrelated":[0,10,3000,9]}"#), PolicyFault::OutOfRange);
+    assert_eq!(fault(r#"{"ends_by":[4611686018427387904,"forever"]}"#), PolicyFault::OutOfRange);
 
     let mut deep = Schedule::forever();
     for _ in 0..31 {
@@ -150,6 +160,25 @@ fn a_fault_has_its_place_and_what_is_wanted_there() {
     assert_eq!(shown(r#"{"recurs":3"#), "not JSON: line 1, column 11");
     let join = Schedule::forever() | Schedule::fixed(Duration::ZERO);
     assert!(Policy::new(&join).unwrap_err().to_string().starts_with(r#"number out of range: join[1]: "fixed" is"#));
+}
+
+#[test]
+fn delays_that_are_picked_by_the_one_before_and_end_in_time() {
+    let [base, end, longest] = [100, 1000, 10_000].map(Duration::from_millis);
+    let delays = Schedule::decorrelated(base, 3, longest);
+    assert_eq!(delays.as_json(), r#"{"decorrelated":[0,100,3000,10000]}"#);
+    let in_lane = Schedule::decorrelated_milli(3, base, 1500, longest);
+    assert_eq!(in_lane.as_json(), r#"{"decorrelated":[3,100,1500,10000]}"#);
+    let ending = delays.ends_by(end);
+    assert_eq!(ending.as_json(), r#"{"ends_by":[1000,{"decorrelated":[0,100,3000,10000]}]}"#);
+
+    let preview = Policy::new(&ending).unwrap().preview(10).unwrap();
+    let lines: Vec<String> = preview.iter().map(ToString::to_string).collect();
+    assert_eq!(lines, ["0: 200 next 200", "200: 350 next 550", "550: 575 done"]);
+    for factor in [0, 1001, u64::MAX] {
+        let schedule = Schedule::decorrelated(base, factor, longest);
+        assert_eq!(Policy::new(&schedule).unwrap_err().fault(), PolicyFault::OutOfRange);
+    }
 }
 
 #[test]

@@ -128,7 +128,7 @@ fn a_retry_on_nothing_ends_by_its_schedule() {
 }
 
 #[test]
-fn a_rising_budget_is_drawn_of_beside_the_engines_retry() {
+fn a_retry_draws_of_a_rising_budget() {
     let budget = Budget::rising(2).unwrap();
     assert_eq!(all_lost("\"forever\"", &budget, 0), (Ended::BudgetRefused, vec![0; 3], 2));
     assert_eq!(budget.raise(3), Ok(3));

@@ -1,10 +1,9 @@
-//! Draws tickets of one budget with several threads: `bench_draw [THREADS] [DRAWS] [rising]`, of 2 threads and 1,000
-//! draws each where nothing is said, and of a budget that keeps its limit, or of a rising one. It prints what was drawn
-//! and no time; a script measures it from outside.
+//! Draws tickets of one budget with several threads: `bench_draw [THREADS] [DRAWS] [rising] [parts]`, of 2 threads and
+//! 1,000 draws each where nothing is said, and of a budget that keeps its limit, or of a rising one, which counts its
+//! passes or goes by parts. It prints what was drawn and no time; a script measures it from outside.
 #![tactic(auto)]
 
 ghost use Rattle.std.specs.Prelude.{◌≡◌, ◌*◌, ◌≤◌, false, All, IfOk, IfSome};
-ghost use Rattle.sched_ticket.specs.View.{terms};
 ghost use Rattle.sched_ticket.specs.Held.{IsOf};
 
 use sched_ticket::{Budget, Pass, TicketFault};
@@ -22,11 +21,18 @@ fn main(rt: HostRuntime) -> io::Result<()> {
         .next()
         .and_then(|word| word.as_str().parse().ok())
         .unwrap_or(1000);
-    let rises = words.next().is_some_and(|word| word.as_str() == "rising");
+    let mut kind = Kind {
+        rises: false,
+        by_parts: false,
+    };
+    for word in words {
+        kind.rises |= word.as_str() == "rising";
+        kind.by_parts |= word.as_str() == "parts";
+    }
     let count = if threads == 1 {
-        draw_alone(rt.alloc(), rises, draws)
+        draw_alone(rt.alloc(), kind, draws)
     } else {
-        draw_beside(&rt, rt.alloc(), rises, threads, draws)
+        draw_beside(&rt, rt.alloc(), kind, threads, draws)
     };
     match count {
         Ok(Some(count)) => println!(rt; "{threads} threads, {draws} draws each: {count} tickets"),
@@ -35,22 +41,31 @@ fn main(rt: HostRuntime) -> io::Result<()> {
     }
 }
 
-/// A budget of so many tickets, whose limit may rise or not.
-fn budget_of(alloc: Global, rises: bool, limit: u64) -> Result<(Budget, Pass), TicketFault>
-    ensures { IfOk result (λ r. (r.0.terms ≡ terms limit rises) × IsOf r.0 r.1) }
+/// Whether a budget's limit may rise, and whether it goes by parts.
+#[derive(Clone, Copy, Drop)]
+struct Kind {
+    rises: bool,
+    by_parts: bool,
+}
+
+/// A budget of so many tickets.
+fn budget_of(alloc: Global, kind: Kind, limit: u64) -> Result<(Budget, Pass), TicketFault>
+    ensures of { IfOk result (λ r. IsOf r.0 r.1) }
+    ensures limit { IfOk result (λ r. (r.0.terms.limit ≡ limit) × (r.0.terms.rises ≡ kind.rises)) }
 {
-    if rises {
-        Budget::rising(alloc, limit)
-    } else {
-        Budget::new(alloc, limit)
+    match (kind.rises, kind.by_parts) {
+        (false, false) => Budget::new(alloc, limit),
+        (true, false) => Budget::rising(alloc, limit),
+        (false, true) => Budget::by_parts(alloc, limit),
+        (true, true) => Budget::rising_by_parts(alloc, limit),
     }
 }
 
 /// This thread draws so many tickets. It answers how many the budget gave out.
-fn draw_alone(alloc: Global, rises: bool, draws: u64) -> Result<Option<u64>, TicketFault>
-    ensures { IfOk result (λ o. IfSome o (λ n. rises ≡ false → n ≤ draws)) }
+fn draw_alone(alloc: Global, kind: Kind, draws: u64) -> Result<Option<u64>, TicketFault>
+    ensures { IfOk result (λ o. IfSome o (λ n. kind.rises ≡ false → n ≤ draws)) }
 {
-    let (budget, pass) = budget_of(alloc, rises, draws)?;
+    let (budget, pass) = budget_of(alloc, kind, draws)?;
     let pass = draw_times(&budget, pass, draws);
     Ok(budget.close(pass).ok())
 }
@@ -59,13 +74,13 @@ fn draw_alone(alloc: Global, rises: bool, draws: u64) -> Result<Option<u64>, Tic
 fn draw_beside<R: Threads + Sync>(
     rt: &R,
     alloc: Global,
-    rises: bool,
+    kind: Kind,
     threads: u64,
     draws: u64,
 ) -> Result<Option<u64>, TicketFault>
-    ensures { IfOk result (λ o. IfSome o (λ n. rises ≡ false → n ≤ threads * draws)) }
+    ensures { IfOk result (λ o. IfSome o (λ n. kind.rises ≡ false → n ≤ threads * draws)) }
 {
-    let (budget, mut first) = budget_of(alloc, rises, threads.saturating_mul(draws))?;
+    let (budget, mut first) = budget_of(alloc, kind, threads.saturating_mul(draws))?;
     let passes = split_off(alloc, &budget, &mut first, threads)?;
     let Ok(passes) = draw_each(rt, &budget, passes, draws) else {
         return Err(TicketFault::NoMemory);

@@ -1,5 +1,5 @@
-//! Polls a retry, a retry with a fallback, a repeat and a retry of calls by hand, and prints what each shows after each
-//! poll.
+//! Checks polls that are refused memory: polls a retry, a retry with a fallback, a repeat and a retry of calls by hand,
+//! and prints what each shows after each poll.
 //!
 //! A script runs it with each growth refused in turn; status 5 says that memory was refused to something else than a
 //! poll.

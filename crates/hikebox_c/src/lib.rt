@@ -1,4 +1,4 @@
-//! What include/hikebox.h declares: calls for programs in C, or in any language that calls C.
+//! Hikebox for C, as include/hikebox.h declares it: calls for programs in C, or in any language that calls C.
 #![tactic(auto)]
 
 mod budgets;

@@ -1,8 +1,8 @@
 -- What is told of the fault of a policy's text.
 use Rattle.std.specs.Prelude.{◌≡◌, ℕ, List, [], Option, Some, None, Result, Ok, Err, String, string_bytes}
 use Rattle.std.specs.Global.{Global}
-use Rattle.sched_cli_check.specs.Faults.{FindsFault, told_text}
-use Rattle.sched_cli_check.specs.declared.faults.ToldFault.{ToldFault}
+use Rattle.sched_plan_hint.specs.Faults.{FindsFault, told_text}
+use Rattle.sched_plan_hint.specs.declared.faults.ToldFault.{ToldFault}
 use Rattle.sched_reply.specs.declared.status.Status.{Status}
 use Rattle.sched_reply.specs.declared.status.Status.TheVariants.{NoMemory}
 

@@ -2,7 +2,7 @@
 ghost use Rattle.sched_calls.specs.Drivers.{TellsText};
 ghost use Rattle.sched_calls.specs.Faults.{SaysFault, TellsFault};
 
-use sched_cli_check::plan_fault;
+use sched_plan_hint::plan_fault;
 use sched_handle::{Status, put_text};
 use std::alloc::Global;
 

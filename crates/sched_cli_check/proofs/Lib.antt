@@ -1,4 +1,2 @@
-pub mod Steps
 pub mod Puts
 pub mod Tells
-pub mod Finds

@@ -4,7 +4,7 @@ use Rattle.std.specs.Io.KnownBytes.{Appends}
 use Rattle.sched_cli_plan.specs.Whole.{IsWholeInput, StopsWriting, count_of_reads, count_of_writes}
 use Rattle.sched_cli_plan.specs.Refusal.{refusal_of}
 use Rattle.sched_cli_plan.specs.declared.faults.PrintFault.{PrintFault}
-use Rattle.sched_cli_plan.specs.declared.faults.PrintFault.TheVariants.{ReadFailed, TooLong, NotJson, NotAPlan, OutOfRange, TooDeep, TooMany, NoMemory, NotStarted, WriteFailed, Unfinished, Mixed}
+use Rattle.sched_cli_plan.specs.declared.faults.PrintFault.TheVariants.{ReadFailed, TooLong, NotJson, NotAPlan, OutOfRange, TooDeep, TooMany, NoMemory, WriteFailed}
 use Rattle.sched_plan.specs.declared.plans.PlanFault.TheVariants as builder
 use Rattle.sched_plan_json.specs.declared.faults.ReadFault.{ReadFault}
 use Rattle.sched_plan_json.specs.declared.faults.ReadFault.TheVariants as reading
@@ -25,9 +25,6 @@ put_stopped t t' text answer OutOfRange stop = absurd stop
 put_stopped t t' text answer TooDeep stop = absurd stop
 put_stopped t t' text answer TooMany stop = absurd stop
 put_stopped t t' text answer NoMemory stop = absurd stop
-put_stopped t t' text answer NotStarted stop = absurd stop
-put_stopped t t' text answer Unfinished stop = absurd stop
-put_stopped t t' text answer Mixed stop = absurd stop
 
 -- a text is written, and Ok is answered
 pub put_read : (t t' : Option (List ℕ)) (text : List ℕ) (result : Result (Unit {0}) PrintFault) →
@@ -46,9 +43,6 @@ not_counted OutOfRange n other = refl
 not_counted TooDeep n other = refl
 not_counted TooMany n other = refl
 not_counted NoMemory n other = refl
-not_counted NotStarted n other = refl
-not_counted Unfinished n other = refl
-not_counted Mixed n other = refl
 
 pub refused_otherwise : (fault : ReadFault) → refusal_of fault ≢ WriteFailed
 refused_otherwise reading.NotAPlan e = cc

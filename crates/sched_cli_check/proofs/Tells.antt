@@ -10,11 +10,12 @@ use Rattle.serde_json.specs.declared.value.Value.{Value}
 use Rattle.sched_time.specs.declared.faults.NoMemory.{NoMemory}
 use Rattle.sched_plan_check.specs.declared.places.Fault.{Fault}
 use Rattle.sched_plan_check.specs.Places.{place_of}
-use Rattle.sched_plan_check.specs.Checked.{IsPlanFault, IsJobsFault}
-use Rattle.sched_cli_check.specs.Faults.{IsTold, told_text}
+use Rattle.sched_plan_check.specs.Checked.{IsPlanFault}
+use Rattle.sched_pool_check.specs.Checked.{IsJobsFault}
+use Rattle.sched_plan_hint.specs.Faults.{IsTold, told_text}
 use Rattle.sched_cli_check.specs.Reporting.{TellsPlanFault, TellsJobsFault, ReportsPlan, ReportsJobs, Reports, IsReport}
-use Rattle.sched_cli_check.specs.declared.faults.ToldFault.{ToldFault}
-use Rattle.sched_cli_check.specs.declared.faults.ToldFault.TheVariants as what
+use Rattle.sched_plan_hint.specs.declared.faults.ToldFault.{ToldFault}
+use Rattle.sched_plan_hint.specs.declared.faults.ToldFault.TheVariants as what
 use Rattle.sched_cli_check.specs.declared.reports.Report.{Report}
 use Rattle.sched_cli_check.specs.declared.reports.Report.TheVariants.{Read, Refused, NotJson}
 

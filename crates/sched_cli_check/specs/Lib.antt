@@ -1,4 +1,2 @@
-pub mod PlaceText
-pub mod Faults
 pub mod Reporting
 pub mod Checking

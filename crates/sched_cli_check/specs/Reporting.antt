@@ -11,8 +11,8 @@ use Rattle.sched_pool_json.specs.Job.{Job}
 use Rattle.sched_pool_json.specs.JobsOf.{jobs_of}
 use Rattle.sched_plan_check.specs.Places.{Into, value_at}
 use Rattle.sched_plan_check.specs.PlanFaults.{IsPlan, FirstFault}
-use Rattle.sched_plan_check.specs.JobFaults.{JobsFault}
-use Rattle.sched_cli_check.specs.PlaceText.{fault_text}
+use Rattle.sched_pool_check.specs.JobFaults.{JobsFault}
+use Rattle.sched_plan_hint.specs.PlaceText.{fault_text}
 use Rattle.sched_cli_check.specs.declared.reports.Report.{Report}
 use Rattle.sched_cli_check.specs.declared.reports.Report.TheVariants.{Read, Refused, NotJson}
 

@@ -1,36 +1,15 @@
-//! What is wanted where a fault is found. Nothing is proved of these texts.
-use crate::nodes::{nearest, spelling};
-use sched_plan::PlanFault;
+//! What is wanted where jobs have their fault. Nothing is proved of these texts.
 use sched_plan_check::{Fault, Step};
-use sched_plan_json::ReadFault;
+use sched_plan_hint::push_plan_hint;
 use sched_time::NoMemory;
 use serde_json::Value;
 use std::alloc::Global;
 use std::fmt::Write;
 
-const PLAN_WANTED: &str = "a plan is a string or an object of one member";
-
 const JOB_WANTED: &str = r#"a job is {"plan":PLAN,"runs":[RUN,..]}"#;
 
 const RUN_WANTED: &str =
     r#"a run is {"won":CODE} or {"lost":CODE}, CODE from 0 to 4611686018427387903"#;
-
-/// Adds what is wanted at the fault of a plan.
-pub(crate) fn push_plan_hint(
-    alloc: Global,
-    text: &mut String,
-    fault: ReadFault,
-    value: &Value,
-) -> Result<(), NoMemory> {
-    match fault {
-        ReadFault::NotAPlan => push_form_hint(alloc, text, value)?,
-        ReadFault::Plan(PlanFault::OutOfRange) => push_form_hint(alloc, text, value)?,
-        ReadFault::Plan(PlanFault::TooDeep) => text.push_str("a plan is at most 32 deep")?,
-        ReadFault::Plan(PlanFault::TooMany) => text.push_str("a plan has at most 256 nodes")?,
-        ReadFault::Plan(PlanFault::NoMemory) => text.push_str("no memory")?,
-    }
-    Ok(())
-}
 
 /// Adds what is wanted at the fault of jobs.
 pub(crate) fn push_jobs_hint(
@@ -62,35 +41,4 @@ fn items_of(value: &Value) -> usize {
         Value::Array(items) => items.len(),
         _ => 0,
     }
-}
-
-// Adds how the node is spelt that the value should be.
-fn push_form_hint(alloc: Global, text: &mut String, value: &Value) -> Result<(), NoMemory> {
-    match value {
-        Value::String(name) => push_name_hint(alloc, text, name.as_str())?,
-        Value::Object(members) => {
-            let count = members.len();
-            let mut members = members.iter();
-            match (members.next(), members.next()) {
-                (Some((name, _)), None) => push_name_hint(alloc, text, name.as_str())?,
-                _ => write!(text, "{PLAN_WANTED}, and this has {count}")?,
-            }
-        }
-        _ => text.push_str(PLAN_WANTED)?,
-    }
-    Ok(())
-}
-
-// Adds how the node of this name is spelt, or that there is none, with the nearest name.
-fn push_name_hint(alloc: Global, text: &mut String, name: &str) -> Result<(), NoMemory> {
-    if let Some(form) = spelling(name) {
-        write!(text, "\"{name}\" is spelt {form}")?;
-        return Ok(());
-    }
-    write!(text, "no node is called \"{name}\"")?;
-    let near = nearest(alloc, name)?;
-    if let Some(known) = near {
-        write!(text, "; did you mean \"{known}\"?")?;
-    }
-    Ok(())
 }

@@ -2,14 +2,15 @@
 ghost use Rattle.std.specs.Prelude.{◌≡◌, ◌++◌, codes, IfOk, string_bytes};
 ghost use Rattle.serde_json.specs.View.{view};
 ghost use Rattle.sched_cli_check.specs.Reporting.{IsReport, Reports, ReportsPlan, ReportsJobs};
-ghost use Rattle.sched_cli_check.specs.Faults.{told_text};
+ghost use Rattle.sched_plan_hint.specs.Faults.{told_text};
 
-use crate::faults::{ToldFault, tell_fault, tell_plan_fault};
 use crate::hints::push_jobs_hint;
 use sched_plan::Plan;
 use sched_plan_bound::most_goes;
-use sched_plan_check::{JobsChecked, PlanChecked, check_jobs, check_plan};
+use sched_plan_check::{PlanChecked, check_plan};
+use sched_plan_hint::{ToldFault, tell_fault, tell_plan_fault};
 use sched_plan_json::ReadFault;
+use sched_pool_check::{JobsChecked, check_jobs};
 use sched_pool_json::JobRead;
 use sched_time::NoMemory;
 use serde_json::Value;

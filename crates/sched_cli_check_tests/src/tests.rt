@@ -5,7 +5,6 @@ use std::alloc::Global;
 use std::process::Abort;
 use std::test::Fail;
 
-mod faults;
 mod good_texts;
 mod jobs;
 mod no_json;

@@ -15,7 +15,7 @@ use Rattle.sched_cli_plan.specs.Printing.{Prints, ReadsPlan, ReadsValue}
 use Rattle.sched_cli_plan.specs.Whole.{IsWholeInput}
 use Rattle.sched_cli_plan.specs.Course.{Course}
 use Rattle.sched_cli_plan.specs.declared.faults.PrintFault.{PrintFault}
-use Rattle.sched_cli_plan.specs.declared.faults.PrintFault.TheVariants.{ReadFailed, TooLong, NotJson, NotAPlan, OutOfRange, TooDeep, TooMany, NoMemory, NotStarted, WriteFailed, Unfinished, Mixed}
+use Rattle.sched_cli_plan.specs.declared.faults.PrintFault.TheVariants.{ReadFailed, TooLong, NotJson, NotAPlan, OutOfRange, TooDeep, TooMany, NoMemory, WriteFailed}
 
 -- a fault of reading ends the printing, with nothing written
 pub prints_fault : (o : Course) (l m t : Option (List ℕ)) (bytes : List ℕ) (fault : PrintFault) →
@@ -28,10 +28,7 @@ prints_fault o l m t bytes TooMany whole reads = ((bytes, whole, reads), Keeps-r
 prints_fault o l m t bytes NoMemory whole reads = inl (Keeps-refl t)
 prints_fault o l m t bytes ReadFailed whole reads = absurd reads
 prints_fault o l m t bytes TooLong whole reads = absurd reads
-prints_fault o l m t bytes NotStarted whole reads = absurd reads
 prints_fault o l m t bytes WriteFailed whole reads = absurd reads
-prints_fault o l m t bytes Unfinished whole reads = absurd reads
-prints_fault o l m t bytes Mixed whole reads = absurd reads
 
 -- bytes that spell no value spell no plan
 pub plan_in_no_value : (bytes : List ℕ) (fault : PrintFault) → ReadsValue bytes (Err fault) → ReadsPlan bytes (Err fault)
@@ -43,10 +40,7 @@ plan_in_no_value bytes TooDeep reads = absurd reads
 plan_in_no_value bytes TooMany reads = absurd reads
 plan_in_no_value bytes ReadFailed reads = absurd reads
 plan_in_no_value bytes TooLong reads = absurd reads
-plan_in_no_value bytes NotStarted reads = absurd reads
 plan_in_no_value bytes WriteFailed reads = absurd reads
-plan_in_no_value bytes Unfinished reads = absurd reads
-plan_in_no_value bytes Mixed reads = absurd reads
 
 -- a value that is refused is no plan, for the fault of reading it
 pub plan_refused : (bytes : List ℕ) (v : Value) (fault : ReadFault) → IsUtf8 bytes → read bytes ≡ Some (view v) →

@@ -18,7 +18,7 @@ use Rattle.sched_cli_plan.specs.Printing.{WritesText}
 use Rattle.sched_cli_plan.specs.Whole.{IsFront, WritesFront, WritesAllBut, StopsWriting}
 use Rattle.sched_cli_plan.specs.Course.{Course}
 use Rattle.sched_cli_plan.specs.declared.faults.PrintFault.{PrintFault}
-use Rattle.sched_cli_plan.specs.declared.faults.PrintFault.TheVariants.{ReadFailed, TooLong, NotJson, NotAPlan, OutOfRange, TooDeep, TooMany, NoMemory, NotStarted, WriteFailed, Unfinished, Mixed}
+use Rattle.sched_cli_plan.specs.declared.faults.PrintFault.TheVariants.{ReadFailed, TooLong, NotJson, NotAPlan, OutOfRange, TooDeep, TooMany, NoMemory, WriteFailed}
 use Rattle.sched_cli_plan.proofs.Printed.{IsPrinted, IsFront-trans, run-grows, lines_text-push, front_of_plan, end_of_plan, next_moment-push}
 use Rattle.sched_cli_plan.proofs.Written.{grows, moves, stops}
 
@@ -67,9 +67,6 @@ front_of_text old new front text NotAPlan is wrote = absurd wrote
 front_of_text old new front text OutOfRange is wrote = absurd wrote
 front_of_text old new front text TooDeep is wrote = absurd wrote
 front_of_text old new front text TooMany is wrote = absurd wrote
-front_of_text old new front text NotStarted is wrote = absurd wrote
-front_of_text old new front text Unfinished is wrote = absurd wrote
-front_of_text old new front text Mixed is wrote = absurd wrote
 
 module _ (s : Schedule) (o : Course) (n now : ℕ) (d next : Driven) (pending more : List ℕ) (old mid : Option (List ℕ))
     (printed : IsPrinted s o n now d pending old mid) (stepped : next ≡ after d (event_at o n now))

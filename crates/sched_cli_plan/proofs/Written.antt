@@ -5,7 +5,7 @@ use Rattle.std.proofs.KnownBytes.{Appends-trans}
 use Rattle.sched_cli_plan.specs.Printing.{WritesText}
 use Rattle.sched_cli_plan.specs.Whole.{WritesAllBut, WritesFront, StopsWriting}
 use Rattle.sched_cli_plan.specs.declared.faults.PrintFault.{PrintFault}
-use Rattle.sched_cli_plan.specs.declared.faults.PrintFault.TheVariants.{ReadFailed, TooLong, NotJson, NotAPlan, OutOfRange, TooDeep, TooMany, NoMemory, NotStarted, WriteFailed, Unfinished, Mixed}
+use Rattle.sched_cli_plan.specs.declared.faults.PrintFault.TheVariants.{ReadFailed, TooLong, NotJson, NotAPlan, OutOfRange, TooDeep, TooMany, NoMemory, WriteFailed}
 
 module _ (old mid : Option (List ℕ)) (text pending : List ℕ) (written : WritesAllBut old mid text pending) where
   -- the text grows by a line, which is pending too
@@ -47,9 +47,6 @@ module _ (old mid : Option (List ℕ)) (text pending : List ℕ) (written : Writ
   stops new TooDeep stop = absurd stop
   stops new TooMany stop = absurd stop
   stops new NoMemory stop = absurd stop
-  stops new NotStarted stop = absurd stop
-  stops new Unfinished stop = absurd stop
-  stops new Mixed stop = absurd stop
 
   -- writing what is pending is the last that happens
   pub closes : (new : Option (List ℕ)) (result : Result (Unit {0}) PrintFault)

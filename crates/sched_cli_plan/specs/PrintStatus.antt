@@ -13,6 +13,3 @@ print_status print.TooMany = 3
 print_status print.ReadFailed = 4
 print_status print.WriteFailed = 4
 print_status print.NoMemory = 5
-print_status print.Unfinished = 6
-print_status print.NotStarted = 7
-print_status print.Mixed = 8

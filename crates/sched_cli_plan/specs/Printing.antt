@@ -12,9 +12,8 @@ use Rattle.sched_cli_plan.specs.PlanText.{plan_text}
 use Rattle.sched_cli_plan.specs.Whole.{IsWholeInput, StopsReading, WritesFront}
 use Rattle.sched_cli_plan.specs.Course.{Course}
 use Rattle.sched_cli_plan.specs.declared.faults.PrintFault.{PrintFault}
-use Rattle.sched_cli_plan.specs.declared.faults.PrintFault.TheVariants.{ReadFailed, TooLong, NotJson, NotAPlan}
-use Rattle.sched_cli_plan.specs.declared.faults.PrintFault.TheVariants.{OutOfRange, TooDeep, TooMany, NoMemory}
-use Rattle.sched_cli_plan.specs.declared.faults.PrintFault.TheVariants.{NotStarted, WriteFailed, Unfinished, Mixed}
+use Rattle.sched_cli_plan.specs.declared.faults.PrintFault.TheVariants.{ReadFailed, TooLong, NotJson, NotAPlan, OutOfRange}
+use Rattle.sched_cli_plan.specs.declared.faults.PrintFault.TheVariants.{TooDeep, TooMany, NoMemory, WriteFailed}
 
 -- what bytes are read as
 abbrev pub ReadsValue : List ℕ → Result Value PrintFault → Type 0
@@ -34,10 +33,7 @@ ReadsPlan bytes (Err TooMany) = SpellsFault bytes (reading.Plan refused.TooMany)
 ReadsPlan bytes (Err NoMemory) = Unit {0}
 ReadsPlan bytes (Err ReadFailed) = ⊥
 ReadsPlan bytes (Err TooLong) = ⊥
-ReadsPlan bytes (Err NotStarted) = ⊥
 ReadsPlan bytes (Err WriteFailed) = ⊥
-ReadsPlan bytes (Err Unfinished) = ⊥
-ReadsPlan bytes (Err Mixed) = ⊥
 
 -- writing a text ends with all of it, or stops after a front of it where a write failed or memory was refused
 abbrev pub WritesText : Option (List ℕ) → Option (List ℕ) → List ℕ → Result (Unit {0}) PrintFault → Type 0
@@ -76,6 +72,3 @@ Prints o left left' taken taken' (Err NoMemory) =
     Keeps taken taken' ⊎ IsPlanInput left left' (λ s. WritesFront taken taken' (plan_text s o))
 Prints o left left' taken taken' (Err WriteFailed) =
     IsPlanInput left left' (λ s. WritesFront taken taken' (plan_text s o))
-Prints o left left' taken taken' (Err NotStarted) = ⊥
-Prints o left left' taken taken' (Err Unfinished) = ⊥
-Prints o left left' taken taken' (Err Mixed) = ⊥

@@ -31,18 +31,9 @@ pub enum PrintFault {
     /// A growth was refused. A front of the text may have been written.
     #[error("zsched: no memory")]
     NoMemory,
-    /// The system started no thread. Nothing was written.
-    #[error("zsched: worker not started")]
-    NotStarted,
     /// A write failed. A front of the text was written.
     #[error("zsched: write failed")]
     WriteFailed,
-    /// A job did not end as won, schedule done or budget refused. The whole text was written.
-    #[error("zsched: not finished")]
-    Unfinished,
-    /// An ended job is not the one read at its place. Nothing was written.
-    #[error("zsched: jobs mixed up")]
-    Mixed,
 }
 
 impl PrintFault {
@@ -62,9 +53,6 @@ impl PrintFault {
             | PrintFault::TooMany => 3,
             PrintFault::ReadFailed | PrintFault::WriteFailed => 4,
             PrintFault::NoMemory => 5,
-            PrintFault::Unfinished => 6,
-            PrintFault::NotStarted => 7,
-            PrintFault::Mixed => 8,
         }
     }
 }

@@ -1,4 +1,5 @@
-//! The text of a plan: it is read as JSON from a stream, stepped, and printed to another, a line for each event.
+//! What the program prints of a plan: it is read as JSON from a stream, stepped, and printed to another, a line for
+//! each event.
 #![tactic(auto)]
 
 mod counts;

@@ -7,16 +7,16 @@ use Rattle.sched_effect.specs.Runs.{ran_by}
 use Rattle.sched_effect.specs.declared.ran.Ran.{Ran}
 use Rattle.sched_task.specs.Course.{Answered}
 use Rattle.sched_task.specs.Words.{next_four}
-use Rattle.sched_task.specs.declared.endings.How.TheVariants as how
-use Rattle.sched_task.specs.declared.endings.RunFault.{RunFault}
-use Rattle.sched_task_law.specs.Past.{Past, is_under_way, waits_for}
-use Rattle.sched_retry.specs.Ending.{EndingFits}
+use Rattle.sched_task.specs.declared.endings.How.{How}
+use Rattle.sched_task_law.specs.Kind.{Kind}
+use Rattle.sched_task_law.specs.Past.{is_under_way, waits_for}
+use Rattle.sched_retry.specs.Ending.{how_of}
 use Rattle.sched_retry.specs.Retrying.{Retrying}
 use Rattle.sched_retry.specs.declared.endings.Ending.{Ending}
 use Rattle.sched_retry.specs.declared.endings.Ending.TheVariants as ending
-use Rattle.sched_host.specs.Host.{HostPoll}
-use Rattle.sched_host.specs.declared.retry.Next.{Next}
-use Rattle.sched_host.specs.declared.retry.Next.TheVariants.{Poll, Run, Wait, Over}
+use Rattle.sched_run_machine.specs.Next.{HostPoll}
+use Rattle.sched_run_machine.specs.declared.next.Next.{Next}
+use Rattle.sched_run_machine.specs.declared.next.Next.TheVariants.{Poll, Run, Wait, Over}
 
 -- A retry with what it is run by.
 pub record Calling (D K C O : Type 0) : Type 0 where
@@ -49,10 +49,10 @@ module _ {I F : Type 0} (item_code : I → ℕ) (fault_code : F → ℕ) where
       × (gave ≡ Some outcome)
   Finishes gives false call last told called gave = (told ≡ []) × (called ≡ call) × (gave ≡ last)
 
-  -- the ending that a finished run comes to, or none where the retry goes on
-  abbrev pub ComesTo : Past → Option (Ending I F) → Type 0
-  ComesTo v None = v.over ≡ None
-  ComesTo v (Some how) = EndingFits item_code fault_code v.over v.runs how
+-- how a retry is over by the ending that a run came to, or that it goes on
+abbrev pub over_by : {I F : Type 0} → Option (Ending I F) → Option How
+over_by None = None
+over_by (Some ending) = Some (how_of ending)
 
 -- what an ending hands out is the very value that the last call gave
 abbrev pub HandsOut : {I F : Type 0} → Option (Result I F) → Ending I F → Type 0
@@ -62,14 +62,9 @@ HandsOut last (ending.BudgetRefused fault) = last ≡ Some (Err fault)
 HandsOut last ending.Cancelled = ⊥
 HandsOut last (ending.Broken fault) = Unit {0}
 
--- a poll in which no run finishes leaves the retry going on, or broken for this reason
-abbrev pub Begins : Past → Option RunFault → Type 0
-Begins v None = v.over ≡ None
-Begins v (Some cause) = v.over ≡ Some (how.Broken cause)
-
 -- One turn: a poll of the retry with the moment that the clock answers, after the call where one is made, and the next
 -- four words in lanes 0 to 3.
-pub record Turn {D K C I F : Type 0} (grants : Grants D) (tells : K → ℕ → K → Type 0) (waits : K → ℕ → ℕ → K → Type 0)
+pub record Turn {D K C I F : Type 0} (grants : Grants D) (kind : Kind) (tells : K → ℕ → K → Type 0) (waits : K → ℕ → ℕ → K → Type 0)
     (gives : C → Result I F → C → Type 0) (item_code : I → ℕ) (fault_code : F → ℕ)
     (s : Calling D K C (Result I F)) (tick : Tick) (t : Calling D K C (Result I F)) : Type 0 where
   pub told : List Ran
@@ -77,4 +72,4 @@ pub record Turn {D K C I F : Type 0} (grants : Grants D) (tells : K → ℕ → 
       s.call s.last told t.call t.last
   pub moment : Answered tells waits (waits_for s.retry.past) s.clock tick.now t.clock
   pub lanes : (tick.words, t.words) ≡ next_four s.words
-  pub poll : HostPoll grants s.retry tick told t.retry
+  pub poll : HostPoll grants kind s.retry tick told t.retry

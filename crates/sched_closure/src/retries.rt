@@ -1,15 +1,18 @@
 //! A closure that is called until it succeeds.
-ghost use Rattle.std.specs.Prelude.{◌≡◌, List, Option, None, Result};
+ghost use Rattle.std.specs.Prelude.{◌≡◌, List, Option, Some, None, Result};
 ghost use Rattle.std.specs.List.{FoldsTo};
 ghost use Rattle.sched_time.specs.declared.numbers.Tick.{Tick as Ticked};
-ghost use Rattle.sched_retry.specs.Ending.{EndingFits};
+ghost use Rattle.sched_task_law.specs.Kind.{a_retry};
+ghost use Rattle.sched_retry.specs.Ending.{how_of, EndingFits};
+ghost use Rattle.sched_retry.specs.Retrying.{Retrying};
+ghost use Rattle.sched_run_machine.specs.Machine.{StandsFor};
 ghost use Rattle.sched_closure.specs.Calls.{calling, Turn, HandsOut};
 
-use crate::turns::{begin_run, end_run, next_tick};
+use crate::turns::{end_run, next_tick};
 use rand_core::Rng;
 use sched_effect::Coded;
-use sched_host::{HostRetry, Next};
 use sched_retry::Ending;
+use sched_run_machine::{Drives, Machine, Next};
 use sched_task::Clock;
 use sched_ticket_draws::Draws;
 use std::alloc::AllocGlobal;
@@ -19,11 +22,11 @@ use std::sync::Wait;
 /// retry, and answers how that ended. Between two calls it waits by the clock.
 ///
 /// Each run calls the closure once, and ends at the moment that the clock tells after the call: the schedule's delays
-/// count from there. Room for a run's outcome is reserved before its call, so that nothing that finished is lost where
+/// count from there. Nothing is kept of a run but its code, in the schedule, so nothing that finished is lost where
 /// memory is refused; the retry then ends as `Broken`.
-pub fn retry_call<I, F, R, D, K, G, C>(
+pub fn retry_call<I, F, R, S, D, K, G, C>(
     rt: &R,
-    retry: &mut HostRetry<D>,
+    retry: &mut Machine<S, D>,
     clock: &mut K,
     words: &mut G,
     mut call: C,
@@ -32,19 +35,23 @@ where
     I: Coded + Drop,
     F: Coded + Drop,
     R: Wait + AllocGlobal,
+    S: Drives,
     D: Draws,
     K: Clock,
     G: Rng,
     C: FnMut() -> Result<I, F>,
-    requires unended { retry.old.past.over ≡ None }
+    requires unended { retry.old.over ≡ None }
     requires callable { C.IsAlwaysCallable call }
-    ensures turns { (ticks : List Ticked) × (called : C) × (last : Option (Result I F))
-        × FoldsTo (Turn D.grants K.tells K.waits C.step I.coded F.coded)
-        (calling retry.old clock.old (G.stream words.old) call None)
-        ticks
-        (calling retry.new clock.new (G.stream words.new) called last)
-        × HandsOut last result }
-    ensures ending { EndingFits I.coded F.coded retry.new.past.over retry.new.past.runs result }
+    ensures turns { (ticks : List Ticked) × (called : C) × (last : Option (Result I F)) × HandsOut last result
+        × ((v : Retrying D) → StandsFor S.stands S.keeps D.grants retry.old v →
+          (u : Retrying D)
+          × FoldsTo (Turn D.grants (a_retry S.keeps) K.tells K.waits C.step I.coded F.coded)
+          (calling v clock.old (G.stream words.old) call None)
+          ticks
+          (calling u clock.new (G.stream words.new) called last)
+          × EndingFits I.coded F.coded u.past.over u.past.runs result
+          × StandsFor S.stands S.keeps D.grants retry.new u) }
+    ensures over { retry.new.over ≡ Some (how_of result) }
 {
     let alloc = rt.alloc();
     for _ in rt.forever() {
@@ -59,9 +66,7 @@ where
             }
             Next::Poll | Next::Wait(_) => {
                 let tick = next_tick(&next, clock, words);
-                if let Some(cause) = begin_run(retry, &tick) {
-                    return Ending::Broken(cause);
-                }
+                retry.poll(&tick);
             }
             Next::Over(_) => unreachable!(),
         }

@@ -1,17 +1,16 @@
-//! One turn of a retry: its tick, and what a run or a poll comes to.
-ghost use Rattle.std.specs.Prelude.{◌≡◌, [], ◌∷◌, Some, None, true, false, IfSome};
+//! One turn of a retry: its tick, and what a run comes to.
+ghost use Rattle.std.specs.Prelude.{◌≡◌, [], ◌∷◌, Some, None, true, IfSome};
 ghost use Rattle.sched_task.specs.Course.{Answered};
 ghost use Rattle.sched_task.specs.Words.{next_four};
 ghost use Rattle.sched_effect.specs.Runs.{ran_by};
-ghost use Rattle.sched_task_law.specs.Past.{is_under_way};
-ghost use Rattle.sched_host.specs.Host.{HostPoll};
-ghost use Rattle.sched_closure.specs.Calls.{start_in, ComesTo, HandsOut, Begins};
+ghost use Rattle.sched_run_machine.specs.Machine.{Polls, EndsAs};
+ghost use Rattle.sched_closure.specs.Calls.{start_in, over_by, HandsOut};
 
 use rand_core::Rng;
-use sched_effect::{Coded, Ran};
-use sched_host::{HostRetry, Next};
+use sched_effect::{Coded, ran_of};
 use sched_retry::Ending;
-use sched_task::{Clock, How, RunFault, four_words};
+use sched_run_machine::{Drives, Machine, Next};
+use sched_task::{Clock, How, four_words};
 use sched_ticket_draws::Draws;
 use sched_time::Tick;
 use std::alloc::Global;
@@ -34,50 +33,44 @@ pub(crate) fn next_tick<K: Clock, G: Rng>(next: &Next, clock: &mut K, words: &mu
 
 /// Ends the run under way with what its call gave. Answers the ending that this comes to, or `None` where the retry
 /// goes on.
-pub(crate) fn end_run<I: Coded + Drop, F: Coded + Drop, D: Draws>(
+pub(crate) fn end_run<I: Coded + Drop, F: Coded + Drop, S: Drives, D: Draws>(
     alloc: Global,
-    retry: &mut HostRetry<D>,
+    retry: &mut Machine<S, D>,
     tick: &Tick,
     outcome: Result<I, F>,
 ) -> Option<Ending<I, F>>
-    requires unended { retry.old.past.over ≡ None }
-    requires running { is_under_way retry.old.past.runs retry.old.past.begun ≡ true }
-    ensures poll { HostPoll D.grants retry.old tick.entry.now
+    requires unended { retry.old.over ≡ None }
+    requires running { retry.old.under_way ≡ true }
+    ensures polls { Polls S.stands S.keeps D.grants retry.old tick.entry.now
         (ran_by I.coded F.coded outcome ∷ []) retry.new }
-    ensures ending { ComesTo I.coded F.coded retry.new.past result }
+    ensures over { retry.new.over ≡ over_by result }
     ensures value { IfSome result (HandsOut (Some outcome)) }
 {
+    tell_run(alloc, retry, tick, &outcome);
     match outcome {
-        Ok(item) => {
-            let _ = retry.report(alloc, tick, Ran::Won(item.code()));
-            Some(Ending::Won(item))
-        }
-        Err(fault) => {
-            let _ = retry.report(alloc, tick, Ran::Lost(fault.code()));
-            match retry.next() {
-                Next::Over(How::ScheduleDone) => Some(Ending::ScheduleDone(fault)),
-                Next::Over(How::BudgetRefused) => Some(Ending::BudgetRefused(fault)),
-                Next::Over(How::Broken(cause)) => Some(Ending::Broken(cause)),
-                Next::Over(How::Won | How::Failed | How::Cancelled) => unreachable!(),
-                Next::Poll | Next::Run | Next::Wait(_) => None,
-            }
-        }
+        Ok(item) => Some(Ending::Won(item)),
+        Err(fault) => match retry.over() {
+            None => None,
+            Some(How::ScheduleDone) => Some(Ending::ScheduleDone(fault)),
+            Some(How::BudgetRefused) => Some(Ending::BudgetRefused(fault)),
+            Some(How::Broken(cause)) => Some(Ending::Broken(cause)),
+            Some(How::Won | How::Failed | How::Cancelled) => unreachable!(),
+        },
     }
 }
 
-/// Polls where no run is under way: one begins, or the retry waits on. Answers why it could not go on.
-pub(crate) fn begin_run<D: Draws>(retry: &mut HostRetry<D>, tick: &Tick) -> Option<RunFault>
-    requires unended { retry.old.past.over ≡ None }
-    requires idle { is_under_way retry.old.past.runs retry.old.past.begun ≡ false }
-    ensures poll { HostPoll D.grants retry.old tick.entry.now [] retry.new }
-    ensures broken { Begins retry.new.past result }
+// Tells how the run under way went.
+fn tell_run<I: Coded, F: Coded, S: Drives, D: Draws>(
+    alloc: Global,
+    retry: &mut Machine<S, D>,
+    tick: &Tick,
+    outcome: &Result<I, F>,
+)
+    requires unended { retry.old.over ≡ None }
+    requires running { retry.old.under_way ≡ true }
+    ensures polls { Polls S.stands S.keeps D.grants retry.old tick.entry.now
+        (ran_by I.coded F.coded outcome.now ∷ []) retry.new }
+    ensures ends { EndsAs (ran_by I.coded F.coded outcome.now) retry.new.over }
 {
-    retry.poll(tick);
-    match retry.next() {
-        Next::Over(How::Broken(cause)) => Some(cause),
-        Next::Over(
-            How::Won | How::ScheduleDone | How::BudgetRefused | How::Failed | How::Cancelled,
-        ) => { unreachable!() }
-        Next::Poll | Next::Run | Next::Wait(_) => None,
-    }
+    let _ = retry.report(alloc, tick, ran_of(outcome));
 }

@@ -1,14 +1,13 @@
 -- What a driver is to its callers: a plan, and the journal of the events since the last reset, oldest first.
-use Rattle.std.specs.Prelude.{ℕ, List, [], ◌∷◌, ◌++◌, Option, Some, None, option_map, option_and_then, refl}
+use Rattle.std.specs.Prelude.{ℕ, List, [], ◌∷◌, ◌++◌, Option, refl}
 use Rattle.std.specs.Coded.{Coded, code_by, coded×, coded_list}
-use Rattle.sched_time.specs.Decision.{start_of}
 use Rattle.sched_plan.specs.Datum.{Datum}
 use Rattle.sched_plan.specs.Schedule.{Schedule}
 use Rattle.sched_plan.specs.ScheduleCode.{coded_schedule}
 use Rattle.sched_plan.specs.EventCode.{coded_event}
-use Rattle.sched_plan.specs.Answer.{answer}
 use Rattle.sched_plan.specs.declared.history.Event.{Event}
-use Rattle.sched_plan.specs.declared.history.Answer.{Answer}
+pub use Rattle.sched_driver_stepper.specs.Standing.{last_answer}
+use Rattle.sched_driver_stepper.specs.Standing.{output_given, start_planned}
 
 pub record Driven : Type 0 where
   pub plan : Schedule
@@ -20,18 +19,13 @@ coded_driven =
     code_by (Schedule × List Event) (coded× coded_schedule (coded_list coded_event))
     (λ d. (d.plan, d.journal)) (λ p. record { plan = p.0; journal = p.1 }) (λ _. refl)
 
--- the schedule's answer to the last event of a journal, if there was one
-abbrev pub last_answer : Schedule → List Event → Option Answer
-last_answer s [] = None
-last_answer s (e ∷ h) = Some (answer s (e ∷ h))
-
 -- the output last given
 abbrev pub last_output : Driven → Option Datum
-last_output d = option_map (λ a. a.output) (last_answer d.plan d.journal)
+last_output d = output_given (last_answer d.plan d.journal)
 
 -- the start planned last; none before the first event, and none where the schedule was done
 abbrev pub next_start_of : Driven → Option ℕ
-next_start_of d = option_and_then (λ a. start_of a.decision) (last_answer d.plan d.journal)
+next_start_of d = start_planned (last_answer d.plan d.journal)
 
 -- the driver with one more event in its journal
 abbrev pub after : Driven → Event → Driven

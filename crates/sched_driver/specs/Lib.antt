@@ -1,5 +1,6 @@
 pub mod Driven
 pub mod Driver
+pub use Rattle.sched_driver_stepper.specs.Standing
 pub use Rattle.sched_time.specs.Decision
 pub use Rattle.sched_plan.specs.Datum
 pub use Rattle.sched_plan.specs.Schedule

@@ -6,8 +6,9 @@ ghost use Rattle.sched_step.specs.StateOf.{state_of, event_of};
 ghost use Rattle.sched_step.specs.Starts.{StartsBy};
 ghost use Rattle.sched_driver.specs.Driven.{last_output, next_start_of, after};
 
-use sched_plan::{Answer, Event, Plan, Val};
-use sched_step::{State, initial};
+use sched_driver_stepper::{StepFault, Stepper};
+use sched_plan::{Event, Plan, Val};
+use sched_step::State;
 use sched_time::{Decision, Moment, NoMemory, Tick};
 use std::alloc::Global;
 use std::marker::Model;
@@ -41,15 +42,27 @@ impl From<NoMemory> for DriveFault {
     }
 }
 
+impl From<StepFault> for DriveFault {
+    ghost use Rattle.std.specs.Prelude.{◌≡◌};
+    ghost use Rattle.sched_driver.specs.Driver.{drive_fault};
+
+    ghost from_gives = { λ given fault. fault ≡ drive_fault given };
+
+    fn from(fault: StepFault) -> Self {
+        match fault {
+            StepFault::Backwards { floor } => DriveFault::Backwards { floor },
+            StepFault::NoMemory => DriveFault::NoMemory,
+        }
+    }
+}
+
 /// Steps a plan event by event, and keeps the events since the last reset in a journal.
 ///
 /// Its state, its last output and its next start are always those that the plan's definition gives for the journal.
 #[derive(Drop)]
 pub struct Driver {
-    plan: Plan,
-    state: State,
+    stepper: Stepper,
     journal: Vec<Event>,
-    last: Option<Answer>,
 }
 
 impl Model for Driver {
@@ -61,9 +74,9 @@ impl Model for Driver {
 
     ghost use Rattle.sched_driver.specs.Driver.{IsDriven};
 
-    ghost view = { λ d. record { plan = d.plan; journal = d.journal.items } };
+    ghost view = { λ d. record { plan = d.stepper.plan; journal = d.journal.items } };
 
-    ghost invariant = { λ d. IsDriven d.plan d.state d.journal.items d.last };
+    ghost invariant = { λ d. IsDriven d.stepper d.journal.items };
 }
 
 impl Driver {
@@ -74,12 +87,10 @@ impl Driver {
         ensures plan { IfOk result (λ driver. driver.plan ≡ plan) }
         ensures fresh { IfOk result (λ driver. driver.journal ≡ []) }
     {
-        let state = initial(alloc, &plan)?;
+        let stepper = Stepper::new(alloc, plan)?;
         Ok(Driver {
-            plan,
-            state,
+            stepper,
             journal: Vec::new(alloc),
-            last: None,
         })
     }
 
@@ -99,15 +110,13 @@ impl Driver {
         if self.journal.reserve(1).is_err() {
             return Err(DriveFault::NoMemory);
         }
-        let answer = self.state.advance(alloc, &self.plan, &tick, &input)?;
-        let decision = answer.decision;
+        let decision = self.stepper.next(alloc, &tick, &input)?;
         let words = tick.words;
         self.journal.push_reserved(Event {
             now: tick.now,
             words,
             input,
         });
-        self.last = Some(answer);
         Ok(decision)
     }
 
@@ -115,27 +124,21 @@ impl Driver {
     pub fn last(&self) -> Option<&Val>
         ensures { option_copied result ≡ last_output self.now }
     {
-        match &self.last {
-            Some(answer) => Some(&answer.output),
-            None => None,
-        }
+        self.stepper.last()
     }
 
     /// The start planned last, or `None` where the journal is empty or the plan was done.
     pub fn next_start(&self) -> Option<Moment>
         ensures { result ≡ next_start_of self.now }
     {
-        match &self.last {
-            Some(answer) => answer.decision.start(),
-            None => None,
-        }
+        self.stepper.next_start()
     }
 
     /// The plan.
     pub fn plan(&self) -> &Plan
         ensures { result.now ≡ self.now.plan }
     {
-        &self.plan
+        self.stepper.plan()
     }
 
     /// The plan's state after the events of the journal. It fits the plan from the last event's moment on, so that it
@@ -145,7 +148,7 @@ impl Driver {
         ensures fits { (later : ℕ) → last_moment self.now.journal ≤ later →
             IsTrue (fits self.now.plan result.now later) }
     {
-        &self.state
+        self.stepper.state()
     }
 
     /// The events since the last reset, oldest first; their moments never fall, and there are at most 65,536.
@@ -162,9 +165,8 @@ impl Driver {
         ensures plan { self.new.plan ≡ self.old.plan }
         ensures fresh { self.new.journal ≡ [] }
     {
-        self.state.renew(&self.plan);
+        self.stepper.reset();
         self.journal.clear();
-        self.last = None;
     }
 
     // Whether one more event at this moment has a place in the journal.
@@ -172,23 +174,10 @@ impl Driver {
         ensures ok { IfOk result (λ _. HasRoom self.now now) }
         ensures refused { IfErr result (λ fault. Refuses self.now now fault) }
     {
-        let floor = self.floor();
-        if now.get() < floor.get() {
-            return Err(DriveFault::Backwards { floor });
-        }
+        self.stepper.check_order(now)?;
         if self.journal.len() == MOST_EVENTS {
             return Err(DriveFault::JournalFull);
         }
         Ok(())
-    }
-
-    // The moment of the journal's last event, or 0 where it is empty.
-    fn floor(&self) -> Moment
-        ensures { result ≡ last_moment self.now.journal }
-    {
-        match self.journal.last() {
-            Some(event) => event.now,
-            None => Moment::new(0).unwrap(),
-        }
     }
 }

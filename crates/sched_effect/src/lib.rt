@@ -15,5 +15,5 @@ pub use codes::Tagged;
 pub use effects::Effect;
 pub use fallbacks::Fallback;
 pub use future_calls::{FutureAction, FutureCall};
-pub use ran::{Code, Coded, Ran};
+pub use ran::{Code, Coded, Ran, ran_of};
 pub use scripted::Scripted;

@@ -35,7 +35,7 @@ impl Coded for Code {
 }
 
 /// How a run went, by the codes of its item or its fault.
-pub(crate) fn ran_of<I: Coded, F: Coded>(run: &Result<I, F>) -> Ran
+pub fn ran_of<I: Coded, F: Coded>(run: &Result<I, F>) -> Ran
     ensures { result ≡ ran_by I.coded F.coded run.now }
 {
     match run {

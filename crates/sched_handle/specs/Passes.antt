@@ -2,7 +2,7 @@
 use Rattle.std.specs.Prelude.{◌≡◌, ℕ, ◌<◌, ◌≤◌, Bool, false, length, Option, Some, Result, Ok, Err}
 use Rattle.std.specs.Global.{Global}
 use Rattle.std_alloc.specs.declared.boxed.Box.{Box}
-use Rattle.sched_ticket.specs.View.{terms, first_view, part_of, with_split, joined_view}
+use Rattle.sched_ticket.specs.View.{parted_terms, first_view, part_of, with_split, joined_view}
 use Rattle.sched_ticket.specs.Calls.{Drew, DrawRefused, SplitRefused, Raised, IsWhole}
 use Rattle.sched_ticket_draws.specs.Budgets.{OfBudget}
 use Rattle.sched_host.specs.Worker.{CloseFails}
@@ -24,8 +24,8 @@ NotMade limit _ = ⊥
 -- a budget of this limit is made, with its first pass, or none for this reason
 abbrev pub MakesBudget : ℕ → Bool → Result (Box Held Global) Status → Type 0
 MakesBudget limit rises (Ok b) =
-    (s : OfBudget) × (b.value ≡ Pass s) × (s.budget.terms ≡ terms limit rises)
-    × (s.pass.has ≡ first_view (terms limit rises))
+    (s : OfBudget) × (b.value ≡ Pass s) × (s.budget.terms ≡ parted_terms limit rises)
+    × (s.pass.has ≡ first_view (parted_terms limit rises))
 MakesBudget limit rises (Err s) = NotMade limit s
 
 -- a pass of the same budget, of which this is true

@@ -1,5 +1,5 @@
-//! What a host that isn't written in Rattle holds of us: a pointer to a policy, a driver, a pass of a budget or of a
-//! quota, or a retry, and what each call on it does.
+//! Handles: what a host that isn't written in Rattle holds of us, each a pointer to a policy, a driver, a pass of a
+//! budget or of a quota, or a retry, and what each call on it does.
 #![tactic(auto)]
 
 mod drivers;

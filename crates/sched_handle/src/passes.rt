@@ -18,7 +18,7 @@ use std::alloc::Global;
 use std::mem;
 
 impl Held {
-    /// A budget of `limit` tickets, and its first pass.
+    /// A budget of `limit` tickets by parts, and its first pass.
     pub fn fixed(alloc: Global, limit: u64) -> Result<Box<Held>, Status>
         ensures { MakesBudget limit false result }
     {
@@ -31,7 +31,7 @@ impl Held {
         }
     }
 
-    /// A budget whose limit is `limit` and may rise, and its first pass.
+    /// A budget by parts whose limit is `limit` and may rise, and its first pass.
     pub fn rising(alloc: Global, limit: u64) -> Result<Box<Held>, Status>
         ensures { MakesBudget limit true result }
     {

@@ -14,7 +14,7 @@ use Rattle.sched_ticket_draws.specs.Quotas.{OfQuota}
 use Rattle.sched_host.specs.declared.close.CloseFault.{CloseFault}
 use Rattle.sched_host.specs.declared.close.CloseFault.TheVariants as close
 
--- a worker is not split for this reason; where its budget counted too many passes, its pass may have noted so
+-- a worker is not split for this reason; where its budget counts passes, its pass may have noted so
 abbrev pub SplitFails : View → View → TicketFault → Type 0
 SplitFails v w TooManyPasses = SplitRefused v w
 SplitFails v w NoMemory = w ≡ v

@@ -1,7 +1,7 @@
 //! A budget as one worker holds it.
 ghost use Rattle.std.specs.Prelude.{◌≡◌, ◌+◌, ◌<◌, ◌≤◌, true, false, length, min, None};
 ghost use Rattle.std.specs.Prelude.{IfOk, IfErr, OnOk, IfSome, IfNone};
-ghost use Rattle.sched_ticket.specs.View.{terms, first_view, part_of, with_split, joined_view};
+ghost use Rattle.sched_ticket.specs.View.{parted_terms, draws_again, first_view, part_of, with_split, joined_view};
 ghost use Rattle.sched_ticket.specs.Steps.{IsSound};
 ghost use Rattle.sched_ticket.specs.Lists.{AreBelow};
 ghost use Rattle.sched_ticket.specs.Calls.{Drew, DrawRefused, Raised, RefusesLimit, RefusesRaise, IsWhole};
@@ -34,28 +34,28 @@ impl Model for Worker {
 }
 
 impl Worker {
-    /// A budget of `limit` tickets, and its first worker.
+    /// A budget of `limit` tickets by parts, and its first worker.
     pub fn fixed(alloc: Global, limit: u64) -> Result<Worker, TicketFault>
         ensures ok { IfOk result
-            (λ w. (w.budget.terms ≡ terms limit false) × (w.pass.has ≡ first_view (terms limit false))) }
+            (λ w. (w.budget.terms ≡ parted_terms limit false) × (w.pass.has ≡ first_view (parted_terms limit false))) }
         ensures limit { OnOk result (limit ≤ 4294967296) }
         ensures err { IfErr result (RefusesLimit limit) }
     {
-        let (budget, pass) = Budget::new(alloc, limit)?;
+        let (budget, pass) = Budget::by_parts(alloc, limit)?;
         match Arc::new(alloc, budget) {
             Ok(budget) => Ok(Worker { pass, budget }),
             Err(_) => Err(TicketFault::NoMemory),
         }
     }
 
-    /// A budget whose limit is `limit` and may rise, and its first worker.
+    /// A budget by parts whose limit is `limit` and may rise, and its first worker.
     pub fn rising(alloc: Global, limit: u64) -> Result<Worker, TicketFault>
         ensures ok { IfOk result
-            (λ w. (w.budget.terms ≡ terms limit true) × (w.pass.has ≡ first_view (terms limit true))) }
+            (λ w. (w.budget.terms ≡ parted_terms limit true) × (w.pass.has ≡ first_view (parted_terms limit true))) }
         ensures limit { OnOk result (limit ≤ 4294967296) }
         ensures err { IfErr result (RefusesLimit limit) }
     {
-        let (budget, pass) = Budget::rising(alloc, limit)?;
+        let (budget, pass) = Budget::rising_by_parts(alloc, limit)?;
         match Arc::new(alloc, budget) {
             Ok(budget) => Ok(Worker { pass, budget }),
             Err(_) => Err(TicketFault::NoMemory),
@@ -78,18 +78,19 @@ impl Worker {
         OnBudget::new(pass, budget)
     }
 
-    /// A ticket below the limit, or None, and then None for good.
+    /// A ticket below the limit, or None. Then it is None until the limit is raised.
     pub fn draw(&mut self) -> Option<u64>
         ensures budget { self.new.budget ≡ self.old.budget }
         ensures some { IfSome result (λ k. Drew self.old.pass.has k self.new.pass.has) }
         ensures none { IfNone result (DrawRefused self.old.pass.has self.new.pass.has) }
-        ensures again { 0 < length self.old.pass.has.refusals → (result ≡ None) × (self.new ≡ self.old) }
+        ensures again { draws_again self.old.pass.has.terms ≡ false → 0 < length self.old.pass.has.refusals →
+            (result ≡ None) × (self.new ≡ self.old) }
     {
         self.pass.draw(&self.budget)
     }
 
-    /// A worker of the same budget, which has no ticket. `TooManyPasses` where 65,536 passes were counted of this
-    /// budget, and `NoMemory` where it has as many workers as can be counted. The tickets of this one stay.
+    /// A worker of the same budget, which has no ticket. `TooManyPasses` where the pass of this one has one part, and
+    /// `NoMemory` where the budget has as many workers as can be counted. The tickets of this one stay.
     pub fn split(&mut self) -> Result<Worker, TicketFault>
         ensures budget { self.new.budget ≡ self.old.budget }
         ensures ok { IfOk result (λ w. (w.budget ≡ self.old.budget) × (w.pass.has ≡ part_of self.old.pass.has)) }

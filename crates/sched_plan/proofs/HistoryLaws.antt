@@ -1,7 +1,7 @@
 -- What one more event does to a history.
-use Rattle.std.proofs.Common.{◌≡◌, ◌≤◌, List, [], ◌∷◌, ◌++◌, map, refl, ap, ◌∙◌}
+use Rattle.std.proofs.Common.{◌≡◌, ℕ, ◌≤◌, List, [], ◌∷◌, ◌++◌, map, get_or, refl, ap, ◌∙◌}
 use Rattle.std.proofs.lemmas.List.{map-append}
-use Rattle.sched_plan.specs.History.{last_moment, last_input, last_words, IsHistory, prefixes}
+use Rattle.sched_plan.specs.History.{last_moment, last_input, last_words, words_in, IsHistory, prefixes}
 use Rattle.sched_plan.specs.declared.history.Event.{Event}
 
 -- the last moment is that of the event that came last
@@ -21,6 +21,11 @@ pub last_words-push : (h : List Event) (e : Event) → last_words (h ++ e ∷ []
 last_words-push [] e = refl
 last_words-push (d ∷ []) e = refl
 last_words-push (d ∷ c ∷ h) e = last_words-push (c ∷ h) e
+
+-- the words of a lane go on with that of the event that came last
+pub words_in-push : (lane : ℕ) (h : List Event) (e : Event) →
+    words_in lane (h ++ e ∷ []) ≡ words_in lane h ++ get_or e.words lane 0 ∷ []
+words_in-push lane h e = map-append (λ c. get_or c.words lane 0) h (e ∷ [])
 
 -- a history goes on with an event that is not before its last
 pub IsHistory-push : (h : List Event) (e : Event) → IsHistory h → last_moment h ≤ e.now → IsHistory (h ++ e ∷ [])

@@ -18,15 +18,15 @@ use Rattle.sched_plan.specs.Outputs.{fed}
 use Rattle.sched_plan.proofs.OutputLaws.{fed-last_moment}
 use Rattle.sched_plan.specs.Delays.{added, added_out, jittered}
 use Rattle.sched_plan.proofs.DelayLaws.{moved-later}
-use Rattle.sched_plan.specs.Changes.{ended, ended_where, moved_decision}
+use Rattle.sched_plan.specs.Changes.{ended, ended_where, goes_past, moved_decision}
 use Rattle.sched_plan.specs.Gates.{is_wanted, passes, tested}
 use Rattle.sched_plan.specs.Answer.{answer, changed, combined, leaf_decision, fixed_plan, fixed_start, next_boundary, meet_decisions, join_decisions, follow_answer, crossing, from_end_of}
 use Rattle.sched_plan.specs.Starts.{StartsBy}
 use Rattle.sched_plan.specs.Laws.{StartsAreNotBefore}
 use Rattle.sched_plan.specs.declared.leaves.Leaf.{Leaf}
-use Rattle.sched_plan.specs.declared.leaves.Leaf.TheVariants.{Forever, Recurs, Spaced, Fixed, Windowed, Linear, Exponential, ExponentialMilli, Fibonacci, Elapsed, Identity, Unfold, Lone}
+use Rattle.sched_plan.specs.declared.leaves.Leaf.TheVariants.{Forever, Recurs, Spaced, Fixed, Windowed, Linear, Exponential, ExponentialMilli, Fibonacci, Decorrelated, Elapsed, Identity, Unfold, Lone}
 use Rattle.sched_plan.specs.declared.nodes.One.{One}
-use Rattle.sched_plan.specs.declared.nodes.One.TheVariants.{Gate, Gather, Add, Set, Cap, AddOut, Jitter, Within, Renew, RenewIdle, First, Second, Nothing}
+use Rattle.sched_plan.specs.declared.nodes.One.TheVariants.{Gate, Gather, Add, Set, Cap, AddOut, Jitter, Within, EndsBy, Renew, RenewIdle, First, Second, Nothing}
 use Rattle.sched_plan.specs.declared.nodes.Two.{Two}
 use Rattle.sched_plan.specs.declared.nodes.Two.TheVariants.{Meet, Join, Follow, Feed}
 use Rattle.sched_plan.specs.declared.history.Event.{Event}
@@ -92,6 +92,7 @@ leaf_law (Linear delay) h far = not_before _ _ far
 leaf_law (Exponential base factor) h far = not_before _ _ far
 leaf_law (ExponentialMilli base thousandths) h far = not_before _ _ far
 leaf_law (Fibonacci delay) h far = not_before _ _ far
+leaf_law (Decorrelated lane base thousandths most) h far = not_before _ _ far
 leaf_law Elapsed h far = omega arith
 leaf_law Identity h far = omega arith
 leaf_law (Unfold seed factor more) h far = omega arith
@@ -142,6 +143,8 @@ one_law AddOut f law h far = moved_starts (added_out (f h).output) _ (f h).decis
 one_law (Jitter lane least most) f law h far =
     moved_starts (jittered least most (get_or (last_words h) lane 0)) _ (f h).decision far
 one_law (Within d) f law h far = ended_starts (last_moment h) (nat_le d (last_moment h - first_moment h)) (f h) (law h far)
+one_law (EndsBy d) f law h far =
+    ended_starts (last_moment h) (goes_past (capped (first_moment h + d)) (f h).decision) (f h) (law h far)
 one_law (Renew d) f law h far = same_end f law (last_block d h) h (last_block_ends d h) far
 one_law (RenewIdle d) f law h far = same_end f law (last_run d h) h (last_run_ends d h) far
 one_law First f law h far = law h far

@@ -6,8 +6,8 @@ use Rattle.sched_plan.specs.Datum.{Datum, unit, num, pair}
 use Rattle.sched_plan.specs.Schedule.{Schedule, leaf, one, two}
 use Rattle.sched_plan.specs.History.{prefixes}
 use Rattle.sched_plan.specs.Answer.{answer}
-use Rattle.sched_plan.specs.declared.leaves.Leaf.TheVariants.{Forever, Recurs, Spaced, Fixed}
-use Rattle.sched_plan.specs.declared.nodes.One.TheVariants.{Within, Nothing}
+use Rattle.sched_plan.specs.declared.leaves.Leaf.TheVariants.{Forever, Recurs, Spaced, Fixed, ExponentialMilli}
+use Rattle.sched_plan.specs.declared.nodes.One.TheVariants.{Within, EndsBy, Nothing}
 use Rattle.sched_plan.specs.declared.nodes.Two.TheVariants.{Meet, Follow}
 use Rattle.sched_plan.specs.declared.history.Event.{Event}
 use Rattle.sched_plan.specs.declared.history.Answer.{Answer}
@@ -141,6 +141,44 @@ within_no_time = refl
 pub within_and_done_before : answers (one (Within 100) (leaf (Recurs 1))) (0 ∷ 10 ∷ []) ≡
     gives (num 0) (Go 0) ∷ gives (num 1) Done ∷ []
 within_and_done_before = refl
+
+-- it looks at the start: 450 after 900 is past 1000
+pub ends_by_a_time : answers (one (EndsBy 1000) (leaf (Spaced 450))) (0 ∷ 450 ∷ 900 ∷ []) ≡
+    gives (num 0) (Go 450) ∷ gives (num 1) (Go 900) ∷ gives (num 2) Done ∷ []
+ends_by_a_time = refl
+
+-- a start at the border itself goes on
+pub ends_by_at_the_border : answers (one (EndsBy 100) (leaf (Fixed 100))) (0 ∷ 100 ∷ []) ≡
+    gives (num 0) (Go 100) ∷ gives (num 1) Done ∷ []
+ends_by_at_the_border = refl
+
+-- the border is counted from the first event
+pub ends_by_from_seven : answers (one (EndsBy 100) (leaf (Spaced 50))) (7 ∷ 57 ∷ 107 ∷ []) ≡
+    gives (num 0) (Go 57) ∷ gives (num 1) (Go 107) ∷ gives (num 2) Done ∷ []
+ends_by_from_seven = refl
+
+pub ends_by_no_time : answers (one (EndsBy 0) (leaf Forever)) (0 ∷ 0 ∷ 1 ∷ []) ≡
+    gives (num 0) (Go 0) ∷ gives (num 1) (Go 0) ∷ gives (num 2) Done ∷ []
+ends_by_no_time = refl
+
+-- a start at once is past the border where the event is
+pub ends_by_with_late_events : answers (one (EndsBy 100) (leaf (Recurs 5))) (0 ∷ 60 ∷ 120 ∷ []) ≡
+    gives (num 0) (Go 0) ∷ gives (num 1) (Go 60) ∷ gives (num 2) Done ∷ []
+ends_by_with_late_events = refl
+
+pub ends_by_and_done_before : answers (one (EndsBy 100) (leaf (Recurs 1))) (0 ∷ 10 ∷ []) ≡
+    gives (num 0) (Go 0) ∷ gives (num 1) Done ∷ []
+ends_by_and_done_before = refl
+
+-- the border stops at the last moment, and so does the start
+pub ends_by_the_end : answers (one (EndsBy 4611686018427387903) (leaf (Spaced 4611686018427387903))) (5 ∷ []) ≡
+    gives (num 0) (Go 4611686018427387903) ∷ []
+ends_by_the_end = refl
+
+-- each event counts for itself: a later one may go on where an earlier one did not
+pub ends_by_over_a_late_start : answers (one (EndsBy 100) (leaf (ExponentialMilli 150 1))) (0 ∷ 10 ∷ []) ≡
+    gives (num 150) Done ∷ gives (num 0) (Go 10) ∷ []
+ends_by_over_a_late_start = refl
 
 pub nothing_of_forever : answers (one Nothing (leaf Forever)) (0 ∷ 3 ∷ []) ≡ gives unit (Go 0) ∷ gives unit (Go 3) ∷ []
 nothing_of_forever = refl

@@ -5,7 +5,7 @@ use Rattle.sched_plan.specs.Datum.{unit, num, pair, list, items_of}
 use Rattle.sched_plan.specs.History.{last_moment, repeats, prefixes}
 use Rattle.sched_plan.specs.Rounds.{blocks, last_block, last_run}
 use Rattle.sched_plan.specs.Outputs.{outputs, earlier_outputs, fed}
-use Rattle.sched_plan.specs.Sequences.{linear_at, exponential_at, milli_at, fibonacci_at, unfold_at}
+use Rattle.sched_plan.specs.Sequences.{linear_at, exponential_at, milli_at, fibonacci_at, picked, decorrelated_after, decorrelated_at, unfold_at}
 use Rattle.sched_plan.specs.Delays.{jittered, moved, added}
 use Rattle.sched_plan.specs.Answer.{gathered}
 use Rattle.sched_plan.specs.declared.nodes.Fold.TheVariants.{Sum, Count, Max, List as Listing}
@@ -106,6 +106,19 @@ milli_at_the_end = refl
 
 fibonacci_by_ten : map (fibonacci_at 10) (1 ∷ 2 ∷ 3 ∷ 4 ∷ 5 ∷ 6 ∷ []) ≡ 10 ∷ 10 ∷ 20 ∷ 30 ∷ 50 ∷ 80 ∷ []
 fibonacci_by_ten = refl
+
+-- before the first word the delay is the base
+decorrelated_by_words : map (decorrelated_at 100 3000 10000) ([] ∷ (middle_word ∷ []) ∷ (4294967295 ∷ middle_word ∷ []) ∷ []) ≡
+    100 ∷ 200 ∷ 498 ∷ []
+decorrelated_by_words = refl
+
+-- what is picked is never the high end
+picked_by_words : map (picked 100 300) (0 ∷ middle_word ∷ 4294967295 ∷ []) ≡ 100 ∷ 200 ∷ 299 ∷ []
+picked_by_words = refl
+
+-- one and a half times 333 is 499.5
+decorrelated_rounds_down : decorrelated_after 100 1500 10000 333 middle_word ≡ 299
+decorrelated_rounds_down = refl
 
 unfold_by_three : map (unfold_at 1 3 2) (1 ∷ 2 ∷ 3 ∷ 4 ∷ []) ≡ 1 ∷ 5 ∷ 17 ∷ 53 ∷ []
 unfold_by_three = refl

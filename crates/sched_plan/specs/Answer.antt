@@ -5,19 +5,19 @@ use Rattle.sched_time.specs.declared.starts.Decision.{Decision}
 use Rattle.sched_time.specs.declared.starts.Decision.TheVariants.{Go, Done}
 use Rattle.sched_plan.specs.Datum.{Datum, num, pair, list, items_of, first_part, second_part}
 use Rattle.sched_plan.specs.Schedule.{Schedule, leaf, one, two}
-use Rattle.sched_plan.specs.History.{first_moment, last_moment, last_input, last_words, repeats, prefixes}
-use Rattle.sched_plan.specs.Sequences.{linear_at, exponential_at, milli_at, fibonacci_at, unfold_at}
+use Rattle.sched_plan.specs.History.{first_moment, last_moment, last_input, last_words, words_in, repeats, prefixes}
+use Rattle.sched_plan.specs.Sequences.{linear_at, exponential_at, milli_at, fibonacci_at, decorrelated_at, unfold_at}
 use Rattle.sched_plan.specs.Outputs.{earlier_outputs, sum_in, count_in, greatest_in, fed}
 use Rattle.sched_plan.specs.Rounds.{last_block, last_run}
 use Rattle.sched_plan.specs.Delays.{added, added_out, jittered}
-use Rattle.sched_plan.specs.Changes.{ended_where, delayed, giving, silent}
+use Rattle.sched_plan.specs.Changes.{ended_where, goes_past, delayed, giving, silent}
 use Rattle.sched_plan.specs.Gates.{gated}
 use Rattle.sched_plan.specs.declared.leaves.Leaf.{Leaf}
-use Rattle.sched_plan.specs.declared.leaves.Leaf.TheVariants.{Forever, Recurs, Spaced, Fixed, Windowed, Linear, Exponential, ExponentialMilli, Fibonacci, Elapsed, Identity, Unfold, Lone}
+use Rattle.sched_plan.specs.declared.leaves.Leaf.TheVariants.{Forever, Recurs, Spaced, Fixed, Windowed, Linear, Exponential, ExponentialMilli, Fibonacci, Decorrelated, Elapsed, Identity, Unfold, Lone}
 use Rattle.sched_plan.specs.declared.nodes.Fold.{Fold}
 use Rattle.sched_plan.specs.declared.nodes.Fold.TheVariants.{Sum, Count, Max, List as Listing}
 use Rattle.sched_plan.specs.declared.nodes.One.{One}
-use Rattle.sched_plan.specs.declared.nodes.One.TheVariants.{Gate, Gather, Add, Set, Cap, AddOut, Jitter, Within, Renew, RenewIdle, First, Second, Nothing}
+use Rattle.sched_plan.specs.declared.nodes.One.TheVariants.{Gate, Gather, Add, Set, Cap, AddOut, Jitter, Within, EndsBy, Renew, RenewIdle, First, Second, Nothing}
 use Rattle.sched_plan.specs.declared.nodes.Two.{Two}
 use Rattle.sched_plan.specs.declared.nodes.Two.TheVariants.{Meet, Join, Follow, Feed}
 use Rattle.sched_plan.specs.declared.history.Event.{Event}
@@ -57,6 +57,8 @@ leaf_output (Linear delay) h = num (linear_at delay (length h))
 leaf_output (Exponential base factor) h = num (exponential_at base factor (length h))
 leaf_output (ExponentialMilli base thousandths) h = num (milli_at base thousandths (length h))
 leaf_output (Fibonacci delay) h = num (fibonacci_at delay (length h))
+leaf_output (Decorrelated lane base thousandths most) h =
+    num (decorrelated_at base thousandths most (words_in lane h))
 leaf_output Elapsed h = num (last_moment h - first_moment h)
 leaf_output Identity h = last_input h
 leaf_output (Unfold seed factor more) h = num (unfold_at seed factor more (length h))
@@ -77,6 +79,8 @@ leaf_decision (Linear delay) h = go_after (linear_at delay (length h)) h
 leaf_decision (Exponential base factor) h = go_after (exponential_at base factor (length h)) h
 leaf_decision (ExponentialMilli base thousandths) h = go_after (milli_at base thousandths (length h)) h
 leaf_decision (Fibonacci delay) h = go_after (fibonacci_at delay (length h)) h
+leaf_decision (Decorrelated lane base thousandths most) h =
+    go_after (decorrelated_at base thousandths most (words_in lane h)) h
 leaf_decision Elapsed h = Go (last_moment h)
 leaf_decision Identity h = Go (last_moment h)
 leaf_decision (Unfold seed factor more) h = Go (last_moment h)
@@ -142,6 +146,7 @@ changed AddOut f h = delayed (added_out (f h).output) (last_moment h) (f h)
 changed (Jitter lane least most) f h =
     delayed (jittered least most (get_or (last_words h) lane 0)) (last_moment h) (f h)
 changed (Within d) f h = ended_where (nat_le d (last_moment h - first_moment h)) (f h)
+changed (EndsBy d) f h = ended_where (goes_past (capped (first_moment h + d)) (f h).decision) (f h)
 changed (Renew d) f h = f (last_block d h)
 changed (RenewIdle d) f h = f (last_run d h)
 changed First f h = giving (first_part (f h).output) (f h)

@@ -1,5 +1,5 @@
 -- What a node over one schedule makes of an answer.
-use Rattle.std.specs.Prelude.{ℕ, Bool, if◌then◌else◌}
+use Rattle.std.specs.Prelude.{ℕ, Bool, false, if◌then◌else◌, nat_lt}
 use Rattle.sched_time.specs.declared.starts.Decision.{Decision}
 use Rattle.sched_time.specs.declared.starts.Decision.TheVariants.{Go, Done}
 use Rattle.sched_plan.specs.Datum.{Datum, unit}
@@ -13,6 +13,11 @@ ended a = record { output = a.output; decision = Done }
 -- the answer, but done where this is so
 abbrev pub ended_where : Bool → Answer → Answer
 ended_where over a = if over then ended a else a
+
+-- whether it goes on later than this moment
+abbrev pub goes_past : ℕ → Decision → Bool
+goes_past moment (Go start) = nat_lt moment start
+goes_past moment Done = false
 
 -- the decision, at a start moved by what is made of its delay from now on
 abbrev pub moved_decision : (ℕ → ℕ) → ℕ → Decision → Decision

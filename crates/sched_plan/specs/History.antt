@@ -1,5 +1,5 @@
 -- Histories: the events that a schedule was given, oldest first.
-use Rattle.std.specs.Prelude.{◌≤◌, ℕ, ◌-◌, List, [], ◌∷◌, map, length}
+use Rattle.std.specs.Prelude.{◌≤◌, ℕ, ◌-◌, List, [], ◌∷◌, map, length, get_or}
 use Rattle.sched_time.specs.Capped.{capped}
 use Rattle.sched_plan.specs.Datum.{Datum, unit}
 use Rattle.sched_plan.specs.declared.history.Event.{Event}
@@ -26,6 +26,10 @@ abbrev pub last_words : List Event → List ℕ
 last_words [] = []
 last_words (e ∷ []) = e.words
 last_words (e ∷ d ∷ h) = last_words (d ∷ h)
+
+-- the random words of a lane, event by event
+abbrev pub words_in : ℕ → List Event → List ℕ
+words_in lane h = map (λ e. get_or e.words lane 0) h
 
 -- the moments never fall
 abbrev pub IsHistory : List Event → Type 0

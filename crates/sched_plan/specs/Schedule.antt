@@ -1,9 +1,9 @@
 -- Recurrence schedules as plain data.
 use Rattle.std.specs.Prelude.{ℕ, ◌+◌, max, Bool, true, ◌&&◌, nat_le}
 use Rattle.sched_plan.specs.declared.leaves.Leaf.{Leaf}
-use Rattle.sched_plan.specs.declared.leaves.Leaf.TheVariants.{Forever, Recurs, Spaced, Fixed, Windowed, Linear, Exponential, ExponentialMilli, Fibonacci, Elapsed, Identity, Unfold, Lone}
+use Rattle.sched_plan.specs.declared.leaves.Leaf.TheVariants.{Forever, Recurs, Spaced, Fixed, Windowed, Linear, Exponential, ExponentialMilli, Fibonacci, Decorrelated, Elapsed, Identity, Unfold, Lone}
 use Rattle.sched_plan.specs.declared.nodes.One.{One}
-use Rattle.sched_plan.specs.declared.nodes.One.TheVariants.{Gate, Gather, Add, Set, Cap, AddOut, Jitter, Within, Renew, RenewIdle, First, Second, Nothing}
+use Rattle.sched_plan.specs.declared.nodes.One.TheVariants.{Gate, Gather, Add, Set, Cap, AddOut, Jitter, Within, EndsBy, Renew, RenewIdle, First, Second, Nothing}
 use Rattle.sched_plan.specs.declared.nodes.Two.{Two}
 use Rattle.sched_time.specs.declared.numbers.TheConstants.{FAR}
 
@@ -39,6 +39,8 @@ leaf_in_range (Exponential base factor) = nat_le base FAR && (nat_le 1 factor &&
 leaf_in_range (ExponentialMilli base thousandths) =
     nat_le base FAR && (nat_le 1 thousandths && nat_le thousandths 1000000)
 leaf_in_range (Fibonacci delay) = nat_le delay FAR
+leaf_in_range (Decorrelated lane base thousandths most) =
+    nat_le lane 3 && ((nat_le 1000 thousandths && nat_le thousandths 1000000) && (nat_le base most && nat_le most FAR))
 leaf_in_range Elapsed = true
 leaf_in_range Identity = true
 leaf_in_range (Unfold seed factor more) = nat_le seed FAR && (nat_le factor FAR && nat_le more FAR)
@@ -54,6 +56,7 @@ one_in_range (Cap delay) = nat_le delay FAR
 one_in_range AddOut = true
 one_in_range (Jitter lane least most) = nat_le lane 3 && (nat_le least most && nat_le most 10000)
 one_in_range (Within length) = nat_le length FAR
+one_in_range (EndsBy length) = nat_le length FAR
 one_in_range (Renew length) = nat_le 1 length && nat_le length FAR
 one_in_range (RenewIdle length) = nat_le 1 length && nat_le length FAR
 one_in_range First = true

@@ -3,7 +3,7 @@ use Rattle.std.specs.Prelude.{◌≡◌, ℕ, Bool, true, false, cond, nat_eq, [
 use Rattle.std.specs.Coded.{Coded}
 use Rattle.sched_plan.specs.Schedule.{Schedule, leaf, one, two}
 use Rattle.sched_plan.specs.declared.leaves.Leaf.{Leaf}
-use Rattle.sched_plan.specs.declared.leaves.Leaf.TheVariants.{Forever, Recurs, Spaced, Fixed, Windowed, Linear, Exponential, ExponentialMilli, Fibonacci, Elapsed, Identity, Unfold, Lone}
+use Rattle.sched_plan.specs.declared.leaves.Leaf.TheVariants.{Forever, Recurs, Spaced, Fixed, Windowed, Linear, Exponential, ExponentialMilli, Fibonacci, Decorrelated, Elapsed, Identity, Unfold, Lone}
 use Rattle.sched_plan.specs.declared.nodes.Side.{Side}
 use Rattle.sched_plan.specs.declared.nodes.Side.TheVariants.{Input, Output}
 use Rattle.sched_plan.specs.declared.nodes.Test.{Test}
@@ -11,7 +11,7 @@ use Rattle.sched_plan.specs.declared.nodes.Test.TheVariants.{Below, AtLeast, Equ
 use Rattle.sched_plan.specs.declared.nodes.Fold.{Fold}
 use Rattle.sched_plan.specs.declared.nodes.Fold.TheVariants.{Sum, Count, Max, List as Listing}
 use Rattle.sched_plan.specs.declared.nodes.One.{One}
-use Rattle.sched_plan.specs.declared.nodes.One.TheVariants.{Gate, Gather, Add, Set, Cap, AddOut, Jitter, Within, Renew, RenewIdle, First, Second, Nothing}
+use Rattle.sched_plan.specs.declared.nodes.One.TheVariants.{Gate, Gather, Add, Set, Cap, AddOut, Jitter, Within, EndsBy, Renew, RenewIdle, First, Second, Nothing}
 use Rattle.sched_plan.specs.declared.nodes.Two.{Two}
 use Rattle.sched_plan.specs.declared.nodes.Two.TheVariants.{Meet, Join, Follow, Feed}
 use base.Stored.{Gv, gnil, gnum, gcons}
@@ -31,17 +31,18 @@ leaf_code (Linear delay) = tagged 5 delay 0 0 0
 leaf_code (Exponential base factor) = tagged 6 base factor 0 0
 leaf_code (ExponentialMilli base thousandths) = tagged 7 base thousandths 0 0
 leaf_code (Fibonacci delay) = tagged 8 delay 0 0 0
-leaf_code Elapsed = tagged 9 0 0 0 0
-leaf_code Identity = tagged 10 0 0 0 0
-leaf_code (Unfold seed factor more) = tagged 11 seed factor more 0
-leaf_code (Lone delay) = tagged 12 delay 0 0 0
+leaf_code (Decorrelated lane base thousandths most) = tagged 9 lane base thousandths most
+leaf_code Elapsed = tagged 10 0 0 0 0
+leaf_code Identity = tagged 11 0 0 0 0
+leaf_code (Unfold seed factor more) = tagged 12 seed factor more 0
+leaf_code (Lone delay) = tagged 13 delay 0 0 0
 
 -- the leaves in the order of their tags
-abbrev leaf_at : ℕ → ℕ → ℕ → ℕ → Leaf
-leaf_at tag a b c =
+abbrev leaf_at : ℕ → ℕ → ℕ → ℕ → ℕ → Leaf
+leaf_at tag a b c d =
     let leaves =
     Forever ∷ Recurs a ∷ Spaced a ∷ Fixed a ∷ Windowed a ∷ Linear a ∷ Exponential a b ∷ ExponentialMilli a b ∷
-    Fibonacci a ∷ Elapsed ∷ Identity ∷ Unfold a b c ∷ Lone a ∷ [] in
+    Fibonacci a ∷ Decorrelated a b c d ∷ Elapsed ∷ Identity ∷ Unfold a b c ∷ Lone a ∷ [] in
     get_or leaves tag Forever
 
 abbrev side_code : Side → ℕ
@@ -84,18 +85,19 @@ one_code (Cap delay) = tagged 4 delay 0 0 0
 one_code AddOut = tagged 5 0 0 0 0
 one_code (Jitter lane least most) = tagged 6 lane least most 0
 one_code (Within length) = tagged 7 length 0 0 0
-one_code (Renew length) = tagged 8 length 0 0 0
-one_code (RenewIdle length) = tagged 9 length 0 0 0
-one_code First = tagged 10 0 0 0 0
-one_code Second = tagged 11 0 0 0 0
-one_code Nothing = tagged 12 0 0 0 0
+one_code (EndsBy length) = tagged 8 length 0 0 0
+one_code (Renew length) = tagged 9 length 0 0 0
+one_code (RenewIdle length) = tagged 10 length 0 0 0
+one_code First = tagged 11 0 0 0 0
+one_code Second = tagged 12 0 0 0 0
+one_code Nothing = tagged 13 0 0 0 0
 
 -- the nodes over one schedule in the order of their tags
 abbrev one_at : ℕ → ℕ → ℕ → ℕ → ℕ → One
 one_at tag a b c d =
     let nodes =
     Gate (side_at a) (truth_at b) (test_at c) d ∷ Gather (fold_at a) ∷ Add a ∷ Set a ∷ Cap a ∷ AddOut ∷ Jitter a b c ∷
-    Within a ∷ Renew a ∷ RenewIdle a ∷ First ∷ Second ∷ Nothing ∷ [] in
+    Within a ∷ EndsBy a ∷ Renew a ∷ RenewIdle a ∷ First ∷ Second ∷ Nothing ∷ [] in
     get_or nodes tag Nothing
 
 abbrev two_code : Two → Gv
@@ -108,7 +110,7 @@ abbrev two_at : ℕ → Two
 two_at tag = get_or (Meet ∷ Join ∷ Follow ∷ Feed ∷ []) tag Meet
 
 abbrev leaf_from : Gv → Leaf
-leaf_from (gcons (gnum tag) (gcons (gcons (gnum a) (gnum b)) (gcons (gnum c) (gnum d)))) = leaf_at tag a b c
+leaf_from (gcons (gnum tag) (gcons (gcons (gnum a) (gnum b)) (gcons (gnum c) (gnum d)))) = leaf_at tag a b c d
 leaf_from _ = Forever
 
 abbrev one_from : Gv → One

@@ -1,5 +1,5 @@
 -- The numbers that leaves put out, at event n of a history, where the first event has n = 1.
-use Rattle.std.specs.Prelude.{ℕ, zero, suc, ◌+◌, ◌-◌, ◌*◌, ◌/◌, ◌^◌}
+use Rattle.std.specs.Prelude.{ℕ, zero, suc, ◌+◌, ◌-◌, ◌*◌, ◌/◌, ◌^◌, min, max, List, fold}
 use Rattle.sched_time.specs.Capped.{capped}
 
 -- b times n
@@ -32,3 +32,16 @@ fibonacci_at a n = capped (a * fib n)
 -- s, and then each time m times the number before and a more
 abbrev pub unfold_at : ℕ → ℕ → ℕ → ℕ → ℕ
 unfold_at s m a n = times_applied (n - 1) (λ x. capped (m * x + a)) s
+
+-- the number that a random word r picks between low and high, rounded down
+abbrev pub picked : ℕ → ℕ → ℕ → ℕ
+picked low high r = capped (low + (high - low) * r / 2 ^ 32)
+
+-- the delay that follows this one in decorrelated jitter: the word picks it between b and k thousandths of the delay
+-- before, and it is at most m
+abbrev pub decorrelated_after : ℕ → ℕ → ℕ → ℕ → ℕ → ℕ
+decorrelated_after b k m before r = min m (picked b (max b (capped (before * k / 1000))) r)
+
+-- the delay at the last of these random words, one for each event: b at first, and then each from the delay before
+abbrev pub decorrelated_at : ℕ → ℕ → ℕ → List ℕ → ℕ
+decorrelated_at b k m rs = fold (decorrelated_after b k m) b rs

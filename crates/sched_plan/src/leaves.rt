@@ -28,6 +28,14 @@ pub enum Leaf {
     },
     /// Waits this delay times the Fibonacci numbers 1, 1, 2, 3, 5 and so on.
     Fibonacci(Millis),
+    /// Waits a delay that the random word of the lane picks between `base` and `thousandths` thousandths of the delay
+    /// before, for which `base` stands at first; at most `most`. AWS calls it decorrelated jitter.
+    Decorrelated {
+        lane: usize,
+        base: Millis,
+        thousandths: u64,
+        most: Millis,
+    },
     /// Goes on at once, and gives the time since the first event.
     Elapsed,
     /// Goes on at once, and gives the input.

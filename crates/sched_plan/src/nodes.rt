@@ -56,6 +56,8 @@ pub enum One {
     },
     /// The plan, but done once this much time has passed since the first event.
     Within(Millis),
+    /// The plan, but done where it would go on later than this much time after the first event.
+    EndsBy(Millis),
     /// The plan, begun anew at the first event at which this much time has passed since it last began.
     Renew(Millis),
     /// The plan, begun anew at each event that comes at least this much time after the event before it.

@@ -10,13 +10,13 @@ use Rattle.sched_plan.specs.Schedule.{Schedule, leaf, one, two}
 use Rattle.sched_plan.specs.History.{first_moment, last_moment, last_input, last_words}
 use Rattle.sched_plan.specs.Outputs.{fed}
 use Rattle.sched_plan.specs.Delays.{added, added_out, jittered}
-use Rattle.sched_plan.specs.Changes.{ended, ended_where, moved_decision}
+use Rattle.sched_plan.specs.Changes.{ended, ended_where, goes_past, moved_decision}
 use Rattle.sched_plan.specs.Gates.{is_wanted, passes, tested}
 use Rattle.sched_plan.specs.Answer.{answer, changed, combined, leaf_decision, go_after, meet_decisions, join_decisions, follow_answer, crossing, from_end_of}
 use Rattle.sched_plan.specs.declared.leaves.Leaf.{Leaf}
-use Rattle.sched_plan.specs.declared.leaves.Leaf.TheVariants.{Forever, Recurs, Spaced, Fixed, Windowed, Linear, Exponential, ExponentialMilli, Fibonacci, Elapsed, Identity, Unfold, Lone}
+use Rattle.sched_plan.specs.declared.leaves.Leaf.TheVariants.{Forever, Recurs, Spaced, Fixed, Windowed, Linear, Exponential, ExponentialMilli, Fibonacci, Decorrelated, Elapsed, Identity, Unfold, Lone}
 use Rattle.sched_plan.specs.declared.nodes.One.{One}
-use Rattle.sched_plan.specs.declared.nodes.One.TheVariants.{Gate, Gather, Add, Set, Cap, AddOut, Jitter, Within, Renew, RenewIdle, First, Second, Nothing}
+use Rattle.sched_plan.specs.declared.nodes.One.TheVariants.{Gate, Gather, Add, Set, Cap, AddOut, Jitter, Within, EndsBy, Renew, RenewIdle, First, Second, Nothing}
 use Rattle.sched_plan.specs.declared.nodes.Two.{Two}
 use Rattle.sched_plan.specs.declared.nodes.Two.TheVariants.{Meet, Join, Follow, Feed}
 use Rattle.sched_plan.specs.declared.history.Event.{Event}
@@ -46,6 +46,7 @@ leaf_ends (Linear delay) = tt
 leaf_ends (Exponential base factor) = tt
 leaf_ends (ExponentialMilli base thousandths) = tt
 leaf_ends (Fibonacci delay) = tt
+leaf_ends (Decorrelated lane base thousandths most) = tt
 leaf_ends Elapsed = tt
 leaf_ends Identity = tt
 leaf_ends (Unfold seed factor more) = tt
@@ -74,6 +75,8 @@ kept AddOut f most ends = λ h past far. moved_done (added_out (f h).output) (la
 kept (Jitter lane least greatest) f most ends = λ h past far.
     moved_done (jittered least greatest (get_or (last_words h) lane 0)) (last_moment h) (f h).decision (ends h past far)
 kept (Within d) f most ends = λ h past far. ended_done (nat_le d (last_moment h - first_moment h)) (f h) (ends h past far)
+kept (EndsBy d) f most ends = λ h past far.
+    ended_done (goes_past (capped (first_moment h + d)) (f h).decision) (f h) (ends h past far)
 kept (Renew d) f most ends = tt
 kept (RenewIdle d) f most ends = tt
 kept First f most ends = ends
@@ -90,6 +93,7 @@ none_kept (Cap d) f = tt
 none_kept AddOut f = tt
 none_kept (Jitter lane least most) f = tt
 none_kept (Within d) f = tt
+none_kept (EndsBy d) f = tt
 none_kept (Renew d) f = tt
 none_kept (RenewIdle d) f = tt
 none_kept First f = tt

@@ -1,4 +1,4 @@
-//! How often a plan goes on at most.
+//! The bound of a plan: how often it goes on at most.
 #![tactic(auto)]
 
 mod bounds;

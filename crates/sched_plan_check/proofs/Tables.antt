@@ -6,7 +6,7 @@ use Rattle.serde_json.specs.Data.{Data, null, boolean, number, string, array, ob
 use Rattle.serde_json.specs.Find.{at, as_bool}
 use Rattle.sched_plan.specs.declared.leaves.Leaf.{Leaf}
 use Rattle.sched_plan.specs.declared.nodes.One.{One}
-use Rattle.sched_plan.specs.declared.nodes.One.TheVariants.{Gate, Gather, Add, Set, Cap, AddOut, Jitter, Within, Renew, RenewIdle, First, Second, Nothing}
+use Rattle.sched_plan.specs.declared.nodes.One.TheVariants.{Gate, Gather, Add, Set, Cap, AddOut, Jitter, Within, EndsBy, Renew, RenewIdle, First, Second, Nothing}
 use Rattle.sched_plan.specs.declared.nodes.Two.{Two}
 use Rattle.sched_plan.specs.declared.nodes.Two.TheVariants.{Meet, Join, Follow, Feed}
 use Rattle.sched_plan.specs.declared.nodes.Fold.{Fold}
@@ -14,7 +14,7 @@ use Rattle.sched_plan.specs.declared.nodes.Side.{Side}
 use Rattle.sched_plan.specs.declared.nodes.Test.{Test}
 use Rattle.sched_plan.specs.declared.leaves.Leaf.TheVariants as leaf
 use Rattle.sched_plan_json.specs.Words.{sides, tests, folds}
-use Rattle.sched_plan_json.specs.Forms.{Part, Spelt, of_leaf, over_one, over_two, Form, Row, spelt_by, number_in, word_in, two_numbers_in, three_numbers_in, jitter_and_part, gate_and_part, gather_and_part, a_number, two_numbers, three_numbers, a_plan, a_number_and_a_plan, parameters_and_a_plan, two_plans}
+use Rattle.sched_plan_json.specs.Forms.{Part, Spelt, of_leaf, over_one, over_two, Form, Row, spelt_by, number_in, word_in, two_numbers_in, three_numbers_in, four_numbers_in, jitter_and_part, gate_and_part, gather_and_part, a_number, two_numbers, three_numbers, four_numbers, a_plan, a_number_and_a_plan, parameters_and_a_plan, two_plans}
 use Rattle.sched_plan_json.specs.Nodes.{from_pairs}
 use Rattle.sched_plan_json.specs.PlanOf.{part_of, parts_of, reading_of}
 use Rattle.sched_plan_check.specs.PlanFaults.{item_in}
@@ -51,6 +51,9 @@ two_have l v = a_leaf v (two_numbers_in (parts_of v)) (λ n. l n.0 n.1)
 
 three_have : (l : ℕ → ℕ → ℕ → Leaf) → HasForm (three_numbers l)
 three_have l v = a_leaf v (three_numbers_in (parts_of v)) (λ n. l n.0 n.1 n.2)
+
+four_have : (l : ℕ → ℕ → ℕ → ℕ → Leaf) → HasForm (four_numbers l)
+four_have l v = a_leaf v (four_numbers_in (parts_of v)) (λ n. l n.0 n.1 n.2 n.3)
 
 plan_has : (k : One) → item_in k ≡ None → HasForm (a_plan k)
 plan_has k is v = record { stands = rw is refl; reads = refl }
@@ -185,28 +188,34 @@ all_have = (
                             (
                               delay_has Within (λ n. refl),
                               (
-                                delay_has Renew (λ n. refl),
+                                delay_has EndsBy (λ n. refl),
                                 (
-                                  delay_has RenewIdle (λ n. refl),
+                                  delay_has Renew (λ n. refl),
                                   (
-                                    number_has leaf.Recurs,
+                                    delay_has RenewIdle (λ n. refl),
                                     (
-                                      number_has leaf.Spaced,
+                                      number_has leaf.Recurs,
                                       (
-                                        number_has leaf.Fixed,
+                                        number_has leaf.Spaced,
                                         (
-                                          number_has leaf.Windowed,
+                                          number_has leaf.Fixed,
                                           (
-                                            number_has leaf.Linear,
+                                            number_has leaf.Windowed,
                                             (
-                                              two_have leaf.Exponential,
+                                              number_has leaf.Linear,
                                               (
-                                                two_have leaf.ExponentialMilli,
+                                                two_have leaf.Exponential,
                                                 (
-                                                  number_has leaf.Fibonacci,
+                                                  two_have leaf.ExponentialMilli,
                                                   (
-                                                    three_have leaf.Unfold,
-                                                    (number_has leaf.Lone, tt),
+                                                    number_has leaf.Fibonacci,
+                                                    (
+                                                      four_have leaf.Decorrelated,
+                                                      (
+                                                        three_have leaf.Unfold,
+                                                        (number_has leaf.Lone, tt),
+                                                      ),
+                                                    ),
                                                   ),
                                                 ),
                                               ),

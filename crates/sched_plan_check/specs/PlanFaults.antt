@@ -3,7 +3,7 @@ use Rattle.std.specs.Prelude.{◌≡◌, ◌⊎◌, ℕ, List, [], ◌∷◌, �
 use Rattle.serde_json.specs.Data.{Data, object, member}
 use Rattle.sched_plan.specs.Schedule.{Schedule}
 use Rattle.sched_plan.specs.declared.nodes.One.{One}
-use Rattle.sched_plan.specs.declared.nodes.One.TheVariants.{Gate, Gather, Add, Set, Cap, AddOut, Jitter, Within, Renew, RenewIdle, First, Second, Nothing}
+use Rattle.sched_plan.specs.declared.nodes.One.TheVariants.{Gate, Gather, Add, Set, Cap, AddOut, Jitter, Within, EndsBy, Renew, RenewIdle, First, Second, Nothing}
 use Rattle.sched_plan_json.specs.declared.faults.ReadFault.{ReadFault}
 use Rattle.sched_plan_json.specs.Forms.{Spelt, of_leaf, over_one, over_two}
 use Rattle.sched_plan_json.specs.PlanOf.{plan_of, spelt_of}
@@ -28,6 +28,7 @@ item_in (Cap delay) = Some 1
 item_in AddOut = None
 item_in (Jitter lane least most) = Some 3
 item_in (Within length) = Some 1
+item_in (EndsBy length) = Some 1
 item_in (Renew length) = Some 1
 item_in (RenewIdle length) = Some 1
 item_in First = None

@@ -99,6 +99,7 @@ fn item_of(node: OneNode) -> Option<usize>
         | OneNode::Set(_)
         | OneNode::Cap(_)
         | OneNode::Within(_)
+        | OneNode::EndsBy(_)
         | OneNode::Renew(_)
         | OneNode::RenewIdle(_) => Some(1),
     }

@@ -87,6 +87,16 @@ three_numbers_in items =
     option_map (λ k. (n, m, k))
     (number_in p.2.json)) (number_in p.1.json)) (number_in p.0.json)) (three_of items)
 
+-- [n,m,k,l]
+abbrev pub four_numbers_in : List Part → Option (ℕ × ℕ × ℕ × ℕ)
+four_numbers_in items =
+    option_and_then (λ p.
+    option_and_then (λ n.
+    option_and_then (λ m.
+    option_and_then (λ k.
+    option_map (λ l. (n, m, k, l))
+    (number_in p.3.json)) (number_in p.2.json)) (number_in p.1.json)) (number_in p.0.json)) (four_of items)
+
 -- [n,A]
 abbrev pub number_and_part : List Part → Option (ℕ × Part)
 number_and_part items = option_and_then (λ p. option_map (λ n. (n, p.1)) (number_in p.0.json)) (two_of items)
@@ -117,7 +127,7 @@ gather_and_part items =
     option_map (λ fold. (Gather fold, p.1))
     (word_in folds p.0.json)) (two_of items)
 
--- {"NAME":n}, {"NAME":[n,m]}, {"NAME":[n,m,k]}
+-- {"NAME":n}, {"NAME":[n,m]}, {"NAME":[n,m,k]}, {"NAME":[n,m,k,l]}
 abbrev pub a_number : (ℕ → Leaf) → Form
 a_number node value items = option_map (λ n. of_leaf (node n)) (number_in value.json)
 
@@ -126,6 +136,9 @@ two_numbers node value items = option_map (λ n. of_leaf (node n.0 n.1)) (two_nu
 
 abbrev pub three_numbers : (ℕ → ℕ → ℕ → Leaf) → Form
 three_numbers node value items = option_map (λ n. of_leaf (node n.0 n.1 n.2)) (three_numbers_in items)
+
+abbrev pub four_numbers : (ℕ → ℕ → ℕ → ℕ → Leaf) → Form
+four_numbers node value items = option_map (λ n. of_leaf (node n.0 n.1 n.2 n.3)) (four_numbers_in items)
 
 -- {"NAME":A}
 abbrev pub a_plan : One → Form

@@ -1,10 +1,10 @@
 -- The tables of all nodes: how each is spelt in JSON.
 use Rattle.std.specs.Prelude.{ℕ, List, [], ◌∷◌, ◌++◌, codes}
 use Rattle.sched_plan.specs.declared.leaves.Leaf.{Leaf}
-use Rattle.sched_plan.specs.declared.leaves.Leaf.TheVariants.{Forever, Recurs, Spaced, Fixed, Windowed, Linear, Exponential, ExponentialMilli, Fibonacci, Elapsed, Identity, Unfold, Lone}
-use Rattle.sched_plan.specs.declared.nodes.One.TheVariants.{Add, Set, Cap, AddOut, Within, Renew, RenewIdle, First, Second, Nothing}
+use Rattle.sched_plan.specs.declared.leaves.Leaf.TheVariants.{Forever, Recurs, Spaced, Fixed, Windowed, Linear, Exponential, ExponentialMilli, Fibonacci, Decorrelated, Elapsed, Identity, Unfold, Lone}
+use Rattle.sched_plan.specs.declared.nodes.One.TheVariants.{Add, Set, Cap, AddOut, Within, EndsBy, Renew, RenewIdle, First, Second, Nothing}
 use Rattle.sched_plan.specs.declared.nodes.Two.TheVariants.{Meet, Join, Follow, Feed}
-use Rattle.sched_plan_json.specs.Forms.{Row, jitter_and_part, gate_and_part, gather_and_part, a_number, two_numbers, three_numbers, a_plan, a_number_and_a_plan, parameters_and_a_plan, two_plans}
+use Rattle.sched_plan_json.specs.Forms.{Row, jitter_and_part, gate_and_part, gather_and_part, a_number, two_numbers, three_numbers, four_numbers, a_plan, a_number_and_a_plan, parameters_and_a_plan, two_plans}
 
 -- leaves that are spelt as a string
 abbrev pub names : List (List ℕ × Leaf)
@@ -25,6 +25,7 @@ leaf_rows =
     ∷ (codes "exponential", two_numbers Exponential)
     ∷ (codes "exponential_milli", two_numbers ExponentialMilli)
     ∷ (codes "fibonacci", a_number Fibonacci)
+    ∷ (codes "decorrelated", four_numbers Decorrelated)
     ∷ (codes "unfold", three_numbers Unfold)
     ∷ (codes "lone", a_number Lone)
     ∷ []
@@ -33,6 +34,7 @@ leaf_rows =
 abbrev pub round_rows : List Row
 round_rows =
     (codes "within", a_number_and_a_plan Within)
+    ∷ (codes "ends_by", a_number_and_a_plan EndsBy)
     ∷ (codes "renew", a_number_and_a_plan Renew)
     ∷ (codes "renew_idle", a_number_and_a_plan RenewIdle)
     ∷ []

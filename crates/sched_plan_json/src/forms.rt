@@ -4,7 +4,7 @@ ghost use Rattle.serde_json.specs.Data.{depth, items_depth};
 ghost use Rattle.serde_json.specs.View.{view, items_view};
 ghost use Rattle.sched_plan.specs.declared.nodes.One.TheVariants.{Gate, Gather, Jitter};
 ghost use Rattle.sched_plan_json.specs.Reading.{or_not_a_plan};
-ghost use Rattle.sched_plan_json.specs.Forms.{LacksForm, number_in, two_numbers_in, three_numbers_in, number_and_part, jitter_and_part, gate_and_part, gather_and_part, two_of as two_parts, three_of as three_parts, four_of as four_parts, five_of as five_parts};
+ghost use Rattle.sched_plan_json.specs.Forms.{LacksForm, number_in, two_numbers_in, three_numbers_in, four_numbers_in, number_and_part, jitter_and_part, gate_and_part, gather_and_part, two_of as two_parts, three_of as three_parts, four_of as four_parts, five_of as five_parts};
 ghost use Rattle.sched_plan_json.specs.PlanOf.{part_of, parts_of, parts_of_items};
 
 use crate::faults::ReadFault;
@@ -33,6 +33,19 @@ pub(crate) fn three_numbers(value: &Value) -> Result<(u64, u64, u64), ReadFault>
 {
     let (first, second, third) = three_of(items(value)).ok_or(ReadFault::NotAPlan)?;
     Ok((number(first)?, number(second)?, number(third)?))
+}
+
+/// `[n,m,k,l]`
+pub(crate) fn four_numbers(value: &Value) -> Result<(u64, u64, u64, u64), ReadFault>
+    ensures { result ≡ or_not_a_plan (four_numbers_in (parts_of (view value.now))) }
+{
+    let (first, second, third, fourth) = four_of(items(value)).ok_or(ReadFault::NotAPlan)?;
+    Ok((
+        number(first)?,
+        number(second)?,
+        number(third)?,
+        number(fourth)?,
+    ))
 }
 
 /// `[n,A]`

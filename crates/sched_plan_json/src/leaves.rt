@@ -10,7 +10,7 @@ ghost use Rattle.sched_plan_json.specs.PlanOf.{part_of, parts_of, spelt_by_name}
 ghost use Rattle.sched_plan_json.specs.Reading.{Reads, built_leaf};
 
 use crate::faults::{ReadFault, refused};
-use crate::forms::{number, three_numbers, two_numbers};
+use crate::forms::{four_numbers, number, three_numbers, two_numbers};
 use sched_plan::{Plan, PlanFault};
 use serde_json::Value;
 
@@ -23,12 +23,28 @@ pub enum LeafNode {
     Fixed(u64),
     Windowed(u64),
     Linear(u64),
-    Exponential { base: u64, factor: u64 },
-    ExponentialMilli { base: u64, thousandths: u64 },
+    Exponential {
+        base: u64,
+        factor: u64,
+    },
+    ExponentialMilli {
+        base: u64,
+        thousandths: u64,
+    },
     Fibonacci(u64),
+    Decorrelated {
+        lane: u64,
+        base: u64,
+        thousandths: u64,
+        most: u64,
+    },
     Elapsed,
     Identity,
-    Unfold { seed: u64, factor: u64, more: u64 },
+    Unfold {
+        seed: u64,
+        factor: u64,
+        more: u64,
+    },
     Lone(u64),
 }
 
@@ -56,6 +72,12 @@ impl LeafNode {
                 Plan::exponential_milli(base, thousandths)
             }
             LeafNode::Fibonacci(delay) => Plan::fibonacci(delay),
+            LeafNode::Decorrelated {
+                lane,
+                base,
+                thousandths,
+                most,
+            } => Plan::decorrelated(lane, base, thousandths, most),
             LeafNode::Elapsed => Plan::elapsed(),
             LeafNode::Identity => Plan::identity(),
             LeafNode::Unfold { seed, factor, more } => Plan::unfold(seed, factor, more),
@@ -95,6 +117,15 @@ pub(crate) fn read_leaf(name: &str, value: &Value) -> Result<LeafNode, ReadFault
             Ok(LeafNode::ExponentialMilli { base, thousandths })
         }
         "fibonacci" => Ok(LeafNode::Fibonacci(number(value)?)),
+        "decorrelated" => {
+            let (lane, base, thousandths, most) = four_numbers(value)?;
+            Ok(LeafNode::Decorrelated {
+                lane,
+                base,
+                thousandths,
+                most,
+            })
+        }
         "unfold" => {
             let (seed, factor, more) = three_numbers(value)?;
             Ok(LeafNode::Unfold { seed, factor, more })

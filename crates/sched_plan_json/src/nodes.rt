@@ -40,6 +40,7 @@ pub enum OneNode {
         most: u64,
     },
     Within(u64),
+    EndsBy(u64),
     Renew(u64),
     RenewIdle(u64),
     First,
@@ -68,6 +69,7 @@ impl OneNode {
                 built(Plan::jitter(alloc, lane, least, most, plan))
             }
             OneNode::Within(length) => built(Plan::within(alloc, length, plan)),
+            OneNode::EndsBy(length) => built(Plan::ends_by(alloc, length, plan)),
             OneNode::Renew(length) => built(Plan::renew(alloc, length, plan)),
             OneNode::RenewIdle(length) => built(Plan::renew_idle(alloc, length, plan)),
             OneNode::First => built(Plan::first(alloc, plan)),

@@ -124,6 +124,10 @@ fn read_round<'a>(name: &str, value: &'a Value) -> Result<Node<'a>, ReadFault>
             let (length, plan) = number_and_plan(value)?;
             Ok(Node::One(OneNode::Within(length), plan))
         }
+        "ends_by" => {
+            let (length, plan) = number_and_plan(value)?;
+            Ok(Node::One(OneNode::EndsBy(length), plan))
+        }
         "renew" => {
             let (length, plan) = number_and_plan(value)?;
             Ok(Node::One(OneNode::Renew(length), plan))

@@ -1,4 +1,5 @@
-//! A board of retries under locks that any number of workers poll, while others watch it and cancel jobs beside them.
+//! A pool of retries: a board of jobs under locks that any number of workers poll, while others watch it and cancel
+//! jobs beside them.
 //!
 //! All jobs of a board draw on one budget, which the board's type names: so whoever holds a job's lock knows whose
 //! tickets the job has. In the end the board is taken back: each job's law still holds, and the passes of all are one

@@ -1,5 +1,5 @@
-//! Retries that stand under locks: a job says by its type which budget its tickets are of, shows what it has done, and
-//! leaves an end that keeps its law.
+//! Jobs of a pool: retries that stand under locks. A job says by its type which budget its tickets are of, shows what
+//! it has done, and leaves an end that keeps its law.
 #![tactic(auto)]
 
 mod ends;

@@ -76,7 +76,7 @@ refused v w none = ⊎_elim
       terms = ap (λ (u : View). u.terms) before.1;
     })
     (λ now. record {
-      refusals = omega (arith, ap (λ (u : View). length u.refusals) now.gained, ap length now.unrefused);
+      refusals = omega (arith, ap (λ (u : View). length u.refusals) now.gained, ap (λ (u : View). length u.refusals) now.asks.same);
       some = omega (arith, ap (λ (u : View). length u.refusals) now.gained);
       terms = ap (λ (u : View). u.terms) now.gained ∙ ap (λ (u : View). u.terms) now.asks.same;
     })

@@ -1,4 +1,4 @@
-//! Effects that are run again after each success.
+//! Repeats: effects that are run again after each success.
 #![tactic(auto)]
 
 mod attempts;

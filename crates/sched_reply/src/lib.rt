@@ -1,4 +1,4 @@
-//! What C sees of a call: its status, and what it answers.
+//! The reply to a call from C: its status, and what it answers.
 #![tactic(auto)]
 
 mod events;

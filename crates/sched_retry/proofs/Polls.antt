@@ -8,7 +8,7 @@ use Rattle.sched_task.specs.declared.endings.How.TheVariants as how
 use Rattle.sched_task.specs.declared.endings.RunFault.{RunFault}
 use Rattle.sched_task.specs.declared.endings.RunFault.TheVariants.{NoMemory}
 use Rattle.sched_ticket_draws.specs.Grants.{Grants, Lawful}
-use Rattle.sched_task_law.specs.Kind.{Kind, retry, draws, calls, final}
+use Rattle.sched_task_law.specs.Kind.{Kind, retry, keeps, draws, calls, final}
 use Rattle.sched_task_law.specs.Lists.{last_element}
 use Rattle.sched_task_law.specs.Past.{Past, schedule_is_done, is_under_way, is_stopped, waits_for}
 use Rattle.sched_task_law.specs.Law.{is_refused}
@@ -170,6 +170,7 @@ module _ {D : Type 0} (grants : Grants D) (lawful : Lawful grants) where
   -- What is known of the fields of a retry before a poll that polls a run.
   pub record Ready (kind : Kind) (r : Runs) (over : Option How) (denied : Bool) (p : D) (had : ℕ) (untaken : Bool) (t : Tick) : Type 0 where
     pub drawn : draws kind ≡ true
+    pub kept : keeps kind ≡ true
     pub law : RetryLaw grants kind (retrying grants r over denied p had untaken)
     pub can : CanRun (past_of r over denied (grants.granted p - had)) t
 
@@ -186,7 +187,7 @@ module _ {D : Type 0} (grants : Grants D) (lawful : Lawful grants) where
       retrying grants r over denied p had untaken ≡ v → RetryLaw grants retry (retrying grants r over denied p had untaken) → CanRun v.past t →
       Ready retry r over denied p had untaken t
   ready_retry r over denied p had untaken t v seen law can =
-      record { drawn = refl; law = law; can = subst (λ (v : Retrying D). CanRun v.past t) (sym seen) can }
+      record { drawn = refl; kept = refl; law = law; can = subst (λ (v : Retrying D). CanRun v.past t) (sym seen) can }
 
   -- The polls that poll a run, by what comes of it: s, q are the runs and what draws after it.
   module _ (kind : Kind) (r : Runs) (over : Option How) (denied : Bool) (p : D) (had : ℕ) (untaken : Bool)
@@ -264,7 +265,7 @@ module _ {D : Type 0} (grants : Grants D) (lawful : Lawful grants) where
         Steps kind (past_of r over denied (grants.granted p - had)) t (ran.Lost code)
         × (schedule_is_done (with_step (with_finished r t (ran.Lost code)) t code).driver ≡ done)
     steps code done s called step = (
-      record { can = now.can; called = called; room = step.room },
+      record { can = now.can; called = called; room = rw now.kept step.room },
       subst (λ (s : Runs). schedule_is_done s.driver ≡ done) step.left step.done_is,
     )
 
@@ -278,7 +279,7 @@ module _ {D : Type 0} (grants : Grants D) (lawful : Lawful grants) where
             | inl run ↦ subst (λ (f : RunFault). Settled kind v t true (retrying grants s (Some (how.Broken f)) denied p had true)) (sym run.cause)
                 (no_run s run.left)
             | inr step ↦ (
-                let was = settled (breaks (ran.Lost step.code) fault) p (now.can, calls_for step.code, step.refused) refl now.law.stands refl in
+                let was = settled (breaks (ran.Lost step.code) fault) p (now.can, calls_for step.code, rw now.kept step.refused) refl now.law.stands refl in
                 subst (λ (s : Runs). Settled kind v t true (retrying grants s (Some (how.Broken fault)) denied p had true)) (sym step.left) was)
           ]
         ])

@@ -182,7 +182,7 @@ module _ {D : Type 0} (grants : Grants D) (lawful : Lawful grants) where
       RetryLaw grants retry_or (retrying grants r over denied p had untaken) → CanRun v.retrying.past t →
       Ready grants lawful retry_or r over denied p had untaken t
   ready_or r over denied p had untaken t asked answered v seen law can =
-      record { drawn = refl; law = law; can = subst (λ (v : Falling D). CanRun v.retrying.past t) (sym seen) can }
+      record { drawn = refl; kept = refl; law = law; can = subst (λ (v : Falling D). CanRun v.retrying.past t) (sym seen) can }
 
   -- What a poll of the fallback leaves, where `f` is why the retry stopped, with the failure that it is asked with.
   module _ {I F : Type 0} (item_code : I → ℕ) (fault_code : F → ℕ) (v : Retrying D) (asked asked' : Option (ℕ × Datum))

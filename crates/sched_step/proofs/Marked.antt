@@ -4,7 +4,7 @@ use Rattle.std.proofs.lemmas.Bool.{false≢true, and_parts}
 use Rattle.sched_plan.specs.declared.nodes.Fold.{Fold}
 use Rattle.sched_plan.specs.declared.nodes.Fold.TheVariants.{Sum, Count, Max, List as Listing}
 use Rattle.sched_plan.specs.declared.nodes.One.{One}
-use Rattle.sched_plan.specs.declared.nodes.One.TheVariants.{Gate, Gather, Add, Set, Cap, AddOut, Jitter, Within, Renew, RenewIdle, First, Second, Nothing}
+use Rattle.sched_plan.specs.declared.nodes.One.TheVariants.{Gate, Gather, Add, Set, Cap, AddOut, Jitter, Within, EndsBy, Renew, RenewIdle, First, Second, Nothing}
 use Rattle.sched_plan.specs.declared.history.Answer.{Answer}
 use Rattle.sched_step.specs.Kept.{kept_mark, mark_anew}
 use Rattle.sched_step.specs.Progress.{one_keeps, total}
@@ -20,6 +20,7 @@ anew_first (Gather Sum) (Total n) keeps = refl
 anew_first (Gather Count) (Total n) keeps = refl
 anew_first (Gather Max) (Total n) keeps = refl
 anew_first (Within d) (Since m) keeps = refl
+anew_first (EndsBy d) (Since m) keeps = refl
 anew_first (Renew d) (RoundSince m) keeps = refl
 anew_first (RenewIdle d) (LastAt m) keeps = refl
 anew_first (Gate side want test bound) Bare keeps = refl

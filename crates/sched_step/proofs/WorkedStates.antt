@@ -3,14 +3,14 @@
 use Rattle.std.specs.Prelude.{◌≡◌, ℕ, true, false, List, [], ◌∷◌, Some, refl}
 use Rattle.sched_plan.specs.Datum.{Datum, unit, num, pair, list, items_of}
 use Rattle.sched_plan.specs.Schedule.{Schedule, leaf, one, two}
-use Rattle.sched_plan.specs.declared.leaves.Leaf.TheVariants.{Forever, Recurs, Spaced, Fixed, Windowed, Linear, Exponential, ExponentialMilli, Fibonacci, Elapsed, Identity, Unfold, Lone}
+use Rattle.sched_plan.specs.declared.leaves.Leaf.TheVariants.{Forever, Recurs, Spaced, Fixed, Windowed, Linear, Exponential, ExponentialMilli, Fibonacci, Decorrelated, Elapsed, Identity, Unfold, Lone}
 use Rattle.sched_plan.specs.declared.nodes.Side.TheVariants.{Output}
 use Rattle.sched_plan.specs.declared.nodes.Test.TheVariants.{Below}
 use Rattle.sched_plan.specs.declared.nodes.Fold.TheVariants.{Sum, Count, Max, List as Listing}
-use Rattle.sched_plan.specs.declared.nodes.One.TheVariants.{Gate, Gather, Add, Set, Cap, AddOut, Jitter, Within, Renew, RenewIdle, First, Second, Nothing}
+use Rattle.sched_plan.specs.declared.nodes.One.TheVariants.{Gate, Gather, Add, Set, Cap, AddOut, Jitter, Within, EndsBy, Renew, RenewIdle, First, Second, Nothing}
 use Rattle.sched_plan.specs.declared.nodes.Two.TheVariants.{Meet, Join, Follow, Feed}
 use Rattle.sched_plan.proofs.Worked.{at}
-use Rattle.sched_step.specs.declared.leaves.LeafState.TheVariants.{Counted, Planned, Windows, Product, Scaled, Summands, Started, Blank, Unfolded, Spent}
+use Rattle.sched_step.specs.declared.leaves.LeafState.TheVariants.{Counted, Planned, Windows, Product, Scaled, Summands, Waited, Started, Blank, Unfolded, Spent}
 use Rattle.sched_step.specs.declared.turns.Turn.TheVariants.{Together, Uncrossed, Crossed}
 use Rattle.sched_step.specs.Progress.{none_kept, since, round_since, last_at, total, listed, Progress, at_leaf, at_one, at_two, view_of, fits}
 use Rattle.sched_step.specs.StateOf.{state_of}
@@ -134,6 +134,20 @@ lone_after_two = refl
 lone_shown : shown (leaf (Lone 50)) (0 ∷ 50 ∷ []) ≡ num 1
 lone_shown = refl
 
+-- A leaf that keeps what the last event put out.
+
+decorrelated_first : shown (leaf (Decorrelated 0 100 3000 10000)) [] ≡ num 100
+decorrelated_first = refl
+
+decorrelated_after_one : after (leaf (Decorrelated 0 100 3000 10000)) (0 ∷ []) ≡ at_leaf (Waited 200)
+decorrelated_after_one = refl
+
+decorrelated_after_two : after (leaf (Decorrelated 0 100 3000 10000)) (0 ∷ 200 ∷ []) ≡ at_leaf (Waited 350)
+decorrelated_after_two = refl
+
+decorrelated_shown : shown (leaf (Decorrelated 0 100 3000 10000)) (0 ∷ []) ≡ num 200
+decorrelated_shown = refl
+
 -- Nodes over one schedule that keep nothing.
 
 gate_keeps_nothing : after (one (Gate Output true Below 1) (leaf Forever)) (0 ∷ 0 ∷ []) ≡ at_one none_kept (counted 2)
@@ -208,6 +222,15 @@ within_after_two = refl
 
 within_shown : shown (one (Within 50) (leaf (Spaced 10))) (7 ∷ 20 ∷ []) ≡ pair (num 7) (num 2)
 within_shown = refl
+
+ends_by_first : shown (one (EndsBy 1000) (leaf (Spaced 450))) [] ≡ pair unit (num 0)
+ends_by_first = refl
+
+ends_by_after_two : after (one (EndsBy 1000) (leaf (Spaced 450))) (7 ∷ 457 ∷ []) ≡ at_one (since (Some 7)) (counted 2)
+ends_by_after_two = refl
+
+ends_by_shown : shown (one (EndsBy 1000) (leaf (Spaced 450))) (7 ∷ []) ≡ pair (num 7) (num 1)
+ends_by_shown = refl
 
 -- 120 comes 100 or more after the first moment of the round, and 60 does not
 renew_in_its_round : after (one (Renew 100) (leaf (Recurs 2))) (0 ∷ 60 ∷ []) ≡ at_one (round_since (Some 0)) (counted 2)
@@ -302,6 +325,18 @@ within_fits = refl
 
 within_does_not_fit_before : fits (one (Within 50) (leaf Forever)) (after (one (Within 50) (leaf Forever)) (7 ∷ 20 ∷ [])) 6 ≡ false
 within_does_not_fit_before = refl
+
+ends_by_fits_within : fits (one (Within 50) (leaf Forever)) (after (one (EndsBy 50) (leaf Forever)) (7 ∷ 20 ∷ [])) 7 ≡ true
+ends_by_fits_within = refl
+
+ends_by_does_not_fit_before : fits (one (EndsBy 50) (leaf Forever)) (after (one (EndsBy 50) (leaf Forever)) (7 ∷ 20 ∷ [])) 6 ≡ false
+ends_by_does_not_fit_before = refl
+
+decorrelated_fits : fits (leaf (Decorrelated 0 1 3000 9)) (after (leaf (Decorrelated 3 100 2000 500)) (7 ∷ [])) 0 ≡ true
+decorrelated_fits = refl
+
+decorrelated_does_not_fit_exponential : fits (leaf (ExponentialMilli 1 3000)) (after (leaf (Decorrelated 0 1 3000 9)) (7 ∷ [])) 7 ≡ false
+decorrelated_does_not_fit_exponential = refl
 
 renew_does_not_fit_before : fits (one (Renew 100) (leaf Forever)) (after (one (Renew 100) (leaf Forever)) (0 ∷ 120 ∷ [])) 119 ≡ false
 renew_does_not_fit_before = refl

@@ -3,14 +3,14 @@ use Rattle.std.specs.Prelude.{ℕ, Bool, true, false, ◌&&◌, nat_le, List, Op
 use Rattle.sched_plan.specs.Datum.{Datum, unit, num, pair, list, items_of}
 use Rattle.sched_plan.specs.Schedule.{Schedule, leaf, one, two}
 use Rattle.sched_plan.specs.declared.leaves.Leaf.{Leaf}
-use Rattle.sched_plan.specs.declared.leaves.Leaf.TheVariants.{Forever, Recurs, Spaced, Fixed, Windowed, Linear, Exponential, ExponentialMilli, Fibonacci, Elapsed, Identity, Unfold, Lone}
+use Rattle.sched_plan.specs.declared.leaves.Leaf.TheVariants.{Forever, Recurs, Spaced, Fixed, Windowed, Linear, Exponential, ExponentialMilli, Fibonacci, Decorrelated, Elapsed, Identity, Unfold, Lone}
 use Rattle.sched_plan.specs.declared.nodes.Fold.TheVariants.{Sum, Count, Max, List as Listing}
 use Rattle.sched_plan.specs.declared.nodes.One.{One}
-use Rattle.sched_plan.specs.declared.nodes.One.TheVariants.{Gate, Gather, Add, Set, Cap, AddOut, Jitter, Within, Renew, RenewIdle, First, Second, Nothing}
+use Rattle.sched_plan.specs.declared.nodes.One.TheVariants.{Gate, Gather, Add, Set, Cap, AddOut, Jitter, Within, EndsBy, Renew, RenewIdle, First, Second, Nothing}
 use Rattle.sched_plan.specs.declared.nodes.Two.{Two}
 use Rattle.sched_plan.specs.declared.nodes.Two.TheVariants.{Meet, Join, Follow, Feed}
 use Rattle.sched_step.specs.declared.leaves.LeafState.{LeafState}
-use Rattle.sched_step.specs.declared.leaves.LeafState.TheVariants.{Counted, Planned, Windows, Product, Scaled, Summands, Started, Blank, Unfolded, Spent}
+use Rattle.sched_step.specs.declared.leaves.LeafState.TheVariants.{Counted, Planned, Windows, Product, Scaled, Summands, Waited, Started, Blank, Unfolded, Spent}
 use Rattle.sched_step.specs.declared.turns.Turn.{Turn}
 use Rattle.sched_step.specs.declared.turns.Turn.TheVariants.{Together, Uncrossed, Crossed}
 
@@ -60,6 +60,7 @@ leaf_view (Windows n m) = pair (num n) (moment_view m)
 leaf_view (Product x) = num x
 leaf_view (Scaled x) = num x
 leaf_view (Summands x y) = pair (num x) (num y)
+leaf_view (Waited x) = num x
 leaf_view (Started m) = moment_view m
 leaf_view Blank = unit
 leaf_view (Unfolded x) = num x
@@ -102,6 +103,7 @@ leaf_keeps (Linear delay) (Counted n) = true
 leaf_keeps (Exponential base factor) (Product x) = true
 leaf_keeps (ExponentialMilli base thousandths) (Scaled x) = true
 leaf_keeps (Fibonacci delay) (Summands x y) = true
+leaf_keeps (Decorrelated lane base thousandths most) (Waited x) = true
 leaf_keeps Elapsed (Started m) = true
 leaf_keeps Identity Blank = true
 leaf_keeps (Unfold seed factor more) (Unfolded x) = true
@@ -128,6 +130,7 @@ one_keeps (Cap delay) none_kept = true
 one_keeps AddOut none_kept = true
 one_keeps (Jitter lane least most) none_kept = true
 one_keeps (Within length) (since m) = true
+one_keeps (EndsBy length) (since m) = true
 one_keeps (Renew length) (round_since m) = true
 one_keeps (RenewIdle length) (last_at m) = true
 one_keeps First none_kept = true

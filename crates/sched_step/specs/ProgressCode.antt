@@ -5,7 +5,7 @@ use Rattle.sched_plan.specs.Datum.{Datum}
 use Rattle.sched_plan.specs.DatumCode.{datum_code, datum_from, datum_back}
 use Rattle.sched_step.specs.Progress.{Kept, none_kept, since, round_since, last_at, total, listed, Progress, at_leaf, at_one, at_two, bit}
 use Rattle.sched_step.specs.declared.leaves.LeafState.{LeafState}
-use Rattle.sched_step.specs.declared.leaves.LeafState.TheVariants.{Counted, Planned, Windows, Product, Scaled, Summands, Started, Blank, Unfolded, Spent}
+use Rattle.sched_step.specs.declared.leaves.LeafState.TheVariants.{Counted, Planned, Windows, Product, Scaled, Summands, Waited, Started, Blank, Unfolded, Spent}
 use Rattle.sched_step.specs.declared.turns.Turn.{Turn}
 use Rattle.sched_step.specs.declared.turns.Turn.TheVariants.{Together, Uncrossed, Crossed}
 use base.Stored.{Gv, gnil, gnum, gcons}
@@ -50,10 +50,11 @@ leaf_state_code (Windows n m) = tagged 2 (gnum n) (moment_code m)
 leaf_state_code (Product x) = tagged 3 (gnum x) gnil
 leaf_state_code (Scaled x) = tagged 4 (gnum x) gnil
 leaf_state_code (Summands x y) = tagged 5 (gnum x) (gnum y)
-leaf_state_code (Started m) = tagged 6 gnil (moment_code m)
-leaf_state_code Blank = tagged 7 gnil gnil
-leaf_state_code (Unfolded x) = tagged 8 (gnum x) gnil
-leaf_state_code (Spent b) = tagged 9 (gnum (bit b)) gnil
+leaf_state_code (Waited x) = tagged 6 (gnum x) gnil
+leaf_state_code (Started m) = tagged 7 gnil (moment_code m)
+leaf_state_code Blank = tagged 8 gnil gnil
+leaf_state_code (Unfolded x) = tagged 9 (gnum x) gnil
+leaf_state_code (Spent b) = tagged 10 (gnum (bit b)) gnil
 
 -- the leaves' states in the order of their tags
 abbrev leaf_state_at : ℕ → Gv → Gv → LeafState
@@ -61,7 +62,7 @@ leaf_state_at tag a b =
     let n = number_from a in
     let states =
     Counted n ∷ Planned n (plan_from b) ∷ Windows n (moment_from b) ∷ Product n ∷ Scaled n ∷ Summands n (number_from b)
-    ∷ Started (moment_from b) ∷ Blank ∷ Unfolded n ∷ Spent (nat_eq n 1) ∷ [] in
+    ∷ Waited n ∷ Started (moment_from b) ∷ Blank ∷ Unfolded n ∷ Spent (nat_eq n 1) ∷ [] in
     get_or states tag Blank
 
 abbrev leaf_state_from : Gv → LeafState

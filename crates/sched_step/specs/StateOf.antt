@@ -4,23 +4,23 @@ use Rattle.sched_time.specs.Capped.{capped}
 use Rattle.sched_time.specs.declared.numbers.Tick.{Tick}
 use Rattle.sched_plan.specs.Datum.{Datum}
 use Rattle.sched_plan.specs.Schedule.{Schedule, leaf, one, two}
-use Rattle.sched_plan.specs.History.{last_moment}
-use Rattle.sched_plan.specs.Sequences.{exponential_at, milli_at, fibonacci_at, unfold_at}
+use Rattle.sched_plan.specs.History.{last_moment, words_in}
+use Rattle.sched_plan.specs.Sequences.{exponential_at, milli_at, fibonacci_at, decorrelated_at, unfold_at}
 use Rattle.sched_plan.specs.Outputs.{outputs, sum_in, count_in, greatest_in, fed}
 use Rattle.sched_plan.specs.Rounds.{last_block, last_run}
 use Rattle.sched_plan.specs.Answer.{answer, leaf_answer, crossing, from_end_of, fixed_start}
 use Rattle.sched_plan.specs.declared.leaves.Leaf.{Leaf}
-use Rattle.sched_plan.specs.declared.leaves.Leaf.TheVariants.{Forever, Recurs, Spaced, Fixed, Windowed, Linear, Exponential, ExponentialMilli, Fibonacci, Elapsed, Identity, Unfold, Lone}
+use Rattle.sched_plan.specs.declared.leaves.Leaf.TheVariants.{Forever, Recurs, Spaced, Fixed, Windowed, Linear, Exponential, ExponentialMilli, Fibonacci, Decorrelated, Elapsed, Identity, Unfold, Lone}
 use Rattle.sched_plan.specs.declared.nodes.Fold.{Fold}
 use Rattle.sched_plan.specs.declared.nodes.Fold.TheVariants.{Sum, Count, Max, List as Listing}
 use Rattle.sched_plan.specs.declared.nodes.One.{One}
-use Rattle.sched_plan.specs.declared.nodes.One.TheVariants.{Gather, Within, Renew, RenewIdle}
+use Rattle.sched_plan.specs.declared.nodes.One.TheVariants.{Gather, Within, EndsBy, Renew, RenewIdle}
 use Rattle.sched_plan.specs.declared.nodes.Two.{Two}
 use Rattle.sched_plan.specs.declared.nodes.Two.TheVariants.{Meet, Join, Follow, Feed}
 use Rattle.sched_plan.specs.declared.history.Event.{Event}
 use Rattle.sched_plan.specs.declared.history.Answer.{Answer}
 use Rattle.sched_step.specs.declared.leaves.LeafState.{LeafState}
-use Rattle.sched_step.specs.declared.leaves.LeafState.TheVariants.{Counted, Planned, Windows, Product, Scaled, Summands, Started, Blank, Unfolded, Spent}
+use Rattle.sched_step.specs.declared.leaves.LeafState.TheVariants.{Counted, Planned, Windows, Product, Scaled, Summands, Waited, Started, Blank, Unfolded, Spent}
 use Rattle.sched_step.specs.declared.turns.Turn.{Turn}
 use Rattle.sched_step.specs.declared.turns.Turn.TheVariants.{Together, Uncrossed, Crossed}
 use Rattle.sched_step.specs.Progress.{Kept, none_kept, since, round_since, last_at, total, listed, Progress, at_leaf, at_one, at_two}
@@ -40,7 +40,7 @@ abbrev pub first_and_start : ℕ → List Event → Option (ℕ × ℕ)
 first_and_start d [] = None
 first_and_start d (e ∷ h) = Some (e.now, fixed_start d (e ∷ h))
 
--- what the leaf keeps of the events: their number, moments, or the output that the next one has
+-- what the leaf keeps of the events: their number, moments, the output of the last one, or that which the next one has
 abbrev pub leaf_state : Leaf → List Event → LeafState
 leaf_state Forever h = Counted (capped (length h))
 leaf_state (Recurs count) h = Counted (capped (length h))
@@ -51,6 +51,8 @@ leaf_state (Linear delay) h = Counted (capped (length h))
 leaf_state (Exponential base factor) h = Product (exponential_at base factor (length h + 1))
 leaf_state (ExponentialMilli base thousandths) h = Scaled (milli_at base thousandths (length h + 1))
 leaf_state (Fibonacci delay) h = Summands (fibonacci_at delay (length h + 1)) (fibonacci_at delay (length h + 2))
+leaf_state (Decorrelated lane base thousandths most) h =
+    Waited (decorrelated_at base thousandths most (words_in lane h))
 leaf_state Elapsed h = Started (began_at h)
 leaf_state Identity h = Blank
 leaf_state (Unfold seed factor more) h = Unfolded (unfold_at seed factor more (length h + 1))
@@ -67,6 +69,7 @@ folded Listing ds = listed ds
 abbrev pub kept_of : One → (List Event → Answer) → List Event → Kept
 kept_of (Gather fold) f h = folded fold (outputs f h)
 kept_of (Within d) f h = since (began_at h)
+kept_of (EndsBy d) f h = since (began_at h)
 kept_of (Renew d) f h = round_since (began_at (last_block d h))
 kept_of (RenewIdle d) f h = last_at (ended_at h)
 kept_of k f h = none_kept

@@ -7,22 +7,23 @@ use Rattle.sched_time.specs.declared.starts.Decision.TheVariants.{Go, Done}
 use Rattle.sched_plan.specs.Datum.{Datum, num, list, items_of, first_part, second_part}
 use Rattle.sched_plan.specs.Schedule.{Schedule, leaf, one, two}
 use Rattle.sched_plan.specs.Outputs.{goes_on, number_of, with_input}
+use Rattle.sched_plan.specs.Sequences.{decorrelated_after}
 use Rattle.sched_plan.specs.Delays.{added, added_out, jittered}
 use Rattle.sched_plan.specs.Gates.{gated}
-use Rattle.sched_plan.specs.Changes.{ended_where, delayed, giving, silent}
+use Rattle.sched_plan.specs.Changes.{ended_where, goes_past, delayed, giving, silent}
 use Rattle.sched_plan.specs.Answer.{meet_answer, join_answer, feed_answer, is_done, next_boundary}
 use Rattle.sched_plan.specs.declared.leaves.Leaf.{Leaf}
-use Rattle.sched_plan.specs.declared.leaves.Leaf.TheVariants.{Forever, Recurs, Spaced, Fixed, Windowed, Linear, Exponential, ExponentialMilli, Fibonacci, Elapsed, Identity, Unfold, Lone}
+use Rattle.sched_plan.specs.declared.leaves.Leaf.TheVariants.{Forever, Recurs, Spaced, Fixed, Windowed, Linear, Exponential, ExponentialMilli, Fibonacci, Decorrelated, Elapsed, Identity, Unfold, Lone}
 use Rattle.sched_plan.specs.declared.nodes.Fold.{Fold}
 use Rattle.sched_plan.specs.declared.nodes.Fold.TheVariants.{Sum, Count, Max, List as Listing}
 use Rattle.sched_plan.specs.declared.nodes.One.{One}
-use Rattle.sched_plan.specs.declared.nodes.One.TheVariants.{Gate, Gather, Add, Set, Cap, AddOut, Jitter, Within, Renew, RenewIdle, First, Second, Nothing}
+use Rattle.sched_plan.specs.declared.nodes.One.TheVariants.{Gate, Gather, Add, Set, Cap, AddOut, Jitter, Within, EndsBy, Renew, RenewIdle, First, Second, Nothing}
 use Rattle.sched_plan.specs.declared.nodes.Two.{Two}
 use Rattle.sched_plan.specs.declared.nodes.Two.TheVariants.{Meet, Join, Follow, Feed}
 use Rattle.sched_plan.specs.declared.history.Event.{Event}
 use Rattle.sched_plan.specs.declared.history.Answer.{Answer}
 use Rattle.sched_step.specs.declared.leaves.LeafState.{LeafState}
-use Rattle.sched_step.specs.declared.leaves.LeafState.TheVariants.{Counted, Planned, Windows, Product, Scaled, Summands, Started, Blank, Unfolded, Spent}
+use Rattle.sched_step.specs.declared.leaves.LeafState.TheVariants.{Counted, Planned, Windows, Product, Scaled, Summands, Waited, Started, Blank, Unfolded, Spent}
 use Rattle.sched_step.specs.declared.turns.Turn.{Turn}
 use Rattle.sched_step.specs.declared.turns.Turn.TheVariants.{Together, Uncrossed, Crossed}
 use Rattle.sched_step.specs.Progress.{Kept, none_kept, since, round_since, last_at, total, listed, Progress, at_leaf, at_one, at_two}
@@ -59,6 +60,11 @@ abbrev pub output_after : LeafState → ℕ
 output_after (Summands x y) = y
 output_after s = 0
 
+-- what a leaf put out at the last event, if it keeps that
+abbrev pub output_before : LeafState → ℕ
+output_before (Waited x) = x
+output_before s = 0
+
 -- the first moment, if a leaf keeps it
 abbrev pub started_of : LeafState → Option ℕ
 started_of (Windows n m) = m
@@ -85,6 +91,11 @@ abbrev pub first_planned : Option (ℕ × ℕ) → ℕ → ℕ
 first_planned None now = now
 first_planned (Some p) now = p.0
 
+-- the delay that decorrelated jitter has come to, by the word of the lane
+abbrev pub next_decorrelated : ℕ → ℕ → ℕ → ℕ → ℕ → Event → ℕ
+next_decorrelated lane base thousandths most before e =
+    decorrelated_after base thousandths most before (get_or e.words lane 0)
+
 -- a leaf's state after one more event
 abbrev pub leaf_next : Leaf → LeafState → Event → LeafState
 leaf_next Forever s e = Counted (capped (count_of s + 1))
@@ -97,6 +108,8 @@ leaf_next (Linear delay) s e = Counted (capped (count_of s + 1))
 leaf_next (Exponential base factor) s e = Product (capped (output_next s * factor))
 leaf_next (ExponentialMilli base thousandths) s e = Scaled (capped (output_next s * thousandths / 1000))
 leaf_next (Fibonacci delay) s e = Summands (output_after s) (capped (output_next s + output_after s))
+leaf_next (Decorrelated lane base thousandths most) s e =
+    Waited (next_decorrelated lane base thousandths most (output_before s) e)
 leaf_next Elapsed s e = Started (Some (kept_or_now (started_of s) e.now))
 leaf_next Identity s e = Blank
 leaf_next (Unfold seed factor more) s e = Unfolded (capped (factor * output_next s + more))
@@ -112,6 +125,8 @@ leaf_gives (Linear delay) s e = num (next_linear delay (count_of s))
 leaf_gives (Exponential base factor) s e = num (output_next s)
 leaf_gives (ExponentialMilli base thousandths) s e = num (output_next s)
 leaf_gives (Fibonacci delay) s e = num (output_next s)
+leaf_gives (Decorrelated lane base thousandths most) s e =
+    num (next_decorrelated lane base thousandths most (output_before s) e)
 leaf_gives Elapsed s e = num (e.now - kept_or_now (started_of s) e.now)
 leaf_gives Identity s e = e.input
 leaf_gives (Unfold seed factor more) s e = num (output_next s)
@@ -129,6 +144,8 @@ leaf_decides (Linear delay) s e = Go (capped (e.now + next_linear delay (count_o
 leaf_decides (Exponential base factor) s e = Go (capped (e.now + output_next s))
 leaf_decides (ExponentialMilli base thousandths) s e = Go (capped (e.now + output_next s))
 leaf_decides (Fibonacci delay) s e = Go (capped (e.now + output_next s))
+leaf_decides (Decorrelated lane base thousandths most) s e =
+    Go (capped (e.now + next_decorrelated lane base thousandths most (output_before s) e))
 leaf_decides Elapsed s e = Go e.now
 leaf_decides Identity s e = Go e.now
 leaf_decides (Unfold seed factor more) s e = Go e.now
@@ -190,6 +207,7 @@ round_next anew m now = if anew then now else kept_or_now m now
 abbrev pub one_next : One → Kept → Event → Answer → Kept
 one_next (Gather fold) s e a = fold_next fold s a
 one_next (Within d) s e a = since (Some (kept_or_now (since_of s) e.now))
+one_next (EndsBy d) s e a = since (Some (kept_or_now (since_of s) e.now))
 one_next (Renew d) s e a = round_since (Some (round_next (is_over d (since_of s) e.now) (since_of s) e.now))
 one_next (RenewIdle d) s e a = last_at (Some e.now)
 one_next k s e a = none_kept
@@ -209,6 +227,7 @@ one_answers (Cap d) s e a = delayed (λ delay. min delay d) e.now a
 one_answers AddOut s e a = delayed (added_out a.output) e.now a
 one_answers (Jitter lane least most) s e a = delayed (jittered least most (get_or e.words lane 0)) e.now a
 one_answers (Within d) s e a = ended_where (nat_le d (e.now - kept_or_now (since_of s) e.now)) a
+one_answers (EndsBy d) s e a = ended_where (goes_past (capped (kept_or_now (since_of s) e.now + d)) a.decision) a
 one_answers (Renew d) s e a = a
 one_answers (RenewIdle d) s e a = a
 one_answers First s e a = giving (first_part a.output) a

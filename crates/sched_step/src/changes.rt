@@ -9,6 +9,7 @@ ghost use Rattle.sched_step.specs.Progress.{one_keeps};
 ghost use Rattle.sched_step.specs.StateOf.{event_of};
 ghost use Rattle.sched_step.specs.Step.{answered, one_answers};
 
+use crate::decisions::goes_past;
 use crate::marks::Mark;
 use crate::outputs::{put_first, put_number, put_second, put_unit};
 use crate::times::{go_after, time_between};
@@ -48,6 +49,12 @@ pub(crate) fn change(
         One::Within(length) => {
             let first = mark.since().unwrap_or(now);
             if length <= time_between(first, now) {
+                *decision = Decision::Done;
+            }
+        }
+        One::EndsBy(length) => {
+            let first = mark.since().unwrap_or(now);
+            if goes_past(first.plus(length), *decision) {
                 *decision = Decision::Done;
             }
         }

@@ -1,7 +1,8 @@
 ghost use Rattle.std.specs.Prelude.{◌≡◌};
 ghost use Rattle.sched_plan.specs.Answer.{join_decisions, meet_decisions};
+ghost use Rattle.sched_plan.specs.Changes.{goes_past};
 
-use sched_time::Decision;
+use sched_time::{Decision, Moment};
 
 /// Going on at the later start where both do.
 pub(crate) fn meet(one: Decision, other: Decision) -> Decision
@@ -26,5 +27,15 @@ pub(crate) fn join(one: Decision, other: Decision) -> Decision
             Decision::Done => Decision::Go(first),
         },
         Decision::Done => other,
+    }
+}
+
+/// Whether it goes on later than this moment.
+pub(crate) fn goes_past(moment: Moment, decision: Decision) -> bool
+    ensures { result ≡ goes_past moment decision }
+{
+    match decision {
+        Decision::Go(interval) => moment < interval.start(),
+        Decision::Done => false,
     }
 }

@@ -62,7 +62,7 @@ impl Kept {
             One::Gather(Fold::Sum | Fold::Count | Fold::Max) => {
                 KeptShape::at(Mark::Total(Millis::from(0)))
             }
-            One::Within(_) => KeptShape::at(Mark::Since(None)),
+            One::Within(_) | One::EndsBy(_) => KeptShape::at(Mark::Since(None)),
             One::Renew(_) => KeptShape::at(Mark::RoundSince(None)),
             One::RenewIdle(_) => KeptShape::at(Mark::LastAt(None)),
             One::Gate { .. }

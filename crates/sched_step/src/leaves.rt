@@ -2,9 +2,10 @@ ghost use Rattle.std.specs.Prelude.{◌≡◌, ◌+◌, ◌*◌, ◌/◌, ◌<�
 ghost use Rattle.sched_time.specs.Capped.{capped};
 ghost use Rattle.sched_time.specs.declared.starts.Decision.{Decision};
 ghost use Rattle.sched_plan.specs.Schedule.{leaf_in_range};
+ghost use Rattle.sched_plan.specs.Sequences.{decorrelated_after};
 ghost use Rattle.sched_step.specs.Progress.{leaf_view, leaf_keeps, leaf_began};
 ghost use Rattle.sched_step.specs.StateOf.{leaf_state, event_of};
-ghost use Rattle.sched_step.specs.Step.{answered, leaf_next, leaf_answers, count_of, output_next, output_after};
+ghost use Rattle.sched_step.specs.Step.{answered, leaf_next, leaf_answers, count_of, output_next, output_after, output_before};
 ghost use Rattle.sched_step.specs.Step.{started_of, planned_of, lone_is_past, first_planned, next_fixed};
 
 use crate::changes::at_most_far;
@@ -30,6 +31,8 @@ pub(crate) enum LeafState {
     Scaled(Millis),
     /// The numbers that the next two put out.
     Summands(Millis, Millis),
+    /// The delay that the last one put out; the base before the first.
+    Waited(Millis),
     /// The first moment, once there was one.
     Started(Option<Moment>),
     /// Nothing.
@@ -55,6 +58,7 @@ impl LeafState {
             Leaf::Exponential { base, .. } => LeafState::Product(base.times(1)),
             Leaf::ExponentialMilli { base, .. } => LeafState::Scaled(base),
             Leaf::Fibonacci(delay) => LeafState::Summands(delay.times(1), delay.times(1)),
+            Leaf::Decorrelated { base, .. } => LeafState::Waited(base),
             Leaf::Elapsed => LeafState::Started(None),
             Leaf::Identity => LeafState::Blank,
             Leaf::Unfold { seed, .. } => LeafState::Unfolded(seed),
@@ -70,6 +74,7 @@ impl LeafState {
             LeafState::Counted(number)
             | LeafState::Product(number)
             | LeafState::Scaled(number)
+            | LeafState::Waited(number)
             | LeafState::Unfolded(number) => Ok(Val::from(number)),
             LeafState::Planned(count, None) => Val::pair(alloc, Val::from(count), Val::unit()),
             LeafState::Planned(count, Some((first, start))) => {
@@ -106,6 +111,7 @@ impl LeafState {
             (Leaf::Exponential { .. }, LeafState::Product(_)) => true,
             (Leaf::ExponentialMilli { .. }, LeafState::Scaled(_)) => true,
             (Leaf::Fibonacci(_), LeafState::Summands(_, _)) => true,
+            (Leaf::Decorrelated { .. }, LeafState::Waited(_)) => true,
             (Leaf::Elapsed, LeafState::Started(_)) => true,
             (Leaf::Identity, LeafState::Blank) => true,
             (Leaf::Unfold { .. }, LeafState::Unfolded(_)) => true,
@@ -203,6 +209,18 @@ impl LeafState {
                 put_number(output, delay);
                 *decision = go_after(now, delay);
             }
+            Leaf::Decorrelated {
+                lane,
+                base,
+                thousandths,
+                most,
+            } => {
+                let before = self.output_before();
+                let delay = decorrelated(base, thousandths, most, before, walk.tick.words[lane]);
+                *next = LeafState::Waited(delay);
+                put_number(output, delay);
+                *decision = go_after(now, delay);
+            }
             Leaf::Elapsed => {
                 let first = self.started().unwrap_or(now);
                 *next = LeafState::Started(Some(first));
@@ -266,6 +284,16 @@ impl LeafState {
     {
         match *self {
             LeafState::Summands(_, number) => number,
+            _ => Millis::from(0),
+        }
+    }
+
+    // What the last event put out, or 0.
+    fn output_before(&self) -> Millis
+        ensures { result ≡ output_before self.now }
+    {
+        match *self {
+            LeafState::Waited(number) => number,
             _ => Millis::from(0),
         }
     }
@@ -368,4 +396,15 @@ fn scaled(number: Millis, thousandths: u64) -> Millis
     ensures { result ≡ capped (number * thousandths / 1000) }
 {
     at_most_far(u128::from(number.get()) * u128::from(thousandths) / 1000)
+}
+
+// The delay that follows the one before in decorrelated jitter, rounded down.
+fn decorrelated(base: Millis, thousandths: u64, most: Millis, before: Millis, word: u32) -> Millis
+    requires { thousandths ≤ 1000000 }
+    ensures { result ≡ decorrelated_after base thousandths most before word }
+{
+    let high = scaled(before, thousandths).get().max(base.get());
+    let range = u128::from(high - base.get());
+    let picked = u128::from(base.get()) + range * u128::from(word) / 4294967296;
+    at_most_far(picked.min(u128::from(most.get())))
 }

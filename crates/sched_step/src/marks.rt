@@ -69,7 +69,7 @@ impl Mark {
     {
         match (node, self) {
             (One::Gather(Fold::Sum | Fold::Count | Fold::Max), Mark::Total(_)) => true,
-            (One::Within(_), Mark::Since(_)) => true,
+            (One::Within(_) | One::EndsBy(_), Mark::Since(_)) => true,
             (One::Renew(_), Mark::RoundSince(_)) => true,
             (One::RenewIdle(_), Mark::LastAt(_)) => true,
             (
@@ -144,7 +144,7 @@ impl Mark {
         let now = walk.tick.now;
         match *node {
             One::Gather(fold) => Mark::Total(folded(fold, self.total(), output, decision)),
-            One::Within(_) => Mark::Since(Some(self.since().unwrap_or(now))),
+            One::Within(_) | One::EndsBy(_) => Mark::Since(Some(self.since().unwrap_or(now))),
             One::Renew(length) => Mark::RoundSince(Some(round(length, self.since(), now))),
             One::RenewIdle(_) => Mark::LastAt(Some(now)),
             One::Gate { .. }

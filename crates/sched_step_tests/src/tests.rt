@@ -213,6 +213,56 @@ fn round_begins_with_an_empty_list(rt: HostRuntime) -> Result<(), Fail> {
     Ok(())
 }
 
+fn ends_by(alloc: Global, length: u64, built: Built) -> Built {
+    Plan::ends_by(alloc, length, built?)
+}
+
+#[test]
+fn ending_is_counted_from_the_first_event(rt: HostRuntime) -> Result<(), Fail> {
+    let plan = ends_by(rt.alloc(), 1000, Plan::spaced(450))?;
+    let want = [
+        (7, "0", Some(457), "(7, 1)"),
+        (457, "1", Some(907), "(7, 2)"),
+        (907, "2", None, "(7, 3)"),
+    ];
+    assert_course(&rt, &plan, "((), 0)", &want)?;
+    Ok(())
+}
+
+#[test]
+fn delay_is_picked_by_the_one_before(rt: HostRuntime) -> Result<(), Fail> {
+    let plan = Plan::decorrelated(0, 100, 3000, 800)?;
+    let want = [
+        (0, "200", Some(200), "200"),
+        (200, "350", Some(550), "350"),
+        (550, "575", Some(1125), "575"),
+        (1125, "800", Some(1925), "800"),
+    ];
+    assert_course(&rt, &plan, "100", &want)?;
+    Ok(())
+}
+
+// Decorrelated delays beside one of 100 milliseconds that ends within 300, in rounds of 500 milliseconds.
+fn renewed_delays(alloc: Global) -> Built {
+    let delays = Plan::decorrelated(0, 100, 3000, 10000);
+    let side = ends_by(alloc, 300, Plan::spaced(100));
+    renew(alloc, 500, meet(alloc, delays, side))
+}
+
+#[test]
+fn round_begins_with_the_base_and_a_later_end(rt: HostRuntime) -> Result<(), Fail> {
+    let plan = renewed_delays(rt.alloc())?;
+    let want = [
+        (0, "(200, 0)", Some(200), "(0, (200, (0, 1)))"),
+        (200, "(350, 1)", Some(550), "(0, (350, (0, 2)))"),
+        (550, "(200, 0)", Some(750), "(550, (200, (550, 1)))"),
+        (750, "(350, 1)", Some(1100), "(550, (350, (550, 2)))"),
+        (1000, "(575, 2)", None, "(550, (575, (550, 3)))"),
+    ];
+    assert_course(&rt, &plan, "((), (100, ((), 0)))", &want)?;
+    Ok(())
+}
+
 fn assert_fits(rt: &impl Abort, plan: &Plan, state: &State, at: u64, want: bool) {
     assert_eq!(rt; state.fits(plan, tick_at(rt, at).now), want);
 }

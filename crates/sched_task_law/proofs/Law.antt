@@ -17,7 +17,7 @@ use Rattle.sched_task.specs.declared.endings.How.{How}
 use Rattle.sched_task.specs.declared.endings.How.TheVariants.{ScheduleDone, BudgetRefused, Cancelled, Broken}
 use Rattle.sched_task.specs.declared.endings.RunFault.{RunFault}
 use Rattle.sched_task.specs.declared.endings.RunFault.TheVariants.{NoMemory}
-use Rattle.sched_task_law.specs.Kind.{Kind, retry, retry_or, repeat, draws, falls_back, calls, final, is_final}
+use Rattle.sched_task_law.specs.Kind.{Kind, a_retry, a_retry_or, a_repeat, draws, falls_back, calls, final, is_final}
 use Rattle.sched_task_law.specs.Lists.{last_is}
 use Rattle.sched_task_law.specs.Past.{Past, nothing_yet, decision_on, schedule_is_done, recurrences, inputs, called_inputs, is_under_way, is_stopped, waits_for, bit}
 use Rattle.sched_task_law.specs.Poll.{Happened, stays, cannot_begin, runs_on, cannot_run, ends, breaks, stops_done, stops_denied, recurs, asks, cannot_ask, falls, begun_by, finished, stepped, step_event, stop, stopped_by, after, CanRun, CanAsk, Steps, May, cancelled}
@@ -58,14 +58,14 @@ not_final : (kind : Kind) (v : Past) → v.over ≡ None → is_final kind v.ove
 not_final kind v unended = ap (is_final kind) unended
 
 final_is : (kind : Kind) → is_final kind (Some (final kind)) ≡ true
-final_is retry = refl
-final_is retry_or = refl
-final_is repeat = refl
+final_is (a_retry kept) = refl
+final_is (a_retry_or kept) = refl
+final_is (a_repeat kept) = refl
 
 final_ended : (kind : Kind) (v : Past) → is_stopped v ≡ false → Ended kind v (Some (final kind))
-final_ended retry v unstopped = (refl, unstopped)
-final_ended retry_or v unstopped = (refl, unstopped)
-final_ended repeat v unstopped = (refl, unstopped)
+final_ended (a_retry kept) v unstopped = (refl, unstopped)
+final_ended (a_retry_or kept) v unstopped = (refl, unstopped)
+final_ended (a_repeat kept) v unstopped = (refl, unstopped)
 
 -- nothing is missing in the journal of a task that is not over
 whole : (kind : Kind) (v : Past) → Law kind v → v.over ≡ None → inputs v.driver.journal ≡ called_inputs kind v.runs
@@ -86,6 +86,22 @@ begun_length v t counted =
       | inr more ↦ more.one_more
     ]))
     (λ idle. rw idle (omega (arith, length_push v.begun t.now, idle_length v idle counted)))
+
+-- from a tick on at which a run may be polled one is under way, and none once that has finished
+pub under_way_then : (v : Past) (t : Tick) → (length v.begun ≡ length v.runs) ⊎ HasOneMore v →
+    is_under_way v.runs (begun_by v t) ≡ true
+under_way_then v t counted =
+    let more = begun_length v t counted in
+    by_test (is_under_way v.runs (begun_by v t)) (λ yes. yes)
+    (λ no. absurd (omega (arith, more, ltb-false (length v.runs) (length (begun_by v t)) no)))
+
+pub finished_then : (v : Past) (t : Tick) (r : Ran) → (length v.begun ≡ length v.runs) ⊎ HasOneMore v →
+    is_under_way (v.runs ++ r ∷ []) (begun_by v t) ≡ false
+finished_then v t r counted =
+    let more = begun_length v t counted in
+    by_test (is_under_way (v.runs ++ r ∷ []) (begun_by v t))
+    (λ yes. absurd (omega (arith, more, length_push v.runs r, ltb-true (length (v.runs ++ r ∷ [])) (length (begun_by v t)) yes)))
+    (λ no. no)
 
 even_length : (kind : Kind) (v : Past) → list_all (calls kind) v.runs ≡ true →
     inputs v.driver.journal ≡ called_inputs kind v.runs → length v.driver.journal ≡ length v.runs

@@ -13,7 +13,7 @@ use Rattle.sched_task.specs.declared.endings.How.{How}
 use Rattle.sched_task.specs.declared.endings.How.TheVariants.{ScheduleDone, BudgetRefused, Cancelled, Broken}
 use Rattle.sched_task.specs.declared.endings.RunFault.{RunFault}
 use Rattle.sched_task.specs.declared.endings.RunFault.TheVariants.{NoMemory, JournalFull, Backwards}
-use Rattle.sched_task_law.specs.Kind.{Kind, draws, falls_back, calls, final}
+use Rattle.sched_task_law.specs.Kind.{Kind, keeps, draws, falls_back, calls, final}
 use Rattle.sched_task_law.specs.Past.{Past, schedule_is_done, is_under_way, is_stopped, waits_for}
 
 -- What happens in a poll.
@@ -102,17 +102,29 @@ pub record CanAsk (kind : Kind) (v : Past) : Type 0 where
   pub unended : v.over ≡ None
   pub stopped : is_stopped v ≡ true
 
--- A finished run steps the schedule where it calls for a step and the journal has room for it.
+-- There is room for one more event: its moment is not before the last one's, and a journal that is kept is not full.
+abbrev pub RoomIn : Bool → Driven → ℕ → Type 0
+RoomIn true d now = HasRoom d now
+RoomIn false d now = last_moment d.journal ≤ now
+
+-- A finished run steps the schedule where it calls for a step and there is room for its event.
 pub record Steps (kind : Kind) (v : Past) (t : Tick) (r : Ran) : Type 0 where
   pub can : CanRun v t
   pub called : calls kind r ≡ true
-  pub room : HasRoom v.driver t.now
+  pub room : RoomIn (keeps kind) v.driver t.now
 
 -- Each refusal of a step comes only in its own case.
 abbrev pub Refuses : Driven → ℕ → RunFault → Type 0
 Refuses d now Backwards = now < last_moment d.journal
 Refuses d now JournalFull = (last_moment d.journal ≤ now) × (length d.journal ≡ 65536)
 Refuses d now NoMemory = HasRoom d now
+
+-- where no journal is kept, none is full
+abbrev pub RefusedIn : Bool → Driven → ℕ → RunFault → Type 0
+RefusedIn true d now fault = Refuses d now fault
+RefusedIn false d now Backwards = now < last_moment d.journal
+RefusedIn false d now JournalFull = ⊥
+RefusedIn false d now NoMemory = last_moment d.journal ≤ now
 
 -- when this may happen
 abbrev pub May : Kind → Past → Tick → Happened → Type 0
@@ -121,7 +133,7 @@ May kind v t cannot_begin = CanRun v t × (is_under_way v.runs v.begun ≡ false
 May kind v t runs_on = CanRun v t
 May kind v t cannot_run = CanRun v t
 May kind v t (ends r) = CanRun v t × (calls kind r ≡ false)
-May kind v t (breaks r fault) = CanRun v t × (calls kind r ≡ true) × Refuses v.driver t.now fault
+May kind v t (breaks r fault) = CanRun v t × (calls kind r ≡ true) × RefusedIn (keeps kind) v.driver t.now fault
 May kind v t (stops_done r) = Steps kind v t r × (schedule_is_done (driven_after v.driver (step_event t r)) ≡ true)
 May kind v t (stops_denied r) =
     Steps kind v t r × (schedule_is_done (driven_after v.driver (step_event t r)) ≡ false) × (draws kind ≡ true)

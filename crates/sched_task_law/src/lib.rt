@@ -1,5 +1,5 @@
-//! What is true of every task between any two polls, one poll of it, and the part that all kinds of task share: an
-//! effect that is run as a driver's schedule says.
+//! The law of a task: what is true of it between any two polls, one poll of it, and the part that all kinds of task
+//! share, an effect that is run as a driver's schedule says.
 #![tactic(auto)]
 
 mod runner;

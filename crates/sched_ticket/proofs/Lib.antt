@@ -1,4 +1,5 @@
 pub mod Sums
+pub mod Ways
 pub mod Greatest
 pub mod Totals
 pub mod Moves

@@ -1,8 +1,9 @@
 -- What each call does to a pass, and when each refusal comes.
 use Rattle.std.specs.Prelude.{◌≡◌, ℕ, ◌+◌, ◌<◌, ◌≤◌, ◌⊎◌, Bool, true, false, [], length, min, max}
+use Rattle.sched_ticket.specs.Parts.{all_parts}
 use Rattle.sched_ticket.specs.Lists.{below, Each, AreBelow}
-use Rattle.sched_ticket.specs.View.{with_ticket, with_refusal, with_raise, with_refused_split}
-use Rattle.sched_ticket.specs.Rule.{number_weight, IsRefusal}
+use Rattle.sched_ticket.specs.View.{draws_again, with_ticket, with_refusal, with_raise, with_refused_split}
+use Rattle.sched_ticket.specs.Rule.{used_up, number_weight, IsRefusal}
 use Rattle.sched_ticket.specs.Steps.{IsLater, IsLimit}
 use Rattle.sched_ticket.specs.declared.view.Terms.{Terms}
 use Rattle.sched_ticket.specs.declared.view.View.{View}
@@ -30,18 +31,30 @@ pub record Asked (v u : View) : Type 0 where
   pub fixed : v.terms.rises ≡ false → u ≡ v
   pub rising : v.terms.rises ≡ true → u.readings ≡ v.readings + 1
 
+-- the pass took the ticket k: a number below its floor, and after all tickets that it had
+pub record Took (v : View) (k : ℕ) (w : View) : Type 0 where
+  pub ticket : k < v.floor
+  pub later : IsLater v k
+  pub gained : w ≡ with_ticket v k
+
+-- the pass found a number too high
+pub record TookNone (v w : View) : Type 0 where
+  pub number : ℕ
+  pub high : v.floor ≤ number
+  pub gained : w ≡ with_refusal v number
+
 -- a draw that gave the ticket k: a number below the limit asked for, and after all tickets that the pass had
 pub record Drew (v : View) (k : ℕ) (w : View) : Type 0 where
-  pub unrefused : v.refusals ≡ []
+  pub unrefused : draws_again v.terms ≡ false → v.refusals ≡ []
   pub asked : View
   pub asks : Asked v asked
   pub ticket : k < asked.floor
   pub later : IsLater v k
   pub gained : w ≡ with_ticket asked k
 
--- a draw that found a number too high
+-- a draw that found a number too high: the one that it drew, or by parts the one that would be drawn next
 pub record FoundNone (v w : View) : Type 0 where
-  pub unrefused : v.refusals ≡ []
+  pub unrefused : draws_again v.terms ≡ false → v.refusals ≡ []
   pub asked : View
   pub asks : Asked v asked
   pub number : ℕ
@@ -52,9 +65,17 @@ pub record FoundNone (v w : View) : Type 0 where
 abbrev pub DrawRefused : View → View → Type 0
 DrawRefused v w = ((0 < length v.refusals) × (w ≡ v)) ⊎ FoundNone v w
 
--- a split was refused: before, and nothing changes, or now
-abbrev pub SplitRefused : View → View → Type 0
-SplitRefused v w = ((0 < v.refused_splits) × (w ≡ v)) ⊎ ((v.refused_splits ≡ 0) × (w ≡ with_refused_split v))
+-- a pass may be split: it was not told that too many were counted, or it has more than one part
+pub record MaySplit (v : View) : Type 0 where
+  pub counted : v.terms.by_parts ≡ false → v.refused_splits ≡ 0
+  pub parts : v.terms.by_parts ≡ true → 1 < v.weight
+
+-- a split was refused: before, and nothing changes, or now, and by parts where the pass has one part, and nothing
+-- changes
+pub record SplitRefused (v w : View) : Type 0 where
+  pub counted : v.terms.by_parts ≡ false →
+      ((0 < v.refused_splits) × (w ≡ v)) ⊎ ((v.refused_splits ≡ 0) × (w ≡ with_refused_split v))
+  pub parts : v.terms.by_parts ≡ true → (v.weight ≡ 1) × (w ≡ v)
 
 -- the pass raised the limit to `to`, and it is n now: no less than that, and than every limit that the pass had found
 pub record Raised (v : View) (to n : ℕ) (w : View) : Type 0 where
@@ -63,13 +84,14 @@ pub record Raised (v : View) (to n : ℕ) (w : View) : Type 0 where
   pub reached : to ≤ n
   pub gained : w ≡ with_raise v to n
 
--- What is true of a pass that stands for all passes of its budget: its tickets and refusals are the numbers from 0 on,
--- each once. `limit` is the limit at the close.
+-- What is true of a pass that stands for all passes of its budget: its tickets and the numbers that it used up are the
+-- numbers from 0 on, each once. `limit` is the limit at the close.
 pub record IsWhole (k : Terms) (v : View) : Type 0 where
   pub limit : ℕ
-  -- it stands for one pass more than were split from its passes
-  pub passes : v.weight ≡ v.splits + 1
-  pub numbers : (h : ℕ → ℕ) → number_weight h v ≡ below h (length v.tickets + length v.refusals)
+  -- it stands for one pass more than were split from its passes, or has all parts
+  pub passes : k.by_parts ≡ false → v.weight ≡ v.splits + 1
+  pub parts : k.by_parts ≡ true → v.weight ≡ all_parts
+  pub numbers : (h : ℕ → ℕ) → number_weight h v ≡ below h (length v.tickets + length (used_up v))
   -- the limit is the first one, or the greatest that a pass raised it to
   pub limit_is : limit ≡ max k.limit v.raised_to
   pub floor : v.floor ≤ limit

@@ -7,5 +7,5 @@ use Rattle.sched_ticket.specs.declared.fault.TicketFault.TheVariants.{LimitTooLa
 abbrev pub fault_text : TicketFault → List ℕ
 fault_text LimitTooLarge = codes "the limit is more than 4294967296 tickets"
 fault_text NoMemory = codes "no memory"
-fault_text TooManyPasses = codes "more than 65536 passes of one budget"
+fault_text TooManyPasses = codes "the budget has no further pass"
 fault_text Fixed = codes "the budget keeps its limit"

@@ -1,6 +1,7 @@
 -- What contracts see of a budget and of a pass, and what every pass keeps.
 use Rattle.std.specs.Prelude.{◌≡◌, ◌≢◌, ℕ, ◌<◌, ◌≤◌, Bool, true, false, [], length}
 use Rattle.atomic_table.specs.Seated.{TableId}
+use Rattle.sched_ticket.specs.Rule.{used_up}
 use Rattle.sched_ticket.specs.Steps.{Sat}
 use Rattle.sched_ticket.specs.declared.view.Terms.{Terms}
 use Rattle.sched_ticket.specs.declared.view.Mark.TheVariants.{Sole}
@@ -36,22 +37,19 @@ pub record IsCounted (m : Sat) (n w o : ℕ) (r : Bool) : Type 0 where
   pub unrefused : r ≡ false → m.0.refusals ≡ []
   pub refused : r ≡ true → 0 < length m.0.refusals
   pub live : 0 < w
-  pub few_passes : w ≤ 65536
+  pub few_passes : m.0.terms.by_parts ≡ false → w ≤ 65536
+  pub few_parts : w ≤ 4611686018427387904
   pub few_tickets : n ≤ 4294967296
   pub within_limit : n ≤ m.0.floor
-  pub few_refusals : length m.0.refusals ≤ w
+  pub few_refusals : length (used_up m.0) ≤ w
   pub few_refused_splits : o ≤ w
+  pub uncounted : m.0.terms.by_parts ≡ true → o ≡ 0
   pub unsole : m.0.mark ≢ Sole
   pub fixed : m.0.terms.rises ≡ false → m.0.floor ≡ m.0.terms.limit
-
--- a job's pass is of this budget, and the job was granted as many tickets as the pass has
-pub record IsJobOf (b : Name) (p : Held) (granted : ℕ) : Type 0 where
-  pub of : IsOf b p
-  pub counted : granted ≡ length p.has.tickets
 
 -- the name of no budget
 abbrev pub nobody : Name
 nobody = record {
   table = record { words = 0; slots = 0; views_name = 0; atom = 0; block = 0; offset = 0; slot_names = [] };
-  terms = record { limit = 0; rises = false };
+  terms = record { limit = 0; rises = false; by_parts = false };
 }

@@ -1,9 +1,9 @@
 pub mod Lists
+pub mod Parts
 pub mod View
 pub mod Rule
 pub mod Steps
 pub mod Held
 pub mod Calls
 pub mod Laws
-pub mod Drains
 pub mod Fault

@@ -2,7 +2,7 @@
 use Rattle.std.specs.Prelude.{◌≡◌, ◌≢◌, ℕ, ◌+◌, ◌<◌, ◌≤◌, false, length, max}
 use Rattle.atomic_table.specs.Table.{Me, Step}
 use Rattle.sched_ticket.specs.Lists.{Each, times}
-use Rattle.sched_ticket.specs.View.{with_ticket, with_refusal, with_floor, with_raise, with_mark, with_refused_split, with_part}
+use Rattle.sched_ticket.specs.View.{with_ticket, with_refusal, with_found, with_floor, with_raise, with_mark, with_refused_split, with_part}
 use Rattle.sched_ticket.specs.declared.view.Mark.TheVariants.{Sole, Shared}
 use Rattle.sched_ticket.specs.declared.view.View.{View}
 
@@ -25,6 +25,18 @@ abbrev pub draws : Then
 draws s m k n =
     IsLater m.0 k × (k < m.0.floor → Sees m n (with_ticket m.0 k)) × (m.0.floor ≤ k → Sees m n (with_refusal m.0 k))
 
+-- the pass has found so many draws made, and is refused where they are not below its floor
+abbrev pub IsTold : Sat → ℕ → Sat → Type 0
+IsTold m k n = (k < m.0.floor → Sees m n (with_found m.0 k)) × (m.0.floor ≤ k → Sees m n (with_refusal m.0 k))
+
+abbrev pub finds : Then
+finds s m k n = (m.0.found ≤ k) × IsTold m k n
+
+abbrev pub wins : Then
+wins s m k n =
+    (k ≡ s.first → IsLater m.0 k × Sees m n (with_ticket m.0 k))
+    × (k ≢ s.first → (m.0.found < k) × IsTold m k n)
+
 abbrev pub counts : Then
 counts s m made n =
     (made < 65536 → Sees m n (with_part m.0)) × (65536 ≤ made → Sees m n (with_refused_split m.0))
@@ -40,7 +52,8 @@ pub record IsSound (v : View) : Type 0 where
   pub once : (x : ℕ) → times x v.tickets ≤ 1
   pub small : Each (λ t. t < 4294967296) v.tickets
   pub few_tickets : length v.tickets ≤ 4294967296
-  pub few_passes : v.weight ≤ 65536
+  pub few_passes : v.terms.by_parts ≡ false → v.weight ≤ 65536
+  pub few_parts : v.weight ≤ 4611686018427387904
   pub within : IsWithin v
 
 abbrev pub learns : Then

@@ -1,5 +1,6 @@
 -- Views of a budget, and how one step changes a view.
-use Rattle.std.specs.Prelude.{ℕ, ◌+◌, ◌-◌, [], ◌∷◌, ◌++◌, max, Bool, false}
+use Rattle.std.specs.Prelude.{ℕ, ◌+◌, ◌-◌, [], ◌∷◌, ◌++◌, ◌&&◌, max, Bool, true, false, if◌then◌else◌}
+use Rattle.sched_ticket.specs.Parts.{all_parts, part}
 use Rattle.sched_ticket.specs.declared.view.Terms.{Terms}
 use Rattle.sched_ticket.specs.declared.view.Refusal.{Refusal}
 use Rattle.sched_ticket.specs.declared.view.Mark.{Mark}
@@ -7,7 +8,15 @@ use Rattle.sched_ticket.specs.declared.view.Mark.TheVariants.{Unseen}
 use Rattle.sched_ticket.specs.declared.view.View.{View}
 
 abbrev pub terms : ℕ → Bool → Terms
-terms limit rises = record { limit = limit; rises = rises }
+terms limit rises = record { limit = limit; rises = rises; by_parts = false }
+
+-- the same of a budget by parts
+abbrev pub parted_terms : ℕ → Bool → Terms
+parted_terms limit rises = record { limit = limit; rises = rises; by_parts = true }
+
+-- whether a refused pass draws again: by parts, where the limit may rise
+abbrev pub draws_again : Terms → Bool
+draws_again k = k.rises && k.by_parts
 
 abbrev pub refusal : ℕ → ℕ → Refusal
 refusal number floor = record { number = number; floor = floor }
@@ -24,22 +33,31 @@ fresh_view k floor weight = record {
   refused_splits = 0;
   mark = Unseen;
   readings = 0;
+  found = 0;
   raised_to = 0;
 }
 
+-- what the first pass stands for: itself, or all parts
+abbrev pub first_weight : Terms → ℕ
+first_weight k = if k.by_parts then all_parts else 1
+
 -- the first pass of a budget
 abbrev pub first_view : Terms → View
-first_view k = fresh_view k k.limit 1
+first_view k = fresh_view k k.limit (first_weight k)
 
 -- what is left of a pass that was joined into another
 abbrev pub blank_view : View
 blank_view = fresh_view (terms 0 false) 0 0
 
 abbrev pub with_ticket : View → ℕ → View
-with_ticket v k = record v { tickets = k ∷ v.tickets }
+with_ticket v k = record v { tickets = k ∷ v.tickets; found = k + 1 }
 
 abbrev pub with_refusal : View → ℕ → View
-with_refusal v n = record v { refusals = refusal n v.floor ∷ v.refusals }
+with_refusal v n = record v { refusals = refusal n v.floor ∷ v.refusals; found = n }
+
+-- a pass that has found so many draws made
+abbrev pub with_found : View → ℕ → View
+with_found v n = record v { found = n }
 
 abbrev pub with_floor : View → ℕ → View
 with_floor v n = record v { floor = n; readings = v.readings + 1 }
@@ -54,21 +72,28 @@ with_mark v m = record v { mark = m }
 abbrev pub with_refused_split : View → View
 with_refused_split v = record v { refused_splits = v.refused_splits + 1 }
 
--- a pass that stands for one more, which is to be split from it
+-- a pass that stands for one more, which is counted and is to be split from it
 abbrev pub with_part : View → View
 with_part v = record v { weight = v.weight + 1; splits = v.splits + 1 }
 
+-- what a split gives of what a pass stands for
+abbrev pub given : View → ℕ
+given v = if v.terms.by_parts then part v.weight else 1
+
 -- a pass that has given a part of itself away
 abbrev pub without_part : View → View
-without_part v = record v { weight = v.weight - 1 }
+without_part v = record v { weight = v.weight - given v }
 
--- a pass after a split: all as before, but that one more was split from it
+-- a pass after a split: all as before, but that it has given parts away, or that one more was split from it
 abbrev pub with_split : View → View
-with_split v = record v { splits = v.splits + 1 }
+with_split v = record v {
+  weight = if v.terms.by_parts then v.weight - part v.weight else v.weight;
+  splits = if v.terms.by_parts then v.splits else v.splits + 1;
+}
 
 -- the pass that is split from another
 abbrev pub part_of : View → View
-part_of v = fresh_view v.terms v.floor 1
+part_of v = fresh_view v.terms v.floor (given v)
 
 -- two passes joined: what both have, without a mark
 abbrev pub joined_view : View → View → View
@@ -82,5 +107,6 @@ joined_view v w = record {
   refused_splits = v.refused_splits + w.refused_splits;
   mark = Unseen;
   readings = v.readings + w.readings;
+  found = max v.found w.found;
   raised_to = max v.raised_to w.raised_to;
 }

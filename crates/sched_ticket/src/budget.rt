@@ -1,12 +1,13 @@
 //! The budget: making it, and closing it with the pass that stands for all.
 ghost use Rattle.std.specs.Prelude.{◌≡◌, ◌+◌, ◌<◌, ◌≤◌, true, false, length, min, IfOk, IfErr, OnOk, MatchBool};
-ghost use Rattle.sched_ticket.specs.View.{terms, first_view, with_mark};
+ghost use Rattle.sched_ticket.specs.View.{terms, parted_terms, first_weight, first_view, with_mark};
 ghost use Rattle.sched_ticket.specs.Held.{IsOf};
 ghost use Rattle.sched_ticket.specs.Calls.{RefusesLimit, IsWhole};
 ghost use Rattle.sched_ticket.specs.Lists.{AreBelow};
 ghost use Rattle.sched_ticket.specs.declared.view.Mark.{Mark};
 
 use crate::fault::{PassesOut, TicketFault};
+use crate::parts::ALL_PARTS;
 use crate::pass::{Pass, Seat};
 use crate::rule::{LIMIT, Look, MADE, Rule};
 use crate::view::{Terms, View};
@@ -37,7 +38,7 @@ impl Model for Budget {
 }
 
 impl Budget {
-    /// A budget of `limit` tickets, and its first pass.
+    /// A budget of `limit` tickets, and its first pass. It counts its passes, 65,536 at most.
     pub fn new(alloc: Global, limit: u64) -> Result<(Budget, Pass), TicketFault>
         ensures ok { IfOk result
             (λ r. (r.0.terms ≡ terms limit false) × IsOf r.0 r.1 × (r.1.has ≡ first_view (terms limit false))) }
@@ -49,18 +50,63 @@ impl Budget {
             Terms {
                 limit,
                 rises: false,
+                by_parts: false,
             },
         )
     }
 
-    /// A budget whose limit is `limit` and may rise, and its first pass.
+    /// A budget whose limit is `limit` and may rise, and its first pass. It counts its passes, 65,536 at most, and a
+    /// pass that is refused uses a number up.
     pub fn rising(alloc: Global, limit: u64) -> Result<(Budget, Pass), TicketFault>
         ensures ok { IfOk result
             (λ r. (r.0.terms ≡ terms limit true) × IsOf r.0 r.1 × (r.1.has ≡ first_view (terms limit true))) }
         ensures limit { OnOk result (limit ≤ 4294967296) }
         ensures err { IfErr result (RefusesLimit limit) }
     {
-        Budget::open(alloc, Terms { limit, rises: true })
+        Budget::open(
+            alloc,
+            Terms {
+                limit,
+                rises: true,
+                by_parts: false,
+            },
+        )
+    }
+
+    /// A budget of `limit` tickets whose passes stand for parts, and its first pass, which has all 2^62. Passes are
+    /// split and joined without end.
+    pub fn by_parts(alloc: Global, limit: u64) -> Result<(Budget, Pass), TicketFault>
+        ensures ok { IfOk result (λ r. (r.0.terms ≡ parted_terms limit false) × IsOf r.0 r.1
+            × (r.1.has ≡ first_view (parted_terms limit false))) }
+        ensures limit { OnOk result (limit ≤ 4294967296) }
+        ensures err { IfErr result (RefusesLimit limit) }
+    {
+        Budget::open(
+            alloc,
+            Terms {
+                limit,
+                rises: false,
+                by_parts: true,
+            },
+        )
+    }
+
+    /// The same with a limit that may rise. A refused draw uses no number up, so a limit that is raised by some gives
+    /// as many tickets more, to refused passes too.
+    pub fn rising_by_parts(alloc: Global, limit: u64) -> Result<(Budget, Pass), TicketFault>
+        ensures ok { IfOk result (λ r. (r.0.terms ≡ parted_terms limit true) × IsOf r.0 r.1
+            × (r.1.has ≡ first_view (parted_terms limit true))) }
+        ensures limit { OnOk result (limit ≤ 4294967296) }
+        ensures err { IfErr result (RefusesLimit limit) }
+    {
+        Budget::open(
+            alloc,
+            Terms {
+                limit,
+                rises: true,
+                by_parts: true,
+            },
+        )
     }
 
     fn open(alloc: Global, about: Terms) -> Result<(Budget, Pass), TicketFault>
@@ -71,8 +117,9 @@ impl Budget {
         if about.limit > MAX_LIMIT {
             return Err(TicketFault::LimitTooLarge);
         }
+        let made = made_at_first(about);
         let mut words = [0; LIMIT + 1];
-        words[MADE] = 1;
+        words[MADE] = made;
         words[LIMIT] = about.limit;
         match Table::of_words(alloc, &words, &about) {
             Ok((table, seat)) => Ok((
@@ -80,14 +127,15 @@ impl Budget {
                     table,
                     terms: about,
                 },
-                Pass::start(seat),
+                Pass::start(seat, made),
             )),
             Err(_) => Err(TicketFault::NoMemory),
         }
     }
 
     /// The number of tickets drawn, where this pass stands for all passes of the budget.
-    /// Otherwise another pass is alive or was dropped, and both come back, the pass marked as shared.
+    /// By parts that is the pass that has all 2^62. Otherwise another pass is alive or was dropped, and both come back,
+    /// the pass marked as shared.
     pub fn close(self, pass: Pass) -> Result<u64, (Budget, Pass, PassesOut)>
         requires { IsOf self pass }
         ensures count { IfOk result (λ n. n ≡ length pass.has.tickets) }
@@ -119,7 +167,7 @@ impl Budget {
         }
     }
 
-    /// Whether the passes that were made are those that the seat stands for. It marks the seat.
+    /// Whether what was made is what the seat stands for. It marks the seat.
     fn look(&self, seat: &mut Seat, known: u64) -> bool
         requires of { seat.old.table_id ≡ self.now.table }
         requires live { 0 < seat.old.me.0.weight }
@@ -141,4 +189,11 @@ impl Budget {
         let Budget { table, terms: _ } = self;
         table.close_with(seat).free();
     }
+}
+
+/// What the first pass stands for: itself, or all parts.
+fn made_at_first(about: Terms) -> u64
+    ensures { result ≡ first_weight about }
+{
+    if about.by_parts { ALL_PARTS } else { 1 }
 }

@@ -13,7 +13,7 @@ pub enum TicketFault {
     LimitTooLarge,
     /// A growth was refused.
     NoMemory,
-    /// 65,536 passes were counted, the first included.
+    /// 65,536 passes were counted, the first included, or by parts the pass has one part, which it keeps.
     TooManyPasses,
     /// The budget keeps its limit.
     Fixed,
@@ -26,7 +26,7 @@ impl fmt::Display for TicketFault {
         f.write_str(match self {
             TicketFault::LimitTooLarge => "the limit is more than 4294967296 tickets",
             TicketFault::NoMemory => "no memory",
-            TicketFault::TooManyPasses => "more than 65536 passes of one budget",
+            TicketFault::TooManyPasses => "the budget has no further pass",
             TicketFault::Fixed => "the budget keeps its limit",
         })
     }

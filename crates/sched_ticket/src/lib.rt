@@ -9,12 +9,11 @@
 mod budget;
 mod fault;
 pub mod laws;
-pub mod locked;
 mod naming;
+pub mod parts;
 mod pass;
 mod rule;
 mod view;
-pub mod workers;
 
 pub use budget::{Budget, MAX_LIMIT};
 pub use fault::{PassesOut, TicketFault};

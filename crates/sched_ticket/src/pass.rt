@@ -1,13 +1,17 @@
 //! The pass: the right to draw tickets of a budget, and what was drawn with it.
 ghost use Rattle.std.specs.Prelude.{◌≡◌, ◌+◌, ◌<◌, ◌≤◌, true, false, [], ◌∷◌, length, None, IfOk, IfErr, OnOk, IfSome, IfNone, MatchOption};
-ghost use Rattle.sched_ticket.specs.View.{fresh_view, part_of, with_split, joined_view};
+ghost use Rattle.sched_ticket.specs.View.{draws_again, fresh_view, part_of, with_split, joined_view};
 ghost use Rattle.sched_ticket.specs.Steps.{IsSound, IsWithin};
 ghost use Rattle.sched_ticket.specs.Held.{IsOf};
-ghost use Rattle.sched_ticket.specs.Calls.{Asked, Drew, DrawRefused, SplitRefused, Raised, RefusesRaise};
+ghost use Rattle.sched_ticket.specs.Calls.{Asked, Took, TookNone, Drew, DrawRefused, MaySplit, SplitRefused};
+ghost use Rattle.sched_ticket.specs.Calls.{Raised, RefusesRaise};
 
 use crate::budget::{Budget, MAX_LIMIT};
 use crate::fault::TicketFault;
-use crate::rule::{Count, DRAWN, Draw, LIMIT, Learn, MADE, Merge, Part, Raise, ReadLimit};
+use crate::parts::given;
+use crate::rule::{
+    Count, DRAWN, Draw, Find, LIMIT, Learn, MADE, Merge, Part, Raise, ReadLimit, Win,
+};
 use crate::view::View;
 use std::marker::Model;
 
@@ -22,7 +26,7 @@ const MAX_PASSES: u64 = 65536;
 pub struct Pass {
     pub(crate) seat: Seat,
     pub(crate) tickets: u64,
-    /// How many passes it stands for.
+    /// How many passes, or parts, it stands for.
     pub(crate) weight: u64,
     /// How many of its splits were counted and then refused.
     pub(crate) refused_splits: u64,
@@ -41,16 +45,18 @@ impl Model for Pass {
 }
 
 impl Pass {
-    pub(crate) fn start(seat: Seat) -> Pass
+    pub(crate) fn start(seat: Seat, weight: u64) -> Pass
         requires bare { seat.me.1 ≡ [] }
-        requires new { seat.me.0 ≡ fresh_view seat.me.0.terms seat.me.0.floor 1 }
+        requires new { seat.me.0 ≡ fresh_view seat.me.0.terms seat.me.0.floor weight }
+        requires live { (0 < weight) × (weight ≤ 4611686018427387904) }
+        requires counted { seat.me.0.terms.by_parts ≡ false → weight ≡ 1 }
         requires fixed { seat.me.0.terms.rises ≡ false → seat.me.0.floor ≡ seat.me.0.terms.limit }
         ensures { (result.table ≡ seat.table_id) × (result.has ≡ seat.me.0) }
     {
         Pass {
             seat,
             tickets: 0,
-            weight: 1,
+            weight,
             refused_splits: 0,
             refused: false,
         }
@@ -64,42 +70,80 @@ impl Pass {
         self.tickets
     }
 
-    /// A ticket below the limit, or None, and then None for good.
-    /// One atomic step, after one load of the limit on a rising budget, and none where this pass was refused before.
+    /// A ticket below the limit, or None. Then it is None for good, but of a rising budget by parts, where a pass draws
+    /// again once the limit is raised. It waits for nobody.
+    ///
+    /// Where passes are counted it is one atomic step, after one load of the limit on a rising budget. By parts it is a
+    /// load and a compare-exchange, which is made again only where another draw won a ticket first, or the load alone
+    /// where none is left. A pass that is refused for good makes no step.
     pub fn draw(&mut self, budget: &Budget) -> Option<u64>
         requires { IsOf budget.now self.old }
         ensures of { IsOf budget.now self.new }
         ensures some { IfSome result (λ k. Drew self.old.has k self.new.has) }
         ensures none { IfNone result (DrawRefused self.old.has self.new.has) }
-        ensures again { 0 < length self.old.has.refusals → (result ≡ None) × (self.new ≡ self.old) }
+        ensures again { draws_again self.old.has.terms ≡ false → 0 < length self.old.has.refusals →
+            (result ≡ None) × (self.new ≡ self.old) }
         ensures tickets { MatchOption result
             (self.new.has.tickets ≡ self.old.has.tickets) (λ k. self.new.has.tickets ≡ k ∷ self.old.has.tickets) }
     {
-        if self.refused {
+        if self.refused && !(budget.terms.rises && budget.terms.by_parts) {
             return None;
         }
         let limit = limit_now(budget, &mut self.seat);
-        let number = budget
-            .table
-            .shared
-            .fetch_add::<Draw>(&mut self.seat, DRAWN, 1);
-        if number < limit {
+        let ticket = next_below(budget, &mut self.seat, limit);
+        if ticket.is_some() {
             self.tickets += 1;
-            Some(number)
         } else {
             self.refused = true;
-            None
         }
+        ticket
     }
 
     /// A new pass without tickets and without refusal. `TooManyPasses` where 65,536 passes were counted of this budget,
-    /// the first included, or where this pass was told so before. The tickets of this pass stay.
+    /// the first included, or where this pass was told so before; by parts only where this pass has one part, which it
+    /// keeps: the first pass has 2^62, and a split gives 2^20 where there are more, or else one. The tickets of this
+    /// pass stay.
     pub fn split(&mut self, budget: &Budget) -> Result<Pass, TicketFault>
         requires { IsOf budget.now self.old }
         ensures of { IsOf budget.now self.new }
         ensures ok { IfOk result (λ p. IsOf budget.now p × (p.has ≡ part_of self.old.has)) }
-        ensures kept { OnOk result
-            ((self.old.has.refused_splits ≡ 0) × (self.new.has ≡ with_split self.old.has)) }
+        ensures kept { OnOk result (MaySplit self.old.has × (self.new.has ≡ with_split self.old.has)) }
+        ensures err { IfErr result
+            (λ e. (e ≡ TicketFault.TooManyPasses) × SplitRefused self.old.has self.new.has) }
+    {
+        if budget.terms.by_parts {
+            self.split_parts(budget)
+        } else {
+            self.split_counted(budget)
+        }
+    }
+
+    /// Splits parts off, without a step on the words.
+    fn split_parts(&mut self, budget: &Budget) -> Result<Pass, TicketFault>
+        requires of { IsOf budget.now self.old }
+        requires by_parts { budget.now.terms.by_parts ≡ true }
+        ensures of { IsOf budget.now self.new }
+        ensures ok { IfOk result (λ p. IsOf budget.now p × (p.has ≡ part_of self.old.has)) }
+        ensures kept { OnOk result (MaySplit self.old.has × (self.new.has ≡ with_split self.old.has)) }
+        ensures err { IfErr result
+            (λ e. (e ≡ TicketFault.TooManyPasses) × SplitRefused self.old.has self.new.has) }
+    {
+        if self.weight == 1 {
+            return Err(TicketFault::TooManyPasses);
+        }
+        let parts = given(self.weight);
+        let seat = budget.table.shared.split_seat::<Part>(&mut self.seat);
+        self.weight -= parts;
+        Ok(Pass::start(seat, parts))
+    }
+
+    /// Splits a pass off, and counts it.
+    fn split_counted(&mut self, budget: &Budget) -> Result<Pass, TicketFault>
+        requires of { IsOf budget.now self.old }
+        requires counted { budget.now.terms.by_parts ≡ false }
+        ensures of { IsOf budget.now self.new }
+        ensures ok { IfOk result (λ p. IsOf budget.now p × (p.has ≡ part_of self.old.has)) }
+        ensures kept { OnOk result (MaySplit self.old.has × (self.new.has ≡ with_split self.old.has)) }
         ensures err { IfErr result
             (λ e. (e ≡ TicketFault.TooManyPasses) × SplitRefused self.old.has self.new.has) }
     {
@@ -115,10 +159,10 @@ impl Pass {
             return Err(TicketFault::TooManyPasses);
         }
         let seat = budget.table.shared.split_seat::<Part>(&mut self.seat);
-        Ok(Pass::start(seat))
+        Ok(Pass::start(seat, 1))
     }
 
-    /// One pass with what both have. It answers None where either did.
+    /// One pass with what both have. It answers None for good where either did.
     pub fn join(mut self, other: Pass, budget: &Budget) -> Pass
         requires this { IsOf budget.now self }
         requires that { IsOf budget.now other }
@@ -177,4 +221,61 @@ fn limit_now(budget: &Budget, seat: &mut Seat) -> u64
     } else {
         budget.terms.limit
     }
+}
+
+/// The next ticket below the limit, where one is left.
+fn next_below(budget: &Budget, seat: &mut Seat, limit: u64) -> Option<u64>
+    requires of { (seat.old.table_id ≡ budget.now.table) × (seat.old.me.0.terms ≡ budget.now.terms) }
+    requires live { 0 < seat.old.me.0.weight }
+    requires limit { limit ≡ seat.old.me.0.floor }
+    requires unrefused { draws_again seat.old.me.0.terms ≡ false → seat.old.me.0.refusals ≡ [] }
+    ensures seat { (seat.new.table_id ≡ seat.old.table_id) × (seat.new.me.1 ≡ seat.old.me.1) }
+    ensures some { IfSome result (λ k. Took seat.old.me.0 k seat.new.me.0) }
+    ensures none { IfNone result (TookNone seat.old.me.0 seat.new.me.0) }
+{
+    if budget.terms.by_parts {
+        win(budget, seat, limit)
+    } else {
+        take(budget, seat, limit)
+    }
+}
+
+/// Draws the next number, which is used up where it is not below the limit.
+fn take(budget: &Budget, seat: &mut Seat, limit: u64) -> Option<u64>
+    requires of { (seat.old.table_id ≡ budget.now.table) × (seat.old.me.0.terms ≡ budget.now.terms) }
+    requires live { 0 < seat.old.me.0.weight }
+    requires limit { limit ≡ seat.old.me.0.floor }
+    requires counted { seat.old.me.0.terms.by_parts ≡ false }
+    requires unrefused { seat.old.me.0.refusals ≡ [] }
+    ensures seat { (seat.new.table_id ≡ seat.old.table_id) × (seat.new.me.1 ≡ seat.old.me.1) }
+    ensures some { IfSome result (λ k. Took seat.old.me.0 k seat.new.me.0) }
+    ensures none { IfNone result (TookNone seat.old.me.0 seat.new.me.0) }
+{
+    let number = budget.table.shared.fetch_add::<Draw>(seat, DRAWN, 1);
+    if number < limit { Some(number) } else { None }
+}
+
+/// Draws the next number, where it is below the limit. A race that is lost is another pass's ticket, so there are at
+/// most as many as tickets are left.
+fn win(budget: &Budget, seat: &mut Seat, limit: u64) -> Option<u64>
+    requires of { (seat.old.table_id ≡ budget.now.table) × (seat.old.me.0.terms ≡ budget.now.terms) }
+    requires live { 0 < seat.old.me.0.weight }
+    requires limit { limit ≡ seat.old.me.0.floor }
+    requires by_parts { seat.old.me.0.terms.by_parts ≡ true }
+    ensures seat { (seat.new.table_id ≡ seat.old.table_id) × (seat.new.me.1 ≡ seat.old.me.1) }
+    ensures some { IfSome result (λ k. Took seat.old.me.0 k seat.new.me.0) }
+    ensures none { IfNone result (TookNone seat.old.me.0 seat.new.me.0) }
+{
+    let mut drawn = budget.table.shared.load::<Find>(seat, DRAWN);
+    while drawn < limit {
+        let found = budget
+            .table
+            .shared
+            .compare_exchange::<Win>(seat, DRAWN, drawn, drawn + 1);
+        if found == drawn {
+            return Some(drawn);
+        }
+        drawn = found;
+    }
+    None
 }

@@ -3,8 +3,10 @@
 //! | Step | On the word | The stepping pass |
 //! |---|---|---|
 //! | `Draw` | 1 more drawn | gains the number found: a ticket below its floor, else a refusal |
+//! | `Find` | drawn is read | has found it, and gains a refusal where it is not below its floor |
+//! | `Win` | 1 more drawn, where it is what the pass has found | gains that number as a ticket, or what `Find` says |
 //! | `Count` | 1 more made | stands for one more, by a split, where fewer than 65,536 were made; else a refused split |
-//! | `Part` | none changes | gives that one to a new pass |
+//! | `Part` | none changes | gives that one, or parts, to a new pass |
 //! | `Merge` | none changes | takes in another pass, which is spent |
 //! | `Learn` | none changes | learns that its tickets are distinct |
 //! | `Look` | made is read | is marked sole or shared |
@@ -12,7 +14,7 @@
 //! | `Raise` | limit becomes at least the number given | its floor becomes the limit; it keeps the greatest it gave |
 ghost use Rattle.sched_ticket.specs.Rule.{IsKept};
 ghost use Rattle.sched_ticket.specs.View.{first_view, blank_view, without_part, part_of, joined_view};
-ghost use Rattle.sched_ticket.specs.Steps.{draws, counts, learns, looks, reads_limit, raises};
+ghost use Rattle.sched_ticket.specs.Steps.{draws, finds, wins, counts, learns, looks, reads_limit, raises};
 
 use crate::view::{Terms, View};
 use atomic_table::{Join, Play, Split, TableRule};
@@ -21,7 +23,7 @@ use atomic_table::{Join, Play, Split, TableRule};
 /// another.
 pub(crate) const DRAWN: usize = 0;
 
-/// The word that counts the passes made.
+/// The word that counts the passes made, or has all parts.
 pub(crate) const MADE: usize = 16;
 
 /// The word that is the limit.
@@ -40,6 +42,18 @@ pub(crate) struct Draw;
 
 impl Play<u8, View> for Draw {
     ghost then = { draws };
+}
+
+pub(crate) struct Find;
+
+impl Play<u8, View> for Find {
+    ghost then = { finds };
+}
+
+pub(crate) struct Win;
+
+impl Play<u8, View> for Win {
+    ghost then = { wins };
 }
 
 pub(crate) struct Count;

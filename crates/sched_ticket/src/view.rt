@@ -2,13 +2,15 @@
 
 use std::collections::LinkedList;
 
-/// What a budget was made with: its first limit, and whether the limit may rise.
+/// What a budget was made with: its first limit, whether the limit may rise, and how its passes are told.
 #[derive(Clone, Copy, Drop)]
 pub struct Terms {
     /// The first limit.
     pub limit: u64,
     /// Whether it may be raised.
     pub rises: bool,
+    /// Whether its passes stand for parts. Else they are counted.
+    pub by_parts: bool,
 }
 
 /// What the last look at the number of passes showed.
@@ -21,7 +23,7 @@ pub enum Mark {
     Shared,
 }
 
-/// A number that a draw found too high, with the limit that the draw knew.
+/// A number that a draw found too high, with the limit that the draw knew. By parts the draw leaves it to others.
 pub struct Refusal {
     /// The number found.
     pub number: u64,
@@ -39,9 +41,9 @@ pub struct View {
     pub refusals: LinkedList<Refusal>,
     /// The greatest limit that this pass has found. The limit is never below it.
     pub floor: u64,
-    /// The passes that it stands for. A view of weight 0 is spent.
+    /// The passes that it stands for, or the parts. A view of weight 0 is spent.
     pub weight: u64,
-    /// How many passes were split from it, and from those joined into it.
+    /// How many counted passes were split from it, and from those joined into it.
     pub splits: u64,
     /// How often a split was refused after it was counted.
     pub refused_splits: u64,
@@ -49,6 +51,8 @@ pub struct View {
     pub mark: Mark,
     /// How often the limit was read or raised.
     pub readings: u64,
+    /// How many draws it has found made. There are never fewer.
+    pub found: u64,
     /// The greatest number that it raised the limit to, 0 where it raised none.
     pub raised_to: u64,
 }

@@ -53,6 +53,18 @@ fn a_rising_budget_by_an_arc(rt: HostRuntime) -> Result<(), Fail> {
     Ok(())
 }
 
+// By parts what was refused is drawn once the limit is raised, by the same value.
+#[test]
+fn a_rising_budget_by_parts(rt: HostRuntime) -> Result<(), Fail> {
+    let (budget, mut pass) = Budget::rising_by_parts(rt.alloc(), 1)?;
+    let mut drawing = OnBudget::new(pass.split(&budget)?, &budget);
+    assert_eq!(rt; thrice(&mut drawing, at(0)), (true, false, false));
+    assert_eq!(rt; pass.raise(&budget, 3)?, 3);
+    assert_eq!(rt; thrice(&mut drawing, at(0)), (true, true, false));
+    assert_eq!(rt; drawing.granted(), 3);
+    Ok(())
+}
+
 // A reserve of one ticket a window, and half a ticket for each request.
 #[test]
 fn a_quota(rt: HostRuntime) -> Result<(), Fail> {

@@ -1,5 +1,5 @@
 -- A split, a join, the first state and the last keep the rule.
-use Rattle.std.proofs.Common.{◌≡◌, ◌≢◌, ℕ, zero, suc, ◌+◌, ◌<◌, ◌≤◌, max, List, [], ◌∷◌, ◌++◌, length, set, slice_index, cond, sym, refl, ap, ◌∙◌, subst, arith, ⊎_elim, lt_of_not-le, lt-ltb, le-ltb}
+use Rattle.std.proofs.Common.{◌≡◌, ◌≢◌, ℕ, zero, suc, ◌+◌, ◌<◌, ◌≤◌, max, List, [], ◌∷◌, ◌++◌, length, set, slice_index, sym, refl, ap, ◌∙◌, subst, arith, ⊎_elim, lt_of_not-le}
 use mathlib.Core.Logic.{dite}
 use mathlib.Core.Option.{Option, some, some-injective, some-ne-none}
 use native.Mathlib.Decide.{dec_le}
@@ -8,8 +8,9 @@ use Rattle.atomic_table.specs.Table.{State, Splits, Joins}
 use Rattle.atomic_table.proofs.Lists.{at_set, at_snoc, set_else}
 use Rattle.sched_ticket.specs.Lists.{total, times, is}
 use Rattle.sched_ticket.proofs.Sums.{total-append, total-set, total-le, Each-append, alone}
+use Rattle.sched_ticket.proofs.Ways.{part-some}
 use Rattle.sched_ticket_quota.specs.Windows.{first_of, allowed, within, count_in}
-use Rattle.sched_ticket_quota.specs.View.{part, first_view, without_part, part_of, joined_view, blank_view}
+use Rattle.sched_ticket_quota.specs.View.{first_view, without_part, part_of, joined_view, blank_view}
 use Rattle.sched_ticket_quota.specs.Rule.{ticket_weight, request_weight, tickets_in, requests_in, weights, may_count, IsAllowed, Fits, IsOrderly, drawn_of, asked_of, IsKept}
 use Rattle.sched_ticket_quota.specs.Calls.{IsWhole}
 use Rattle.sched_ticket_quota.specs.declared.view.Terms.{Terms}
@@ -17,12 +18,6 @@ use Rattle.sched_ticket_quota.specs.declared.view.View.{View}
 use Rattle.sched_ticket_quota.proofs.Numbers.{below-within, count_in-allowed}
 use Rattle.sched_ticket_quota.proofs.Counts.{may_count-yes, may_count-no, may_count-le}
 use Rattle.sched_ticket_quota.proofs.Moves.{Fits-on}
-
--- a split gives something and keeps something
-pub part-some : (n : ℕ) → 1 < n → (0 < part n) × (part n < n)
-part-some n more = dite (dec_le n 1048576)
-    (λ few. let one : part n ≡ 1 = ap (λ b. cond b 1048576 1) (le-ltb 1048576 n few) in (omega arith, omega arith))
-    (λ not. let many : part n ≡ 1048576 = ap (λ b. cond b 1048576 1) (lt-ltb 1048576 n (lt_of_not-le not)) in (omega arith, omega (arith, lt_of_not-le not)))
 
 -- two passes that may count have no more parts than one with the parts of both
 may_count-cut : (v : View) → 1 < v.weight → may_count (without_part v) + may_count (part_of v) ≤ may_count v

@@ -1,5 +1,6 @@
 -- Views of a quota, and how one step changes a view.
-use Rattle.std.specs.Prelude.{ℕ, ◌+◌, ◌-◌, [], ◌∷◌, ◌++◌, max, if◌then◌else◌, nat_lt}
+use Rattle.std.specs.Prelude.{ℕ, ◌+◌, ◌-◌, [], ◌∷◌, ◌++◌, max}
+use Rattle.sched_ticket.specs.Parts.{all_parts, part}
 use Rattle.sched_ticket_quota.specs.Windows.{first_of, window_of}
 use Rattle.sched_ticket_quota.specs.declared.view.Terms.{Terms}
 use Rattle.sched_ticket_quota.specs.declared.view.View.{View}
@@ -21,7 +22,7 @@ fresh_view k seen told found weight = record {
 
 -- the first pass of a quota has all parts
 abbrev pub first_view : Terms → View
-first_view k = fresh_view k 0 0 0 4611686018427387904
+first_view k = fresh_view k 0 0 0 all_parts
 
 -- what is left of a pass that was joined into another
 abbrev pub blank_view : View
@@ -51,10 +52,6 @@ with_loss v d = record v { found = d; losses = v.losses + 1 }
 -- the ticket that a draw is to win: the next of the latest window that the pass has seen
 abbrev pub next_ticket : View → ℕ
 next_ticket v = max v.found (first_of (window_of v.seen))
-
--- how many parts a split gives of so many
-abbrev pub part : ℕ → ℕ
-part n = if nat_lt 1048576 n then 1048576 else 1
 
 -- a pass that has given a part of itself away
 abbrev pub without_part : View → View

@@ -3,7 +3,7 @@ ghost use Rattle.std.specs.Prelude.{◌≡◌, ◌+◌, ◌-◌, ◌*◌, ◌/�
 ghost use Rattle.std.specs.Prelude.{IfOk, IfErr, OnOk, IfSome, IfNone, MatchOption};
 ghost use Rattle.sched_ticket_quota.specs.Windows.{window_of, first_of, window_at, opening, allowed, floor_of};
 ghost use Rattle.sched_ticket_quota.specs.View.{fresh_view, with_reading, with_opening, with_ticket, next_ticket};
-ghost use Rattle.sched_ticket_quota.specs.View.{without_part, part_of, part, joined_view};
+ghost use Rattle.sched_ticket_quota.specs.View.{without_part, part_of, joined_view};
 ghost use Rattle.sched_ticket_quota.specs.Steps.{IsLater, IsSound, IsNoLater};
 ghost use Rattle.sched_ticket_quota.specs.Held.{AreTerms, IsOf};
 ghost use Rattle.sched_ticket_quota.specs.Calls.{Meets, Opens, Turned, Deposited, Tried};
@@ -13,6 +13,7 @@ use crate::fault::QuotaFault;
 use crate::quota::{DRAWS, LAST_WINDOW, NUMBERS, Quota, REQUESTS};
 use crate::rule::{Count, Find, Learn, Merge, Open, Part, Read, Win};
 use crate::view::{Terms, View};
+use sched_ticket::parts::given;
 use sched_time::Moment;
 use std::marker::Model;
 
@@ -23,9 +24,6 @@ pub const MAX_LEAP: u64 = 3600;
 
 /// How many races with other draws one draw loses before it gives up.
 pub const MAX_TRIES: u64 = 64;
-
-/// How many parts a split gives, where the pass has more.
-const PART: u64 = 1048576;
 
 /// What is known of a window: as one look at its requests and one at its tickets showed.
 #[derive(Clone, Copy, Debug, PartialEq, Eq, Drop)]
@@ -137,10 +135,10 @@ impl Pass {
         if self.weight == 1 {
             return Err(QuotaFault::TooManyPasses);
         }
-        let given = if self.weight > PART { PART } else { 1 };
+        let parts = given(self.weight);
         let seat = quota.table.shared.split_seat::<Part>(&mut self.seat);
-        self.weight -= given;
-        Ok(Pass::start(seat, given, self.told))
+        self.weight -= parts;
+        Ok(Pass::start(seat, parts, self.told))
     }
 
     /// One pass with what both have.

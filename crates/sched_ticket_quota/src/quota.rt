@@ -9,6 +9,7 @@ use crate::pass::{Pass, Seat};
 use crate::rule::Rule;
 use crate::view::{Terms, View};
 use atomic_table::Table;
+use sched_ticket::parts::ALL_PARTS;
 use std::alloc::Global;
 use std::marker::Model;
 
@@ -23,9 +24,6 @@ pub const LAST_WINDOW: u64 = 2999999999;
 
 /// The numbers of a window.
 pub(crate) const NUMBERS: u64 = 4294967296;
-
-/// All parts, which the first pass has.
-pub(crate) const ALL_PARTS: u64 = 4611686018427387904;
 
 /// Which word tells how many tickets were drawn, and which how many requests were counted. There are 32 words, so that
 /// each of the two lies on a cache line of its own, and the lines beside have none.

@@ -3,11 +3,11 @@
 
 ghost use Rattle.std.specs.Prelude.{◌≡◌, MatchResult};
 ghost use Rattle.std.specs.Process.{exit_status};
-ghost use Rattle.sched_cli_plan.specs.PrintStatus.{print_status};
+ghost use Rattle.sched_cli_pool.specs.PoolStatus.{pool_status};
 
 use sched_cli::{
-    Asked, Counted, Origin, PrintFault, WordsFault, print_check, print_course, print_plan,
-    print_pool, print_quota_pool, read_words,
+    Asked, Counted, Origin, PoolFault, PrintFault, WordsFault, print_check, print_course,
+    print_plan, print_pool, print_quota_pool, read_words,
 };
 use std::alloc::{AllocGlobal, Global};
 use std::env;
@@ -27,12 +27,12 @@ fn main(rt: HostRuntime) -> ExitCode {
             ),
             Origin::File(name) => match open(&rt, name.as_str()) {
                 Ok(file) => ended(&rt, answer(&rt, rt.alloc(), file, rt.stdout(), &asked)),
-                Err(fault) => ended(&rt, Err(fault)),
+                Err(fault) => ended(&rt, Err(PoolFault::Print(fault))),
             },
         },
         Err(WordsFault::Help(text)) => match print!(rt; "{text}") {
             Ok(()) => ExitCode::SUCCESS,
-            Err(_) => ended(&rt, Err(PrintFault::WriteFailed)),
+            Err(_) => ended(&rt, Err(PoolFault::Print(PrintFault::WriteFailed))),
         },
         Err(fault) => {
             let _ = eprintln!(rt; "{fault}");
@@ -79,24 +79,25 @@ fn answer<R, S: Read + Drop, W: Write + Drop>(
     reader: S,
     writer: W,
     asked: &Asked,
-) -> Result<(), PrintFault>
+) -> Result<(), PoolFault>
 where
     R: Threads + Wait + RandomSource + AllocGlobal + Sync,
 {
     let mut reader = Counted::new(reader);
     let mut writer = Counted::new(writer);
     match asked {
-        Asked::Plan(options, _) => print_plan(alloc, &mut reader, &mut writer, options),
-        Asked::Course(course, _) => print_course(alloc, &mut reader, &mut writer, course),
-        Asked::Pool(options, _) => print_pool(rt, alloc, &mut reader, &mut writer, options),
-        Asked::Quota(options, _) => print_quota_pool(rt, alloc, &mut reader, &mut writer, options),
-        Asked::Check(_) => print_check(alloc, &mut reader, &mut writer),
+        Asked::Plan(options, _) => print_plan(alloc, &mut reader, &mut writer, options)?,
+        Asked::Course(course, _) => print_course(alloc, &mut reader, &mut writer, course)?,
+        Asked::Pool(options, _) => print_pool(rt, alloc, &mut reader, &mut writer, options)?,
+        Asked::Quota(options, _) => print_quota_pool(rt, alloc, &mut reader, &mut writer, options)?,
+        Asked::Check(_) => print_check(alloc, &mut reader, &mut writer)?,
     }
+    Ok(())
 }
 
 // The status of what was printed, with its line on standard error where it stopped at a fault.
-fn ended(rt: &HostRuntime, printed: Result<(), PrintFault>) -> ExitCode
-    ensures { MatchResult printed (λ _. exit_status result ≡ 0) (λ fault. exit_status result ≡ print_status fault) }
+fn ended(rt: &HostRuntime, printed: Result<(), PoolFault>) -> ExitCode
+    ensures { MatchResult printed (λ _. exit_status result ≡ 0) (λ fault. exit_status result ≡ pool_status fault) }
 {
     match printed {
         Ok(()) => ExitCode::SUCCESS,

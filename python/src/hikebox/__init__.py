@@ -14,6 +14,7 @@ engine in `libhikebox.so`, which this package calls.
 from ._time import FAR, Duration, Milliseconds, milliseconds
 from .budget import Budget
 from .builders import (
+    decorrelated,
     elapsed,
     exponential,
     exponential_milli,
@@ -90,6 +91,7 @@ __all__ = [
     "before_log",
     "before_sleep_log",
     "code_of",
+    "decorrelated",
     "elapsed",
     "exponential",
     "exponential_milli",

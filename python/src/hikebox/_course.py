@@ -67,7 +67,6 @@ class Course:
         "_machine",
         "_drawn_on",
         "_generation",
-        "_draw",
         "_logs",
         "_closed",
     )
@@ -98,10 +97,9 @@ class Course:
         #: Whether the engine has begun the next attempt already.
         self._begun = False
         self._machine: Optional[Machine] = None
-        #: What the engine's retry draws on, and what draws a ticket for it where it does not itself.
+        #: What the engine's retry draws on.
         self._drawn_on: DrawnOn = NO_BUDGET
         self._generation = 0
-        self._draw = settings.draw
         #: Whether each attempt that failed is logged.
         self._logs = False
         self._closed = False
@@ -165,7 +163,7 @@ class Course:
         if not self.settings.is_plain or not isinstance(error, self.settings.types):
             return self._raised(error, outcome)
         self._notes(outcome)
-        if self._asks_engine(outcome) and (self._draw is None or self._drew(self._draw())):
+        if self._asks_engine(outcome):
             return True
         self.over = True
         self._gave_up(error)
@@ -199,14 +197,13 @@ class Course:
             return False
         if not self._asks_engine(outcome):
             return False
-        return self._draw is None or self._drew((yield _called, self._draw))
-
-    def _drew(self, ticket: Any) -> bool:
-        """Whether there was a ticket."""
+        if settings.draw is None:
+            return True
+        ticket = yield _called, settings.draw
         if ticket is None:
-            self.state.ending = Ending.BUDGET_REFUSED
+            state.ending = Ending.BUDGET_REFUSED
             return False
-        self.state.granted += 1
+        state.granted += 1
         return True
 
     def _notes(self, outcome: Outcome) -> None:
@@ -356,7 +353,7 @@ class Course:
             return False
         self._begun = what == RUN
         self._until = detail - self._origin if what == WAIT else 0
-        if self._draw is None:
+        if settings.draw is None:
             state.granted = granted
         return True
 
@@ -367,15 +364,11 @@ class Course:
         plan, drawn_on = settings.policy.plan, settings.drawn_on
         handle = plan.lend()
         try:
-            if drawn_on.begin_retry(machine, handle):
-                self._drawn_on = drawn_on
-                self._draw = settings.draw if drawn_on is NO_BUDGET else None
-            else:
-                NO_BUDGET.begin_retry(machine, handle)
+            drawn_on.begin_retry(machine, handle)
         finally:
             plan.give_back(handle)
-        self._generation = self._drawn_on.generation
-        self._origin = self._drawn_on.moment_of(self.state.start_time)
+        self._drawn_on, self._generation = drawn_on, drawn_on.generation
+        self._origin = drawn_on.moment_of(self.state.start_time)
         self._machine = machine
         self._logs = logger.isEnabledFor(logging.DEBUG)
         if machine.poll(self._origin, NO_REPORT, 0)[0] != RUN:

@@ -16,6 +16,7 @@ from .errors import EngineError
 
 __all__ = [
     "AnyPass",
+    "BasePass",
     "Driver",
     "Handle",
     "Pass",
@@ -274,9 +275,11 @@ class BasePass:
 
     __slots__ = ("handle", "at", "_ticket", "_at_ticket")
 
-    #: How the engine's calls on it begin, and the one that frees it.
+    #: How the engine's calls on it begin, the one that frees it, and those that begin and end a retry with a part of it.
     _CALLS: ClassVar[str]
     _FREE: ClassVar[Any]
+    BEGIN: ClassVar[Any]
+    END: ClassVar[Any]
 
     def __init__(self) -> None:
         self.handle = Handle()
@@ -285,7 +288,7 @@ class BasePass:
         self._at_ticket = byref(self._ticket)
 
     def split(self: AnyPass) -> Optional[AnyPass]:
-        """A new pass of the same, with no ticket, or None where too many are out."""
+        """A new pass of the same, with no ticket, or None where this one has a single part, which it keeps."""
         part = type(self)()
         return part if self._does("split", part.at, unless=TOO_MANY_PASSES) else None
 
@@ -325,6 +328,8 @@ class Pass(BasePass):
 
     _CALLS = "hikebox_pass_"
     _FREE = library.hikebox_pass_free
+    BEGIN = library.hikebox_retry_new
+    END = library.hikebox_retry_end
 
     @classmethod
     def of_budget(cls, limit: int, rising: bool) -> Pass:
@@ -337,7 +342,7 @@ class Pass(BasePass):
         return made
 
     def draw(self) -> Optional[int]:
-        """A ticket, or None where the budget has none for this pass."""
+        """A ticket, or None where the budget has none left."""
         status = _pass_draw(self.at, self._at_ticket)
         if status == OK:
             return self._ticket.value
@@ -357,6 +362,8 @@ class QuotaPass(BasePass):
 
     _CALLS = "hikebox_quota_"
     _FREE = library.hikebox_quota_free
+    BEGIN = library.hikebox_retry_on_quota
+    END = library.hikebox_retry_end_on_quota
 
     def __init__(self) -> None:
         super().__init__()

@@ -4,7 +4,8 @@ from __future__ import annotations
 
 from typing import Any, Generic, TypeVar
 
-from ._engine import AnyPass
+from ._engine import AnyPass, PolicyHandle
+from ._machine import Machine
 from ._passes import Passes
 from .errors import BudgetInUse
 
@@ -65,6 +66,26 @@ class Granting(Generic[AnyPass]):
     def __reduce__(self) -> Any:
         kind = self.passes.kind
         raise TypeError(f"a {kind} belongs to its process; hikebox.leased has {kind}s that processes share")
+
+    # Retries that draw on it
+
+    def begin_retry(self, machine: Machine, policy: PolicyHandle) -> None:
+        """Begins a retry in this machine, with a pass of its own."""
+        lent = self.passes.lend()
+        try:
+            if not machine.begin(policy, lent):
+                lent = self.passes.exchange(lent)
+                machine.begin(policy, lent)
+        finally:
+            self.passes.give_back(lent)
+
+    def end_retry(self, machine: Machine) -> None:
+        """Takes the pass of the machine's retry back, with its tickets."""
+        lent = self.passes.lend()
+        try:
+            machine.end(lent)
+        finally:
+            self.passes.give_back(lent)
 
     def expression(self) -> str:
         """The expression that makes one like it."""

@@ -10,11 +10,10 @@ from ._engine import (
     OVER,
     TOO_MANY_PASSES,
     WAIT,
+    BasePass,
     Handle,
     Next,
-    Pass,
     PolicyHandle,
-    QuotaPass,
     Words,
     library,
     refused,
@@ -24,11 +23,7 @@ from ._engine import (
 __all__ = ["Machine", "lend_machine", "take_machine_back"]
 
 _retry_poll = unchecked("hikebox_retry_poll")
-_retry_new = library.hikebox_retry_new
-_retry_on_quota = library.hikebox_retry_on_quota
 _retry_unlimited = library.hikebox_retry_unlimited
-_retry_end = library.hikebox_retry_end
-_retry_end_on_quota = library.hikebox_retry_end_on_quota
 _retry_free = library.hikebox_retry_free
 
 #: What is to be done; the moment up to which is waited, or how it ended; and the tickets granted so far, as of a report.
@@ -62,13 +57,10 @@ class Machine:
         self.handle = Handle()
         self.at = byref(self.handle)
 
-    def begin(self, policy: PolicyHandle, drawn: Pass) -> bool:
-        """Begins a retry with a pass split off this one; False where too many are out."""
-        return _begun("hikebox_retry_new", _retry_new(policy.at, drawn.at, self.at))
-
-    def begin_on_quota(self, policy: PolicyHandle, drawn: QuotaPass) -> bool:
-        """The same on a quota: it draws at the moments of its polls. False where this pass has one part left."""
-        return _begun("hikebox_retry_on_quota", _retry_on_quota(policy.at, drawn.at, self.at))
+    def begin(self, policy: PolicyHandle, drawn: BasePass) -> bool:
+        """Begins a retry with a pass split off this one; False where that has a single part. On a quota it draws at the
+        moments of its polls."""
+        return _begun(drawn.BEGIN.__name__, drawn.BEGIN(policy.at, drawn.at, self.at))
 
     def begin_unlimited(self, policy: PolicyHandle) -> None:
         """Begins a retry that draws on nothing. `free` ends it."""
@@ -97,17 +89,11 @@ class Machine:
         if status != OK:
             raise refused("hikebox_retry_cancel", status)
 
-    def end(self, drawn: Pass) -> None:
-        """Frees the retry, over or not, and joins its pass into this one."""
-        status = _retry_end(self.at, drawn.at)
+    def end(self, drawn: BasePass) -> None:
+        """Frees the retry, over or not, and joins its pass into this one, which is of the same budget or quota."""
+        status = drawn.END(self.at, drawn.at)
         if status != OK:
-            raise refused("hikebox_retry_end", status)
-
-    def end_on_quota(self, drawn: QuotaPass) -> None:
-        """The same of a retry on a quota."""
-        status = _retry_end_on_quota(self.at, drawn.at)
-        if status != OK:
-            raise refused("hikebox_retry_end_on_quota", status)
+            raise refused(drawn.END.__name__, status)
 
     def free(self) -> None:
         """Frees the retry and its pass, where there is one: what that is of can't be closed then."""

@@ -17,6 +17,7 @@ _METHODS = (
     "add_delay",
     "add_output",
     "cap",
+    "ends_by",
     "first",
     "gather",
     "jittered",

@@ -53,9 +53,9 @@ class Plan:
 
     @property
     def lanes(self) -> List[int]:
-        """The lanes by which its jitters pick."""
+        """The lanes by which its nodes pick at random."""
         if self._lanes is None:
-            self._lanes = sorted({own[0] for name, own in walk(self.tree) if name == "jitter"})
+            self._lanes = sorted({own[0] for name, own in walk(self.tree) if name in ("jitter", "decorrelated")})
         return self._lanes
 
     @property

@@ -210,8 +210,9 @@ class _Runner:
                 left = until - time.monotonic()
                 if left <= 0:
                     return
-                self.line.show(f"hikebox: {self.waits_for} in {math.ceil(left)} s")
-                came = self._signal(until - (math.ceil(left) - 1) if self.line.is_on else until)
+                shown = max(1, math.ceil(left - 0.01))
+                self.line.show(f"hikebox: {self.waits_for} in {shown} s")
+                came = self._signal(until - (shown - 1) if self.line.is_on else until)
                 if came is not None and came.si_signo in _ENDING:
                     raise _Ended(128 + came.si_signo)
         finally:

@@ -131,7 +131,7 @@ class Settings:
             "is_quiet": not self.repeats and all(each is None for each in told),
             "is_plain": all(each is None for each in (self.stop, self.fallback, self.at_least, self.wait))
             and not any(hooks.values())
-            and (draw is None or drawn_on is not NO_BUDGET),
+            and draw is None,
             "types": (*types, TryAgain),
             "tests": tests,
             "is_stopped": _kinds.stop_of(self.stop),
@@ -177,5 +177,5 @@ def _drawn_on(budget: Any, clock: Any, awaits: bool) -> Tuple[DrawnOn, Optional[
     if not callable(draw):
         raise TypeError(f"a Budget, a Quota, or something with draw(), is wanted, not {budget!r}")
     if isinstance(budget, Budget) or (isinstance(budget, Quota) and budget.clock == clock):
-        return budget, budget.draw
+        return budget, None
     return NO_BUDGET, (getattr(budget, "draw_async", draw) if awaits else draw)

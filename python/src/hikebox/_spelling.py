@@ -16,6 +16,7 @@ _METHODS = {
     "cap": "cap",
     "add_out": "add_output",
     "within": "up_to",
+    "ends_by": "ends_by",
     "renew": "renew",
     "renew_idle": "renew_idle",
     "first": "first",
@@ -34,6 +35,9 @@ def spelt(tree: Any) -> str:
         return f"{_as_operand(left, name)} {_OPERATORS[name]} {_as_operand(right, None)}"
     if name == "exponential_milli" and own[1] % 1000:
         return f"exponential({seconds_text(own[0])}, {own[1] / 1000!r})"
+    if name == "decorrelated":
+        lane, base, factor, longest = own
+        return f"decorrelated({seconds_text(base)}, {seconds_text(longest)}, {factor / 1000:g}{_in_lane(lane)})"
     if not plans:
         return f"{name}({_parameters(name, own)})"
     under = _as_operand(plans[0], None)
@@ -45,9 +49,12 @@ def spelt(tree: Any) -> str:
         side, want, test, number = own
         return f"{under}.{'while' if want else 'until'}_{side}({test}={number})"
     if name == "jitter":
-        lane = f", lane={own[0]}" if own[0] else ""
-        return f"{under}.jittered({own[1] / 1000:g}, {own[2] / 1000:g}{lane})"
+        return f"{under}.jittered({own[1] / 1000:g}, {own[2] / 1000:g}{_in_lane(own[0])})"
     return f"{under}.{_METHODS[name]}({', '.join(seconds_text(number) for number in own)})"
+
+
+def _in_lane(lane: int) -> str:
+    return f", lane={lane}" if lane else ""
 
 
 def _parameters(name: str, own: List[Any]) -> str:

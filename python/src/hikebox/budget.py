@@ -6,25 +6,20 @@ from functools import partial
 from typing import Optional
 
 from ._deprecated import deprecated
-from ._engine import MOST_TICKETS, Pass, PolicyHandle
+from ._engine import MOST_TICKETS, Pass
 from ._granting import Granting
-from ._machine import Machine
 from ._passes import Passes
 from .errors import BudgetError, TermsError
 
 __all__ = ["Budget"]
 
 
-#: So many retries of a budget have a pass of their own, of the 65,536 that the engine makes of one. Later ones draw on
-#: those that threads share.
-MOST_RETRIES = 60000
-
-
 class Budget(Granting[Pass]):
     """A number of tickets, each of which is drawn once. A retry needs one, so no more retries happen than there are.
 
-    All threads may share it, and draw at once. `Budget(limit)` keeps its limit, `Budget.rising(limit)` has one that
-    can be raised. Closing it, or leaving it as a context, gives the exact number of tickets drawn.
+    All threads may share it, and draw at once, for any number of retries. `Budget(limit)` keeps its limit,
+    `Budget.rising(limit)` has one that can be raised. Closing it, or leaving it as a context, gives the exact number of
+    tickets drawn.
 
     >>> with Budget(2) as budget:
     ...     budget.draw(), budget.draw(), budget.draw()
@@ -36,14 +31,15 @@ class Budget(Granting[Pass]):
     see `hikebox.leased`.
     """
 
-    __slots__ = ("_limit", "_rising", "_retries")
+    __slots__ = ("_limit", "_rising")
 
     def __init__(self, limit: int) -> None:
         self._begin(limit, False)
 
     @classmethod
     def rising(cls, limit: int) -> Budget:
-        """A budget whose limit can be raised by `raise_to`.
+        """A budget whose limit can be raised by `raise_to`. A draw that finds no ticket uses none up, so a limit raised
+        by some gives as many tickets more.
 
         >>> budget = Budget.rising(0)
         >>> budget.draw(), budget.raise_to(5), budget.draw()
@@ -59,9 +55,6 @@ class Budget(Granting[Pass]):
         _look_at_limit(limit)
         self._limit = limit
         self._rising = rising
-        #: How many retries had a pass of their own.
-        self._retries = 0
-        # Of a rising budget the first pass is the only one, and draws.
         self.passes = Passes("budget", partial(Pass.of_budget, limit, rising))
 
     @property
@@ -77,19 +70,11 @@ class Budget(Granting[Pass]):
 
     def draw(self) -> Optional[int]:
         """A ticket, by its number from 0, or None where there is none left."""
-        if self._rising:
-            return self._draw_below()
         lent = self.passes.lend()
         try:
             return lent.draw()
         finally:
             self.passes.give_back(lent)
-
-    def _draw_below(self) -> Optional[int]:
-        """A ticket of a rising budget. Where there is none the engine is not asked, since it would not give the number
-        that it refuses later."""
-        with self.passes.root() as root:
-            return root.draw() if root.count() < self._limit else None
 
     def raise_to(self, limit: int) -> int:
         """Makes the limit of a rising budget the greater of itself and this one, and answers it."""
@@ -104,29 +89,6 @@ class Budget(Granting[Pass]):
 
     def expression(self) -> str:
         return f"Budget.rising({self._limit})" if self._rising else f"Budget({self._limit})"
-
-    # Retries that draw on it
-
-    def begin_retry(self, machine: Machine, policy: PolicyHandle) -> bool:
-        """Begins a retry in this machine, with a pass of its own; False where the budget has none for it."""
-        if self._rising or self._retries >= MOST_RETRIES:
-            return False
-        lent = self.passes.lend()
-        try:
-            if not machine.begin(policy, lent):
-                return False
-            self._retries += 1
-            return True
-        finally:
-            self.passes.give_back(lent)
-
-    def end_retry(self, machine: Machine) -> None:
-        """Takes the pass of the machine's retry back, with its tickets."""
-        lent = self.passes.lend()
-        try:
-            machine.end(lent)
-        finally:
-            self.passes.give_back(lent)
 
     def moment_of(self, clock: float) -> int:
         """The moment at which a retry begins: 0, since a budget has no clock."""

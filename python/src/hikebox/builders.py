@@ -8,6 +8,7 @@ from .errors import Fault, PolicyError
 from .policy import Policy
 
 __all__ = [
+    "decorrelated",
     "elapsed",
     "exponential",
     "exponential_milli",
@@ -94,6 +95,22 @@ def exponential_milli(base: Duration, factor: int) -> Policy:
     """The same with a factor in thousandths, rounded down at each event."""
     milli = whole(factor, "exponential_milli: a factor", 1, 1_000_000)
     return Policy.of_tree({"exponential_milli": [seconds(base, "exponential_milli"), milli]})
+
+
+def decorrelated(base: Duration, longest: Duration, factor: float = 3, *, lane: int = 0) -> Policy:
+    """Waits at random, each time from the base up to the factor times the wait before, and never longer than `longest`.
+
+    What AWS calls decorrelated jitter. The first wait is picked as if the base had been waited before. The factor, from
+    1 to 1000, is rounded to thousandths. Which random number picks, `lane` says, as for `Policy.jittered`.
+
+    >>> [step.next_ms for step in decorrelated(0.1, 10).preview(3)]
+    [200, 550, 1125]
+    """
+    milli = thousandths(factor, "decorrelated: a factor", 1, 1000)
+    least, most = seconds(base, "decorrelated"), seconds(longest, "decorrelated")
+    if least > most:
+        raise PolicyError(Fault.OUT_OF_RANGE, hint=f"decorrelated({base!r}, {longest!r}): the range is empty")
+    return Policy.of_tree({"decorrelated": [whole(lane, "decorrelated: a lane", 0, 3), least, milli, most]})
 
 
 def fibonacci(one: Duration) -> Policy:

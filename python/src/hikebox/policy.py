@@ -280,6 +280,15 @@ class Policy:
         """But done once this much time has passed since the first event. ZIO's `upTo`, JSON's `within`."""
         return Policy.of_tree({"within": [seconds(duration, "up_to"), self._plan.tree]})
 
+    def ends_by(self, duration: Duration) -> Policy:
+        """But done where the next call would start later than this after the first event, so that none does.
+
+        >>> from hikebox import spaced
+        >>> [step.next_ms for step in spaced(0.45).ends_by(1).preview()]
+        [450, 900, None]
+        """
+        return Policy.of_tree({"ends_by": [seconds(duration, "ends_by"), self._plan.tree]})
+
     def renew(self, duration: Duration) -> Policy:
         """Begun anew at the first event at which this much time has passed since it last began."""
         return Policy.of_tree({"renew": [interval(duration, "renew"), self._plan.tree]})

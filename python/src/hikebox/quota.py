@@ -8,9 +8,8 @@ from dataclasses import dataclass
 from functools import partial
 from typing import Callable, NamedTuple, Optional
 
-from ._engine import MOST_SHARE, MOST_TICKETS, PolicyHandle, QuotaPass
+from ._engine import MOST_SHARE, MOST_TICKETS, QuotaPass
 from ._granting import Granting
-from ._machine import Machine
 from ._passes import Passes
 from ._time import Duration, moment, seconds, seconds_text
 from .errors import PolicyError, TermsError
@@ -148,27 +147,6 @@ class Quota(Granting[QuotaPass]):
 
     def expression(self) -> str:
         return f"Quota({self._terms})"
-
-    # Retries that draw on it
-
-    def begin_retry(self, machine: Machine, policy: PolicyHandle) -> bool:
-        """Begins a retry in this machine, with a pass of its own."""
-        lent = self.passes.lend()
-        try:
-            if not machine.begin_on_quota(policy, lent):
-                lent = self.passes.exchange(lent)
-                machine.begin_on_quota(policy, lent)
-            return True
-        finally:
-            self.passes.give_back(lent)
-
-    def end_retry(self, machine: Machine) -> None:
-        """Takes the pass of the machine's retry back, with its tickets."""
-        lent = self.passes.lend()
-        try:
-            machine.end_on_quota(lent)
-        finally:
-            self.passes.give_back(lent)
 
     def moment_of(self, clock: float) -> int:
         """The moment at which a retry begins that begins at so many seconds of the quota's clock."""

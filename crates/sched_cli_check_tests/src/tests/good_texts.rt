@@ -47,6 +47,14 @@ fn plans_are_told_by_their_nodes_depth_and_bound(rt: HostRuntime) -> Result<(), 
             "plan: 2 nodes, depth 2\n",
         ),
         (
+            r#"{"ends_by":[1000,{"recurs":5}]}"#,
+            "plan: 2 nodes, depth 2, goes on at most 5 times\n",
+        ),
+        (
+            r#"{"ends_by":[1000,{"decorrelated":[0,100,3000,10000]}]}"#,
+            "plan: 2 nodes, depth 2\n",
+        ),
+        (
             r#"{"meet":[{"recurs":3},{"renew":[100,{"recurs":5}]}]}"#,
             "plan: 4 nodes, depth 3, goes on at most 3 times\n",
         ),

@@ -63,6 +63,14 @@ fn names_that_no_node_has(rt: HostRuntime) -> Result<(), Fail> {
             "gather[1]: no node is called \"forevr\"; did you mean \"forever\"?\n",
         ),
         (
+            r#"{"decorelated":[0,100,3000,10000]}"#,
+            "top: no node is called \"decorelated\"; did you mean \"decorrelated\"?\n",
+        ),
+        (
+            r#"{"end_by":[1000,"forever"]}"#,
+            "top: no node is called \"end_by\"; did you mean \"ends_by\"?\n",
+        ),
+        (
             r#"{"Recurs":3}"#,
             "top: no node is called \"Recurs\"; did you mean \"recurs\"?\n",
         ),
@@ -146,6 +154,15 @@ fn numbers_out_of_their_ranges(rt: HostRuntime) -> Result<(), Fail> {
         (
             r#"{"meet":[{"spaced":4611686018427387904},{"recurs":-1}]}"#,
             "meet[0]: \"spaced\" is spelt {\"spaced\":D}, D from 0 to 4611686018427387903\n",
+        ),
+        (
+            r#"{"ends_by":[1000,{"decorrelated":[0,10,3000,9]}]}"#,
+            "ends_by[1]: \"decorrelated\" is spelt {\"decorrelated\":[LANE,D,F,MOST]}, LANE from 0 to 3, \
+                D from 0 to MOST, F from 1000 to 1000000, MOST from D to 4611686018427387903\n",
+        ),
+        (
+            r#"{"nothing":{"ends_by":[4611686018427387904,"forever"]}}"#,
+            "nothing: \"ends_by\" is spelt {\"ends_by\":[D,PLAN]}, D from 0 to 4611686018427387903\n",
         ),
         (
             r#"{"set":[1,{"renew_idle":[5,{"linear":4611686018427387904}]}]}"#,

@@ -3,7 +3,7 @@ use std::alloc::{AllocError, Global};
 use std::process::Abort;
 
 // Each fault, its line and its status.
-const FAULTS: [(PrintFault, &str, u8); 12] = [
+const FAULTS: [(PrintFault, &str, u8); 9] = [
     (PrintFault::ReadFailed, "zsched: read failed", 4),
     (PrintFault::TooLong, "zsched: input too long", 3),
     (PrintFault::NotJson, "zsched: not JSON", 3),
@@ -12,10 +12,7 @@ const FAULTS: [(PrintFault, &str, u8); 12] = [
     (PrintFault::TooDeep, "zsched: too deep", 3),
     (PrintFault::TooMany, "zsched: too many nodes", 3),
     (PrintFault::NoMemory, "zsched: no memory", 5),
-    (PrintFault::NotStarted, "zsched: worker not started", 7),
     (PrintFault::WriteFailed, "zsched: write failed", 4),
-    (PrintFault::Unfinished, "zsched: not finished", 6),
-    (PrintFault::Mixed, "zsched: jobs mixed up", 8),
 ];
 
 #[test]

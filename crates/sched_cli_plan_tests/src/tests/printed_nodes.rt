@@ -247,6 +247,68 @@ fn words_pick_a_ratio(rt: HostRuntime) {
     picks(&rt, rt.alloc(), 4294967295, "0: 0 next 1199\n");
 }
 
+const DECORRELATED: &str = r#"{"decorrelated":[0,100,3000,10000]}"#;
+
+const DECORRELATIONS: [Row; 2] = [
+    (
+        DECORRELATED,
+        (4, 0, 0),
+        "0: 200 next 200\n200: 350 next 550\n550: 575 next 1125\n1125: 912 next 2037\n",
+    ),
+    (
+        r#"{"decorrelated":[0,100,3000,250]}"#,
+        (3, 0, 0),
+        "0: 200 next 200\n200: 250 next 450\n450: 250 next 700\n",
+    ),
+];
+
+// Asserts the first two lines of the decorrelated plan, where each event has this word.
+fn decorrelates(rt: &impl Abort, alloc: Global, word: u32, lines: &str) {
+    let options = with_input(rt, (2, 0, 0), 0, word);
+    prints(rt, alloc, DECORRELATED.as_bytes(), &options, lines);
+}
+
+#[test]
+fn each_word_picks_a_delay_by_the_one_before(rt: HostRuntime) {
+    shows(&rt, rt.alloc(), &DECORRELATIONS);
+    decorrelates(&rt, rt.alloc(), 0, "0: 100 next 100\n100: 100 next 200\n");
+    let greatest = "0: 299 next 299\n299: 896 next 1195\n";
+    decorrelates(&rt, rt.alloc(), 4294967295, greatest);
+}
+
+const ENDINGS: [Row; 5] = [
+    (
+        r#"{"ends_by":[1000,{"spaced":450}]}"#,
+        (10, 0, 0),
+        "0: 0 next 450\n450: 1 next 900\n900: 2 done\n",
+    ),
+    (
+        r#"{"ends_by":[1000,{"spaced":450}]}"#,
+        (10, 7, 0),
+        "7: 0 next 457\n457: 1 next 907\n907: 2 done\n",
+    ),
+    (
+        r#"{"ends_by":[100,{"fixed":100}]}"#,
+        (10, 0, 0),
+        "0: 0 next 100\n100: 1 done\n",
+    ),
+    (
+        r#"{"ends_by":[0,"forever"]}"#,
+        (2, 0, 0),
+        "0: 0 next 0\n0: 1 next 0\n",
+    ),
+    (
+        r#"{"ends_by":[100,{"recurs":5}]}"#,
+        (10, 0, 60),
+        "0: 0 next 0\n60: 1 next 60\n120: 2 done\n",
+    ),
+];
+
+#[test]
+fn no_start_is_past_the_end(rt: HostRuntime) {
+    shows(&rt, rt.alloc(), &ENDINGS);
+}
+
 const RENEW: &str = r#"{"renew":[100,{"recurs":2}]}"#;
 
 const IDLE: &str = r#"{"renew_idle":[100,{"recurs":2}]}"#;
@@ -338,7 +400,7 @@ fn nodes_within_nodes(rt: HostRuntime) {
     shows(&rt, rt.alloc(), &WITHIN);
 }
 
-const BAD_NUMBERS: [(&str, PrintFault); 7] = [
+const BAD_NUMBERS: [(&str, PrintFault); 9] = [
     (r#"{"fixed":0}"#, PrintFault::OutOfRange),
     (r#"{"exponential":[1,0]}"#, PrintFault::OutOfRange),
     (
@@ -347,6 +409,11 @@ const BAD_NUMBERS: [(&str, PrintFault); 7] = [
     ),
     (r#"{"jitter":[4,0,1000,"forever"]}"#, PrintFault::OutOfRange),
     (r#"{"renew":[0,"forever"]}"#, PrintFault::OutOfRange),
+    (r#"{"decorrelated":[0,10,3000,9]}"#, PrintFault::OutOfRange),
+    (
+        r#"{"ends_by":[4611686018427387904,"forever"]}"#,
+        PrintFault::OutOfRange,
+    ),
     (
         r#"{"jitter":[4,0,1000,{"recurs":-1}]}"#,
         PrintFault::NotAPlan,

@@ -1,5 +1,5 @@
 use super::fakes::{Short, Torn};
-use sched_cli::{Counted, PoolOptions, PrintFault, print_pool};
+use sched_cli::{Counted, PoolFault, PoolOptions, PrintFault, print_pool};
 use std::alloc::{AllocGlobal, Global};
 use std::io::{Read, Write};
 use std::process::Abort;
@@ -22,7 +22,7 @@ const THIRD_TEXT: &str = "job 0: won 1, granted 2\ngranted 2 of 100\n";
 const FOREVER: &str = r#"[{"plan":"forever","runs":[{"lost":7}]}]"#;
 
 // What a printing answered, and how many of its reads and of its writes failed.
-type Printed = (Result<(), PrintFault>, u64, u64);
+type Printed = (Result<(), PoolFault>, u64, u64);
 
 // Options of so many workers, with this budget and so many turns.
 fn pool(workers: u64, budget: u64, turns: u64) -> Option<PoolOptions> {
@@ -73,7 +73,7 @@ fn prints<R>(
     rt: &R,
     input: &str,
     (workers, budget, turns): (u64, u64, u64),
-    answer: Result<(), PrintFault>,
+    answer: Result<(), PoolFault>,
     text: &str,
 ) -> Result<(), Fail>
 where
@@ -158,7 +158,7 @@ fn one_job_ends_as_its_plan_and_the_budget_say(rt: HostRuntime) -> Result<(), Fa
 
 #[test]
 fn what_is_unfinished_has_its_whole_text(rt: HostRuntime) -> Result<(), Fail> {
-    let unfinished = Err(PrintFault::Unfinished);
+    let unfinished = Err(PoolFault::Unfinished);
     let text = "job 0: not over, granted 0\ngranted 0 of 100\n";
     prints(&rt, FOREVER, (1, 100, 0), unfinished, text)?;
     let text = "job 0: broken, journal full, granted 65536\ngranted 65536 of 100000\n";
@@ -166,7 +166,7 @@ fn what_is_unfinished_has_its_whole_text(rt: HostRuntime) -> Result<(), Fail> {
 }
 
 // A writer that takes so many bytes has so many of the text.
-fn is_cut<R>(rt: &R, room: usize, answer: Result<(), PrintFault>, failures: u64) -> Result<(), Fail>
+fn is_cut<R>(rt: &R, room: usize, answer: Result<(), PoolFault>, failures: u64) -> Result<(), Fail>
 where
     R: Threads + Wait + RandomSource + AllocGlobal + Abort + Sync,
 {
@@ -183,7 +183,7 @@ where
 #[test]
 fn a_pool_s_writer_that_fails_after_k_bytes_has_the_first_k(rt: HostRuntime) -> Result<(), Fail> {
     for room in 0..THIRD_TEXT.len() {
-        is_cut(&rt, room, Err(PrintFault::WriteFailed), 1)?;
+        is_cut(&rt, room, Err(PoolFault::Print(PrintFault::WriteFailed)), 1)?;
     }
     is_cut(&rt, THIRD_TEXT.len(), Ok(()), 0)
 }
@@ -194,7 +194,10 @@ where
 {
     let alloc = rt.alloc();
     let (printed, taken) = ample(rt, alloc, Torn(input), Vec::new(alloc))?;
-    assert_eq!(rt; printed, (Err(PrintFault::ReadFailed), 1, 0));
+    assert_eq!(rt;
+        printed,
+        (Err(PoolFault::Print(PrintFault::ReadFailed)), 1, 0)
+    );
     assert!(rt; taken.is_empty());
     Ok(())
 }
@@ -211,7 +214,13 @@ fn refuses<R>(rt: &R, input: &str, fault: PrintFault) -> Result<(), Fail>
 where
     R: Threads + Wait + RandomSource + AllocGlobal + Abort + Sync,
 {
-    prints(rt, input, (1, 100, 1000000), Err(fault), "")
+    prints(
+        rt,
+        input,
+        (1, 100, 1000000),
+        Err(PoolFault::Print(fault)),
+        "",
+    )
 }
 
 #[test]

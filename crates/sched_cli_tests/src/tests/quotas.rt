@@ -1,6 +1,6 @@
 use super::fakes::{Short, Torn};
 use sched_cli::{
-    Asked, Counted, PrintFault, QuotaOptions, WordsFault, print_quota_pool, read_words,
+    Asked, Counted, PoolFault, PrintFault, QuotaOptions, WordsFault, print_quota_pool, read_words,
 };
 use std::alloc::{AllocGlobal, Global};
 use std::io::{Read, Write};
@@ -87,7 +87,7 @@ fn printed<R, S: Read + Drop, W: Write + Drop>(
     reader: S,
     writer: W,
     line: &str,
-) -> Result<(Result<(), PrintFault>, u64, u64, W), Fail>
+) -> Result<(Result<(), PoolFault>, u64, u64, W), Fail>
 where
     R: Wait + RandomSource + AllocGlobal,
 {
@@ -108,7 +108,7 @@ fn prints<R>(
     rt: &R,
     input: &str,
     line: &str,
-    want: Result<(), PrintFault>,
+    want: Result<(), PoolFault>,
     text: &str,
 ) -> Result<(), Fail>
 where
@@ -134,7 +134,7 @@ fn a_pool_on_a_quota_is_printed(rt: HostRuntime) -> Result<(), Fail> {
     prints(&rt, "[]", line, Ok(()), "granted 0 in 0 windows\n")?;
     let refused = "job 0: budget refused, failure 7, granted 1\ngranted 1 in 1 windows\n";
     prints(&rt, TWICE, "zsched pool --quota 1/0/101", Ok(()), refused)?;
-    let unfinished = Err(PrintFault::Unfinished);
+    let unfinished = Err(PoolFault::Unfinished);
     let open = "job 0: not over, granted 0\ngranted 0 in 0 windows\n";
     prints(
         &rt,
@@ -143,7 +143,13 @@ fn a_pool_on_a_quota_is_printed(rt: HostRuntime) -> Result<(), Fail> {
         unfinished,
         open,
     )?;
-    prints(&rt, "{}", line, Err(PrintFault::NotAPlan), "")
+    prints(
+        &rt,
+        "{}",
+        line,
+        Err(PoolFault::Print(PrintFault::NotAPlan)),
+        "",
+    )
 }
 
 #[test]
@@ -161,7 +167,7 @@ fn a_quota_s_streams_may_fail(rt: HostRuntime) -> Result<(), Fail> {
         )?;
         assert_eq!(rt;
             (answer, reads, writes),
-            (Err(PrintFault::WriteFailed), 0, 1)
+            (Err(PoolFault::Print(PrintFault::WriteFailed)), 0, 1)
         );
         assert_eq!(rt;
             Some(writer.taken.as_slice()),
@@ -172,7 +178,7 @@ fn a_quota_s_streams_may_fail(rt: HostRuntime) -> Result<(), Fail> {
     let (answer, reads, writes, taken) = printed(&rt, alloc, torn, Vec::new(alloc), line)?;
     assert_eq!(rt;
         (answer, reads, writes),
-        (Err(PrintFault::ReadFailed), 1, 0)
+        (Err(PoolFault::Print(PrintFault::ReadFailed)), 1, 0)
     );
     assert!(rt; taken.is_empty());
     Ok(())

@@ -16,6 +16,9 @@ mod outputs;
 mod pairs;
 mod rounds;
 
+/// The last lane of the random words.
+const LAST_LANE: u64 = 3;
+
 impl Plan {
     // The plan of one leaf.
     fn of_leaf(leaf: Leaf) -> Plan

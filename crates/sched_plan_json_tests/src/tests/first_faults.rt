@@ -35,6 +35,7 @@ fn the_first_fault_from_the_left_is_answered(rt: HostRuntime) -> Result<(), Fail
 const OWN_FORMS: &str = r#"{"meet":[{"fixed":0},"forever","forever"]}
 {"add":["1",{"fixed":0}]}
 {"jitter":[0,-1,2,{"fixed":0}]}
+{"ends_by":[null,{"fixed":0}]}
 {"gate":["input",true,"above",1,{"fixed":0}]}
 {"gather":["min",{"fixed":0}]}"#;
 
@@ -46,6 +47,7 @@ fn a_node_s_own_form_comes_before_its_plans(rt: HostRuntime) -> Result<(), Fail>
 const PLANS: &str = r#"{"jitter":[4,0,1000,{"recurs":-1}]}
 {"renew":[0,{"recurs":-1}]}
 {"renew_idle":[0,7]}
+{"ends_by":[4611686018427387904,{"recurs":-1}]}
 {"add":[4611686018427387904,"never"]}
 {"gate":["input",true,"below",4611686018427387904,null]}"#;
 

@@ -54,6 +54,15 @@ ExponentialMilli { base: Millis { millis: 3 }, thousandths: 1000000 }
 {"fibonacci":3}
 Fibonacci(Millis { millis: 3 })
 
+{"decorrelated":[3,100,3000,10000]}
+Decorrelated { lane: 3, base: Millis { millis: 100 }, thousandths: 3000, most: Millis { millis: 10000 } }
+
+{"decorrelated":[0,0,1000,0]}
+Decorrelated { lane: 0, base: Millis { millis: 0 }, thousandths: 1000, most: Millis { millis: 0 } }
+
+{"decorrelated":[1,4611686018427387903,1000000,4611686018427387903]}
+Decorrelated { lane: 1, base: Millis { millis: 4611686018427387903 }, thousandths: 1000000, most: Millis { millis: 4611686018427387903 } }
+
 {"unfold":[1,3,2]}
 Unfold { seed: Millis { millis: 1 }, factor: Millis { millis: 3 }, more: Millis { millis: 2 } }"#;
 
@@ -177,6 +186,12 @@ fn nodes_that_look_at_outputs_are_read(rt: HostRuntime) -> Result<(), Fail> {
 
 const ROUNDS: &str = r#"{"within":[0,"forever"]}
 Within(Millis { millis: 0 }) of (Forever)
+
+{"ends_by":[0,"forever"]}
+EndsBy(Millis { millis: 0 }) of (Forever)
+
+{"ends_by":[4611686018427387903,{"spaced":450}]}
+EndsBy(Millis { millis: 4611686018427387903 }) of (Spaced(Millis { millis: 450 }))
 
 {"renew":[100,{"recurs":2}]}
 Renew(Millis { millis: 100 }) of (Recurs(Millis { millis: 2 }))

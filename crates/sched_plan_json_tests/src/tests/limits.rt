@@ -18,6 +18,11 @@ const RANGES: &str = r#"{"recurs":4611686018427387904}
 {"exponential_milli":[1,0]}
 {"exponential_milli":[1,1000001]}
 {"fibonacci":4611686018427387904}
+{"decorrelated":[4,1,3000,9]}
+{"decorrelated":[0,1,999,9]}
+{"decorrelated":[0,1,1000001,9]}
+{"decorrelated":[0,10,3000,9]}
+{"decorrelated":[0,0,3000,4611686018427387904]}
 {"unfold":[0,0,4611686018427387904]}
 {"lone":4611686018427387904}
 {"gate":["input",true,"below",4611686018427387904,"forever"]}
@@ -28,6 +33,7 @@ const RANGES: &str = r#"{"recurs":4611686018427387904}
 {"jitter":[0,1200,800,"forever"]}
 {"jitter":[0,0,10001,"forever"]}
 {"within":[4611686018427387904,"forever"]}
+{"ends_by":[4611686018427387904,"forever"]}
 {"renew":[0,"forever"]}
 {"renew_idle":[0,"forever"]}"#;
 

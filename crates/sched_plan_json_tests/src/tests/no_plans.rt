@@ -35,6 +35,10 @@ const NUMBERS: &str = r#"{"recurs":-1}
 {"fixed":-1}
 {"exponential":[1,-1]}
 {"unfold":[1,2,true]}
+{"decorrelated":[-1,1,3000,9]}
+{"decorrelated":[0,1.5,3000,9]}
+{"decorrelated":[0,1,"3000",9]}
+{"decorrelated":[0,1,3000,null]}
 {"add":[-1,"forever"]}
 {"jitter":[0,1,"2","forever"]}
 {"gate":["input",true,"below",1.5,"forever"]}"#;
@@ -50,6 +54,9 @@ const ITEMS: &str = r#"{"exponential":2}
 {"exponential_milli":[2]}
 {"unfold":[1,2]}
 {"unfold":[1,2,3,4]}
+{"decorrelated":3}
+{"decorrelated":[0,1,3000]}
+{"decorrelated":[0,1,3000,9,9]}
 {"meet":[]}
 {"meet":[{"recurs":3}]}
 {"meet":["forever","forever","forever"]}
@@ -64,6 +71,10 @@ const ITEMS: &str = r#"{"exponential":2}
 {"add":"forever"}
 {"add":[1]}
 {"within":[1,"forever",2]}
+{"ends_by":"forever"}
+{"ends_by":[1]}
+{"ends_by":["forever",1]}
+{"ends_by":[1,"forever",2]}
 {"jitter":[0,1,2]}
 {"jitter":[0,1,2,"forever",3]}
 {"gate":["input",true,"below","forever"]}

@@ -15,8 +15,8 @@ const TOO_DEEP: Option<PlanFault> = Some(PlanFault::TooDeep);
 
 const TOO_MANY: Option<PlanFault> = Some(PlanFault::TooMany);
 
-// The leaf at this place, with k as its parameter or as one of them: at places 0 to 9 a number up to `FAR`, at 10 and
-// 11 a length, at 12 and 13 a factor, and after them none.
+// The leaf at this place, with k as its parameter or as one of them: at places 0 to 11 a number up to `FAR`, at 12 and
+// 13 a length, at 14 and 15 a factor, and after them none.
 fn leaf(place: u64, k: u64) -> Built {
     match place {
         0 => Plan::recurs(k),
@@ -29,17 +29,19 @@ fn leaf(place: u64, k: u64) -> Built {
         7 => Plan::unfold(k, 5, 7),
         8 => Plan::unfold(5, k, 7),
         9 => Plan::unfold(5, 7, k),
-        10 => Plan::fixed(k),
-        11 => Plan::windowed(k),
-        12 => Plan::exponential(7, k),
-        13 => Plan::exponential_milli(7, k),
-        14 => Plan::forever(),
-        15 => Plan::elapsed(),
+        10 => Plan::decorrelated(3, 0, 3000, k),
+        11 => Plan::decorrelated(3, k, 3000, FAR),
+        12 => Plan::fixed(k),
+        13 => Plan::windowed(k),
+        14 => Plan::exponential(7, k),
+        15 => Plan::exponential_milli(7, k),
+        16 => Plan::forever(),
+        17 => Plan::elapsed(),
         _ => Plan::identity(),
     }
 }
 
-// The node over the plan at this place: 0 to 4 have a number up to `FAR`, 5 and 6 a length, 7 to 9 are jitters, and
+// The node over the plan at this place: 0 to 5 have a number up to `FAR`, 6 and 7 a length, 8 to 10 are jitters, and
 // those after them have no parameter.
 fn over_one(alloc: Global, place: u64, k: u64, built: Built) -> Built {
     let plan = built?;
@@ -49,15 +51,16 @@ fn over_one(alloc: Global, place: u64, k: u64, built: Built) -> Built {
         2 => Plan::set(alloc, k, plan),
         3 => Plan::cap(alloc, k, plan),
         4 => Plan::within(alloc, k, plan),
-        5 => Plan::renew(alloc, k, plan),
-        6 => Plan::renew_idle(alloc, k, plan),
-        7 => Plan::jitter(alloc, k, 5, 7, plan),
-        8 => Plan::jitter(alloc, 3, k, 7, plan),
-        9 => Plan::jitter(alloc, 3, 0, k, plan),
-        10 => Plan::gather(alloc, Fold::List, plan),
-        11 => Plan::add_out(alloc, plan),
-        12 => Plan::first(alloc, plan),
-        13 => Plan::second(alloc, plan),
+        5 => Plan::ends_by(alloc, k, plan),
+        6 => Plan::renew(alloc, k, plan),
+        7 => Plan::renew_idle(alloc, k, plan),
+        8 => Plan::jitter(alloc, k, 5, 7, plan),
+        9 => Plan::jitter(alloc, 3, k, 7, plan),
+        10 => Plan::jitter(alloc, 3, 0, k, plan),
+        11 => Plan::gather(alloc, Fold::List, plan),
+        12 => Plan::add_out(alloc, plan),
+        13 => Plan::first(alloc, plan),
+        14 => Plan::second(alloc, plan),
         _ => Plan::nothing(alloc, plan),
     }
 }
@@ -159,7 +162,7 @@ fn ends(rt: &impl Abort, built: Built, fault: Option<PlanFault>, place: u64, num
 
 #[test]
 fn leaves_have_one_node(rt: HostRuntime) -> Result<(), Fail> {
-    for place in 0..17 {
+    for place in 0..19 {
         has(&rt, leaf(place, 1), 1, 1, place)?;
     }
     Ok(())
@@ -173,10 +176,10 @@ fn numbers_end_at_far(rt: HostRuntime) {
         (FAR + 1, REFUSED),
         (u64::MAX, REFUSED),
     ] {
-        for place in 0..10 {
+        for place in 0..12 {
             ends(&rt, leaf(place, number), fault, place, number);
         }
-        for place in 0..5 {
+        for place in 0..6 {
             let built = over_one(rt.alloc(), place, number, Plan::forever());
             ends(&rt, built, fault, place, number);
         }
@@ -192,10 +195,10 @@ fn lengths_begin_at_one(rt: HostRuntime) {
         (FAR + 1, REFUSED),
         (u64::MAX, REFUSED),
     ] {
-        for place in 10..12 {
+        for place in 12..14 {
             ends(&rt, leaf(place, length), fault, place, length);
         }
-        for place in 5..7 {
+        for place in 6..8 {
             let built = over_one(rt.alloc(), place, length, Plan::forever());
             ends(&rt, built, fault, place, length);
         }
@@ -213,8 +216,8 @@ fn factors_have_ranges(rt: HostRuntime) {
         (1000001, REFUSED, REFUSED),
         (u64::MAX, REFUSED, REFUSED),
     ] {
-        ends(&rt, leaf(12, factor), whole, 12, factor);
-        ends(&rt, leaf(13, factor), thousandths, 13, factor);
+        ends(&rt, leaf(14, factor), whole, 14, factor);
+        ends(&rt, leaf(15, factor), thousandths, 15, factor);
     }
 }
 
@@ -238,6 +241,27 @@ fn jitter_has_ranges(rt: HostRuntime) {
     ] {
         let built = jitter(rt.alloc(), lane, least, most);
         ends(&rt, built, fault, least, most);
+    }
+}
+
+#[test]
+fn decorrelated_has_ranges(rt: HostRuntime) {
+    for (lane, base, thousandths, most, fault) in [
+        (0, 0, 1000, 0, None),
+        (3, FAR, 1000000, FAR, None),
+        (2, 10, 3000, 10, None),
+        (4, 1, 3000, 9, REFUSED),
+        (u64::MAX, 1, 3000, 9, REFUSED),
+        (0, 1, 0, 9, REFUSED),
+        (0, 1, 999, 9, REFUSED),
+        (0, 1, 1000001, 9, REFUSED),
+        (0, 1, u64::MAX, 9, REFUSED),
+        (0, 10, 3000, 9, REFUSED),
+        (0, 1, 3000, FAR + 1, REFUSED),
+        (0, FAR + 1, 3000, FAR + 1, REFUSED),
+    ] {
+        let built = Plan::decorrelated(lane, base, thousandths, most);
+        ends(&rt, built, fault, lane, thousandths);
     }
 }
 
@@ -269,7 +293,7 @@ fn nodes_over_one_end_at_32(rt: HostRuntime) -> Result<(), Fail> {
 #[test]
 fn ranges_come_before_depth(rt: HostRuntime) {
     let alloc = rt.alloc();
-    for place in 0..8 {
+    for place in 0..9 {
         for (k, fault) in [(FAR + 1, REFUSED), (3, TOO_DEEP)] {
             let built = over_one(alloc, place, k, under(alloc, 31));
             ends(&rt, built, fault, place, k);
@@ -280,7 +304,7 @@ fn ranges_come_before_depth(rt: HostRuntime) {
 #[test]
 fn each_node_over_one_is_one_more_and_deeper(rt: HostRuntime) -> Result<(), Fail> {
     let alloc = rt.alloc();
-    for place in 0..15 {
+    for place in 0..16 {
         let deepest = over_one(alloc, place, 3, under(alloc, 30));
         has(&rt, deepest, 32, 32, place)?;
         let built = over_one(alloc, place, 3, under(alloc, 31));
@@ -348,10 +372,10 @@ fn keep(plans: &mut Vec<Plan>, built: Built) -> Result<(), Fail> {
 
 // Plans with this number that all differ, also from those with another.
 fn keep_with(alloc: Global, plans: &mut Vec<Plan>, k: u64) -> Result<(), Fail> {
-    for place in 0..14 {
+    for place in 0..16 {
         keep(plans, leaf(place, k))?;
     }
-    for place in 0..15 {
+    for place in 0..16 {
         keep(plans, over_one(alloc, place, k, Plan::recurs(k)))?;
     }
     for place in 0..4 {
@@ -397,8 +421,17 @@ fn keep_folds(alloc: Global, plans: &mut Vec<Plan>) -> Result<(), Fail> {
 fn keep_plain(alloc: Global, plans: &mut Vec<Plan>) -> Result<(), Fail> {
     keep(plans, nested(alloc, 2))?;
     keep(plans, chained(alloc, 2))?;
-    for place in 14..17 {
+    for place in 16..19 {
         keep(plans, leaf(place, 0))?;
+    }
+    Ok(())
+}
+
+// Decorrelated delays that differ in their lane or in their thousandths alone.
+fn keep_decorrelated(plans: &mut Vec<Plan>) -> Result<(), Fail> {
+    for lane in 0..4 {
+        keep(plans, Plan::decorrelated(lane, 5, 2000, 70))?;
+        keep(plans, Plan::decorrelated(lane, 5, 2001, 70))?;
     }
     Ok(())
 }
@@ -410,6 +443,7 @@ fn different(alloc: Global) -> Result<Vec<Plan>, Fail> {
     keep_with(alloc, &mut plans, 1)?;
     keep_with(alloc, &mut plans, 2)?;
     keep_folds(alloc, &mut plans)?;
+    keep_decorrelated(&mut plans)?;
     keep_gates(alloc, &mut plans)?;
     Ok(plans)
 }

@@ -11,7 +11,7 @@ use Rattle.sched_plan.specs.declared.leaves.Leaf.TheVariants.{Forever, Fixed, Wi
 use Rattle.sched_plan.specs.declared.nodes.Fold.{Fold}
 use Rattle.sched_plan.specs.declared.nodes.Fold.TheVariants.{Sum}
 use Rattle.sched_plan.specs.declared.nodes.One.{One}
-use Rattle.sched_plan.specs.declared.nodes.One.TheVariants.{Gather, Within, Renew, RenewIdle}
+use Rattle.sched_plan.specs.declared.nodes.One.TheVariants.{Gather, Within, EndsBy, Renew, RenewIdle}
 use Rattle.sched_plan.specs.declared.nodes.Two.{Two}
 use Rattle.sched_plan.specs.declared.nodes.Two.TheVariants.{Meet, Join, Follow, Feed}
 use Rattle.sched_plan.specs.declared.history.Event.{Event}
@@ -122,6 +122,8 @@ one_began_next : (k : One) (s : Kept) (e : Event) (a : Answer) (m : ℕ) → IsT
     IsTrue (one_began s e.now) → e.now ≤ m → IsTrue (one_began (one_next k s e a) m)
 one_began_next (Within d) (since first) e a m keeps began le = kept_or_now_past first e.now m began le
 one_began_next (Within d) s e a m keeps began le = absurd (false≢true keeps)
+one_began_next (EndsBy d) (since first) e a m keeps began le = kept_or_now_past first e.now m began le
+one_began_next (EndsBy d) s e a m keeps began le = absurd (false≢true keeps)
 one_began_next (Gather fold) s e a m keeps began le = (and_parts _ _ (fold_fits_next fold s a m)).1
 one_began_next (Renew d) (round_since first) e a m keeps began le =
     round_next_past (is_over d first e.now) first e.now m began le

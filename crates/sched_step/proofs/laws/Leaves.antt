@@ -1,22 +1,24 @@
 -- The step of a leaf.
-use Rattle.std.proofs.Common.{◌≡◌, ℕ, ◌+◌, ◌-◌, ◌*◌, List, [], ◌∷◌, ◌++◌, length, true, false, if◌then◌else◌, ltb, eqb, IsTrue, refl, sym, ap, ◌∙◌, arith, leb-true, lt-ltb}
+use Rattle.std.proofs.Common.{◌≡◌, ℕ, ◌+◌, ◌-◌, ◌*◌, List, [], ◌∷◌, ◌++◌, length, true, false, if◌then◌else◌, ltb, eqb, IsTrue, get_or, refl, sym, ap, ◌∙◌, arith, leb-true, lt-ltb}
 use Rattle.std.proofs.lemmas.Bool.{ne_eqb}
 use Rattle.std.proofs.lemmas.List.{length_push}
+use Rattle.std.proofs.lemmas.List.Sums.{fold-append}
 use Rattle.sched_time.specs.Capped.{capped}
 use Rattle.sched_time.specs.declared.numbers.TheConstants.{FAR}
 use Rattle.sched_time.specs.declared.starts.Decision.TheVariants.{Go, Done}
 use Rattle.sched_plan.specs.Datum.{num}
-use Rattle.sched_plan.proofs.HistoryLaws.{last_moment-push, last_input-push}
-use Rattle.sched_plan.specs.Sequences.{linear_at, exponential_at, milli_at, fibonacci_at, unfold_at}
+use Rattle.sched_plan.specs.History.{words_in}
+use Rattle.sched_plan.proofs.HistoryLaws.{last_moment-push, last_input-push, words_in-push}
+use Rattle.sched_plan.specs.Sequences.{linear_at, exponential_at, milli_at, fibonacci_at, decorrelated_after, decorrelated_at, unfold_at}
 use Rattle.sched_plan.proofs.SequenceLaws.{linear_at-capped, exponential_at-next, milli_at-next, fibonacci_at-next, unfold_at-next}
 use Rattle.sched_plan.specs.Schedule.{leaf_in_range}
 use Rattle.sched_plan.specs.Answer.{leaf_answer, leaf_output, leaf_decision, next_boundary}
 use Rattle.sched_plan.specs.declared.leaves.Leaf.{Leaf}
-use Rattle.sched_plan.specs.declared.leaves.Leaf.TheVariants.{Forever, Recurs, Spaced, Fixed, Windowed, Linear, Exponential, ExponentialMilli, Fibonacci, Elapsed, Identity, Unfold, Lone}
+use Rattle.sched_plan.specs.declared.leaves.Leaf.TheVariants.{Forever, Recurs, Spaced, Fixed, Windowed, Linear, Exponential, ExponentialMilli, Fibonacci, Decorrelated, Elapsed, Identity, Unfold, Lone}
 use Rattle.sched_plan.specs.declared.history.Event.{Event}
-use Rattle.sched_step.specs.declared.leaves.LeafState.TheVariants.{Counted, Planned, Windows, Product, Scaled, Summands, Started, Unfolded, Spent}
+use Rattle.sched_step.specs.declared.leaves.LeafState.TheVariants.{Counted, Planned, Windows, Product, Scaled, Summands, Waited, Started, Unfolded, Spent}
 use Rattle.sched_step.specs.StateOf.{leaf_state}
-use Rattle.sched_step.specs.Step.{next_linear, leaf_next, leaf_gives, leaf_decides, leaf_answers}
+use Rattle.sched_step.specs.Step.{next_linear, next_decorrelated, leaf_next, leaf_gives, leaf_decides, leaf_answers}
 use Rattle.sched_step.proofs.History.{length_before-push, repeats-push, capped_count-push, capped_below}
 use Rattle.sched_step.proofs.Moments.{began_at-push, first_moment_kept}
 use Rattle.sched_step.proofs.Fixed.{fixed_start-push, first_and_start-push}
@@ -39,6 +41,14 @@ fibonacci-push delay h e =
     ap (λ n. capped (fibonacci_at delay (length h + 1) + fibonacci_at delay n)) second
     ∙ fibonacci_at-next delay (length h + 1)
     ∙ ap (fibonacci_at delay) third
+
+-- decorrelated jitter, from the delay before
+decorrelated-push : (lane base thousandths most : ℕ) (h : List Event) (e : Event) →
+    next_decorrelated lane base thousandths most (decorrelated_at base thousandths most (words_in lane h)) e ≡
+    decorrelated_at base thousandths most (words_in lane (h ++ e ∷ []))
+decorrelated-push lane base thousandths most h e =
+    sym (fold-append (decorrelated_after base thousandths most) base (words_in lane h) (get_or e.words lane 0 ∷ []))
+    ∙ ap (decorrelated_at base thousandths most) (sym (words_in-push lane h e))
 
 -- a history is one event where there was none before
 lone-push : {X : Type 0} (h : List Event) (e : Event) (first later : X) →
@@ -65,6 +75,7 @@ leaf_next-push (ExponentialMilli base thousandths) h e =
 leaf_next-push (Fibonacci delay) h e =
     let second : length h + 2 ≡ length (h ++ e ∷ []) + 1 = omega (arith, length_push h e) in
     λ i. Summands (fibonacci_at delay (second i)) (fibonacci-push delay h e i)
+leaf_next-push (Decorrelated lane base thousandths most) h e = ap Waited (decorrelated-push lane base thousandths most h e)
 leaf_next-push Elapsed h e = ap Started (began_at-push h e)
 leaf_next-push Identity h e = refl
 leaf_next-push (Unfold seed factor more) h e =
@@ -82,6 +93,7 @@ leaf_gives-push (Linear delay) h e = ap num (linear-push delay h e)
 leaf_gives-push (Exponential base factor) h e = ap num (at_next (exponential_at base factor) h e)
 leaf_gives-push (ExponentialMilli base thousandths) h e = ap num (at_next (milli_at base thousandths) h e)
 leaf_gives-push (Fibonacci delay) h e = ap num (at_next (fibonacci_at delay) h e)
+leaf_gives-push (Decorrelated lane base thousandths most) h e = ap num (decorrelated-push lane base thousandths most h e)
 leaf_gives-push Elapsed h e = λ i. num (sym (last_moment-push h e) i - first_moment_kept h e i)
 leaf_gives-push Identity h e = sym (last_input-push h e)
 leaf_gives-push (Unfold seed factor more) h e = ap num (at_next (unfold_at seed factor more) h e)
@@ -103,6 +115,8 @@ leaf_decides-push (ExponentialMilli base thousandths) h e valid =
     λ i. Go (capped (sym (last_moment-push h e) i + at_next (milli_at base thousandths) h e i))
 leaf_decides-push (Fibonacci delay) h e valid =
     λ i. Go (capped (sym (last_moment-push h e) i + at_next (fibonacci_at delay) h e i))
+leaf_decides-push (Decorrelated lane base thousandths most) h e valid =
+    λ i. Go (capped (sym (last_moment-push h e) i + decorrelated-push lane base thousandths most h e i))
 leaf_decides-push Elapsed h e valid = ap Go (sym (last_moment-push h e))
 leaf_decides-push Identity h e valid = ap Go (sym (last_moment-push h e))
 leaf_decides-push (Unfold seed factor more) h e valid = ap Go (sym (last_moment-push h e))

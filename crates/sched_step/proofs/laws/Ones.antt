@@ -9,11 +9,11 @@ use Rattle.sched_plan.proofs.OutputLaws.{outputs-push, earlier_outputs-push, sum
 use Rattle.sched_plan.specs.Delays.{added, added_out, jittered}
 use Rattle.sched_plan.specs.Gates.{gated}
 use Rattle.sched_plan.specs.Answer.{gathered, changed}
-use Rattle.sched_plan.specs.Changes.{ended_where, delayed, giving}
+use Rattle.sched_plan.specs.Changes.{ended_where, goes_past, delayed, giving}
 use Rattle.sched_plan.specs.declared.nodes.Fold.{Fold}
 use Rattle.sched_plan.specs.declared.nodes.Fold.TheVariants.{Sum, Count, Max, List as Listing}
 use Rattle.sched_plan.specs.declared.nodes.One.{One}
-use Rattle.sched_plan.specs.declared.nodes.One.TheVariants.{Gate, Gather, Add, Set, Cap, AddOut, Jitter, Within, Renew, RenewIdle}
+use Rattle.sched_plan.specs.declared.nodes.One.TheVariants.{Gate, Gather, Add, Set, Cap, AddOut, Jitter, Within, EndsBy, Renew, RenewIdle}
 use Rattle.sched_plan.specs.declared.history.Event.{Event}
 use Rattle.sched_plan.specs.declared.history.Answer.{Answer}
 use Rattle.sched_step.specs.Progress.{Kept, since, round_since, last_at, total, Progress, at_one}
@@ -21,13 +21,18 @@ use Rattle.sched_step.specs.StateOf.{began_at, folded, kept_of, seen}
 use Rattle.sched_step.specs.Step.{kept_or_now, begins, fold_next, fold_shows, one_next, one_answers, one_step}
 use Rattle.sched_step.proofs.Moments.{began_at-push, first_moment_kept, ended_at-push, last_block_kept, last_run_kept, round_kept}
 
--- Within: the first moment.
+-- Within and EndsBy: the first moment.
 
 within_answers-push : (d : ℕ) (h : List Event) (e : Event) (a : Answer) →
     ended_where (nat_le d (e.now - kept_or_now (began_at h) e.now)) a ≡
     ended_where (nat_le d (last_moment (h ++ e ∷ []) - first_moment (h ++ e ∷ []))) a
 within_answers-push d h e a =
     λ i. ended_where (nat_le d (sym (last_moment-push h e) i - first_moment_kept h e i)) a
+
+ends_by_answers-push : (d : ℕ) (h : List Event) (e : Event) (a : Answer) →
+    ended_where (goes_past (capped (kept_or_now (began_at h) e.now + d)) a.decision) a ≡
+    ended_where (goes_past (capped (first_moment (h ++ e ∷ []) + d)) a.decision) a
+ends_by_answers-push d h e a = λ i. ended_where (goes_past (capped (first_moment_kept h e i + d)) a.decision) a
 
 -- Gather: a fold over the outputs so far.
 
@@ -74,6 +79,7 @@ pub kept_of-push : (k : One) (f : List Event → Answer) (h : List Event) (e : E
 kept_of-push (Gather fold) f h e =
     fold_next-push fold (outputs f h) (f (h ++ e ∷ [])) ∙ ap (folded fold) (sym (outputs-push f h e))
 kept_of-push (Within d) f h e = ap since (began_at-push h e)
+kept_of-push (EndsBy d) f h e = ap since (began_at-push h e)
 kept_of-push (Renew d) f h e = ap round_since (round_kept d h e)
 kept_of-push (RenewIdle d) f h e = ap last_at (ended_at-push h e)
 kept_of-push k f h e = refl
@@ -95,6 +101,7 @@ changed-push AddOut f h e =
 changed-push (Jitter lane least most) f h e =
     λ i. delayed (jittered least most (get_or (sym (last_words-push h e) i) lane 0)) (sym (last_moment-push h e) i) (f (h ++ e ∷ []))
 changed-push (Within d) f h e = within_answers-push d h e (f (h ++ e ∷ []))
+changed-push (EndsBy d) f h e = ends_by_answers-push d h e (f (h ++ e ∷ []))
 changed-push k f h e = refl
 
 module _

@@ -9,13 +9,14 @@ use Rattle.sched_plan.specs.Datum.{Datum}
 use Rattle.sched_plan.specs.Outputs.{with_input}
 use Rattle.sched_plan.specs.Gates.{passes, tested, is_wanted}
 use Rattle.sched_plan.specs.Delays.{added, added_out, jittered}
+use Rattle.sched_plan.specs.Changes.{goes_past}
 use Rattle.sched_plan.specs.Answer.{is_done, next_boundary}
 use Rattle.sched_plan.specs.Starts.{StartsBy}
 use Rattle.sched_plan.proofs.Starts.{moved_starts, meet_starts, join_starts, ended_starts, passed_starts}
 use Rattle.sched_plan.specs.declared.leaves.Leaf.{Leaf}
-use Rattle.sched_plan.specs.declared.leaves.Leaf.TheVariants.{Forever, Recurs, Spaced, Fixed, Windowed, Linear, Exponential, ExponentialMilli, Fibonacci, Elapsed, Identity, Unfold, Lone}
+use Rattle.sched_plan.specs.declared.leaves.Leaf.TheVariants.{Forever, Recurs, Spaced, Fixed, Windowed, Linear, Exponential, ExponentialMilli, Fibonacci, Decorrelated, Elapsed, Identity, Unfold, Lone}
 use Rattle.sched_plan.specs.declared.nodes.One.{One}
-use Rattle.sched_plan.specs.declared.nodes.One.TheVariants.{Gate, Add, Set, Cap, AddOut, Jitter, Within}
+use Rattle.sched_plan.specs.declared.nodes.One.TheVariants.{Gate, Add, Set, Cap, AddOut, Jitter, Within, EndsBy}
 use Rattle.sched_plan.specs.declared.nodes.Two.{Two}
 use Rattle.sched_plan.specs.declared.nodes.Two.TheVariants.{Meet, Join, Follow, Feed}
 use Rattle.sched_plan.specs.declared.history.Event.{Event}
@@ -44,6 +45,7 @@ leaf_starts (Linear delay) s e far = omega arith
 leaf_starts (Exponential base factor) s e far = omega arith
 leaf_starts (ExponentialMilli base thousandths) s e far = omega arith
 leaf_starts (Fibonacci delay) s e far = omega arith
+leaf_starts (Decorrelated lane base thousandths most) s e far = omega arith
 leaf_starts Elapsed s e far = le_refl e.now
 leaf_starts Identity s e far = le_refl e.now
 leaf_starts (Unfold seed factor more) s e far = le_refl e.now
@@ -55,6 +57,8 @@ leaf_starts (Lone delay) s e far =
 one_starts : (k : One) (s : Kept) (e : Event) (a : Answer) → e.now ≤ FAR → StartsBy e.now a.decision →
     StartsBy e.now (one_answers k s e a).decision
 one_starts (Within d) s e a far starts = ended_starts e.now (nat_le d (e.now - kept_or_now (since_of s) e.now)) a starts
+one_starts (EndsBy d) s e a far starts =
+    ended_starts e.now (goes_past (capped (kept_or_now (since_of s) e.now + d)) a.decision) a starts
 one_starts (Gate side want test bound) s e a far starts =
     passed_starts e.now (is_wanted want (passes test bound (tested side e.input a))) a starts
 one_starts (Add d) s e a far starts = moved_starts (added d) e.now a.decision far

@@ -77,3 +77,34 @@ fn counts_joined_passes(rt: HostRuntime) -> Result<(), Fail> {
     closes(&rt, budget, pass, 1);
     Ok(())
 }
+
+// By parts a pass is split and joined past every count, and each part may be dropped.
+#[test]
+fn splits_by_parts_without_end(rt: HostRuntime) -> Result<(), Fail> {
+    let (budget, pass) = Budget::by_parts(rt.alloc(), 9)?;
+    let (each, mut pass) = split_and_join(&budget, pass, 70000);
+    assert!(rt; each);
+    draws(&rt, &budget, &mut pass, Some(0));
+    closes(&rt, budget, pass, 1);
+    let (budget, pass) = Budget::rising_by_parts(rt.alloc(), 9)?;
+    let (each, mut pass) = split_times(&budget, pass, 70000);
+    assert!(rt; each);
+    draws(&rt, &budget, &mut pass, Some(0));
+    stays_open(&rt, budget, pass)?;
+    Ok(())
+}
+
+// The first pass gives 2^20 parts away, one of those gives one, and that one is kept.
+#[test]
+fn keeps_its_last_part(rt: HostRuntime) -> Result<(), Fail> {
+    let (budget, mut pass) = Budget::by_parts(rt.alloc(), 9)?;
+    let mut part = pass.split(&budget)?;
+    let mut last = part.split(&budget)?;
+    splits_no_more(&rt, &budget, &mut last);
+    draws(&rt, &budget, &mut last, Some(0));
+    let (budget, last) = stays_open(&rt, budget, last)?;
+    let (budget, pass) = stays_open(&rt, budget, pass)?;
+    let all = last.join(pass, &budget).join(part, &budget);
+    closes(&rt, budget, all, 1);
+    Ok(())
+}

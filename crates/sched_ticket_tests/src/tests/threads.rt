@@ -2,9 +2,9 @@
 ghost use Rattle.std.specs.Prelude.{All, IfOk};
 ghost use Rattle.sched_ticket.specs.Held.{IsOf};
 
-use super::closes;
-use sched_ticket::locked::drawn_by_two;
-use sched_ticket::workers::drain;
+use super::{closes, raises};
+use crate::locked::drawn_by_two;
+use crate::workers::drain;
 use sched_ticket::{Budget, Pass};
 use std::alloc::{AllocError, Global};
 use std::process::Abort;
@@ -193,5 +193,65 @@ fn jobs_under_locks(rt: HostRuntime) -> Result<(), Fail> {
     assert_eq!(rt; count, 3);
     assert!(rt; one <= 2 && two <= 2);
     assert_eq!(rt; drawn_by_two(&rt, rt.alloc(), 10)?, Some((4, 2, 2)));
+    Ok(())
+}
+
+// Draws so often, each time with a part that is split off and joined again.
+fn draw_by_parts(budget: &Budget, mut pass: Pass, times: u64) -> Pass
+    requires { IsOf budget.now pass }
+    ensures { IsOf budget.now result }
+{
+    for _ in 0..times {
+        let Ok(mut part) = pass.split(budget) else {
+            return pass;
+        };
+        let _ticket = part.draw(budget);
+        pass = part.join(pass, budget);
+    }
+    pass
+}
+
+// Each of 16 threads draws so often with a pass of its own, and all are joined.
+fn draw_in_sixteen<R: Threads + Sync>(
+    rt: &R,
+    alloc: Global,
+    budget: &Budget,
+    mut pass: Pass,
+    times: u64,
+) -> Result<Pass, AllocError>
+    requires { IsOf budget.now pass }
+    ensures { IfOk result (IsOf budget.now) }
+{
+    let mut parts = Vec::new(alloc);
+    for _ in 0..16 {
+        let Ok(part) = pass.split(budget) else {
+            return Err(AllocError);
+        };
+        parts.push(part)?;
+    }
+    let mut parts = map_vec(rt, parts, &|part: Pass| draw_by_parts(budget, part, times))?;
+    while let Some(part) = parts.pop() {
+        pass = pass.join(part, budget);
+    }
+    Ok(pass)
+}
+
+#[test]
+fn sixteen_threads_by_parts(rt: HostRuntime) -> Result<(), Fail> {
+    let (budget, pass) = Budget::by_parts(rt.alloc(), 40000)?;
+    let pass = draw_in_sixteen(&rt, rt.alloc(), &budget, pass, 5000)?;
+    closes(&rt, budget, pass, 40000);
+    Ok(())
+}
+
+// However often 16 threads were refused, a limit raised by 500 gives 500 tickets more.
+#[test]
+fn raised_after_refusals(rt: HostRuntime) -> Result<(), Fail> {
+    let (budget, pass) = Budget::rising_by_parts(rt.alloc(), 1000)?;
+    let mut pass = draw_in_sixteen(&rt, rt.alloc(), &budget, pass, 5000)?;
+    assert_eq!(rt; pass.count(), 1000);
+    raises(&rt, &budget, &mut pass, 1500, Ok(1500));
+    let pass = draw_in_sixteen(&rt, rt.alloc(), &budget, pass, 5000)?;
+    closes(&rt, budget, pass, 1500);
     Ok(())
 }

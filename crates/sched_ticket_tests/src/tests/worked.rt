@@ -119,3 +119,45 @@ fn dropped_pass_stays_out(rt: HostRuntime) -> Result<(), Fail> {
     stays_open(&rt, budget, first)?;
     Ok(())
 }
+
+// Refused draws use no number up: a limit that is raised by two gives two tickets more, to the refused pass too.
+#[test]
+fn rises_by_parts(rt: HostRuntime) -> Result<(), Fail> {
+    let (budget, mut a) = Budget::rising_by_parts(rt.alloc(), 1)?;
+    draws(&rt, &budget, &mut a, Some(0));
+    let mut b = a.split(&budget)?;
+    draws(&rt, &budget, &mut a, None);
+    draws(&rt, &budget, &mut a, None);
+    draws(&rt, &budget, &mut b, None);
+    raises(&rt, &budget, &mut b, 3, Ok(3));
+    draws(&rt, &budget, &mut a, Some(1));
+    draws(&rt, &budget, &mut b, Some(2));
+    draws(&rt, &budget, &mut b, None);
+    raises(&rt, &budget, &mut a, 2, Ok(3));
+    draws(&rt, &budget, &mut a, None);
+    let (budget, a) = stays_open(&rt, budget, a)?;
+    let all = a.join(b, &budget);
+    closes(&rt, budget, all, 3);
+    Ok(())
+}
+
+#[test]
+fn keeps_its_limit_by_parts(rt: HostRuntime) -> Result<(), Fail> {
+    let too_large = Some(TicketFault::LimitTooLarge);
+    assert_eq!(rt; Budget::by_parts(rt.alloc(), 4294967297).err(), too_large);
+    assert_eq!(rt;
+        Budget::rising_by_parts(rt.alloc(), 4294967297).err(),
+        too_large
+    );
+    let (budget, mut pass) = Budget::by_parts(rt.alloc(), 1)?;
+    raises(&rt, &budget, &mut pass, 2, Err(TicketFault::Fixed));
+    draws(&rt, &budget, &mut pass, Some(0));
+    draws(&rt, &budget, &mut pass, None);
+    draws(&rt, &budget, &mut pass, None);
+    let mut part = pass.split(&budget)?;
+    draws(&rt, &budget, &mut part, None);
+    counts(&rt, &part, 0);
+    let all = part.join(pass, &budget);
+    closes(&rt, budget, all, 1);
+    Ok(())
+}

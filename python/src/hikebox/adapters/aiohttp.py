@@ -131,7 +131,7 @@ class PolicyRequest:
 
 
 def _status_of(response: aiohttp.ClientResponse) -> int:
-    return response.status
+    return int(response.status)
 
 
 def _let_go(response: aiohttp.ClientResponse) -> None:

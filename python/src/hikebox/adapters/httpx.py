@@ -116,7 +116,7 @@ class AsyncPolicyTransport(httpx.AsyncBaseTransport):
 
 
 def _status_of(response: httpx.Response) -> int:
-    return response.status_code
+    return int(response.status_code)
 
 
 def _close(response: httpx.Response) -> None:

@@ -1,58 +1,64 @@
-use Rattle.std.proofs.Common.{[], ◌∷◌, ◌++◌, Some, None, refl, of_calls}
-use Rattle.std.proofs.lemmas.Fn.{FoldsTo-push, called}
-use Rattle.sched_closure.proofs.Told.{called_turn, polled_turn, idle_next}
+use Rattle.std.proofs.Common.{[], ◌∷◌, ◌++◌, Some, None, refl, sym, ◌∙◌, of_calls}
+use Rattle.std.proofs.lemmas.Fn.{called}
+use Rattle.sched_closure.proofs.Told.{leads, one_more, ends_with, idle_found}
 use Rattle.sched_closure.proofs.retries.retry_call.Goals as goal
 
 pub loop-init : goal.loop-init
-loop-init g c = (c.requires.unended, c.requires.callable, ([], None, refl))
+loop-init g c = (c.requires.unended, c.requires.callable, ([], None, λ v st. (v, refl, st)))
 
 pub returns-in-Some-end_run-clause-turns : goal.returns-in-Some-end_run-clause-turns
 returns-in-Some-end_run-clause-turns g c =
     let was = c.loop.invariant in
     let tick = c.next_tick-tick in
-    let turn = called_turn g.D.Draws.grants g.K.Clock.tells g.K.Clock.waits _ g.I.Coded.coded g.F.Coded.coded _ tick.result _
-    c.next-next.ensures.law was.0 c.next-next.result c.next-next.ensures.next tick.ensures.moment tick.ensures.lanes
-    c.in-Run.is c.call-outcome.result (called g.C.FnMut c.call-outcome.ensures refl) refl c.end_run.ensures.poll in (
+    let next = c.next-next in
+    let more = one_more g.S.Drives.stands g.S.Drives.keeps g.D.Draws.grants g.K.Clock.tells g.K.Clock.waits _ g.I.Coded.coded g.F.Coded.coded
+    _ _ _ _ _ _ _ _ _ _ _ c.call-outcome.new.self was.2.0 was.2.1 (Some c.call-outcome.result) tick.result _
+    was.2.2 was.0 next.result next.ensures.next tick.ensures.moment tick.ensures.lanes
+    (rw (c.in-Run.ensures.finds.1) (c.call-outcome.result, called g.C.FnMut c.call-outcome.ensures refl, refl, refl)) c.end_run.ensures.polls in (
       was.2.0 ++ tick.result ∷ [],
       c.call-outcome.new.self,
       Some c.call-outcome.result,
-      FoldsTo-push _ _ was.2.0 _ tick.result _ was.2.2 turn,
       c.in-Some-end_run.ensures.value,
+      ends_with g.S.Drives.stands g.S.Drives.keeps g.D.Draws.grants g.K.Clock.tells g.K.Clock.waits _ g.I.Coded.coded g.F.Coded.coded
+          _ _ _ _ _ _ _ _ (was.2.0 ++ tick.result ∷ []) c.call-outcome.result c.in-Some-end_run.ending more
+          c.in-Some-end_run.ensures.over c.in-Some-end_run.ensures.value,
     )
 
 pub loop-preserved-in_default : goal.loop-preserved-in_default
 loop-preserved-in_default g c =
     let was = c.loop.invariant in
     let tick = c.next_tick-tick in
-    let turn = called_turn g.D.Draws.grants g.K.Clock.tells g.K.Clock.waits _ g.I.Coded.coded g.F.Coded.coded _ tick.result _
-    c.next-next.ensures.law was.0 c.next-next.result c.next-next.ensures.next tick.ensures.moment tick.ensures.lanes
-    c.in-Run.is c.call-outcome.result (called g.C.FnMut c.call-outcome.ensures refl) refl c.end_run.ensures.poll in (
-      c.in_default.ensures.ending,
-      search of_calls,
-      (was.2.0 ++ tick.result ∷ [], Some c.call-outcome.result, FoldsTo-push _ _ was.2.0 _ tick.result _ was.2.2 turn),
-    )
-
-pub returns-in-Some-begin_run-clause-turns : goal.returns-in-Some-begin_run-clause-turns
-returns-in-Some-begin_run-clause-turns g c =
-    let was = c.loop.invariant in
-    let tick = c.next_tick-tick-in-Poll in
     let next = c.next-next in
-    let idle = idle_next c.loop.retry.past next.result was.0 next.ensures.next c.in-Poll.is in
-    let turn = polled_turn g.D.Draws.grants g.K.Clock.tells g.K.Clock.waits _ g.I.Coded.coded g.F.Coded.coded _ tick.result _
-    next.ensures.law was.0 next.result next.ensures.next tick.ensures.moment tick.ensures.lanes idle refl refl
-    c.begin_run.ensures.poll in
-    (was.2.0 ++ tick.result ∷ [], c.loop.call, was.2.1, FoldsTo-push _ _ was.2.0 _ tick.result _ was.2.2 turn, tt)
+    let more = one_more g.S.Drives.stands g.S.Drives.keeps g.D.Draws.grants g.K.Clock.tells g.K.Clock.waits _ g.I.Coded.coded g.F.Coded.coded
+    _ _ _ _ _ _ _ _ _ _ _ c.call-outcome.new.self was.2.0 was.2.1 (Some c.call-outcome.result) tick.result _
+    was.2.2 was.0 next.result next.ensures.next tick.ensures.moment tick.ensures.lanes
+    (rw (c.in-Run.ensures.finds.1) (c.call-outcome.result, called g.C.FnMut c.call-outcome.ensures refl, refl, refl)) c.end_run.ensures.polls in (
+      c.in_default.ensures.over,
+      search of_calls,
+      (
+        was.2.0 ++ tick.result ∷ [],
+        Some c.call-outcome.result,
+        leads g.S.Drives.stands g.S.Drives.keeps g.D.Draws.grants g.K.Clock.tells g.K.Clock.waits _ g.I.Coded.coded g.F.Coded.coded
+            _ _ _ _ _ _ _ _ (was.2.0 ++ tick.result ∷ []) _ (Some c.call-outcome.result) more,
+      ),
+    )
 
 pub loop-preserved : goal.loop-preserved
 loop-preserved g c =
     let was = c.loop.invariant in
     let tick = c.next_tick-tick-in-Poll in
     let next = c.next-next in
-    let idle = idle_next c.loop.retry.past next.result was.0 next.ensures.next c.in-Poll.is in
-    let turn = polled_turn g.D.Draws.grants g.K.Clock.tells g.K.Clock.waits _ g.I.Coded.coded g.F.Coded.coded _ tick.result _
-    next.ensures.law was.0 next.result next.ensures.next tick.ensures.moment tick.ensures.lanes idle refl refl
-    c.begin_run.ensures.poll in (
-      c.in_default-begin_run.ensures.broken,
+    let idle = idle_found c.loop.retry next.result next.ensures.finds c.in-Poll.is in
+    let more = one_more g.S.Drives.stands g.S.Drives.keeps g.D.Draws.grants g.K.Clock.tells g.K.Clock.waits _ g.I.Coded.coded g.F.Coded.coded
+    _ _ _ _ _ _ _ _ _ _ _ c.loop.call was.2.0 was.2.1 was.2.1 tick.result _
+    was.2.2 was.0 next.result next.ensures.next tick.ensures.moment tick.ensures.lanes
+    (rw idle (refl, refl, refl)) c.poll.ensures.polls in (
+      c.poll.ensures.unbroken ∙ was.0,
       was.1,
-      (was.2.0 ++ tick.result ∷ [], was.2.1, FoldsTo-push _ _ was.2.0 _ tick.result _ was.2.2 turn),
+      (
+        was.2.0 ++ tick.result ∷ [],
+        was.2.1,
+        leads g.S.Drives.stands g.S.Drives.keeps g.D.Draws.grants g.K.Clock.tells g.K.Clock.waits _ g.I.Coded.coded g.F.Coded.coded
+            _ _ _ _ _ _ _ _ (was.2.0 ++ tick.result ∷ []) _ was.2.1 more,
+      ),
     )

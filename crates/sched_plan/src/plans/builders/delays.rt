@@ -1,13 +1,10 @@
 ghost use Rattle.sched_plan.specs.Schedule.{one};
 ghost use Rattle.sched_plan.specs.Plan.{Builds};
 
-use super::in_range;
+use super::{LAST_LANE, in_range};
 use crate::nodes::One;
 use crate::plans::{Plan, PlanFault};
 use std::alloc::Global;
-
-/// The last lane of the random words.
-const LAST_LANE: u64 = 3;
 
 /// The greatest ratio of `Plan::jitter`, in thousandths.
 const MOST_RATIO: u64 = 10_000;

@@ -2,15 +2,18 @@ ghost use Rattle.std.specs.Prelude.{◌≡◌};
 ghost use Rattle.sched_plan.specs.Schedule.{leaf};
 ghost use Rattle.sched_plan.specs.Plan.{built_plan};
 
-use super::{in_range, length_in_range};
+use super::{LAST_LANE, in_range, length_in_range};
 use crate::leaves::Leaf;
 use crate::plans::{Plan, PlanFault};
 
 /// The greatest factor of `Plan::exponential`.
 const MOST_FACTOR: u64 = 1_000;
 
-/// The most thousandths of `Plan::exponential_milli`.
+/// The most thousandths of `Plan::exponential_milli` and of `Plan::decorrelated`.
 const MOST_THOUSANDTHS: u64 = 1_000_000;
+
+/// The fewest thousandths of `Plan::decorrelated`: no delay's bound is below the delay before.
+const LEAST_GROWTH: u64 = 1_000;
 
 impl Plan {
     /// Goes on for ever, at once; the output is how often it has recurred. Never refused.
@@ -96,6 +99,35 @@ impl Plan {
     {
         let delay = in_range(delay)?;
         Ok(Plan::of_leaf(Leaf::Fibonacci(delay)))
+    }
+
+    /// Waits a delay that the random word of the lane picks between `base` milliseconds and `thousandths` thousandths of
+    /// the delay before, rounded down, and at most `most` milliseconds; at first `base` stands for the delay before. The
+    /// output is the delay. Refused as `OutOfRange` at a lane past 3, at thousandths below 1,000 and past 1,000,000, and
+    /// at a most that is below the base or past `FAR`.
+    pub fn decorrelated(
+        lane: u64,
+        base: u64,
+        thousandths: u64,
+        most: u64,
+    ) -> Result<Plan, PlanFault>
+        ensures { result ≡ built_plan (leaf (Leaf.Decorrelated lane base thousandths most)) }
+    {
+        if lane > LAST_LANE || thousandths < LEAST_GROWTH || thousandths > MOST_THOUSANDTHS {
+            return Err(PlanFault::OutOfRange);
+        }
+        let base = in_range(base)?;
+        let most = in_range(most)?;
+        if base > most {
+            return Err(PlanFault::OutOfRange);
+        }
+        let lane = lane as usize;
+        Ok(Plan::of_leaf(Leaf::Decorrelated {
+            lane,
+            base,
+            thousandths,
+            most,
+        }))
     }
 
     /// Goes on for ever, at once; the output is the time since the first event. Never refused.

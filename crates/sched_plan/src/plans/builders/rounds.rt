@@ -16,6 +16,15 @@ impl Plan {
         Plan::over_one(alloc, One::Within(length), plan)
     }
 
+    /// The plan, but done where it would go on later than `length` milliseconds after the first event.
+    /// Refused as `OutOfRange` past `FAR`, `TooDeep`, `TooMany` or `NoMemory`.
+    pub fn ends_by(alloc: Global, length: u64, plan: Plan) -> Result<Plan, PlanFault>
+        ensures { Builds result (one (One.EndsBy length) plan) }
+    {
+        let length = in_range(length)?;
+        Plan::over_one(alloc, One::EndsBy(length), plan)
+    }
+
     /// The plan, begun anew at the first event at which `length` milliseconds have passed since it last began.
     /// Refused as `OutOfRange` at 0 and past `FAR`, `TooDeep`, `TooMany` or `NoMemory`.
     pub fn renew(alloc: Global, length: u64, plan: Plan) -> Result<Plan, PlanFault>

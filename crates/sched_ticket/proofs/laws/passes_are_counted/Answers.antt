@@ -1,4 +1,4 @@
-use Rattle.sched_ticket.proofs.Views.{passes_are_counted, each_is_refused_once, passes_were_split, spent_has_nothing}
+use Rattle.sched_ticket.proofs.Views.{passes_are_counted, each_is_refused_once, passes_were_split, parts_are_kept, spent_has_nothing}
 use Rattle.sched_ticket.proofs.laws.passes_are_counted.Goals as goal
 
 pub returns-clause-counted : goal.returns-clause-counted
@@ -9,6 +9,9 @@ returns-clause-once c = each_is_refused_once
 
 pub returns-clause-splits : goal.returns-clause-splits
 returns-clause-splits c = passes_were_split
+
+pub returns-clause-parts : goal.returns-clause-parts
+returns-clause-parts c = parts_are_kept
 
 pub returns-clause-spent : goal.returns-clause-spent
 returns-clause-spent c = spent_has_nothing

@@ -1,4 +1,4 @@
-use Rattle.sched_ticket.proofs.Views.{tickets_stay_below, each_ticket_is_below, floors_stay_below, limit_is_raised}
+use Rattle.sched_ticket.proofs.Views.{tickets_stay_below, each_ticket_is_below, draws_stay_below, floors_stay_below, limit_is_raised}
 use Rattle.sched_ticket.proofs.laws.tickets_stay_below.Goals as goal
 
 pub returns-clause-all : goal.returns-clause-all
@@ -6,6 +6,9 @@ returns-clause-all c = tickets_stay_below
 
 pub returns-clause-each : goal.returns-clause-each
 returns-clause-each c = each_ticket_is_below
+
+pub returns-clause-by_parts : goal.returns-clause-by_parts
+returns-clause-by_parts c = draws_stay_below
 
 pub returns-clause-floors : goal.returns-clause-floors
 returns-clause-floors c = floors_stay_below

@@ -1,2 +1,0 @@
-pub mod PoolLines
-pub mod JobsFaults

@@ -1,3 +1,0 @@
-pub mod JobsPrinting
-pub mod PoolPrinting
-pub mod QuotaPrinting

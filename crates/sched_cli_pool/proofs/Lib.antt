@@ -1,0 +1,3 @@
+pub mod WorkedLines
+pub mod PoolLines
+pub mod JobsFaults

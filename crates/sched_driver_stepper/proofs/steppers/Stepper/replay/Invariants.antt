@@ -1,0 +1,6 @@
+use Rattle.std.proofs.Common.{take}
+use Rattle.sched_driver_stepper.proofs.Standings.{HasPlayed}
+use Rattle.sched_driver_stepper.proofs.steppers.Stepper.replay.Given as goal
+
+abbrev pub invariant-loop-event : goal.invariant-loop-event
+invariant-loop-event l = HasPlayed l.initial.self l.self (take l.event-index l.events)

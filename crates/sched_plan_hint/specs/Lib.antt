@@ -1,0 +1,2 @@
+pub mod PlaceText
+pub mod Faults

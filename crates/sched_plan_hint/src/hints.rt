@@ -1,0 +1,58 @@
+//! What is wanted where a plan has its fault. Nothing is proved of these texts.
+use crate::nodes::{nearest, spelling};
+use sched_plan::PlanFault;
+use sched_plan_json::ReadFault;
+use sched_time::NoMemory;
+use serde_json::Value;
+use std::alloc::Global;
+use std::fmt::Write;
+
+const PLAN_WANTED: &str = "a plan is a string or an object of one member";
+
+/// Adds what is wanted where a plan has this fault, at this value. Fails only with `NoMemory`.
+pub fn push_plan_hint(
+    alloc: Global,
+    text: &mut String,
+    fault: ReadFault,
+    value: &Value,
+) -> Result<(), NoMemory> {
+    match fault {
+        ReadFault::NotAPlan => push_form_hint(alloc, text, value)?,
+        ReadFault::Plan(PlanFault::OutOfRange) => push_form_hint(alloc, text, value)?,
+        ReadFault::Plan(PlanFault::TooDeep) => text.push_str("a plan is at most 32 deep")?,
+        ReadFault::Plan(PlanFault::TooMany) => text.push_str("a plan has at most 256 nodes")?,
+        ReadFault::Plan(PlanFault::NoMemory) => text.push_str("no memory")?,
+    }
+    Ok(())
+}
+
+// Adds how the node is spelt that the value should be.
+fn push_form_hint(alloc: Global, text: &mut String, value: &Value) -> Result<(), NoMemory> {
+    match value {
+        Value::String(name) => push_name_hint(alloc, text, name.as_str())?,
+        Value::Object(members) => {
+            let count = members.len();
+            let mut members = members.iter();
+            match (members.next(), members.next()) {
+                (Some((name, _)), None) => push_name_hint(alloc, text, name.as_str())?,
+                _ => write!(text, "{PLAN_WANTED}, and this has {count}")?,
+            }
+        }
+        _ => text.push_str(PLAN_WANTED)?,
+    }
+    Ok(())
+}
+
+// Adds how the node of this name is spelt, or that there is none, with the nearest name.
+fn push_name_hint(alloc: Global, text: &mut String, name: &str) -> Result<(), NoMemory> {
+    if let Some(form) = spelling(name) {
+        write!(text, "\"{name}\" is spelt {form}")?;
+        return Ok(());
+    }
+    write!(text, "no node is called \"{name}\"")?;
+    let near = nearest(alloc, name)?;
+    if let Some(known) = near {
+        write!(text, "; did you mean \"{known}\"?")?;
+    }
+    Ok(())
+}

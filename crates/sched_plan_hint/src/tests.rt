@@ -1,0 +1,37 @@
+//! The first fault of a plan's text, by itself.
+use crate::plan_fault;
+use std::alloc::Global;
+use std::process::Abort;
+use std::test::Fail;
+
+// Asserts what is told of a text as a plan: nothing where it spells one.
+fn says(rt: &impl Abort, alloc: Global, text: &str, wanted: &str) -> Result<(), Fail> {
+    let mut said = String::new(alloc);
+    if let Some(fault) = plan_fault(alloc, text.as_bytes())? {
+        said = fault.text(alloc)?;
+    }
+    assert_eq!(rt; said.as_str(), wanted, "{text}");
+    Ok(())
+}
+
+#[test]
+fn a_plan_has_no_fault_and_another_text_its_first(rt: HostRuntime) -> Result<(), Fail> {
+    let table = [
+        (r#"{"recurs":3}"#, ""),
+        (r#"{"recurs":3"#, "not JSON: line 1, column 11"),
+        ("[\n{\"plan\":]", "not JSON: line 2, column 9"),
+        ("[]", "top: a plan is a string or an object of one member"),
+        (
+            r#"{"meet":["forever",{"cap":[5,{"exponental":[1,2]}]}]}"#,
+            "meet[1].cap[1]: no node is called \"exponental\"; did you mean \"exponential\"?",
+        ),
+        (
+            r#"{"first":{"join":[{"fixed":0},"never"]}}"#,
+            "first.join[0]: \"fixed\" is spelt {\"fixed\":D}, D from 1 to 4611686018427387903",
+        ),
+    ];
+    for (text, wanted) in &table {
+        says(&rt, rt.alloc(), text, wanted)?;
+    }
+    Ok(())
+}

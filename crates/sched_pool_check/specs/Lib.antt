@@ -1,0 +1,3 @@
+pub mod JobFaults
+pub mod Items
+pub mod Checked

@@ -1,0 +1,5 @@
+pub mod Totals
+pub mod Passes
+pub mod Polls
+pub mod Noted
+pub mod Taken

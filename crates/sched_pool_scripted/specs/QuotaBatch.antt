@@ -1,0 +1,39 @@
+-- What is true of jobs that were run on one quota.
+use Rattle.std.specs.Prelude.{◌≡◌, ℕ, ◌≤◌, List, map, length, All}
+use Rattle.sched_ticket.specs.Lists.{total, times}
+use Rattle.sched_ticket_quota.specs.Windows.{window_of, allowed, count_in}
+use Rattle.sched_ticket_quota.specs.Held.{Name, Held, IsOf}
+use Rattle.sched_ticket_quota.specs.declared.view.Terms.{Terms}
+use Rattle.sched_ticket_quota.specs.declared.view.View.{View}
+use Rattle.sched_task_law.specs.Kind.{retry}
+use Rattle.sched_task_law.specs.Past.{Past}
+use Rattle.sched_task_law.specs.Law.{Law}
+use Rattle.sched_pool_json.specs.Job.{Job}
+use Rattle.sched_pool_scripted.specs.Ends.{AreEndsOf}
+use Rattle.sched_pool_scripted.specs.Windows.{HaveSame, HasDistinct}
+
+-- The jobs ended so on a quota of these terms, which gave out so many tickets in so many windows.
+pub record AreRunOnQuota (jobs : List Job) (k : Terms) (ends : List Past) (granted windows : ℕ) : Type 0 where
+  pub each : AreEndsOf jobs ends
+  -- each keeps the law of a retry
+  pub laws : All (Law retry) ends
+  -- the tickets are those that the jobs were granted
+  pub sum : granted ≡ total (λ (v : Past). v.granted) ends
+  -- what all passes of the quota had when it was closed: these tickets, each once, and one request for each job
+  pub all : View
+  pub tickets : length all.tickets ≡ granted
+  pub once : (x : ℕ) → times x all.tickets ≤ 1
+  pub requests : length all.requests ≡ length jobs
+  -- in each window no more tickets than the reserve and the share of the requests counted in it
+  pub within : (w : ℕ) → count_in w all.tickets ≤ allowed k (count_in w all.requests)
+  -- so many windows have a ticket
+  pub windows_are : HasDistinct windows (map window_of all.tickets)
+
+-- the retries that ended so were taken back, with one pass for all of them, and the windows of its tickets were noted
+pub record AreTaken (quota : Name) (ends : List Past) (pass : Held) (windows : List ℕ) : Type 0 where
+  pub laws : All (Law retry) ends
+  pub of : IsOf quota pass
+  pub sum : length pass.has.tickets ≡ total (λ (v : Past). v.granted) ends
+  pub once : (x : ℕ) → times x pass.has.tickets ≤ 1
+  pub asked : length pass.has.requests ≡ length ends
+  pub noted : HaveSame windows (map window_of pass.has.tickets)

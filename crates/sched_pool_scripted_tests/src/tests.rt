@@ -1,0 +1,80 @@
+//! Jobs on a quota, worked by hand: how each job ended, and what the quota gave in all.
+use sched_effect::{Effect, Ran};
+use sched_pool_json::{JobRead, read_jobs};
+use sched_pool_scripted::{QuotaBatch, run_on_quota};
+use sched_task::{How, RunFault};
+use sched_ticket_quota::{MAX_RESERVE, MAX_SHARE, Terms};
+use sched_time::Millis;
+use serde_json::Value;
+use std::alloc::{AllocGlobal, Global};
+use std::process::Abort;
+use std::random::RandomSource;
+use std::sync::Wait;
+use std::test::Fail;
+
+mod requests;
+mod windows;
+
+// Turns that are ample for each batch here.
+const AMPLE: u64 = 1000000;
+
+// The jobs of a JSON text.
+fn jobs_of(alloc: Global, text: &str) -> Result<Vec<JobRead>, Fail> {
+    let value = Value::from_str(alloc, text)?;
+    Ok(read_jobs(alloc, &value)?)
+}
+
+// What is left of the jobs of a text on a quota of this reserve, share and period, after so many turns.
+fn batch_of<R>(
+    rt: &R,
+    text: &str,
+    (reserve, share, period, turns): (u64, u64, u64, u64),
+) -> Result<QuotaBatch, Fail>
+where
+    R: Wait + RandomSource + AllocGlobal,
+{
+    let jobs = jobs_of(rt.alloc(), text)?;
+    let period = Millis::new(period).ok_or("out of range")?;
+    if reserve > MAX_RESERVE || share > MAX_SHARE || period.get() == 0 {
+        return Err(Fail::from("out of range"));
+    }
+    let terms = Terms {
+        reserve,
+        share,
+        period,
+    };
+    Ok(run_on_quota(rt, rt.alloc(), &jobs, terms, turns)?)
+}
+
+// How a job ended, the code of its last run, or 0 where none has finished, and how many tickets it was granted.
+type Left = (Option<How>, u64, u64);
+
+const WON: Option<How> = Some(How::Won);
+
+const REFUSED: Option<How> = Some(How::BudgetRefused);
+
+const FULL: Option<How> = Some(How::Broken(RunFault::JournalFull));
+
+// Asserts what is left of each job, and how many tickets were given in how many windows.
+fn leaves<R>(
+    rt: &R,
+    text: &str,
+    quota: (u64, u64, u64, u64),
+    ends: &[Left],
+    total: (u64, usize),
+) -> Result<(), Fail>
+where
+    R: Wait + RandomSource + AllocGlobal + Abort,
+{
+    let batch = batch_of(rt, text, quota)?;
+    assert_eq!(rt; (batch.granted, batch.windows), total, "{text}");
+    assert_eq!(rt; batch.ends.len(), ends.len(), "{text}");
+    for (end, left) in batch.ends.iter().zip(ends) {
+        let code = match end.effect().runs().last() {
+            Some(Ran::Won(code) | Ran::Lost(code)) => code.get(),
+            None => 0,
+        };
+        assert_eq!(rt; (end.how(), code, end.granted()), *left, "{text}");
+    }
+    Ok(())
+}

@@ -1,4 +1,0 @@
-pub mod Passes
-pub mod Polls
-pub mod Noted
-pub mod Taken

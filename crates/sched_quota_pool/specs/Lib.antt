@@ -1,3 +1,0 @@
-pub mod Windows
-pub mod Driven
-pub mod Batch

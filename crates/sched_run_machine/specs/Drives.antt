@@ -1,0 +1,32 @@
+-- A step of a driver, of each journal that it may stand for.
+use Rattle.std.specs.Prelude.{◌≡◌, ℕ, Bool, []}
+use Rattle.sched_time.specs.declared.numbers.Tick.{Tick}
+use Rattle.sched_plan.specs.Datum.{num}
+use Rattle.sched_plan.specs.Schedule.{Schedule}
+use Rattle.sched_step.specs.StateOf.{event_of}
+use Rattle.sched_driver.specs.Driven.{Driven, after}
+use Rattle.sched_task.specs.declared.endings.RunFault.{RunFault}
+use Rattle.sched_task_law.specs.Past.{schedule_is_done}
+use Rattle.sched_task_law.specs.Poll.{RoomIn, RefusedIn}
+
+-- a plan, and no step yet
+abbrev pub unstepped : Schedule → Driven
+unstepped plan = record { plan = plan; journal = [] }
+
+-- the journal with the step of a run of this code
+abbrev pub with_code : Driven → Tick → ℕ → Driven
+with_code d t code = after d (event_of t (num code))
+
+module _ {R : Type 0} (stands : R → Driven → Type 0) (keeps : Bool) where
+  -- There was room for the step, the driver stands for the journal with it, and the schedule is done there or not.
+  pub record SteppedOn (d : Driven) (t : Tick) (code : ℕ) (done : Bool) (new : R) : Type 0 where
+    pub room : RoomIn keeps d t.now
+    pub stands_on : stands new (with_code d t code)
+    pub done_is : schedule_is_done (with_code d t code) ≡ done
+
+  -- a step, and one that was refused, whichever journal it was
+  abbrev pub Stepped : R → Tick → ℕ → Bool → R → Type 0
+  Stepped old t code done new = (d : Driven) → stands old d → SteppedOn d t code done new
+
+  abbrev pub Refused : R → Tick → RunFault → Type 0
+  Refused old t fault = (d : Driven) → stands old d → RefusedIn keeps d t.now fault

@@ -1,0 +1,98 @@
+-- What contracts see of a machine, and which retries it may stand for.
+use Rattle.std.specs.Prelude.{◌≡◌, ℕ, Bool, true, false, not, ◌&&◌, if◌then◌else◌, List, Option, Some, None, is_some, refl}
+use Rattle.std.specs.Coded.{Coded, code_by, coded×, coded_ℕ, coded_bool, coded_option}
+use Rattle.sched_time.specs.declared.numbers.Tick.{Tick}
+use Rattle.sched_plan.specs.Schedule.{Schedule}
+use Rattle.sched_driver.specs.Driven.{Driven}
+use Rattle.sched_ticket_draws.specs.Grants.{Grants}
+use Rattle.sched_effect.specs.declared.ran.Ran.{Ran}
+use Rattle.sched_effect.specs.declared.ran.Ran.TheVariants.{Won, Lost}
+use Rattle.sched_task.specs.declared.endings.How.{How}
+use Rattle.sched_task.specs.declared.endings.How.TheVariants as how
+use Rattle.sched_task_law.specs.Kind.{Kind, a_retry}
+use Rattle.sched_task_law.specs.Past.{nothing_yet, is_under_way}
+use Rattle.sched_task_law.specs.Codes.{coded_how}
+use Rattle.sched_retry.specs.Retrying.{Retrying, RetryLaw}
+use Rattle.sched_run_machine.specs.Drives.{Stepped, Refused}
+use Rattle.sched_run_machine.specs.Next.{HostPoll}
+use Rattle.sched_run_machine.specs.declared.next.Next.{Next}
+use Rattle.sched_run_machine.specs.declared.next.Next.TheVariants.{Poll, Run, Wait, Over}
+
+-- a machine with a driver of R, which draws by a value of D
+pub record Machine (R D : Type 0) : Type 0 where
+  pub driver : R
+  -- a run was begun and is not reported
+  pub under_way : Bool
+  pub over : Option How
+  pub drawing : D
+  -- how many tickets that had been granted before
+  pub had : ℕ
+
+abbrev pub coded_machine : {R D : Type 0} → Coded R → Coded D → Coded (Machine R D)
+coded_machine {R} {D} coded_driver coded_drawing =
+    code_by (R × (Bool × (Option How × (D × ℕ))))
+    (coded× coded_driver (coded× coded_bool (coded× (coded_option coded_how) (coded× coded_drawing coded_ℕ))))
+    (λ m. (m.driver, (m.under_way, (m.over, (m.drawing, m.had)))))
+    (λ p. record { driver = p.0; under_way = p.1.0; over = p.1.1.0; drawing = p.1.1.1.0; had = p.1.1.1.1 })
+    (λ _. refl)
+
+-- a report is heard where a run is under way and the machine is not over
+abbrev pub is_told : {R D : Type 0} → Machine R D → Bool
+is_told m = not (is_some m.over) && m.under_way
+
+-- what is to be done tells whether the machine is over, and whether a run is under way
+abbrev pub Finds : {R D : Type 0} → Machine R D → Next → Type 0
+Finds m (Over ended) = m.over ≡ Some ended
+Finds m Run = (m.over ≡ None) × (m.under_way ≡ true)
+Finds m Poll = (m.over ≡ None) × (m.under_way ≡ false)
+Finds m (Wait start) = (m.over ≡ None) × (m.under_way ≡ false)
+
+-- how a run that is told may end a machine: a success does, and a failure does not as one, nor as cancelled
+abbrev pub EndsAs : Ran → Option How → Type 0
+EndsAs (Won code) over = over ≡ Some how.Won
+EndsAs (Lost code) (Some how.Won) = ⊥
+EndsAs (Lost code) (Some how.Failed) = ⊥
+EndsAs (Lost code) (Some how.Cancelled) = ⊥
+EndsAs (Lost code) _ = Unit {0}
+
+-- one that is not over is cancelled
+abbrev pub cancelled : {R D : Type 0} → Machine R D → Machine R D
+cancelled m = record m { over = if is_some m.over then m.over else Some how.Cancelled }
+
+module _ {D : Type 0} (grants : Grants D) where
+  -- a machine that has not begun, and the retry that it stands for
+  abbrev pub begins : {R : Type 0} → R → D → Machine R D
+  begins driver drawing =
+      record { driver = driver; under_way = false; over = None; drawing = drawing; had = grants.granted drawing }
+
+  abbrev pub unbegun : Schedule → D → Retrying D
+  unbegun plan drawing =
+      record { past = nothing_yet plan; drawing = drawing; had = grants.granted drawing; untaken = false }
+
+module _ {R D : Type 0} (stands : R → Driven → Type 0) (keeps : Bool) (grants : Grants D) where
+  -- The machine is that of this retry, which keeps its law: its driver may stand for the retry's journal, and a run is
+  -- under way in both or in neither.
+  pub record StandsFor (m : Machine R D) (v : Retrying D) : Type 0 where
+    pub law : RetryLaw grants (a_retry keeps) v
+    pub driver : stands m.driver v.past.driver
+    pub under_way : m.under_way ≡ is_under_way v.past.runs v.past.begun
+    pub over : m.over ≡ v.past.over
+    pub drawing : m.drawing ≡ v.drawing
+    pub had : m.had ≡ v.had
+
+  -- Of each retry that the machine may stand for it was one poll, in which the runs that finished are those told; and
+  -- the machine may stand for the retry after it.
+  abbrev pub Polls : Machine R D → Tick → List Ran → Machine R D → Type 0
+  Polls m t told n = (v : Retrying D) → StandsFor m v →
+      (u : Retrying D) × HostPoll grants (a_retry keeps) v t told u × StandsFor n u
+
+  -- What the end of a run comes to: the driver r and what draws, p, become s and q. It draws where the schedule goes on,
+  -- and nowhere else.
+  abbrev pub Ends : R → D → Tick → Ran → Option How → R → D → Type 0
+  Ends r p t (Won code) (Some how.Won) s q = (s ≡ r) × (q ≡ p)
+  Ends r p t (Lost code) None s q = Stepped stands keeps r t code false s × grants.drew p t.now true q
+  Ends r p t (Lost code) (Some how.ScheduleDone) s q = Stepped stands keeps r t code true s × (q ≡ p)
+  Ends r p t (Lost code) (Some how.BudgetRefused) s q =
+      Stepped stands keeps r t code false s × grants.drew p t.now false q
+  Ends r p t (Lost code) (Some (how.Broken fault)) s q = Refused stands keeps r t fault × (s ≡ r) × (q ≡ p)
+  Ends r p t _ _ s q = ⊥

@@ -1,0 +1,41 @@
+-- What a host is to do for a retry, and one call on it.
+use Rattle.std.specs.Prelude.{◌≡◌, ℕ, ◌<◌, ◌≤◌, Bool, true, false, not, ◌&&◌, if◌then◌else◌}
+use Rattle.std.specs.Prelude.{List, ◌++◌, Option, Some, None, is_some, IfSome, IsSomeAnd}
+use Rattle.sched_time.specs.declared.numbers.Tick.{Tick}
+use Rattle.sched_driver.specs.Driven.{next_start_of}
+use Rattle.sched_ticket_draws.specs.Grants.{Grants}
+use Rattle.sched_effect.specs.declared.ran.Ran.{Ran}
+use Rattle.sched_task.specs.declared.endings.How.{How}
+use Rattle.sched_task_law.specs.Kind.{Kind}
+use Rattle.sched_task_law.specs.Past.{Past, is_under_way, waits_for}
+use Rattle.sched_retry.specs.Retrying.{Retrying, RetryPoll}
+use Rattle.sched_run_machine.specs.declared.next.Next.{Next}
+use Rattle.sched_run_machine.specs.declared.next.Next.TheVariants.{Poll, Run, Wait, Over}
+
+-- a report is heard where a run is under way and the retry is not over
+abbrev pub hears : Past → Bool
+hears v = not (is_some v.over) && is_under_way v.runs v.begun
+
+-- to wait for the start planned, or to poll where none is
+abbrev pub next_by_start : Option ℕ → Next
+next_by_start (Some start) = Wait start
+next_by_start None = Poll
+
+abbrev pub next_by_ending : Past → Option How → Next
+next_by_ending v (Some how) = Over how
+next_by_ending v None = if is_under_way v.runs v.begun then Run else next_by_start (next_start_of v.driver)
+
+-- what the host is to do: nothing more where it is over, to run where a run is under way, or else to wait or to poll
+abbrev pub next_of : Past → Next
+next_of v = next_by_ending v v.over
+
+-- whether a retry waits for a moment after this one
+abbrev pub Rests : Past → ℕ → Bool → Type 0
+Rests v now true = IsSomeAnd (waits_for v) (λ m. now < m)
+Rests v now false = IfSome (waits_for v) (λ m. m ≤ now)
+
+-- One poll of a retry, in which the runs that finish are those that the host told.
+module _ {D : Type 0} (grants : Grants D) (kind : Kind) where
+  pub record HostPoll (v : Retrying D) (t : Tick) (told : List Ran) (u : Retrying D) : Type 0 where
+    pub poll : RetryPoll grants kind v t (is_some u.past.over) u
+    pub runs : u.past.runs ≡ v.past.runs ++ told

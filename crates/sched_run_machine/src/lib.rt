@@ -1,0 +1,13 @@
+//! One machine of a retry: it is told that a run began and how it ended, asks its driver, draws, and says what is next.
+//!
+//! It keeps no list of runs. Where its driver keeps no journal either, it takes as much memory after any number of runs
+//! as before the first; what is true of it is then true of each list of runs and each journal that it may stand for.
+#![tactic(auto)]
+
+mod drives;
+mod machine;
+mod next;
+
+pub use drives::Drives;
+pub use machine::Machine;
+pub use next::Next;

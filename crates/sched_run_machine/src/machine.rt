@@ -1,0 +1,226 @@
+//! The machine of a retry.
+ghost use Rattle.std.specs.Prelude.{◌≡◌, ◌+◌, [], ◌∷◌, true, false, None};
+ghost use Rattle.sched_plan.specs.Schedule.{Schedule};
+ghost use Rattle.sched_retry.specs.Retrying.{Retrying, gives_up};
+ghost use Rattle.sched_run_machine.specs.Drives.{unstepped};
+ghost use Rattle.sched_run_machine.specs.Machine.{begins, unbegun, is_told, cancelled, StandsFor, Polls, Finds, Ends, EndsAs};
+ghost use Rattle.sched_run_machine.specs.Next.{next_of, Rests};
+
+use crate::drives::Drives;
+use crate::next::Next;
+use sched_effect::Ran;
+use sched_task::How;
+use sched_ticket_draws::Draws;
+use sched_time::{Moment, Tick};
+use std::alloc::Global;
+use std::marker::Model;
+
+/// What makes a call that is run until it succeeds, again after each failure as its driver's schedule says, with a
+/// ticket for each retry. It says when to run the call and when to wait, and is told how each run went.
+///
+/// Contracts speak of each retry that it may stand for: each that the calls made on it so far can have led to.
+#[derive(Drop)]
+pub struct Machine<R: Drives, D: Draws> {
+    driver: R,
+    under_way: bool,
+    over: Option<How>,
+    drawing: D,
+    had: u64,
+}
+
+impl<R: Drives, D: Draws> Model for Machine<R, D> {
+    ghost use Rattle.sched_retry.specs.Retrying.{Retrying};
+    ghost use Rattle.sched_run_machine.specs.Machine.{Machine as Made, coded_machine, StandsFor};
+
+    ghost Value = { Made R D };
+
+    ghost coded = { coded_machine R.code D.code };
+
+    ghost view = { λ m. record {
+      driver = m.driver;
+      under_way = m.under_way;
+      over = m.over;
+      drawing = m.drawing;
+      had = m.had;
+    } };
+
+    ghost invariant = { λ m. (v : Retrying D) × StandsFor R.stands R.keeps D.grants
+        (record { driver = m.driver; under_way = m.under_way; over = m.over; drawing = m.drawing; had = m.had }) v };
+}
+
+impl<R: Drives, D: Draws> Machine<R, D> {
+    /// The machine of a retry that has not begun, and that draws its tickets by this value. It takes no memory.
+    pub fn new(driver: R, drawing: D) -> Machine<R, D>
+        requires unstepped { (plan : Schedule) × R.stands driver (unstepped plan) }
+        ensures begins { result ≡ begins D.grants driver drawing }
+        ensures stands { (plan : Schedule) → R.stands driver (unstepped plan) →
+            StandsFor R.stands R.keeps D.grants result (unbegun D.grants plan drawing) }
+    {
+        let had = drawing.granted();
+        Machine {
+            driver,
+            under_way: false,
+            over: None,
+            drawing,
+            had,
+        }
+    }
+
+    /// Begins a run at the tick, where none is under way, the retry is not over and waits for no later moment.
+    pub fn poll(&mut self, tick: &Tick)
+        ensures polls { Polls R.stands R.keeps D.grants self.old tick.entry.now [] self.new }
+        ensures unbroken { self.new.over ≡ self.old.over }
+    {
+        if self.over.is_some() {
+            return;
+        }
+        if self.rests(tick.now) {
+            return;
+        }
+        self.under_way = true;
+    }
+
+    /// Ends the run under way as it went, and answers whether there was one: of a retry that is over, or has no run
+    /// under way, nothing changes.
+    ///
+    /// A success ends the retry. A failure steps the schedule; where that goes on, a ticket is drawn, and with one the
+    /// retry waits for the start planned. A refused step ends it as `Broken`.
+    pub fn report(&mut self, alloc: Global, tick: &Tick, ran: Ran) -> bool
+        ensures heard { result ≡ is_told self.old }
+        ensures told { result ≡ true →
+            Polls R.stands R.keeps D.grants self.old tick.entry.now (ran ∷ []) self.new }
+        ensures ends { result ≡ true → EndsAs ran self.new.over }
+        ensures unchanged { result ≡ false → self.new ≡ self.old }
+    {
+        if self.over.is_some() {
+            return false;
+        }
+        if !self.under_way {
+            return false;
+        }
+        let driver = &mut self.driver;
+        let drawing = &mut self.drawing;
+        self.over = end_run(alloc, driver, drawing, tick, ran);
+        self.under_way = false;
+        true
+    }
+
+    /// What the host is to do.
+    pub fn next(&self) -> Next
+        ensures finds { Finds self.now result }
+        ensures next { (v : Retrying D) → StandsFor R.stands R.keeps D.grants self.now v → result ≡ next_of v.past }
+    {
+        if let Some(how) = self.over {
+            return Next::Over(how);
+        }
+        if self.under_way {
+            return Next::Run;
+        }
+        match self.driver.next_start() {
+            Some(start) => Next::Wait(start),
+            None => Next::Poll,
+        }
+    }
+
+    /// How it ended, or `None` where it is not over.
+    pub fn over(&self) -> Option<How>
+        ensures { result ≡ self.now.over }
+    {
+        self.over
+    }
+
+    /// Ends a retry that is not over as `Cancelled`; one that is over stays as it is.
+    pub fn cancel(&mut self)
+        ensures cancelled { self.new ≡ cancelled self.old }
+        ensures stands { (v : Retrying D) → StandsFor R.stands R.keeps D.grants self.old v →
+            StandsFor R.stands R.keeps D.grants self.new (gives_up v) }
+    {
+        if self.over.is_some() {
+            return;
+        }
+        self.over = Some(How::Cancelled);
+    }
+
+    /// How many tickets it was granted, without those of earlier retries. There is always a retry that it stands for.
+    pub fn granted(&self) -> u64
+        ensures stands { (v : Retrying D) × StandsFor R.stands R.keeps D.grants self.now v }
+        ensures granted { (v : Retrying D) → StandsFor R.stands R.keeps D.grants self.now v → result ≡ v.past.granted }
+        ensures tickets { self.now.had + result ≡ D.grants.granted self.now.drawing }
+    {
+        self.drawing.granted() - self.had
+    }
+
+    /// The driver.
+    pub fn driver(&self) -> &R
+        ensures { result.now ≡ self.now.driver }
+    {
+        &self.driver
+    }
+
+    /// What it draws by.
+    pub fn drawing(&self) -> &D
+        ensures { result.now ≡ self.now.drawing }
+    {
+        &self.drawing
+    }
+
+    /// The driver, and what it drew by, with all its tickets.
+    pub fn into_parts(self) -> (R, D)
+        ensures driver { result.0 ≡ self.driver }
+        ensures drawing { result.1 ≡ self.drawing }
+        ensures stands { D.grants.stands result.1 }
+    {
+        let Machine {
+            driver,
+            under_way: _,
+            over: _,
+            drawing,
+            had: _,
+        } = self;
+        (driver, drawing)
+    }
+
+    // Whether a retry that is not over waits for a moment after this one.
+    fn rests(&self, now: Moment) -> bool
+        requires { self.now.over ≡ None }
+        ensures { (v : Retrying D) → StandsFor R.stands R.keeps D.grants self.now v → Rests v.past now result }
+    {
+        if self.under_way {
+            return false;
+        }
+        match self.driver.next_start() {
+            Some(start) => now.get() < start.get(),
+            None => false,
+        }
+    }
+}
+
+// Ends a run as it went: a failure steps the schedule, and draws a ticket where that goes on. Answers how this ends the
+// retry, or `None` where it goes on.
+fn end_run<R: Drives, D: Draws>(
+    alloc: Global,
+    driver: &mut R,
+    drawing: &mut D,
+    tick: &Tick,
+    ran: Ran,
+) -> Option<How>
+    requires stands { D.grants.stands drawing.old }
+    ensures stands { D.grants.stands drawing.new }
+    ensures ends { Ends R.stands R.keeps D.grants
+        driver.old drawing.old tick.entry.now ran result driver.new drawing.new }
+{
+    match ran {
+        Ran::Won(_) => Some(How::Won),
+        Ran::Lost(code) => match driver.step(alloc, tick, code) {
+            Err(cause) => Some(How::Broken(cause)),
+            Ok(None) => Some(How::ScheduleDone),
+            Ok(Some(_)) => {
+                if drawing.draw(tick.now) {
+                    None
+                } else {
+                    Some(How::BudgetRefused)
+                }
+            }
+        },
+    }
+}

@@ -1,5 +1,0 @@
-use Rattle.sched_scripted_pool.proofs.batches.run_batch.Given as goal
-
--- the budget of this call
-abbrev pub ghosts-run_on : goal.ghosts-run_on
-ghosts-run_on g a = record { budget = a.budget.now }

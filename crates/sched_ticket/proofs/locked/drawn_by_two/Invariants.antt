@@ -1,5 +1,0 @@
-use Rattle.sched_ticket.proofs.locked.drawn_by_two.Given as goal
-
--- the budget of this call
-abbrev pub ghosts-two_jobs : goal.ghosts-two_jobs
-ghosts-two_jobs g a = record { budget = a.budget }

@@ -1,0 +1,238 @@
+#!/usr/bin/env bash
+# Tries the programs of bin/ on a copy of this repository without git, where the Rattle kit is missing or is a script of this
+# test's own: what is said without the kit, which files of dist/ a change makes old, what bin/zsched runs and what it costs,
+# which crates bin/check proves, and that bin/test leaves nothing behind.
+set -euo pipefail
+top=$(cd "$(dirname "${BASH_SOURCE[0]}")/.." && pwd)
+work=$(mktemp -d)
+trap 'rm -rf "$work"' EXIT
+unset HIKEBOX_LIB_DIR HIKEBOX_LIBRARY HIKEBOX_ZSCHED
+export HIKEBOX_RT=$work/no-kit
+tree=$work/tree
+failed=0
+tried=0
+
+# The copy, whose dist/ is of its sources.
+copy() {
+  mkdir "$tree"
+  (cd "$top" && tar -cf - --exclude=out --exclude=__pycache__ bin crates crates.txt HANDLES docs include python plans tests \
+    rust/Cargo.toml rust/README.md README.md) | tar -xf - -C "$tree"
+  mkdir "$tree/dist"
+  cp "${zsched:-$top/dist/zsched}" "$tree/dist/zsched"
+  : >"$tree/dist/libhikebox.so"
+  (cd "$tree" && bin/digest zsched libhikebox.a libhikebox.so hikebox.h hikebox.whl) >"$work/SOURCES"
+  cp "$work/SOURCES" "$tree/dist/SOURCES"
+  cd "$tree"
+}
+
+# wants STATUS OUTPUT ERRORS COMMAND..: what a command does; `..` stands for any errors
+wants() {
+  local status=$1 output=$2 errors=$3 got=0
+  shift 3
+  tried=$((tried + 1))
+  "$@" >"$work/out" 2>"$work/err" </dev/null || got=$?
+  [ "$got" = "$status" ] && [ "$(cat "$work/out")" = "$output" ] && { [ "$errors" = .. ] || [ "$(cat "$work/err")" = "$errors" ]; } || {
+    echo "tests/commands.sh: $*: status $got, wanted $status; output $(cat "$work/out"), wanted $output; errors $(cat "$work/err")" >&2
+    failed=1
+  }
+}
+
+# makes_old FILES COMMAND..: this change makes these files of dist/ old, and no other; it is undone
+makes_old() {
+  local files=$1
+  shift
+  cp -al "$tree" "$work/changed"
+  (cd "$work/changed" && "$@")
+  wants 0 "$files" '' "$work/changed/bin/digest" --changed
+  rm -rf "$work/changed"
+}
+
+# is_alive PROCESS: it has neither ended nor waits to be buried
+is_alive() { grep -qs '^State:[[:space:]][^ZX]' "/proc/$1/status"; }
+
+# (each puts another file in the place of the one that is there, which has a second link)
+append() { sed -i '$a\
+// more' "$1"; }
+replace() { sed -i "$1" "$2"; }
+
+# Which files of dist/ a change makes old.
+changes() {
+  local library=$'libhikebox.a\nlibhikebox.so\nhikebox.whl'
+  makes_old '' true
+  makes_old 'hikebox.whl' append python/src/hikebox/retrying.py
+  makes_old 'hikebox.whl' append python/setup.cfg
+  makes_old 'hikebox.h' append include/hikebox.h
+  makes_old 'zsched' append crates/sched_cli/src/lib.rt
+  makes_old 'zsched' rm crates/sched_cli/src/lib.rt
+  makes_old "$library" append crates/hikebox_c/src/lib.rt
+  makes_old $'libhikebox.so\nhikebox.whl' append bin/hikebox.map
+  makes_old $'zsched\n'"$library" append crates/sched_time/src/lib.rt
+  makes_old $'zsched\n'"$library" touch crates/sched_time/src/new.rt
+  makes_old 'zsched' replace 's/^zsched: /zsched: sched_effect /' crates.txt
+  makes_old '' replace 's/^# The library/# A library/' crates.txt
+  makes_old '' append crates/sched_run/src/lib.rt
+  makes_old '' append crates/sched_task/src/tests.rt
+  makes_old '' append crates/sched_plan_tests/src/lib.rt
+  makes_old '' append crates/zsched/stdout
+  makes_old '' touch crates/sched_time/must-fail/new.edit
+  makes_old '' append README.md
+  makes_old '' append docs/C.md
+  makes_old '' append python/tests/test_cli.py
+}
+
+# bin/zsched by its name, from elsewhere and through links; after a change, and once that is undone.
+runs_zsched() {
+  local plan=plans/three-times.json want old='bin/zsched: dist/zsched is older than its sources, and the Rattle kit, which would build it, is missing'
+  want=$(dist/zsched plan "$plan")
+  wants 0 "$want" '' bin/zsched plan "$plan"
+  wants 0 "$want" '' env -C / "$tree/bin/zsched" plan "$tree/$plan"
+  ln -s tree/bin/zsched "$work/link"
+  ln -s link "$work/link-of-link"
+  wants 0 "$want" '' "$work/link-of-link" plan "$plan"
+  wants 3 '' 'zsched: not JSON' bin/zsched plan /dev/null
+
+  append crates/sched_cli/src/lib.rt
+  for _ in 1 2; do wants 0 "$want" "$old" bin/zsched plan "$plan"; done
+  cp "$top/crates/sched_cli/src/lib.rt" crates/sched_cli/src/lib.rt
+  wants 0 "$want" '' bin/zsched plan "$plan"
+  # Long after, a file comes whose own time is old.
+  touch -d '1 hour' out/zsched-of-dist
+  wants 0 "$want" '' bin/zsched plan "$plan"
+  touch -d '1 minute ago' out/zsched-of-dist
+  { cat crates/sched_cli/src/lib.rt; echo; } >"$work/lib.rt"
+  touch -d '2001-01-01' "$work/lib.rt"
+  mv "$work/lib.rt" crates/sched_cli/src/lib.rt
+  wants 0 "$want" "$old" bin/zsched plan "$plan"
+  cp "$top/crates/sched_cli/src/lib.rt" crates/sched_cli/src/lib.rt
+  wants 0 "$want" '' bin/zsched plan "$plan"
+
+  # Where nothing can be noted, it runs too.
+  rm -rf out
+  touch out
+  wants 0 "$want" '' bin/zsched plan "$plan"
+  rm out
+}
+
+# micros COMMAND..: how long it takes
+micros() {
+  local began=${EPOCHREALTIME/[.,]/}
+  "$@" >/dev/null 2>&1 </dev/null
+  echo $((${EPOCHREALTIME/[.,]/} - began))
+}
+
+# bin/zsched takes at most 20 ms more than the program, in one of a hundred tries on a machine that may be busy.
+costs_little() {
+  local own whole
+  bin/zsched --version >/dev/null
+  touch -d '10 seconds' out/zsched-of-dist
+  for _ in $(seq 100); do
+    own=$(micros dist/zsched --version)
+    whole=$(micros bin/zsched --version)
+    [ $((whole - own)) -gt 20000 ] || { tried=$((tried + 1)); return 0; }
+  done
+  echo "tests/commands.sh: bin/zsched takes $whole microseconds, and the program $own" >&2
+  failed=1
+}
+
+# What is said without the kit: a line, and nothing is done.
+without_kit() {
+  local missing='the Rattle kit is missing (rt, on the PATH or in /opt/rattle/bin); bin/test, bin/zsched and dist/ need none'
+  find . >"$work/before"
+  wants 2 '' "bin/check: $missing" bin/check
+  wants 2 '' "bin/check: $missing" bin/check sched_time
+  wants 2 '' "bin/build: $missing" bin/build zsched
+  wants 2 '' "bin/dist: $missing" bin/dist
+  find . | cmp -s - "$work/before" || { echo "tests/commands.sh: files came or went where the kit is missing" >&2; failed=1; }
+  wants 2 '' 'bin/crates: crates.txt has no crate none' bin/check none
+  wants 2 '' 'bin/crates: crates.txt has no crate none' bin/build none
+  wants 2 '' 'bin/build: sched_time is no program' bin/build sched_time
+  wants 1 '' '' bin/build --is-built zsched
+  wants 0 $'sched_time\nsched_plan\nsched_plan_bound' '' bin/crates below sched_plan_bound
+  wants 0 $'zsched' '' bin/crates above zsched
+}
+
+# A crate, and those that stand on it, are proved by `rt ci`, and the last line is that of rt.
+with_kit() {
+  local line
+  export HIKEBOX_RT=$work/rt
+  # shellcheck disable=SC2016
+  printf '#!/bin/sh\necho "$*" >>%s\necho "rt: ok"\necho "$LINE"\n[ "$LINE" = "9 passed, 0 failed" ]\n' "$work/asked" >"$HIKEBOX_RT"
+  chmod +x "$HIKEBOX_RT"
+  for line in '9 passed, 0 failed' '8 passed, 1 failed'; do
+    : >"$work/asked"
+    status=0
+    LINE=$line bin/check sched_cli sched_plan_bound >"$work/out" 2>&1 || status=$?
+    tried=$((tried + 1))
+    [ "$(tail -n 1 "$work/out")" = "$line" ] && [ "$status" = "${line:10:1}" ] &&
+      [ "$(cat "$work/asked")" = 'ci sched_plan_bound sched_cli_check sched_cli_check_tests sched_cli sched_cli_tests zsched sched_calls hikebox_c' ] || {
+      echo "tests/commands.sh: bin/check sched_cli sched_plan_bound: status $status, asked for $(cat "$work/asked"): $(cat "$work/out")" >&2
+      failed=1
+    }
+  done
+}
+
+# bin/check adds up what passed in `rt ci`, in the comparison of dist/ and in bin/test, here by scripts in their place. A fault
+# of each of them is counted, also where it told nothing.
+counts() {
+  local checks=$work/checks line
+  mkdir -p "$checks/bin" "$checks/dist"
+  cp bin/check bin/crates bin/kit "$checks/bin"
+  echo built >"$checks/dist/zsched"
+  printf '#!/bin/sh\nmkdir "$2"\necho "$BUILT" >"$2/zsched"\nexit $DIST\n' >"$checks/bin/dist"
+  printf '#!/bin/sh\nexit 0\n' >"$checks/bin/build"
+  printf '#!/bin/sh\n[ "$1" = --strict ] || exit 0\necho "$TESTED"\n[ "$TESTED" = "3 passed, 0 failed" ]\n' >"$checks/bin/test"
+  chmod +x "$checks"/bin/*
+  export LINE BUILT DIST TESTED
+  while IFS='|' read -r LINE BUILT DIST TESTED status line; do
+    got=0
+    "$checks/bin/check" >"$work/out" 2>&1 </dev/null || got=$?
+    tried=$((tried + 1))
+    [ "$(tail -n 1 "$work/out")" = "$line" ] && [ "$got" = "$status" ] || {
+      echo "tests/commands.sh: bin/check ($LINE|$BUILT|$DIST|$TESTED): status $got, wanted $status; $(tail -n 1 "$work/out"), wanted $line" >&2
+      failed=1
+    }
+  done <<'END'
+9 passed, 0 failed|built|0|3 passed, 0 failed|0|13 passed, 0 failed
+8 passed, 1 failed|built|0|3 passed, 0 failed|1|8 passed, 1 failed
+9 passed, 0 failed|other|0|3 passed, 0 failed|1|12 passed, 1 failed
+9 passed, 0 failed|built|1|3 passed, 0 failed|1|9 passed, 2 failed
+9 passed, 0 failed|built|0|2 passed, 1 failed|1|12 passed, 1 failed
+9 passed, 0 failed|built|0|killed|1|10 passed, 1 failed
+END
+  export HIKEBOX_RT=$work/no-kit
+}
+
+# bin/test names its parts, and leaves no process and no file, whether a part ends or it is ended itself.
+runs_tests() {
+  local process id
+  wants 2 '' "bin/test: there is no part nope; the parts are $(sed -n 's/^parts=(\(.*\))$/\1/p' bin/test)" bin/test nope blocks
+  mkdir "$work/tmp"
+  wants 0 $'passed  blocks\n1 passed, 0 failed' '' sh -c 'TMPDIR="$1" bin/test blocks | sed "/^bin.test: /d; s/^passed  blocks .*/passed  blocks/"' sh "$work/tmp"
+  printf '#!/bin/sh\nsetsid sh -c "echo \\$\\$ >%s; exec sleep 1000" &\nsleep 0.2\n' "$work/id" >tests/blocks.sh
+  TMPDIR=$work/tmp bin/test blocks >"$work/out" 2>&1 && failed=1
+  tried=$((tried + 1))
+  grep -q 'it left a process: .* sleep 1000' "$work/out" && ! is_alive "$(cat "$work/id")" ||
+    { echo "tests/commands.sh: bin/test and a part that leaves a process: $(cat "$work/out")" >&2; failed=1; }
+  printf '#!/bin/sh\necho $$ >%s\nsleep 1000\n' "$work/id" >tests/blocks.sh
+  rm "$work/id"
+  TMPDIR=$work/tmp bin/test blocks >"$work/out" 2>&1 &
+  process=$!
+  until [ -s "$work/id" ]; do sleep 0.1; done
+  kill -TERM "$process"
+  wait "$process" && failed=1
+  tried=$((tried + 1))
+  id=$(cat "$work/id")
+  ! is_alive "$id" && [ -z "$(ls -A "$work/tmp")" ] ||
+    { echo "tests/commands.sh: bin/test, ended by a signal, leaves $(ls -A "$work/tmp"), or the process $id" >&2; failed=1; }
+}
+
+copy
+changes
+runs_zsched
+costs_little
+without_kit
+with_kit
+counts
+runs_tests
+[ "$failed" = 0 ] || exit 1
+echo "tests/commands.sh: $tried runs of the programs of bin/ are as wanted"

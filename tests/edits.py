@@ -1,0 +1,170 @@
+#!/usr/bin/env python3
+"""The promises that the wrong bodies in crates/*/must-fail/*.edit break, as a list.
+
+The first line of each edit says which promise it breaks, with the group that the promise is of, as in
+`# limit: A plan is at most 32 nodes deep, and a deeper one is refused.`
+
+    tests/edits.py          prints the list
+    tests/edits.py --check  compares it with the list in docs/TESTING.md, and looks whether every edit
+                            has such a line and can be applied; it fails with a line for each fault
+    tests/edits.py --write  puts it into docs/TESTING.md
+"""
+
+import argparse
+import difflib
+import pathlib
+import re
+import sys
+from dataclasses import dataclass
+
+TOP = pathlib.Path(__file__).resolve().parent.parent
+PAGE = TOP / "docs" / "TESTING.md"
+BEGIN = "<!-- The list that tests/edits.py prints. -->"
+END = "<!-- The end of that list. -->"
+MOST_EDITS = 200
+
+# The groups of promises, and the heading of each in the list.
+GROUPS = {
+    "headline": "What the headline and each task promise",
+    "limit": "Limits",
+    "call": "Calls",
+    "node": "Nodes",
+    "refusal": "Refusals",
+    "border": "The border to C",
+}
+
+
+class BadEdit(Exception):
+    """An edit that does not say which promise it breaks, or that cannot be applied."""
+
+
+@dataclass(frozen=True)
+class Edit:
+    """A wrong body, the promise that it breaks, and the group of that promise."""
+
+    crate: str
+    name: str
+    group: str
+    promise: str
+
+    def row(self) -> str:
+        """The line of the list that stands for it."""
+        return f"- {self.promise} (`{self.crate}`, `{self.name}`)"
+
+
+def promise_of(text: str) -> tuple[str, str]:
+    """The group and the promise that the first line of an edit names."""
+    found = re.match(r"# (\w+): (\S.*\.)\n", text)
+    if found is None or found[1] not in GROUPS:
+        raise BadEdit(f"its first line is not '# GROUP: PROMISE.', with one of the groups {', '.join(GROUPS)}")
+    return found[1], found[2]
+
+
+def apply(text: str, crate: pathlib.Path) -> None:
+    """Makes the replacements that an edit asks for, each once, on copies of the texts of its crate."""
+    texts: dict[str, str] = {}
+    file = old = None
+    replaced = 0
+    for line in text.splitlines():
+        if line.startswith("file: "):
+            file = line.removeprefix("file: ").strip()
+            texts.setdefault(file, (crate / file).read_text(encoding="utf-8"))
+        elif line.startswith("old: "):
+            old = line.removeprefix("old: ")
+        elif line.startswith("new:"):
+            if file is None or old is None:
+                raise BadEdit("a 'new:' line stands before any 'file:' or 'old:' line")
+            count = texts[file].count(old)
+            if count != 1:
+                raise BadEdit(f"its text {old.strip()!r} stands {count} times in {file}, and not once")
+            texts[file] = texts[file].replace(old, line.removeprefix("new:").removeprefix(" "))
+            old = None
+            replaced += 1
+        elif not line.startswith("# "):
+            raise BadEdit(f"it has a line that is not read: {line.strip()!r}")
+    if replaced == 0:
+        raise BadEdit("it replaces nothing")
+
+
+def layers() -> dict[str, int]:
+    """The place of each crate in crates.txt, where each stands on lines above its own."""
+    lines = (TOP / "crates.txt").read_text(encoding="utf-8").splitlines()
+    names = [re.split(r"[ :]", line)[0] for line in lines if line and not line.startswith("#")]
+    return {name: place for place, name in enumerate(names)}
+
+
+def read_edits() -> tuple[list[Edit], list[str]]:
+    """All edits, those of the lowest crates first, and what is wrong with those that are bad."""
+    edits: list[Edit] = []
+    faults: list[str] = []
+    places = layers()
+    paths = TOP.glob("crates/*/must-fail/*.edit")
+    for path in sorted(paths, key=lambda path: (places.get(path.parent.parent.name, len(places)), path.name)):
+        crate = path.parent.parent
+        text = path.read_text(encoding="utf-8")
+        try:
+            group, promise = promise_of(text)
+            apply(text, crate)
+        except (BadEdit, OSError) as fault:
+            faults.append(f"{path.relative_to(TOP)}: {fault}")
+        else:
+            edits.append(Edit(crate.name, path.stem, group, promise))
+    return edits, faults
+
+
+def listed(edits: list[Edit]) -> str:
+    """The list, group by group."""
+    lines: list[str] = []
+    for group, heading in GROUPS.items():
+        rows = [edit.row() for edit in edits if edit.group == group]
+        lines += [f"### {heading} ({len(rows)})", "", *rows, ""]
+    return "\n".join(lines).strip() + "\n"
+
+
+def parts_of_page() -> tuple[str, str, str]:
+    """The page before the list, the list, and the page after it."""
+    page = PAGE.read_text(encoding="utf-8")
+    if page.count(BEGIN) != 1 or page.count(END) != 1:
+        raise SystemExit(f"tests/edits.py: {PAGE.relative_to(TOP)} has no list between the lines {BEGIN!r} and {END!r}")
+    before, _, rest = page.partition(BEGIN)
+    middle, _, after = rest.partition(END)
+    return before, middle.strip(), after
+
+
+def faults_of(edits: list[Edit]) -> list[str]:
+    """What is wrong with all edits together, and with the list in the page."""
+    faults: list[str] = []
+    if len(edits) > MOST_EDITS:
+        faults.append(f"there are {len(edits)} edits, and at most {MOST_EDITS} are wanted")
+    first: dict[str, Edit] = {}
+    for edit in edits:
+        other = first.setdefault(edit.promise, edit)
+        if other is not edit:
+            faults.append(f"{edit.crate}/{edit.name} breaks the promise of {other.crate}/{other.name}: one is enough")
+    wanted, found = listed(edits).splitlines(), parts_of_page()[1].splitlines()
+    faults += difflib.unified_diff(found, wanted, "docs/TESTING.md", "tests/edits.py", lineterm="", n=0)
+    return faults
+
+
+def main() -> int:
+    parser = argparse.ArgumentParser(description="Prints the promises that the wrong bodies break, as a list.")
+    parser.add_argument("--check", action="store_true", help="compare the list with the one in docs/TESTING.md")
+    parser.add_argument("--write", action="store_true", help="put the list into docs/TESTING.md")
+    asked = parser.parse_args()
+    edits, faults = read_edits()
+    if asked.write:
+        before, _, after = parts_of_page()
+        PAGE.write_text(f"{before}{BEGIN}\n\n{listed(edits)}\n{END}{after}", encoding="utf-8")
+    elif asked.check:
+        faults += faults_of(edits)
+    else:
+        print(listed(edits), end="")
+    for fault in faults:
+        print(f"tests/edits.py: {fault}", file=sys.stderr)
+    if asked.check and not faults:
+        print(f"tests/edits.py: {len(edits)} edits, each with its promise")
+    return 1 if faults else 0
+
+
+if __name__ == "__main__":
+    sys.exit(main())
