@@ -6,6 +6,7 @@ import asyncio
 import copy
 import functools
 import inspect
+import logging
 import multiprocessing
 import pickle
 import threading
@@ -22,6 +23,9 @@ from hikebox import (
     ResultRefused,
     Retrying,
     TryAgain,
+    after_log,
+    before_log,
+    before_sleep_log,
     code_of,
     recurs,
     retry,
@@ -525,6 +529,26 @@ def test_the_members_of_a_state_are_those_of_tenacitys() -> None:
     assert [entry[:3] for entry in seen] == [entry[:3] for entry in theirs]
     for ours, other in zip(seen, theirs):
         assert ours[3:] == pytest.approx(other[3:], abs=0.002)
+
+
+def test_log_records_have_fields(caplog: Any) -> None:
+    log = logging.getLogger("own")
+    caplog.set_level(logging.DEBUG)
+    hooks: Any = {
+        "before": before_log(log, logging.INFO),
+        "after": [after_log(log, logging.INFO, sec_format="%.1f")],
+        "before_sleep": before_sleep_log(log, logging.INFO),
+    }
+    clock = VirtualClock()
+    with pytest.raises(OSError):
+        Retrying(recurs(1) & spaced(2.5), clock=clock, sleep=clock.sleep, **hooks)(fails)
+    own = [(r.hikebox_call, r.hikebox_attempt) for r in caplog.records if r.name == "own"]
+    assert own == [("fails", number) for number in (1, 1, 1, 2, 2)]
+    assert [r.hikebox_seconds for r in caplog.records if hasattr(r, "hikebox_seconds")] == [0.0, 2.5]
+    assert "fails: attempt 2 failed after 2.5 s" in [r.getMessage() for r in caplog.records]
+    ours = [r for r in caplog.records if r.name == "hikebox"]
+    assert [getattr(r, "hikebox_delay", None) for r in ours] == [2.5, None]
+    assert getattr(ours[1], "hikebox_ending") == "SCHEDULE_DONE" and getattr(ours[1], "hikebox_call") == "fails"
 
 
 # Time

@@ -104,6 +104,20 @@ def test_parameters() -> None:
         pickle.dumps(leased)
 
 
+def test_old_names() -> None:
+    store = FileStore("/nowhere/counts")
+    with pytest.warns(DeprecationWarning, match="period= is called per= now"):
+        leased = Leased(store, "a", 5, period=60)
+    assert leased.per == 60.0
+    with pytest.warns(DeprecationWarning, match="reserve= is called spare= now"):
+        leased = Leased(store, "a", 5, reserve=3)
+    assert leased.spare == 3 and leased.per is None
+    with pytest.warns(DeprecationWarning, match="Leased.reserve is called Leased.spare now"):
+        assert leased.reserve == 3
+    with pytest.raises(TypeError, match="one of per and period"):
+        Leased(store, "a", 5, per=60, period=60)
+
+
 def test_windows_of_a_file(tmp_path: Path) -> None:
     store = FileStore(tmp_path / "counts")
     leased = Leased(store, "a", limit=3, per=0.2)
