@@ -113,6 +113,23 @@ runs_zsched() {
   rm out
 }
 
+# After a change, where the kit is here, bin/zsched has bin/build build the program, here a script in its place, and runs that.
+builds_zsched() {
+  cp -p bin/build "$work/build"
+  cat >bin/build <<'END'
+#!/bin/sh
+[ "$1" != --is-built ] || exit 1
+mkdir -p crates/zsched/out
+printf '#!/bin/sh\necho "built: $*"\n' >crates/zsched/out/zsched
+chmod +x crates/zsched/out/zsched
+END
+  append crates/sched_cli/src/lib.rt
+  wants 0 'built: plan --steps 3' '' env HIKEBOX_RT=/bin/true bin/zsched plan --steps 3
+  cp "$top/crates/sched_cli/src/lib.rt" crates/sched_cli/src/lib.rt
+  rm -rf crates/zsched/out
+  cp -p "$work/build" bin/build
+}
+
 # micros COMMAND..: how long it takes
 micros() {
   local began=${EPOCHREALTIME/[.,]/}
@@ -147,13 +164,19 @@ without_kit() {
   wants 2 '' 'bin/crates: crates.txt has no crate none' bin/build none
   wants 2 '' 'bin/build: sched_time is no program' bin/build sched_time
   wants 1 '' '' bin/build --is-built zsched
-  wants 0 $'sched_time\nsched_plan\nsched_plan_bound' '' bin/crates below sched_plan_bound
-  wants 0 $'zsched' '' bin/crates above zsched
 }
 
 # A crate, and those that stand on it, are proved by `rt ci`, and the last line is that of rt.
 with_kit() {
-  local line
+  local few=$work/few line status
+  mkdir -p "$few/bin" "$few/dist"
+  cp bin/check bin/crates bin/digest bin/kit "$few/bin"
+  : >"$few/dist/SOURCES"
+  printf '# Crates\nlow:\nside tests_may=Wait: low\nmiddle may_wait=1: low serde_json\nmiddle_tests: middle low\nprogram: side middle\n' \
+    >"$few/crates.txt"
+  wants 0 $'low\nmiddle' '' "$few/bin/crates" below middle
+  wants 0 $'low\nside\nmiddle\nprogram' '' "$few/bin/crates" below program
+  wants 0 $'side\nmiddle\nmiddle_tests\nprogram' '' "$few/bin/crates" above side middle
   export HIKEBOX_RT=$work/rt
   # shellcheck disable=SC2016
   printf '#!/bin/sh\necho "$*" >>%s\necho "rt: ok"\necho "$LINE"\n[ "$LINE" = "9 passed, 0 failed" ]\n' "$work/asked" >"$HIKEBOX_RT"
@@ -161,11 +184,11 @@ with_kit() {
   for line in '9 passed, 0 failed' '8 passed, 1 failed'; do
     : >"$work/asked"
     status=0
-    LINE=$line bin/check sched_cli sched_plan_bound >"$work/out" 2>&1 || status=$?
+    LINE=$line "$few/bin/check" middle >"$work/out" 2>&1 </dev/null || status=$?
     tried=$((tried + 1))
     [ "$(tail -n 1 "$work/out")" = "$line" ] && [ "$status" = "${line:10:1}" ] &&
-      [ "$(cat "$work/asked")" = 'ci sched_plan_bound sched_cli_check sched_cli_check_tests sched_cli sched_cli_tests zsched sched_calls hikebox_c' ] || {
-      echo "tests/commands.sh: bin/check sched_cli sched_plan_bound: status $status, asked for $(cat "$work/asked"): $(cat "$work/out")" >&2
+      [ "$(cat "$work/asked")" = 'ci middle middle_tests program' ] || {
+      echo "tests/commands.sh: bin/check middle: status $status, asked for $(cat "$work/asked"): $(cat "$work/out")" >&2
       failed=1
     }
   done
@@ -229,6 +252,7 @@ runs_tests() {
 copy
 changes
 runs_zsched
+builds_zsched
 costs_little
 without_kit
 with_kit

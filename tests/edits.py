@@ -117,7 +117,7 @@ def listed(edits: list[Edit]) -> str:
     lines: list[str] = []
     for group, heading in GROUPS.items():
         rows = [edit.row() for edit in edits if edit.group == group]
-        lines += [f"### {heading} ({len(rows)})", "", *rows, ""]
+        lines += [f"### {heading}", "", *rows, ""]
     return "\n".join(lines).strip() + "\n"
 
 

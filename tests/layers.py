@@ -63,6 +63,8 @@ def main() -> None:
         print(picture)
     elif f"```text\n{picture}\n```" not in (TOP / "docs/DESIGN.md").read_text():
         sys.exit("tests/layers.py: docs/DESIGN.md has another picture than crates.txt: paste what tests/layers.py prints")
+    else:
+        print("tests/layers.py: the picture in docs/DESIGN.md is that of crates.txt")
 
 
 if __name__ == "__main__":

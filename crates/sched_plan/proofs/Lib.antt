@@ -1,4 +1,5 @@
 pub mod sends
+pub mod shares
 pub mod Worked
 pub mod WorkedLeaves
 pub mod WorkedNodes

@@ -6,10 +6,12 @@ pub mod laws;
 mod leaves;
 mod nodes;
 mod plans;
+mod shared;
 mod values;
 
 pub use history::{Answer, Event};
 pub use leaves::Leaf;
 pub use nodes::{Fold, One, Side, Test, Two};
 pub use plans::{MOST_DEPTH, MOST_NODES, Plan, PlanFault, PlanShape};
+pub use shared::SharedPlan;
 pub use values::{Val, ValShape, copy_items};

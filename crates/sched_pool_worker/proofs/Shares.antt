@@ -71,9 +71,9 @@ pub record IsRefused (v w : View) : Type 0 where
 pub refused : (v w : View) → DrawRefused v w → IsRefused v w
 refused v w none = ⊎_elim
     (λ before. record {
-      refusals = omega (arith, ap (λ (u : View). length u.refusals) before.1);
-      some = omega (arith, ap (λ (u : View). length u.refusals) before.1, before.0);
-      terms = ap (λ (u : View). u.terms) before.1;
+      refusals = omega (arith, ap (λ (u : View). length u.refusals) before.2);
+      some = omega (arith, ap (λ (u : View). length u.refusals) before.2, before.1);
+      terms = ap (λ (u : View). u.terms) before.2;
     })
     (λ now. record {
       refusals = omega (arith, ap (λ (u : View). length u.refusals) now.gained, ap (λ (u : View). length u.refusals) now.asks.same);

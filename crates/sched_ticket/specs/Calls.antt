@@ -61,9 +61,9 @@ pub record FoundNone (v w : View) : Type 0 where
   pub high : asked.floor ≤ number
   pub gained : w ≡ with_refusal asked number
 
--- a draw was answered None: before, and nothing changes, or now
+-- a draw was answered None: before, which is for good, and nothing changes, or now
 abbrev pub DrawRefused : View → View → Type 0
-DrawRefused v w = ((0 < length v.refusals) × (w ≡ v)) ⊎ FoundNone v w
+DrawRefused v w = ((draws_again v.terms ≡ false) × (0 < length v.refusals) × (w ≡ v)) ⊎ FoundNone v w
 
 -- a pass may be split: it was not told that too many were counted, or it has more than one part
 pub record MaySplit (v : View) : Type 0 where

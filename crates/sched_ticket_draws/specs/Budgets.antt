@@ -34,13 +34,13 @@ BudgetDrew-counts : (d : OfBudget) (got : Bool) (e : OfBudget) → BudgetDrew d 
     length e.pass.has.tickets ≡ count_after got (length d.pass.has.tickets)
 BudgetDrew-counts d true e drew = rw (drew.2.gained, drew.2.asks.same) (omega arith)
 BudgetDrew-counts d false e drew = elim drew.1 [
-  | inl before ↦ ap (λ v. length v.tickets) before.1
+  | inl before ↦ ap (λ v. length v.tickets) before.2
   | inr now ↦ rw (now.gained, now.asks.same) refl
 ]
 
 BudgetDrew-denies : (d e : OfBudget) → BudgetDrew d false e → 0 < length e.pass.has.refusals
 BudgetDrew-denies d e drew = elim drew.1 [
-  | inl before ↦ rw before.1 before.0
+  | inl before ↦ rw before.2 before.1
   | inr now ↦ rw now.gained (omega arith)
 ]
 
