@@ -164,6 +164,9 @@ class Course:
             return self._raised(error, outcome)
         self._notes(outcome)
         if self._asks_engine(outcome):
+            if self.state.fn is not None and not self._logs:
+                # nobody looks at it while it waits, and it holds the frames of the call
+                self.state.outcome = _FAILED
             return True
         self.over = True
         self._gave_up(error)
@@ -391,6 +394,10 @@ class Course:
         """The fields of a log record."""
         state = self.state
         return {"hikebox_call": state.name, "hikebox_attempt": state.attempt_number, **more}
+
+
+#: In the place of an attempt that failed, and of which nobody asks how.
+_FAILED = Outcome()
 
 
 def _called(fn: Callable[[], Any]) -> Any:
