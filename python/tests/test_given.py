@@ -9,10 +9,11 @@ import inspect
 import logging
 import multiprocessing
 import pickle
+import sys
 import threading
 import time
 import weakref
-from typing import Any, Callable, Iterator, List
+from typing import Any, Callable, Dict, Iterator, List
 
 import pytest
 
@@ -663,3 +664,30 @@ def test_nothing_is_kept_of_a_retry_that_was_stopped_in_its_wait() -> None:
         pass
     del big
     assert gone() is None
+
+
+def test_threads_that_poll_at_once_have_a_slate_each() -> None:
+    def work(jitter: float) -> None:
+        retrying = Retrying(
+            recurs(20) & spaced(1).jittered(0, 1),
+            random=lambda: jitter,
+            sleep=slept[jitter].append,
+            clock=lambda: 0.0,
+            fallback=lambda state: None,
+        )
+        for _ in range(100):
+            retrying(fails)
+
+    before = sys.getswitchinterval()
+    slept: Dict[float, List[float]] = {number / 8: [] for number in range(1, 8)}
+    threads = [threading.Thread(target=work, args=(jitter,)) for jitter in slept]
+    sys.setswitchinterval(1e-6)
+    try:
+        for thread in threads:
+            thread.start()
+        for thread in threads:
+            thread.join()
+    finally:
+        sys.setswitchinterval(before)
+    for jitter, waits in slept.items():
+        assert len(waits) == 2000 and all(wait == pytest.approx(jitter) for wait in waits)

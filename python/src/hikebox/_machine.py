@@ -67,8 +67,11 @@ class Machine:
         _begun("hikebox_retry_unlimited", _retry_unlimited(policy.at, self.at))
 
     def poll(self, now: int, report: int, code: int, words: Optional[Dict[int, int]] = None) -> Polled:
-        """One step: what is to be done. `words` are the random words of some lanes; those of others are the middle."""
-        slate = _slates.pop() if _slates else _Slate()
+        """One step: what is to be done. `words` are the random words of the lanes that the policy reads."""
+        try:
+            slate = _slates.pop()
+        except IndexError:  # another thread may have taken the last one just now
+            slate = _Slate()
         slate.now.value = now
         slate.code.value = code
         if words is not None:
