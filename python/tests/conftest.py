@@ -4,6 +4,7 @@ from __future__ import annotations
 
 import os
 import shutil
+import signal
 import socket
 import subprocess
 import sys
@@ -19,6 +20,12 @@ sys.path.insert(0, str(HERE))
 
 #: The root of the repository.
 TOP = HERE.parent.parent
+
+
+def heed_signals() -> None:
+    """Signals that whoever started the tests ignores, as a shell does of what it runs in the background, are heeded."""
+    for number in (signal.SIGHUP, signal.SIGINT, signal.SIGQUIT, signal.SIGTERM):
+        signal.signal(number, signal.SIG_DFL)
 
 
 @pytest.fixture

@@ -16,7 +16,7 @@ from typing import Any, Iterator, List, Optional, Tuple
 
 import pytest
 import reference
-from conftest import TOP, python_environment
+from conftest import TOP, heed_signals, python_environment
 from test_policy import spoilt
 
 from hikebox._words import statuses
@@ -28,12 +28,6 @@ def hikebox(*words: str, text: Optional[str] = None, **how: Any) -> Tuple[int, s
     given: Any = {"input": text} if text is not None else {"stdin": subprocess.DEVNULL}
     done = subprocess.run(command, capture_output=True, text=True, env=python_environment(), timeout=30, **given, **how)
     return done.returncode, done.stdout, done.stderr
-
-
-def heed_signals() -> None:
-    """Signals that whoever started the tests ignores, as a shell does of what it runs in the background, are heeded."""
-    for number in (signal.SIGHUP, signal.SIGINT, signal.SIGQUIT, signal.SIGTERM):
-        signal.signal(number, signal.SIG_DFL)
 
 
 @pytest.fixture

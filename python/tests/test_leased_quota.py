@@ -449,6 +449,9 @@ def test_processes_killed_at_points_of_a_lease_of_a_file(workers: Workers, tmp_p
         workers.start({**how, "first": 200})
     ends = workers.wait()
     assert ends[-2:] == [0, 0] and set(ends[:-2]) <= {0, -9}
+    # one more, for what was told after the two had drawn all that there was
+    workers.start(how)
+    assert workers.wait()[-1] == 0
     usage = LeasedQuota(FileStore(tmp_path / "counts"), "a", 1500, 0.5, LONG).seen()
     # those of the process that died before it asked at all were not told
     assert usage.asked == 8 * 200

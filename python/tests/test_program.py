@@ -13,7 +13,7 @@ from pathlib import Path
 from typing import Any, List, Tuple
 
 import pytest
-from conftest import TOP, python_environment
+from conftest import TOP, heed_signals, python_environment
 from test_cli import hikebox
 
 from hikebox import BudgetError
@@ -123,7 +123,9 @@ def test_control_c_at_the_start_prints_no_traceback(tmp_path: Path) -> None:
     environment = python_environment()
     environment["PYTHONPATH"] = f"{tmp_path}{os.pathsep}{environment['PYTHONPATH']}"
     program = "from hikebox_program import main; main()"
-    process = subprocess.Popen([sys.executable, "-c", program], stderr=subprocess.PIPE, env=environment)
+    process = subprocess.Popen(
+        [sys.executable, "-c", program], stderr=subprocess.PIPE, env=environment, preexec_fn=heed_signals
+    )
     until = time.monotonic() + 20
     while not (tmp_path / "loading").exists():
         assert time.monotonic() < until
