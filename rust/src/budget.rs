@@ -47,7 +47,7 @@ pub enum BudgetError {
     Fixed,
     /// The reserve is above 4,294,967,296 retries a window.
     ReserveTooLarge,
-    /// The share is below 0 or above 1000 retries a request, no number, or more than 0 and less than a thousandth.
+    /// The share is below 0 or above 10 retries a request, no number, or more than 0 and less than a thousandth.
     ShareOutOfRange,
     /// The window is shorter than a millisecond.
     PeriodTooShort,
@@ -194,7 +194,7 @@ impl fmt::Display for BudgetError {
             Self::LimitTooLarge => "the limit is above 4294967296",
             Self::Fixed => "the budget keeps its limit",
             Self::ReserveTooLarge => "the reserve is above 4294967296 retries a window",
-            Self::ShareOutOfRange => "the share is not 0, nor from 0.001 to 1000 retries a request",
+            Self::ShareOutOfRange => "the share is not 0, nor from 0.001 to 10 retries a request (0.2 is one for every five requests)",
             Self::PeriodTooShort => "the window is shorter than a millisecond",
             Self::PeriodTooLong => "the window is longer than 2^62 - 1 milliseconds",
             Self::TooManyPasses => "more than 2^42 passes are alive",

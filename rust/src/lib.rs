@@ -27,7 +27,9 @@
 //! What the engine does is proved; this crate, which calls it, is tested. `docs/RUST.md` of the repository is the
 //! guide.
 
+mod asynchronous;
 mod budget;
+mod clock;
 mod engine;
 mod grants;
 #[cfg(feature = "leased")]
@@ -35,36 +37,41 @@ mod leased;
 mod machine;
 mod policy;
 mod quota;
+#[cfg(feature = "tower")]
+mod requests;
 mod retrying;
 mod schedule;
 #[cfg(feature = "leased")]
 mod store;
-#[cfg(feature = "tokio")]
-mod tokio;
-#[cfg(feature = "tower")]
-mod tower;
 
+#[cfg(feature = "tokio")]
+pub use asynchronous::retry_async;
+#[cfg(all(feature = "tokio", hikebox_async_closures))]
+pub use asynchronous::retry_async_mut;
+pub use asynchronous::{Async, AsyncSleep, Retryable};
 pub use budget::{Budget, BudgetError, Pass};
-pub use grants::{Grants, Unlimited};
+pub use grants::{Grants, StoreFailure, Tickets, Unlimited};
 #[cfg(feature = "leased")]
 pub use leased::{Leased, LeasedQuota};
 pub use machine::{Cause, Ended, Machine, Report, Step};
 pub use policy::{Line, Policy, PolicyError, PolicyFault};
 pub use quota::{Quota, QuotaPass, Usage};
-pub use retrying::{retry, RetryError, Retrying};
+#[cfg(feature = "tower")]
+pub use requests::RetryPolicy;
+pub use retrying::{
+    retry, Blocking, BlockingRetryable, Hooked, Hooks, Host, PlainHooks, Random, RetryError, Retrying, Sleep,
+    SystemHost, SystemSleep, SystemWords,
+};
 pub use schedule::{Fold, Schedule, Test};
 #[cfg(feature = "leased")]
 pub use store::StoreError;
-#[cfg(feature = "tokio")]
-pub use tokio::retry_async;
-#[cfg(feature = "tower")]
-pub use tower::RetryPolicy;
 
 #[cfg(doctest)]
 mod pages {
     #[doc = include_str!("../README.md")]
     struct Readme;
 
+    #[cfg(all(feature = "tokio", feature = "leased", hikebox_async_closures))]
     #[doc = include_str!("../../docs/RUST.md")]
     struct Guide;
 

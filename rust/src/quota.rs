@@ -1,7 +1,10 @@
 //! Quotas of retries, in windows of time.
 
 use crate::budget::BudgetError;
-use crate::engine::{self, Handle, QuotaKind, Used, FAR};
+use crate::clock::{now, whole_millis};
+#[cfg(feature = "leased")]
+use crate::engine::FAR;
+use crate::engine::{self, Handle, QuotaKind, Used};
 use std::sync::{Arc, Mutex, MutexGuard, PoisonError};
 use std::time::{Duration, Instant};
 
@@ -25,7 +28,8 @@ use std::time::{Duration, Instant};
 /// # Ok::<(), Box<dyn std::error::Error>>(())
 /// ```
 ///
-/// Windows are counted from the moment at which the quota was made, by the system's monotonic clock.
+/// Windows are counted from the moment at which the quota was made, by the system's monotonic clock; with the feature
+/// `tokio` by tokio's, which `tokio::time::pause` stops.
 #[derive(Clone, Debug)]
 pub struct Quota {
     shared: Arc<Shared>,
@@ -88,13 +92,14 @@ pub(crate) struct Terms {
 
 impl Quota {
     /// A quota of `reserve` retries in each window of this length (whole milliseconds), and `share` retries for each
-    /// request of the window: 0.2 is one for every five. The share is counted in thousandths.
+    /// request of the window: 0.2 is one for every five. The share is counted in thousandths, and is at most 10: a number
+    /// that was meant as per cent, as 20.0, is refused.
     ///
     /// # Errors
     ///
     /// [`BudgetError`] says which of them is out of its range.
     pub fn new(reserve: u64, share: f64, per: Duration) -> Result<Self, BudgetError> {
-        Self::new_at(Instant::now(), reserve, share, per)
+        Self::new_at(now(), reserve, share, per)
     }
 
     /// The same with windows that are counted from this moment, as that of a clock which a test has stopped. Before it,
@@ -124,21 +129,21 @@ impl Quota {
 
     /// Counts a request. Calls that are retried under the quota do it by themselves.
     pub fn deposit(&self) {
-        self.deposit_at(self.moment(Instant::now()));
+        self.deposit_at(self.moment(now()));
     }
 
-    /// The same at a moment of a host that has a clock of its own, in milliseconds.
-    pub fn deposit_at(&self, now: u64) {
+    /// The same at a moment of a host that has a clock of its own: the time since one that it chooses.
+    pub fn deposit_at(&self, now: Duration) {
         deposit(&mut self.lock(), now);
     }
 
     /// What was asked of the present window, what it has given, and what it has left.
     pub fn seen(&self) -> Usage {
-        self.seen_at(self.moment(Instant::now()))
+        self.seen_at(self.moment(now()))
     }
 
-    /// The same at a moment of a host that has a clock of its own, in milliseconds.
-    pub fn seen_at(&self, now: u64) -> Usage {
+    /// The same at a moment of a host that has a clock of its own.
+    pub fn seen_at(&self, now: Duration) -> Usage {
         seen(&mut self.lock(), now)
     }
 
@@ -150,9 +155,14 @@ impl Quota {
         tickets
     }
 
-    /// The quota's moment at this instant: milliseconds since it was made.
-    pub fn moment(&self, now: Instant) -> u64 {
-        u64::try_from(now.saturating_duration_since(self.shared.began).as_millis()).unwrap_or(u64::MAX)
+    /// The quota's moment at this instant: the time since it was made.
+    pub fn moment(&self, now: Instant) -> Duration {
+        now.saturating_duration_since(self.shared.began)
+    }
+
+    /// The same in whole milliseconds.
+    pub(crate) fn millis_at(&self, now: Instant) -> u64 {
+        whole_millis(self.moment(now))
     }
 
     /// Closes the quota, where no other clone of it, no pass and no retry is alive, and answers how many tickets were
@@ -188,31 +198,31 @@ impl Quota {
 impl QuotaPass {
     /// Counts a request in the present window.
     pub fn deposit(&mut self) {
-        self.deposit_at(self.quota.moment(Instant::now()));
+        self.deposit_at(self.quota.moment(now()));
     }
 
     /// A ticket that no other draw got, or `None` where the present window has none left: a later one may, and so may
     /// this one after more requests. Ticket n of a window, from 0, has the number `window << 32 | n`.
     pub fn draw(&mut self) -> Option<u64> {
-        self.draw_at(self.quota.moment(Instant::now()))
+        self.draw_at(self.quota.moment(now()))
     }
 
     /// What was asked of the present window, what it has given, and what it has left.
     pub fn seen(&mut self) -> Usage {
-        self.seen_at(self.quota.moment(Instant::now()))
+        self.seen_at(self.quota.moment(now()))
     }
 
-    /// [`QuotaPass::deposit`] at a moment of a host that has a clock of its own, in milliseconds. A moment in an
-    /// earlier window than the latest counts as one of the latest.
-    pub fn deposit_at(&mut self, now: u64) {
+    /// [`QuotaPass::deposit`] at a moment of a host that has a clock of its own. A moment in an earlier window than the
+    /// latest counts as one of the latest.
+    pub fn deposit_at(&mut self, now: Duration) {
         deposit(self.handle(), now);
     }
 
     /// [`QuotaPass::draw`] at such a moment.
-    pub fn draw_at(&mut self, now: u64) -> Option<u64> {
+    pub fn draw_at(&mut self, now: Duration) -> Option<u64> {
         let mut ticket = 0;
         // SAFETY: the handle holds a pass.
-        match unsafe { engine::hikebox_quota_draw(self.handle().raw(), now.min(FAR), &mut ticket) } {
+        match unsafe { engine::hikebox_quota_draw(self.handle().raw(), whole_millis(now), &mut ticket) } {
             engine::OK => {
                 self.tickets += 1;
                 Some(ticket)
@@ -225,7 +235,7 @@ impl QuotaPass {
     }
 
     /// [`QuotaPass::seen`] at such a moment.
-    pub fn seen_at(&mut self, now: u64) -> Usage {
+    pub fn seen_at(&mut self, now: Duration) -> Usage {
         seen(self.handle(), now)
     }
 
@@ -248,21 +258,21 @@ impl Drop for QuotaPass {
     }
 }
 
-fn deposit(pass: &mut Handle<QuotaKind>, now: u64) {
+fn deposit(pass: &mut Handle<QuotaKind>, now: Duration) {
     // SAFETY: the handle holds a pass.
-    unsafe { engine::hikebox_quota_deposit(pass.raw(), now.min(FAR)) };
+    unsafe { engine::hikebox_quota_deposit(pass.raw(), whole_millis(now)) };
 }
 
-fn seen(pass: &mut Handle<QuotaKind>, now: u64) -> Usage {
+fn seen(pass: &mut Handle<QuotaKind>, now: Duration) -> Usage {
     let mut used = Used::default();
     // SAFETY: the handle holds a pass.
-    unsafe { engine::hikebox_quota_seen(pass.raw(), now.min(FAR), &mut used) };
+    unsafe { engine::hikebox_quota_seen(pass.raw(), whole_millis(now), &mut used) };
     let Used { window, asked, given, left } = used;
     Usage { window, asked, given, left }
 }
 
-/// The greatest share, in thousandths of a ticket.
-const MOST_SHARE: f64 = 1_000_000.0;
+/// The greatest share, in thousandths of a ticket: 20.0 is 20 per cent by mistake.
+const MOST_SHARE: f64 = 10_000.0;
 
 impl Terms {
     /// The terms in the engine's units, where they have such; what else they have to keep to, the engine says.

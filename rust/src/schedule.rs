@@ -335,7 +335,7 @@ impl fmt::Display for Schedule {
 
 /// Whole milliseconds, rounded up.
 fn millis(duration: Duration) -> u64 {
-    u64::try_from(duration.as_nanos().div_ceil(1_000_000)).unwrap_or(u64::MAX)
+    u64::try_from((duration.as_nanos() + 999_999) / 1_000_000).unwrap_or(u64::MAX)
 }
 
 /// Thousandths of a ratio; what is no ratio is a number that no policy takes.

@@ -4,10 +4,11 @@ use crate::budget::BudgetError;
 use serde_json::{json, Map, Value};
 use std::error::Error;
 use std::fmt;
-use std::fs::{self, File, OpenOptions, TryLockError};
+use std::fs::{self, File, OpenOptions};
 use std::io;
 use std::mem::MaybeUninit;
 use std::os::unix::fs::FileExt;
+use std::os::unix::io::AsRawFd;
 use std::path::{Path, PathBuf};
 use std::thread;
 use std::time::{Duration, Instant};
@@ -61,13 +62,22 @@ impl CountFile {
         let file = OpenOptions::new().read(true).write(true).create(true).truncate(false).open(&self.path)?;
         let began = Instant::now();
         loop {
-            match file.try_lock() {
+            match try_lock(&file) {
                 Ok(()) => return Counts::read(file),
-                Err(TryLockError::Error(error)) => return Err(error.into()),
-                Err(TryLockError::WouldBlock) if began.elapsed() > PATIENCE => return Err(StoreError::Locked),
-                Err(TryLockError::WouldBlock) => thread::sleep(Duration::from_millis(1)),
+                Err(error) if error.kind() != io::ErrorKind::WouldBlock => return Err(error.into()),
+                Err(_) if began.elapsed() > PATIENCE => return Err(StoreError::Locked),
+                Err(_) => thread::sleep(Duration::from_millis(1)),
             }
         }
+    }
+}
+
+/// Takes the file's lock, which goes when the file is closed, where no other process has it.
+fn try_lock(file: &File) -> io::Result<()> {
+    // SAFETY: the descriptor is that of an open file.
+    match unsafe { libc::flock(file.as_raw_fd(), libc::LOCK_EX | libc::LOCK_NB) } {
+        0 => Ok(()),
+        _ => Err(io::Error::last_os_error()),
     }
 }
 
@@ -85,7 +95,7 @@ impl Window {
     /// Whether a window of this text is a later one of the same start.
     fn is_before(&self, text: &str) -> bool {
         match text.split_once(' ') {
-            Some((boot, number)) => boot == self.boot && number.parse::<u64>().is_ok_and(|number| number > self.number),
+            Some((boot, number)) => boot == self.boot && number.parse::<u64>().map_or(false, |number| number > self.number),
             None => false,
         }
     }
@@ -119,8 +129,9 @@ impl Counts {
 
     /// Those of this key's window, which are 0 where the file has an earlier one; `None` where it has a later one.
     pub(crate) fn of_window<const N: usize>(&self, key: &str, window: &Window) -> Result<Option<[u64; N]>, StoreError> {
-        let Some(stored) = self.by_key.get(key) else {
-            return Ok(Some([0; N]));
+        let stored = match self.by_key.get(key) {
+            Some(stored) => stored,
+            None => return Ok(Some([0; N])),
         };
         let name = stored.get(0).and_then(Value::as_str).ok_or(StoreError::Damaged)?;
         if window.is_before(name) {
