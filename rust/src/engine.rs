@@ -53,6 +53,7 @@ pub(crate) const NOT_A_POLICY: u32 = 11;
 pub(crate) const OUT_OF_RANGE: u32 = 12;
 pub(crate) const TOO_DEEP: u32 = 13;
 pub(crate) const TOO_MANY: u32 = 14;
+pub(crate) const JOURNAL_FULL: u32 = 21;
 pub(crate) const LIMIT_TOO_LARGE: u32 = 30;
 pub(crate) const FIXED: u32 = 31;
 pub(crate) const NO_TICKET: u32 = 32;

@@ -67,12 +67,14 @@ pub enum PolicyFault {
     TooDeep,
     /// It has more than 256 nodes.
     TooMany,
+    /// It made 65,536 steps.
+    JournalFull,
     /// Memory is wanting.
     NoMemory,
 }
 
 /// One line of what a policy would do: see [`Policy::preview`].
-#[derive(Clone, Debug, PartialEq, Eq)]
+#[derive(Clone, Debug, PartialEq, Eq, Hash)]
 pub struct Line {
     /// The moment of the event, in milliseconds.
     pub moment: u64,
@@ -85,7 +87,14 @@ pub struct Line {
 impl Policy {
     /// The policy of a schedule, or its first fault.
     pub fn new(schedule: &Schedule) -> Result<Self, PolicyError> {
-        Self::from_json(schedule.as_json())
+        match schedule.fault() {
+            None => Self::from_json(schedule.as_json()),
+            Some(refused) => Err(PolicyError {
+                fault: PolicyFault::OutOfRange,
+                place: refused.call.clone(),
+                hint: refused.why.to_owned(),
+            }),
+        }
     }
 
     /// The policy that a JSON text spells, or the text's first fault.
@@ -150,28 +159,30 @@ impl Policy {
 }
 
 /// A policy that is stepped by hand.
-struct Driver {
+pub(crate) struct Driver {
     handle: Handle<DriverKind>,
 }
 
 impl Driver {
-    fn new(policy: &Policy) -> Result<Self, PolicyError> {
+    pub(crate) fn new(policy: &Policy) -> Result<Self, PolicyError> {
         // SAFETY: the first handle holds a policy, and the second is empty.
         let handle = Handle::filled(|driver| policy.with(|policy| unsafe { engine::hikebox_driver_new(policy, driver) }));
         Ok(Self { handle: handle.map_err(PolicyError::of)? })
     }
 
-    /// One event.
+    /// One event, with its line.
     fn next(&mut self, now: u64, words: [u32; 4], input: u64) -> Result<Line, PolicyError> {
+        let next = self.step(now, words, input)?;
+        Ok(Line { moment: now, output: self.output()?, next })
+    }
+
+    /// One event: the planned start, or `None` where the policy is done.
+    pub(crate) fn step(&mut self, now: u64, words: [u32; 4], input: u64) -> Result<Option<u64>, PolicyError> {
         let mut decision = engine::Decision::default();
         // SAFETY: the handle holds a driver.
         let status = unsafe { engine::hikebox_driver_next(self.handle.raw(), now, &words, input, &mut decision) };
         match status {
-            engine::OK => Ok(Line {
-                moment: now,
-                output: self.output()?,
-                next: decision.goes_on.then_some(decision.start),
-            }),
+            engine::OK => Ok(decision.goes_on.then_some(decision.start)),
             status => Err(PolicyError::of(status)),
         }
     }
@@ -193,8 +204,8 @@ impl PolicyError {
         self.fault
     }
 
-    /// Where: the steps to the node, as `meet[1].cap[1]`, or `line 2, column 7` of a text that is not JSON. Empty where it
-    /// is the whole policy, or not known.
+    /// Where: the builder's call of a [`Schedule`], as `jittered(1.2..0.8)`; of a text the steps to the node, as
+    /// `meet[1].cap[1]`, or `line 2, column 7` where it is not JSON. Empty where it is the whole policy, or not known.
     pub fn place(&self) -> &str {
         &self.place
     }
@@ -241,6 +252,7 @@ impl PolicyFault {
             engine::OUT_OF_RANGE => Self::OutOfRange,
             engine::TOO_DEEP => Self::TooDeep,
             engine::TOO_MANY => Self::TooMany,
+            engine::JOURNAL_FULL => Self::JournalFull,
             engine::NO_MEMORY => Self::NoMemory,
             status => unreachable!("the engine's status {status}"),
         }
@@ -255,6 +267,7 @@ impl fmt::Display for PolicyFault {
             Self::OutOfRange => "number out of range",
             Self::TooDeep => "too deep",
             Self::TooMany => "too many nodes",
+            Self::JournalFull => "the journal is full",
             Self::NoMemory => "no memory",
         })
     }
@@ -286,6 +299,13 @@ impl TryFrom<Schedule> for Policy {
 
     fn try_from(schedule: Schedule) -> Result<Self, PolicyError> {
         Self::new(&schedule)
+    }
+}
+
+/// As its text.
+impl std::hash::Hash for Policy {
+    fn hash<H: std::hash::Hasher>(&self, state: &mut H) {
+        self.json.hash(state);
     }
 }
 
