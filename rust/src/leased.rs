@@ -1,10 +1,10 @@
 //! Budgets and quotas that the processes of a machine share: tickets in ranges from a file that counts.
 
 use crate::budget::{Budget, BudgetError, Pass};
-use crate::engine::MOST_TICKETS;
+use crate::engine::{uptime, MOST_TICKETS};
 use crate::grants::Tickets;
 use crate::quota::{Terms, Usage};
-use crate::store::{uptime, CountFile, Counts, StoreError, Window};
+use crate::store::{CountFile, Counts, StoreError, Window};
 use std::error::Error;
 use std::path::Path;
 use std::sync::{Mutex, MutexGuard, PoisonError};

@@ -31,6 +31,8 @@
 //! What the engine does is proved; this crate, which calls it, is tested. `docs/RUST.md` of the repository is the
 //! guide.
 
+#![deny(unsafe_code)]
+
 mod asynchronous;
 mod budget;
 mod clock;

@@ -125,38 +125,18 @@ impl Machine {
 
     pub(crate) fn on(policy: &Policy, source: &Source) -> Result<Self, BudgetError> {
         let (handle, draws_on) = match source {
-            Source::Budget(budget) => (Self::on_budget(policy, budget)?, DrawsOn::Budget(budget.clone())),
-            Source::Quota(quota) => (Self::on_quota(policy, quota)?, DrawsOn::Quota(quota.clone())),
-            Source::Store(store) => (Self::unlimited(policy)?, DrawsOn::Store(Drawn::new(store.clone()))),
-            Source::Unlimited => (Self::unlimited(policy)?, DrawsOn::Nothing),
+            Source::Budget(budget) => (
+                policy.with(|policy| budget.with(|root| Handle::on_budget(policy, root))),
+                DrawsOn::Budget(budget.clone()),
+            ),
+            Source::Quota(quota) => (
+                policy.with(|policy| quota.with(|root| Handle::on_quota(policy, root))),
+                DrawsOn::Quota(quota.clone()),
+            ),
+            Source::Store(store) => (policy.with(Handle::unlimited), DrawsOn::Store(Drawn::new(store.clone()))),
+            Source::Unlimited => (policy.with(Handle::unlimited), DrawsOn::Nothing),
         };
-        Ok(Self { handle: Some(handle), draws_on, words: Words::new() })
-    }
-
-    /// The engine's retry with a pass of the budget. The first pass has 2^62 parts, of which it takes 2^20 at most.
-    fn on_budget(policy: &Policy, budget: &Budget) -> Result<Handle<RetryKind>, BudgetError> {
-        let handle = Handle::filled(|retry| {
-            // SAFETY: the handles hold a policy and a pass, and `retry` is empty.
-            policy.with(|policy| budget.with(|root| unsafe { engine::hikebox_retry_new(policy, root, retry) }))
-        });
-        handle.map_err(BudgetError::of)
-    }
-
-    /// The same with a pass of the quota.
-    fn on_quota(policy: &Policy, quota: &Quota) -> Result<Handle<RetryKind>, BudgetError> {
-        let handle = Handle::filled(|retry| {
-            // SAFETY: the handles hold a policy and a pass, and `retry` is empty.
-            policy.with(|policy| quota.with(|root| unsafe { engine::hikebox_retry_on_quota(policy, root, retry) }))
-        });
-        handle.map_err(BudgetError::of)
-    }
-
-    fn unlimited(policy: &Policy) -> Result<Handle<RetryKind>, BudgetError> {
-        let handle = Handle::filled(|retry| {
-            // SAFETY: the handle holds a policy, and `retry` is empty.
-            policy.with(|policy| unsafe { engine::hikebox_retry_unlimited(policy, retry) })
-        });
-        handle.map_err(BudgetError::of)
+        Ok(Self { handle: Some(handle.map_err(BudgetError::of)?), draws_on, words: Words::new() })
     }
 
     /// Steps it at the moment `now`, which is not before that of the step before, with random words of its own. A report
@@ -190,10 +170,7 @@ impl Machine {
             Some(Report::Won(code)) => (engine::WON, code.min(FAR)),
             Some(Report::Lost(code)) => (engine::LOST, code.min(FAR)),
         };
-        let mut next = Next::default();
-        // SAFETY: the handle holds a retry.
-        let status = unsafe { engine::hikebox_retry_poll(self.raw(), now, words, report, code, &mut next) };
-        if status == engine::OK { next } else { self.see() }
+        self.handle().poll(now, words, report, code).unwrap_or_else(|_| self.see())
     }
 
     /// How many retries it was granted.
@@ -219,37 +196,28 @@ impl Machine {
 
     /// Ends it as cancelled, where it is not over.
     pub fn cancel(&mut self) {
-        // SAFETY: the handle holds a retry.
-        unsafe { engine::hikebox_retry_cancel(self.raw()) };
+        self.handle().cancel();
     }
 
     fn see(&mut self) -> Next {
-        let mut next = Next::default();
-        // SAFETY: the handle holds a retry.
-        unsafe { engine::hikebox_retry_see(self.raw(), &mut next) };
-        next
+        self.handle().see()
     }
 
-    fn raw(&mut self) -> *mut engine::Raw {
-        self.handle.as_mut().expect("a machine has its handle until it is dropped").raw()
+    fn handle(&mut self) -> &mut Handle<RetryKind> {
+        self.handle.as_mut().expect("a machine has its handle until it is dropped")
     }
 }
 
 impl Drop for Machine {
     /// Gives its tickets back to be counted.
     fn drop(&mut self) {
-        let mut handle = match self.handle.take() {
+        let handle = match self.handle.take() {
             Some(handle) => handle,
             None => return,
         };
-        // SAFETY: the handles hold a retry and a pass of its budget, or of its quota.
         match &self.draws_on {
-            DrawsOn::Budget(budget) => {
-                budget.with(|root| unsafe { engine::hikebox_retry_end(handle.raw(), root) });
-            }
-            DrawsOn::Quota(quota) => {
-                quota.with(|root| unsafe { engine::hikebox_retry_end_on_quota(handle.raw(), root) });
-            }
+            DrawsOn::Budget(budget) => budget.with(|root| handle.end(root)),
+            DrawsOn::Quota(quota) => quota.with(|root| handle.end_on_quota(root)),
             DrawsOn::Store(_) | DrawsOn::Nothing => (),
         }
     }

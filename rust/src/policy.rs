@@ -1,11 +1,11 @@
 //! Policies: schedules that were read and are right.
 
-use crate::engine::{self, DriverKind, Handle, Place, PolicyKind};
+use crate::engine::{self, DriverKind, Handle, Place, PolicyKind, Status};
 use crate::schedule::Schedule;
 use std::error::Error;
 use std::fmt;
 use std::str::FromStr;
-use std::sync::{Arc, Mutex};
+use std::sync::{Arc, Mutex, PoisonError};
 
 /// The most events that a driver keeps.
 const MOST_EVENTS: usize = 65_536;
@@ -99,16 +99,8 @@ impl Policy {
 
     /// The policy that a JSON text spells, or the text's first fault.
     pub fn from_json(json: &str) -> Result<Self, PolicyError> {
-        let mut place = Place::default();
-        let mut handle = Handle::filled(|policy| {
-            // SAFETY: the text is valid for its length, and `policy` is an empty handle.
-            unsafe { engine::hikebox_policy_read(json.as_ptr(), json.len(), policy, &mut place) }
-        })
-        .map_err(|status| PolicyError::of_text(json, status, place))?;
-        let (mut nodes, mut depth) = (0, 0);
-        // SAFETY: the handle holds a policy.
-        let status = unsafe { engine::hikebox_policy_size(handle.raw(), &mut nodes, &mut depth) };
-        debug_assert_eq!(status, engine::OK);
+        let mut handle = Handle::read(json).map_err(|(status, place)| PolicyError::of_text(json, status, place))?;
+        let (nodes, depth) = handle.size();
         Ok(Self { json: json.into(), handle: Arc::new(Mutex::new(handle)), nodes, depth })
     }
 
@@ -152,9 +144,8 @@ impl Policy {
     }
 
     /// Lends the handle to one call.
-    pub(crate) fn with<T>(&self, call: impl FnOnce(*mut engine::Raw) -> T) -> T {
-        let mut handle = self.handle.lock().unwrap_or_else(|poisoned| poisoned.into_inner());
-        call(handle.raw())
+    pub(crate) fn with<T>(&self, call: impl FnOnce(&mut Handle<PolicyKind>) -> T) -> T {
+        call(&mut self.handle.lock().unwrap_or_else(PoisonError::into_inner))
     }
 }
 
@@ -165,9 +156,7 @@ pub(crate) struct Driver {
 
 impl Driver {
     pub(crate) fn new(policy: &Policy) -> Result<Self, PolicyError> {
-        // SAFETY: the first handle holds a policy, and the second is empty.
-        let handle = Handle::filled(|driver| policy.with(|policy| unsafe { engine::hikebox_driver_new(policy, driver) }));
-        Ok(Self { handle: handle.map_err(PolicyError::of)? })
+        Ok(Self { handle: policy.with(Handle::<DriverKind>::new).map_err(PolicyError::of)? })
     }
 
     /// One event, with its line.
@@ -178,23 +167,13 @@ impl Driver {
 
     /// One event: the planned start, or `None` where the policy is done.
     pub(crate) fn step(&mut self, now: u64, words: [u32; 4], input: u64) -> Result<Option<u64>, PolicyError> {
-        let mut decision = engine::Decision::default();
-        // SAFETY: the handle holds a driver.
-        let status = unsafe { engine::hikebox_driver_next(self.handle.raw(), now, &words, input, &mut decision) };
-        match status {
-            engine::OK => Ok(decision.goes_on.then_some(decision.start)),
-            status => Err(PolicyError::of(status)),
-        }
+        let decision = self.handle.next(now, &words, input).map_err(PolicyError::of)?;
+        Ok(decision.goes_on.then_some(decision.start))
     }
 
     /// The last output, as text.
     fn output(&mut self) -> Result<String, PolicyError> {
-        let driver = self.handle.raw();
-        // SAFETY: the handle holds a driver, and the text has room for as many bytes as are told.
-        let text = engine::text(|text, room, length| unsafe {
-            engine::hikebox_driver_last_text(driver, text, room, length)
-        });
-        text.map_err(PolicyError::of)
+        self.handle.last_text().map_err(PolicyError::of)
     }
 }
 
@@ -216,12 +195,12 @@ impl PolicyError {
     }
 
     /// The error of a call on what is a policy.
-    fn of(status: u32) -> Self {
+    fn of(status: Status) -> Self {
         Self { fault: PolicyFault::of(status, Place::default()), place: String::new(), hint: String::new() }
     }
 
     /// The error of this text, which was refused with this status.
-    fn of_text(json: &str, status: u32, at: Place) -> Self {
+    fn of_text(json: &str, status: Status, at: Place) -> Self {
         let fault = PolicyFault::of(status, at);
         let (place, hint) = match fault {
             PolicyFault::NoMemory | PolicyFault::NotJson { line: 0, .. } => Default::default(),
@@ -234,27 +213,23 @@ impl PolicyError {
 
 /// The place of a text's first fault, and what is wanted there, as the engine says; nothing where memory is wanting.
 fn told(json: &str) -> (String, String) {
-    // SAFETY: both texts are valid for their lengths.
-    let told = engine::text(|text, room, length| unsafe {
-        engine::hikebox_policy_fault(json.as_ptr(), json.len(), text, room, length)
-    });
-    let told = told.unwrap_or_default();
+    let told = engine::fault(json).unwrap_or_default();
     let (place, hint) = told.split_once(": ").unwrap_or_default();
     let place = if place == "top" { "" } else { place };
     (place.into(), hint.into())
 }
 
 impl PolicyFault {
-    fn of(status: u32, place: Place) -> Self {
+    fn of(status: Status, place: Place) -> Self {
         match status {
-            engine::NOT_JSON => Self::NotJson { line: place.line, column: place.column },
-            engine::NOT_A_POLICY => Self::NotAPolicy,
-            engine::OUT_OF_RANGE => Self::OutOfRange,
-            engine::TOO_DEEP => Self::TooDeep,
-            engine::TOO_MANY => Self::TooMany,
-            engine::JOURNAL_FULL => Self::JournalFull,
-            engine::NO_MEMORY => Self::NoMemory,
-            status => unreachable!("the engine's status {status}"),
+            Status::NotJson => Self::NotJson { line: place.line, column: place.column },
+            Status::NotAPolicy => Self::NotAPolicy,
+            Status::OutOfRange => Self::OutOfRange,
+            Status::TooDeep => Self::TooDeep,
+            Status::TooMany => Self::TooMany,
+            Status::JournalFull => Self::JournalFull,
+            Status::NoMemory => Self::NoMemory,
+            status => unreachable!("the engine's status {status:?}"),
         }
     }
 }

@@ -3,8 +3,8 @@
 use crate::budget::BudgetError;
 use crate::clock::{now, whole_millis};
 #[cfg(feature = "leased")]
-use crate::engine::FAR;
-use crate::engine::{self, Handle, QuotaKind, Used};
+use crate::engine::{FAR, MOST_TICKETS};
+use crate::engine::{Handle, QuotaKind, Status, Used};
 use std::sync::{Arc, Mutex, MutexGuard, PoisonError};
 use std::time::{Duration, Instant};
 
@@ -110,10 +110,8 @@ impl Quota {
     /// [`BudgetError`] says which of them is out of its range.
     pub fn new_at(began: Instant, reserve: u64, share: f64, per: Duration) -> Result<Self, BudgetError> {
         let Terms { reserve, share, period } = Terms::new(reserve, share, per)?;
-        // SAFETY: `pass` is an empty handle.
-        let root = Handle::filled(|pass| unsafe { engine::hikebox_quota_new(reserve, share, period, pass) });
-        let root = Mutex::new(root.map_err(BudgetError::of)?);
-        Ok(Self { shared: Arc::new(Shared { root, began }) })
+        let root = Handle::<QuotaKind>::new(reserve, share, period).map_err(BudgetError::of)?;
+        Ok(Self { shared: Arc::new(Shared { root: Mutex::new(root), began }) })
     }
 
     /// A pass of the quota, for a thread that counts requests and draws by itself.
@@ -122,9 +120,8 @@ impl Quota {
     ///
     /// [`BudgetError::NoMemory`].
     pub fn pass(&self) -> Result<QuotaPass, BudgetError> {
-        // SAFETY: the first handle holds a pass, and the second is empty.
-        let part = Handle::filled(|part| self.with(|root| unsafe { engine::hikebox_quota_split(root, part) }));
-        Ok(QuotaPass { handle: Some(part.map_err(BudgetError::of)?), quota: self.clone(), tickets: 0 })
+        let part = self.lock().split().map_err(BudgetError::of)?;
+        Ok(QuotaPass { handle: Some(part), quota: self.clone(), tickets: 0 })
     }
 
     /// Counts a request. Calls that are retried under the quota do it by themselves.
@@ -134,7 +131,7 @@ impl Quota {
 
     /// The same at a moment of a host that has a clock of its own: the time since one that it chooses.
     pub fn deposit_at(&self, now: Duration) {
-        deposit(&mut self.lock(), now);
+        self.lock().deposit(whole_millis(now));
     }
 
     /// What was asked of the present window, what it has given, and what it has left.
@@ -144,15 +141,12 @@ impl Quota {
 
     /// The same at a moment of a host that has a clock of its own.
     pub fn seen_at(&self, now: Duration) -> Usage {
-        seen(&mut self.lock(), now)
+        usage(self.lock().seen(whole_millis(now)))
     }
 
     /// How many tickets were granted, in all windows, to retries that have ended and to passes that were given back.
     pub fn granted(&self) -> u64 {
-        let mut tickets = 0;
-        // SAFETY: the handle holds a pass.
-        self.with(|root| unsafe { engine::hikebox_quota_count(root, &mut tickets) });
-        tickets
+        self.lock().count()
     }
 
     /// The quota's moment at this instant: the time since it was made.
@@ -177,17 +171,12 @@ impl Quota {
             Err(shared) => return Err(Self { shared }),
         };
         let mut root = root.into_inner().unwrap_or_else(PoisonError::into_inner);
-        let mut tickets = 0;
-        // SAFETY: the handle holds a pass.
-        match unsafe { engine::hikebox_quota_close(root.raw(), &mut tickets) } {
-            engine::OK => Ok(tickets),
-            _ => Err(Self { shared: Arc::new(Shared { root: Mutex::new(root), began }) }),
-        }
+        root.close().map_err(|_| Self { shared: Arc::new(Shared { root: Mutex::new(root), began }) })
     }
 
     /// Lends the first pass to one call.
-    pub(crate) fn with<T>(&self, call: impl FnOnce(*mut engine::Raw) -> T) -> T {
-        call(self.lock().raw())
+    pub(crate) fn with<T>(&self, call: impl FnOnce(&mut Handle<QuotaKind>) -> T) -> T {
+        call(&mut self.lock())
     }
 
     fn lock(&self) -> MutexGuard<'_, Handle<QuotaKind>> {
@@ -215,20 +204,18 @@ impl QuotaPass {
     /// [`QuotaPass::deposit`] at a moment of a host that has a clock of its own. A moment in an earlier window than the
     /// latest counts as one of the latest.
     pub fn deposit_at(&mut self, now: Duration) {
-        deposit(self.handle(), now);
+        self.handle().deposit(whole_millis(now));
     }
 
     /// [`QuotaPass::draw`] at such a moment.
     pub fn draw_at(&mut self, now: Duration) -> Option<u64> {
-        let mut ticket = 0;
-        // SAFETY: the handle holds a pass.
-        match unsafe { engine::hikebox_quota_draw(self.handle().raw(), whole_millis(now), &mut ticket) } {
-            engine::OK => {
+        match self.handle().draw(whole_millis(now)) {
+            Ok(ticket) => {
                 self.tickets += 1;
                 Some(ticket)
             }
-            status => {
-                debug_assert_eq!(status, engine::NO_TICKET);
+            Err(status) => {
+                debug_assert_eq!(status, Status::NoTicket);
                 None
             }
         }
@@ -236,7 +223,7 @@ impl QuotaPass {
 
     /// [`QuotaPass::seen`] at such a moment.
     pub fn seen_at(&mut self, now: Duration) -> Usage {
-        seen(self.handle(), now)
+        usage(self.handle().seen(whole_millis(now)))
     }
 
     /// How many tickets it drew.
@@ -251,22 +238,13 @@ impl QuotaPass {
 
 impl Drop for QuotaPass {
     fn drop(&mut self) {
-        if let Some(mut handle) = self.handle.take() {
-            // SAFETY: both handles hold passes of one quota. The second is then empty.
-            self.quota.with(|root| unsafe { engine::hikebox_quota_join(root, handle.raw()) });
+        if let Some(handle) = self.handle.take() {
+            self.quota.lock().join(handle);
         }
     }
 }
 
-fn deposit(pass: &mut Handle<QuotaKind>, now: Duration) {
-    // SAFETY: the handle holds a pass.
-    unsafe { engine::hikebox_quota_deposit(pass.raw(), whole_millis(now)) };
-}
-
-fn seen(pass: &mut Handle<QuotaKind>, now: Duration) -> Usage {
-    let mut used = Used::default();
-    // SAFETY: the handle holds a pass.
-    unsafe { engine::hikebox_quota_seen(pass.raw(), whole_millis(now), &mut used) };
+fn usage(used: Used) -> Usage {
     let Used { window, asked, given, left } = used;
     Usage { window, asked, given, left }
 }
@@ -292,7 +270,7 @@ impl Terms {
     pub(crate) fn checked(self) -> Result<Self, BudgetError> {
         let Self { reserve, period, .. } = self;
         match self {
-            _ if reserve > engine::MOST_TICKETS => Err(BudgetError::ReserveTooLarge),
+            _ if reserve > MOST_TICKETS => Err(BudgetError::ReserveTooLarge),
             _ if period == 0 => Err(BudgetError::PeriodTooShort),
             _ if period > FAR => Err(BudgetError::PeriodTooLong),
             terms => Ok(terms),
@@ -301,6 +279,6 @@ impl Terms {
 
     /// How many tickets a window of so many requests gives.
     pub(crate) fn allowed(self, asked: u64) -> u64 {
-        (self.reserve + self.share * asked.min(engine::MOST_TICKETS) / 1000).min(engine::MOST_TICKETS)
+        (self.reserve + self.share * asked.min(MOST_TICKETS) / 1000).min(MOST_TICKETS)
     }
 }

@@ -1,14 +1,13 @@
 //! Files that count the tickets that were leased, for the processes of a machine.
 
 use crate::budget::BudgetError;
+use crate::engine::{try_lock, uptime};
 use serde_json::{json, Map, Value};
 use std::error::Error;
 use std::fmt;
 use std::fs::{self, File, OpenOptions};
 use std::io;
-use std::mem::MaybeUninit;
 use std::os::unix::fs::FileExt;
-use std::os::unix::io::AsRawFd;
 use std::path::{Path, PathBuf};
 use std::thread;
 use std::time::{Duration, Instant};
@@ -69,15 +68,6 @@ impl CountFile {
                 Err(_) => thread::sleep(Duration::from_millis(1)),
             }
         }
-    }
-}
-
-/// Takes the file's lock, which goes when the file is closed, where no other process has it.
-fn try_lock(file: &File) -> io::Result<()> {
-    // SAFETY: the descriptor is that of an open file.
-    match unsafe { libc::flock(file.as_raw_fd(), libc::LOCK_EX | libc::LOCK_NB) } {
-        0 => Ok(()),
-        _ => Err(io::Error::last_os_error()),
     }
 }
 
@@ -170,19 +160,6 @@ fn parse(text: &[u8]) -> Option<Map<String, Value>> {
         return None;
     }
     serde_json::from_slice(body).ok()
-}
-
-/// Milliseconds since the machine started, also those for which it slept. Nobody can set this clock.
-pub(crate) fn uptime() -> io::Result<u64> {
-    let mut time = MaybeUninit::<libc::timespec>::uninit();
-    // SAFETY: the call writes the time to the place that it is handed, and it is read only where it answers 0.
-    let time = unsafe {
-        if libc::clock_gettime(libc::CLOCK_BOOTTIME, time.as_mut_ptr()) != 0 {
-            return Err(io::Error::last_os_error());
-        }
-        time.assume_init()
-    };
-    Ok(u64::try_from(time.tv_sec).unwrap_or(0) * 1000 + u64::try_from(time.tv_nsec).unwrap_or(0) / 1_000_000)
 }
 
 impl From<io::Error> for StoreError {
