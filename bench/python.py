@@ -13,6 +13,8 @@ from __future__ import annotations
 
 import asyncio
 import gc
+import os
+import resource
 import subprocess
 import sys
 import time
@@ -21,7 +23,7 @@ from typing import Any, Callable, List
 import tenacity
 
 import hikebox
-from hikebox import Budget, exponential, recurs
+from hikebox import Budget, exponential, recurs, spaced
 
 ATTEMPTS = 11
 RUNS = 100
@@ -104,6 +106,33 @@ def imports(name: str) -> int:
     return min(int(subprocess.check_output([sys.executable, "-c", text])) for _ in range(20))
 
 
+def crowd(retrying: Any, count: int = 10_000) -> str:
+    """What so many coroutines take that fail three times at once, and wait 50 ms after each: in a process of its own."""
+
+    async def call(left: List[int]) -> None:
+        left[0] -= 1
+        if left[0] >= 0:
+            raise ValueError
+        await asyncio.sleep(0)
+
+    async def together() -> None:
+        await asyncio.gather(*(retrying(call, [3]) for _ in range(count)))
+
+    ends = os.pipe()
+    if os.fork() == 0:
+        before = resource.getrusage(resource.RUSAGE_SELF).ru_maxrss
+        began = time.process_time()
+        asyncio.run(together())
+        took = time.process_time() - began
+        more = resource.getrusage(resource.RUSAGE_SELF).ru_maxrss - before
+        os.write(ends[1], f"{took:.2f} s and {more // 1024} MB".encode())
+        os._exit(0)
+    os.wait()
+    os.close(ends[1])
+    with open(ends[0]) as told:
+        return told.read()
+
+
 def main() -> None:
     with open("/proc/cpuinfo") as file:
         model = next(line.split(":")[1].strip() for line in file if line.startswith("model name"))
@@ -135,6 +164,10 @@ def main() -> None:
     ours = hikebox.AsyncRetrying(policy, sleep=nothing_later).wraps(Fails().later)
     theirs = tenacity.AsyncRetrying(sleep=nothing_later, **their).wraps(Fails().later)
     tell("ten failures of a coroutine", calls_later(ours), calls_later(theirs), ATTEMPTS)
+
+    ours = hikebox.AsyncRetrying(recurs(20) & spaced(0.05))
+    theirs = tenacity.AsyncRetrying(stop=tenacity.stop_after_attempt(21), wait=tenacity.wait_fixed(0.05))
+    print(f"10,000 coroutines at once: {crowd(ours)}, of tenacity {crowd(theirs)}")
 
     with Budget(2**32) as budget:
         print(f"a draw: {least(1000, calls(budget.draw))[0] / 1000:.2f} us")

@@ -36,8 +36,13 @@ per_step_allocated() {
 
 # instructions that one step takes; the lengths are whole rounds of sixteen events
 per_step_counted() {
-    echo "$((($(instructions "$1" "$2" 960) - $(instructions "$1" "$2" 160)) / 800))"
+    local program=$1 plan=$2
+    shift 2
+    echo "$((($(instructions "$program" "$plan" 960 "$@") - $(instructions "$program" "$plan" 160 "$@")) / 800))"
 }
+
+# kilobytes that a whole run holds at most
+resident() { /usr/bin/time -f %M "$@" 2>&1 > /dev/null; }
 
 # what zsched prints of the plan, and what the program by hand does
 prints() { "$work/zsched" plan --steps 4096 < "$work/$1.json"; }
@@ -59,6 +64,13 @@ for row in "pair 100000 5000000" "fixed 100000 10000000" "tree 1000 50000" "cros
     plain=$(per_step "$work/plain" "$plan" "$few" "$many" driver)
     awk -v p="$plan" -v s="$next" -v b="$plain" \
         'BEGIN { printf "%s: by a driver with its journal %s ns, by hand with a journal %s ns, ratio %.2f\n", p, s, b, s / b }'
+    echo "$plan: by a driver without a journal $(per_step "$work/steps" "$plan" "$few" "$many" stepper) ns"
+    if command -v valgrind > /dev/null; then
+        echo "$plan: instructions of an event with a journal $(per_step_counted "$work/steps" "$plan" driver), without $(per_step_counted "$work/steps" "$plan" stepper)"
+    fi
+done
+for plan in fixed retry; do
+    echo "$plan: without a journal $(resident "$work/steps" "$plan" 1000 stepper) KB at 1,000 events, $(resident "$work/steps" "$plan" 10000000 stepper) KB at 10,000,000"
 done
 
 echo '{"meet":[{"recurs":4611686018427387903},{"spaced":1}]}' > "$work/pair.json"

@@ -1,5 +1,5 @@
-//! Links the engine, `libhikebox.a`: from the folder that `HIKEBOX_LIB_DIR` names, or else from `dist/` of the repository.
-//! And tells the crate whether this compiler has async closures (1.85 and later).
+//! Links the engine, `libhikebox.a`: from the folder that `HIKEBOX_LIB_DIR` names, or else from `dist/` of the
+//! repository. And tells the crate whether this compiler has async closures (1.85 and later).
 
 use std::env;
 use std::path::PathBuf;

@@ -1,9 +1,9 @@
 #!/usr/bin/env python3
 """Compares what rust/src/engine.rs declares of the C library with include/hikebox.h.
 
-Each function of its `extern` block has the header's parameters, by type and in order, and the header's result; each of its
-constants has the header's number, and each struct that crosses the border the header's fields. What Rust would have to say is
-made from the header, and printed where it differs.
+Each function of its `extern` block has the header's parameters, by type and in order, and the header's result; each
+of its constants has the header's number, and each struct that crosses the border the header's fields. What Rust would
+have to say is made from the header, and printed where it differs.
 """
 
 import pathlib
@@ -11,7 +11,8 @@ import re
 import sys
 
 TOP = pathlib.Path(__file__).resolve().parent.parent
-NUMBERS = {"uint64_t": "u64", "uint32_t": "u32", "uint8_t": "u8", "size_t": "usize", "bool": "bool", "hikebox_status": "u32"}
+NUMBERS = {"uint64_t": "u64", "uint32_t": "u32", "uint8_t": "u8", "size_t": "usize", "bool": "bool",
+           "hikebox_status": "u32"}
 #: The structs of the header, and what Rust calls them.
 STRUCTS = {"place": "Place", "decision": "Decision", "next": "Next", "usage": "Used"}
 #: Constants of Rust that are not named as the header's.

@@ -7,6 +7,7 @@ import shutil
 import socket
 import subprocess
 import sys
+import threading
 import time
 from pathlib import Path
 from typing import Any, Iterator, List, Optional
@@ -89,3 +90,23 @@ def python_environment() -> Any:
     source = str(Path(hikebox.__file__).parent.parent)
     paths = [source, str(HERE), *filter(None, [os.environ.get("PYTHONPATH")])]
     return {**os.environ, "PYTHONPATH": os.pathsep.join(paths)}
+
+
+@pytest.fixture(scope="session")
+def running_server() -> Iterator[Any]:
+    from http_server import Server
+
+    server = Server()
+    thread = threading.Thread(target=server.serve_forever, kwargs={"poll_interval": 0.01})
+    thread.start()
+    yield server
+    server.shutdown()
+    server.server_close()
+    thread.join()
+
+
+@pytest.fixture
+def server(running_server: Any) -> Any:
+    """A server on loopback that answers what the test says."""
+    running_server.says(200)
+    return running_server

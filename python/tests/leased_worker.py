@@ -58,7 +58,7 @@ def main() -> None:
     how = json.loads(sys.argv[1])
     output = os.open(sys.argv[2], os.O_WRONLY | os.O_CREAT | os.O_APPEND)
     off = float(how.get("clock_off", 0))
-    named = {name: how[name] for name in ("limit", "period", "lease", "reserve", "again_after") if name in how}
+    named = {name: how[name] for name in ("limit", "per", "lease", "spare", "again_after") if name in how}
     if off:
         named["clock"] = lambda: time.clock_gettime(time.CLOCK_BOOTTIME) + off
         wall = time.time

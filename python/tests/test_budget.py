@@ -2,9 +2,11 @@
 
 from __future__ import annotations
 
+import copy
 import gc
 import os
 import pickle
+import signal
 import threading
 from typing import Any, List, Tuple
 
@@ -22,8 +24,8 @@ def granted_and_ending(state: RetryState) -> Tuple[int, str]:
 def test_worked_budgets() -> None:
     budget = Budget(2)
     assert [budget.draw() for _ in range(4)] == [0, 1, None, None]
-    assert budget.count == 2 and not budget.closed
-    assert budget.close() == 2 == budget.close() == budget.count
+    assert budget.granted == 2 and not budget.closed
+    assert budget.close() == 2 == budget.close() == budget.granted
     assert budget.closed
     with pytest.raises(BudgetClosed):
         budget.draw()
@@ -83,7 +85,7 @@ def test_a_budget_serves_any_number_of_retries() -> None:
         retrying = Retrying(recurs(1), budget=budget, fallback=granted_and_ending)
         for _ in range(70_000):
             assert retrying(fails) == (1, "SCHEDULE_DONE")
-        assert budget.count == 70_000
+        assert budget.granted == 70_000
         assert [budget.draw(), budget.draw()] == [70_000, None]
         assert retrying(fails) == (0, "BUDGET_REFUSED")
         assert budget.close() == 70_001
@@ -102,7 +104,7 @@ def test_a_limit_raised_by_some_gives_as_many_more_whatever_was_refused() -> Non
 def test_as_a_context() -> None:
     with Budget(3) as budget:
         budget.draw()
-    assert budget.closed and budget.count == 1
+    assert budget.closed and budget.granted == 1
 
     with pytest.raises(BudgetInUse):
         with Budget(3) as budget:
@@ -148,13 +150,13 @@ def test_a_budget_that_rises_while_threads_draw() -> None:
         thread.start()
     for limit in range(0, 2000, 10):
         budget.raise_to(limit)
-        assert budget.count <= limit
+        assert budget.granted <= limit
     stop.set()
     for thread in threads:
         thread.join()
     tickets = [ticket for mine in drawn for ticket in mine]
     assert sorted(tickets) == list(range(budget.close()))
-    assert budget.count <= 1990
+    assert budget.granted <= 1990
 
 
 def test_counts_while_others_draw() -> None:
@@ -169,7 +171,7 @@ def test_counts_while_others_draw() -> None:
         thread.start()
     before = 0
     while any(thread.is_alive() for thread in threads):
-        now = budget.count
+        now = budget.granted
         assert now <= 50_000
         before = now
     for thread in threads:
@@ -177,23 +179,79 @@ def test_counts_while_others_draw() -> None:
     assert before <= budget.close() == 50_000
 
 
-def test_a_budget_belongs_to_its_process() -> None:
-    budget = Budget(5)
+def test_a_forked_child_begins_anew() -> None:
+    budget, rising = Budget(2), Budget.rising(1)
     budget.draw()
+    rising.draw()
     child = os.fork()
     if child == 0:
         status = 1
         try:
-            budget.draw()
-        except BudgetError:
-            try:
-                Retrying(recurs(1), budget=budget)(int, "x")
-            except BudgetError:
-                status = 0
+            retrying = Retrying(recurs(9), budget=budget, fallback=lambda state: state.granted)
+            found = (retrying(int, "3"), retrying(int, "x"), retrying(int, "x"), rising.draw(), budget.close())
+            status = 0 if found == (3, 2, 0, 0, 2) else 2
         finally:
             os._exit(status)
     assert os.waitstatus_to_exitcode(os.waitpid(child, 0)[1]) == 0
     assert budget.draw() == 1
+
+
+def test_a_child_that_is_forked_in_a_retry_goes_on_with_it() -> None:
+    budget = Budget(10)
+    child = runs = 0
+
+    def forks() -> int:
+        nonlocal child, runs
+        runs += 1
+        if runs == 2:
+            child = os.fork() or -1
+        if runs < 3:
+            raise KeyError()
+        return child
+
+    retrying = Retrying(recurs(3), budget=budget)
+    if retrying(forks) == -1:
+        status = 1
+        try:
+            # the retry goes on with its copy of the parent's budget
+            status = 0 if (retrying.statistics.won, budget.close()) == (1, 0) else 2
+        finally:
+            os._exit(status)
+    assert os.waitstatus_to_exitcode(os.waitpid(child, 0)[1]) == 0
+    assert budget.close() == 2
+
+
+def test_a_fork_while_another_thread_holds_a_lock() -> None:
+    budget = Budget(10)
+    with budget.passes.root():
+        child = os.fork()
+        if child == 0:
+            signal.alarm(10)
+            drawn: List[Any] = []
+            thread = threading.Thread(target=lambda: drawn.append(budget.close()))
+            thread.start()
+            thread.join()
+            os._exit(0 if drawn == [0] else 1)
+    assert os.waitstatus_to_exitcode(os.waitpid(child, 0)[1]) == 0
+
+
+def test_it_belongs_to_its_process() -> None:
+    budget = Budget(5)
+    assert copy.copy(budget) is budget is copy.deepcopy(budget)
+
+
+def test_a_closed_budget_says_so_alone() -> None:
+    budget = Budget(5)
+    budget.close()
+    with pytest.raises(BudgetClosed) as caught:
+        budget.draw()
+    assert caught.value.__context__ is None
+
+
+def test_old_names() -> None:
+    with pytest.warns(DeprecationWarning, match="Budget.granted"):
+        assert Budget(5).count == 0
+    budget = Budget(5)
     with pytest.raises(TypeError):
         pickle.dumps(budget)
 

@@ -2,6 +2,7 @@
 
 from __future__ import annotations
 
+import argparse
 import contextlib
 import json
 import os
@@ -18,7 +19,7 @@ import reference
 from conftest import TOP, python_environment
 from test_policy import spoilt
 
-from hikebox._run import statuses
+from hikebox._words import statuses
 
 
 def hikebox(*words: str, text: Optional[str] = None, **how: Any) -> Tuple[int, str, str]:
@@ -101,7 +102,7 @@ def test_which_statuses_are_retried(tmp_path: Path) -> None:
     status, _, errors = hikebox("run", "-v", "--on", "2", "--", "false")
     assert (status, errors) == (1, "hikebox: status 1, which is not retried\n")
     for bad in ("0", "256", "5-3", "a", "", "1-", "-1"):
-        with pytest.raises(ValueError):
+        with pytest.raises(argparse.ArgumentTypeError):
             statuses(bad)
 
 
@@ -147,7 +148,7 @@ def test_a_budget(tmp_path: Path) -> None:
 def test_a_quota_over_all_runs(tmp_path: Path) -> None:
     command = counting(tmp_path, "exit 7")
     # one, and half of one for each run: a run that succeeds counts too
-    quota = f"1/0.5/1000000@{tmp_path}/quota"
+    quota = f"1/50%/1000000s@{tmp_path}/quota"
     words = ["run", "-v", "--quota", quota, "--policy", "recurs(9)", "--"]
     assert hikebox(*words, *command)[0] == 7
     assert runs(tmp_path) == 2
@@ -158,9 +159,9 @@ def test_a_quota_over_all_runs(tmp_path: Path) -> None:
     assert runs(tmp_path) == 2 + 3
     damaged = tmp_path / "damaged"
     damaged.write_text("something else")
-    assert hikebox("run", "--quota", f"9/1/60@{damaged}", "--", *command)[0] == 7
+    assert hikebox("run", "--quota", f"9/100%/60s@{damaged}", "--", *command)[0] == 7
     assert runs(tmp_path) == 2 + 3 + 1
-    for bad in ("x", "1/1/60", "1/1@f", "1/x/60@f", "-1/1/60@f", "1/-1/60@f", "1/1/0@f", "1/1/1/60@f"):
+    for bad in ("x", "1/1%/60s", "1/1%@f", "1/x%/60s@f", "-1/1%/60s@f", "1/-1%/60s@f", "1/1%/0s@f", "1/1/60@f", "1/1%/60s@"):
         assert hikebox("run", f"--quota={bad}", "--", "false")[0] == 2, bad
     assert hikebox("run", "--quota", quota, "--budget", "1", "--", "false")[0] == 2
 

@@ -11,7 +11,8 @@ import pytest
 from conftest import TOP
 
 from hikebox import _engine
-from hikebox._engine import Handle, Machine, Pass, PolicyHandle, QuotaPass
+from hikebox._engine import Handle, Pass, PolicyHandle, QuotaPass
+from hikebox._machine import Machine
 from hikebox.errors import EngineError
 
 HEADER = TOP / "include" / "hikebox.h"
@@ -108,7 +109,7 @@ def read(text: bytes) -> PolicyHandle:
 def test_wrong_handles_are_refused_and_nothing_is_lost() -> None:
     policy = read(b'{"recurs":2}')
     drawn = Pass.of_budget(3, False)
-    library = _engine._library
+    library = _engine.library
     empty = Handle()
     number, words = c_uint64(), _engine.Words()
     assert library.hikebox_pass_draw(byref(empty), byref(number)) == 1
@@ -130,15 +131,14 @@ def test_wrong_handles_are_refused_and_nothing_is_lost() -> None:
 def test_a_retry_as_a_machine() -> None:
     machine, policy, drawn = Machine(), read(b'{"meet":[{"recurs":5},{"spaced":100}]}'), Pass.of_budget(100, False)
     assert machine.begin(policy, drawn)
-    assert machine.poll(0, _engine.NO_REPORT, 0) == _engine.RUN
-    assert machine.poll(10, _engine.LOST, 7) == _engine.WAIT and machine.next.until == 110
-    assert machine.poll(109, _engine.NO_REPORT, 0) == _engine.WAIT
+    assert machine.poll(0, _engine.NO_REPORT, 0)[0] == _engine.RUN
+    assert machine.poll(10, _engine.LOST, 7) == (_engine.WAIT, 110, 1)
+    assert machine.poll(109, _engine.NO_REPORT, 0) == (_engine.WAIT, 110, 0)
     with pytest.raises(EngineError) as caught:
         machine.poll(109, _engine.LOST, 7)
     assert caught.value.status == 41
-    assert machine.poll(110, _engine.NO_REPORT, 0) == _engine.RUN
-    assert machine.poll(120, _engine.WON, 1) == _engine.OVER
-    assert (machine.next.how, machine.next.granted, machine.next.runs) == (1, 1, 2)
+    assert machine.poll(110, _engine.NO_REPORT, 0)[0] == _engine.RUN
+    assert machine.poll(120, _engine.WON, 1) == (_engine.OVER, 1, 1)
     assert drawn.close() is None
     machine.end(drawn)
     assert drawn.close() == 1
@@ -149,11 +149,10 @@ def test_a_retry_on_a_quota_as_a_machine() -> None:
     drawn.deposit(5_010)
     assert drawn.seen(5_010) == (5, 1, 0, 1)
     assert machine.begin(policy, drawn)
-    assert machine.poll(5_010, _engine.NO_REPORT, 0) == _engine.RUN
-    assert machine.poll(5_020, _engine.LOST, 7) == _engine.WAIT and machine.next.until == 5_120
-    assert machine.poll(5_120, _engine.NO_REPORT, 0) == _engine.RUN
-    assert machine.poll(5_999, _engine.LOST, 7) == _engine.OVER
-    assert (machine.next.how, machine.next.granted, machine.next.runs) == (3, 1, 2)
+    assert machine.poll(5_010, _engine.NO_REPORT, 0)[0] == _engine.RUN
+    assert machine.poll(5_020, _engine.LOST, 7) == (_engine.WAIT, 5_120, 1)
+    assert machine.poll(5_120, _engine.NO_REPORT, 0)[0] == _engine.RUN
+    assert machine.poll(5_999, _engine.LOST, 7) == (_engine.OVER, 3, 1)
     assert drawn.close() is None
     machine.end(drawn)
     assert drawn.draw(5_999) is None and drawn.draw(6_000) == 6 * 2**32
@@ -163,10 +162,9 @@ def test_a_retry_on_a_quota_as_a_machine() -> None:
 def test_a_retry_on_nothing_as_a_machine() -> None:
     machine, policy = Machine(), read(b'"forever"')
     machine.begin_unlimited(policy)
-    assert machine.poll(0, _engine.NO_REPORT, 0) == _engine.RUN
+    assert machine.poll(0, _engine.NO_REPORT, 0)[0] == _engine.RUN
     for retries in range(1, 1000):
-        assert machine.poll(retries, _engine.LOST, 0) == _engine.RUN
-        assert machine.next.granted == retries
+        assert machine.poll(retries, _engine.LOST, 0) == (_engine.RUN, 0, retries)
     with pytest.raises(EngineError) as caught:
         machine.end(Pass.of_budget(1, False))
     assert caught.value.status == 42
@@ -191,7 +189,7 @@ def test_a_retry_ends_on_what_it_draws_on_alone() -> None:
     assert caught.value.status == 42
     machine.end(budget)
     assert (quota.close(), budget.close()) == (0, 0)
-    library = _engine._library
+    library = _engine.library
     assert library.hikebox_quota_draw(policy.at, 0, byref(c_uint64())) == 2
     assert library.hikebox_quota_draw(quota.at, 0, byref(c_uint64())) == 1
     assert library.hikebox_quota_deposit(quota.at, 2**62) == 5

@@ -2,15 +2,17 @@
 
 from __future__ import annotations
 
+import copy
 import email.utils
+import pickle
 import socket
 import threading
 import time
 import urllib.error
-from http.server import BaseHTTPRequestHandler, ThreadingHTTPServer
-from typing import Any, Dict, Iterator, List, Tuple
+from typing import Any, List
 
 import pytest
+from http_server import Server
 
 from hikebox import Budget, Quota, Retrying, Usage, exponential, recurs, spaced, stop
 from hikebox.http import parse_retry_after, retry_after
@@ -21,73 +23,6 @@ requests = pytest.importorskip("requests")
 
 from hikebox.adapters.requests import PolicyAdapter  # noqa: E402
 from hikebox.adapters.urllib3 import PolicyRetry  # noqa: E402
-
-#: What the server answers: a status and headers; status 0 is a connection that is broken with no answer.
-Answer = Tuple[int, Dict[str, str]]
-
-
-class Server(ThreadingHTTPServer):
-    daemon_threads = True
-
-    def __init__(self) -> None:
-        super().__init__(("127.0.0.1", 0), Handler)
-        self.answers: List[Answer] = []
-        self.requests: List[Tuple[str, str, bytes]] = []
-
-    @property
-    def url(self) -> str:
-        return f"http://127.0.0.1:{self.server_port}"
-
-    def says(self, *answers: Any) -> None:
-        self.answers = []
-        for answer in answers:
-            self.answers.append((answer, {}) if isinstance(answer, int) else answer)
-        self.requests = []
-
-
-class Handler(BaseHTTPRequestHandler):
-    protocol_version = "HTTP/1.1"
-    server: Server
-
-    def answer(self) -> None:
-        body = self.rfile.read(int(self.headers.get("Content-Length", 0)))
-        self.server.requests.append((self.command, self.path, body))
-        answers = self.server.answers
-        status, headers = answers.pop(0) if len(answers) > 1 else answers[0]
-        if status == 0:
-            self.close_connection = True
-            self.connection.shutdown(socket.SHUT_RDWR)
-            return
-        text = f"answer {len(self.server.requests)}".encode()
-        self.send_response(status)
-        for name, value in headers.items():
-            self.send_header(name, value)
-        self.send_header("Content-Length", str(len(text)))
-        self.end_headers()
-        self.wfile.write(text)
-
-    do_GET = do_POST = do_PUT = answer
-
-    def log_message(self, *_: Any) -> None:
-        pass
-
-
-@pytest.fixture(scope="module")
-def running() -> Iterator[Server]:
-    server = Server()
-    thread = threading.Thread(target=server.serve_forever, kwargs={"poll_interval": 0.01})
-    thread.start()
-    yield server
-    server.shutdown()
-    server.server_close()
-    thread.join()
-
-
-@pytest.fixture
-def server(running: Server) -> Server:
-    running.says(200)
-    return running
-
 
 def pool(clock: VirtualClock, policy: Any, **how: Any) -> Any:
     return urllib3.PoolManager(retries=PolicyRetry(policy, clock=clock, sleep=clock.sleep, **how))
@@ -148,7 +83,7 @@ def test_retry_after_is_a_lower_bound(server: Server, clock: VirtualClock) -> No
         (429, {"Retry-After": "999999999"}),
         200,
     )
-    assert session(clock, recurs(9) & spaced(2), longest_retry_after=100).get(server.url).status_code == 200
+    assert session(clock, recurs(9) & spaced(2), longest=100).get(server.url).status_code == 200
     assert clock.slept[:3] == pytest.approx([7, 2, 2], abs=0.01)
     assert 57 < clock.slept[3] <= 60 and clock.slept[4] == 100
     server.says((413, {"Retry-After": "3"}), 200)
@@ -198,7 +133,7 @@ def test_redirects_draw_no_ticket(server: Server, clock: VirtualClock) -> None:
         assert [path for _, path, _ in server.requests] == ["/a", "/b", "/b", "/c"]
         server.says((302, {"Location": "/b"}), 503, 200)
         assert session(clock, recurs(5), budget=budget).get(server.url + "/a").status_code == 200
-    assert budget.count == 2
+    assert budget.granted == 2
 
 
 def test_a_budget_over_all_requests(server: Server, clock: VirtualClock) -> None:
@@ -207,7 +142,7 @@ def test_a_budget_over_all_requests(server: Server, clock: VirtualClock) -> None
         server.says(503)
         assert [one.get(server.url).status_code for _ in range(3)] == [503] * 3
         assert len(server.requests) == 3 + 4
-    assert budget.count == 4
+    assert budget.granted == 4
 
 
 def test_a_quota_over_all_requests(server: Server, clock: VirtualClock) -> None:
@@ -240,7 +175,52 @@ def test_threads_share_an_adapter(server: Server, clock: VirtualClock) -> None:
         for thread in threads:
             thread.join()
         assert len(server.requests) == 8 + 60
-    assert budget.count == 60
+    assert budget.granted == 60
+
+
+def test_requests_that_are_over_are_counted(server: Server, clock: VirtualClock) -> None:
+    seen: List[Any] = []
+    hooks: Any = {
+        "on_success": lambda state: seen.append(state.attempt_number),
+        "after": lambda state: seen.append(state.outcome.exception().status),
+    }
+    with Budget(10) as budget:
+        one = session(clock, recurs(2), budget=budget, **hooks)
+        adapter = one.get_adapter(server.url)
+        server.says(503, 200)
+        kept = one.get(server.url)
+        assert seen == [503, 2]
+        # its pass was given back, though the answer is still there
+        assert budget.granted == 1 and kept.ok
+        server.says(503)
+        assert one.get(server.url).status_code == 503
+        server.says(404)
+        assert one.get(server.url).status_code == 404
+        counted = adapter.statistics
+        assert (counted.calls, counted.attempts, counted.won, counted.schedule_done) == (3, 2 + 3 + 1, 2, 1)
+        assert counted == adapter.retrying.statistics
+        adapter.retrying.policy = stop()
+        server.says(503, 200)
+        assert one.get(server.url).status_code == 503
+    assert budget.granted == 3
+
+
+def test_a_session_is_copied_and_pickled(server: Server) -> None:
+    one = requests.Session()
+    one.trust_env = False
+    one.mount("http://", PolicyAdapter(recurs(3), on_status={500}, longest=5))
+    for other in (copy.copy(one), copy.deepcopy(one), pickle.loads(pickle.dumps(one))):
+        server.says(500, 500, 200)
+        assert other.get(server.url).status_code == 200
+        assert other.get_adapter(server.url).retrying.longest == 5
+    budget = Budget(1)
+    with_budget = copy.deepcopy(PolicyAdapter(recurs(3), budget=budget))
+    assert with_budget.retrying is not None and with_budget.retrying.budget is budget
+
+
+def test_an_old_name_of_an_adapter() -> None:
+    with pytest.warns(DeprecationWarning, match="longest"):
+        assert getattr(PolicyRetry(recurs(1), longest_retry_after=7).retrying, "longest") == 7
 
 
 def test_a_retry_without_a_policy_is_urllib3s_own(server: Server) -> None:

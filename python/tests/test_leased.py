@@ -95,19 +95,33 @@ def test_a_budget_in_a_file(tmp_path: Path) -> None:
 def test_parameters() -> None:
     store = FileStore("/nowhere/counts")
     assert [Leased(store, "a", limit).lease for limit in (0, 63, 640, 10**6)] == [1, 1, 10, 1000]
-    for bad in ({"limit": -1}, {"limit": 2**52}, {"limit": 1, "lease": 0}, {"limit": 1, "period": 0}):
+    for bad in ({"limit": -1}, {"limit": 2**52}, {"limit": 1, "lease": 0}, {"limit": 1, "per": 0}):
         with pytest.raises(BudgetError):
             Leased(store, "a", **bad)  # type: ignore[arg-type]
-    leased = Leased(store, "a", 5, period=60)
-    assert repr(leased) == "Leased(FileStore('/nowhere/counts'), 'a', limit=5, period=60, lease=1)"
+    leased = Leased(store, "a", 5, per=60)
+    assert repr(leased) == "Leased(FileStore('/nowhere/counts'), 'a', limit=5, per=60, lease=1)"
     with pytest.raises(TypeError):
         pickle.dumps(leased)
 
 
+def test_old_names() -> None:
+    store = FileStore("/nowhere/counts")
+    with pytest.warns(DeprecationWarning, match="period= is called per= now"):
+        leased = Leased(store, "a", 5, period=60)
+    assert leased.per == 60.0
+    with pytest.warns(DeprecationWarning, match="reserve= is called spare= now"):
+        leased = Leased(store, "a", 5, reserve=3)
+    assert leased.spare == 3 and leased.per is None
+    with pytest.warns(DeprecationWarning, match="Leased.reserve is called Leased.spare now"):
+        assert leased.reserve == 3
+    with pytest.raises(TypeError, match="one of per and period"):
+        Leased(store, "a", 5, per=60, period=60)
+
+
 def test_windows_of_a_file(tmp_path: Path) -> None:
     store = FileStore(tmp_path / "counts")
-    leased = Leased(store, "a", limit=3, period=0.2)
-    other = Leased(store, "a", limit=3, period=0.2)
+    leased = Leased(store, "a", limit=3, per=0.2)
+    other = Leased(store, "a", limit=3, per=0.2)
     counted: Dict[int, List[int]] = {}
     until = time.monotonic() + 1
     while time.monotonic() < until:
@@ -139,7 +153,7 @@ class Stub:
 def test_a_lease_is_not_drawn_from_past_its_moment() -> None:
     now = [0.0]
     store = Stub((0, 5, 10.0), (0, 5, 20.0))
-    leased = Leased(store, "a", 5, period=10, clock=lambda: now[0])
+    leased = Leased(store, "a", 5, per=10, clock=lambda: now[0])
     assert [leased.draw(), leased.draw()] == [0, 1]
     now[0] = 10.0
     assert leased.draw() == 0 and store.asked == 2
@@ -149,7 +163,7 @@ def test_a_lease_is_not_drawn_from_past_its_moment() -> None:
 def test_a_store_that_has_nothing_is_not_asked_again_before_its_moment() -> None:
     now = [0.0]
     store = Stub((0, 0, 10.0), (0, 5, 20.0))
-    leased = Leased(store, "a", 5, period=10, clock=lambda: now[0])
+    leased = Leased(store, "a", 5, per=10, clock=lambda: now[0])
     assert [leased.draw() for _ in range(5)] == [None] * 5 and store.asked == 1
     now[0] = 10.0
     assert leased.draw() == 0
@@ -160,7 +174,7 @@ def test_a_store_that_has_nothing_is_not_asked_again_before_its_moment() -> None
 
 def test_leases_that_are_over_when_they_come() -> None:
     store = Stub((0, 5, 1.0))
-    leased = Leased(store, "a", 5, period=1, clock=lambda: 2.0)
+    leased = Leased(store, "a", 5, per=1, clock=lambda: 2.0)
     assert leased.draw() is None and store.asked == 3
     assert leased.draw() is None and store.asked == 3
 
@@ -168,7 +182,7 @@ def test_leases_that_are_over_when_they_come() -> None:
 def test_a_store_that_can_not_be_reached_grants_nothing_or_the_reserve(caplog: Any) -> None:
     now = [0.0]
     store = Stub((0, 2, None), StoreError("gone"), StoreError("gone"), (2, 1, None), StoreError("gone"))
-    leased = Leased(store, "a", 100, lease=2, reserve=2, clock=lambda: now[0])
+    leased = Leased(store, "a", 100, lease=2, spare=2, clock=lambda: now[0])
     assert [leased.draw() for _ in range(6)] == [0, 1, -1, -2, None, None]
     assert store.asked == 2
     now[0] = 1.0
@@ -185,7 +199,7 @@ def test_a_store_that_can_not_be_reached_grants_nothing_or_the_reserve(caplog: A
 
 def test_the_reserve_of_a_period() -> None:
     now = [0.0]
-    leased = Leased(Stub(StoreError("gone")), "a", 9, period=10, reserve=1, clock=lambda: now[0])
+    leased = Leased(Stub(StoreError("gone")), "a", 9, per=10, spare=1, clock=lambda: now[0])
     assert [leased.draw(), leased.draw()] == [-1, None]
     now[0] = 10.0
     assert [leased.draw(), leased.draw()] == [-1, None]
@@ -292,21 +306,21 @@ def test_a_lock_that_is_not_given_up(tmp_path: Path) -> None:
 
 
 def test_a_later_window_in_the_file_grants_nothing(tmp_path: Path) -> None:
-    from hikebox import _stores as module
+    from hikebox import _file_store as module
 
     path = tmp_path / "counts"
     store = FileStore(path)
     assert store.take("a", 1, 9, 1000, time.monotonic).tickets == 1
     file = os.open(path, os.O_RDWR)
-    counts = module._read_counts(file, str(path))
+    counts = module.read_counts(file, str(path))
     ((key, (window, _)),) = counts.items()
     assert key == "windows of 1000 ms of a"
     boot, number = window.split()
     counts[key] = [f"{boot} {int(number) + 100}", 1]
-    module._write_counts(file, counts)
+    module.write_counts(file, counts)
     assert store.take("a", 1, 9, 1000, time.monotonic).tickets == 0
     counts[key] = [f"another-boot {int(number) + 100}", 9]
-    module._write_counts(file, counts)
+    module.write_counts(file, counts)
     assert store.take("a", 1, 9, 1000, time.monotonic)[:2] == (0, 1)
     os.close(file)
 
@@ -375,7 +389,7 @@ def in_windows(drawn: List[Tuple[int, int]], limit: int, period: int) -> None:
 
 
 def test_windows_of_many_processes_one_with_a_clock_an_hour_off(workers: Workers, tmp_path: Path) -> None:
-    how = {"file": str(tmp_path / "counts"), "name": "a", "limit": 50, "lease": 5, "period": 0.5}
+    how = {"file": str(tmp_path / "counts"), "name": "a", "limit": 50, "lease": 5, "per": 0.5}
     for off in (0, 0, 3600, -3600):
         workers.start({**how, "clock_off": off, "patient": True, "seconds": 2.5})
     workers.wait()
@@ -455,7 +469,7 @@ def test_redis_stopped_and_started_under_load(durable: bool, workers: Workers, r
     server = redis_server(*options)
     RedisStore(server.client()).begin("a")
     how = {"port": server.port, "name": "a", "limit": 1_000_000, "lease": 50, "again_after": 0.05}
-    how.update({"durable": durable, "patient": True, "stop": str(workers.folder / "stop"), "reserve": 3})
+    how.update({"durable": durable, "patient": True, "stop": str(workers.folder / "stop"), "spare": 3})
     for _ in range(8):
         workers.start(how)
     workers.await_tickets(3000)
@@ -488,7 +502,7 @@ def test_windows_of_redis_one_process_with_a_clock_an_hour_off(workers: Workers,
     assert store.take("a", 5, 50, 60_000, time.monotonic).tickets == 0
     time.sleep(3.2)
     for off in (0, 0, 3600, -3600):
-        how = {"port": server.port, "name": "a", "limit": 50, "lease": 5, "period": 0.5, "clock_off": off}
+        how = {"port": server.port, "name": "a", "limit": 50, "lease": 5, "per": 0.5, "clock_off": off}
         workers.start({**how, "patient": True, "seconds": 2.5})
     workers.wait()
     offset = int(time.time() * 1000) - int(time.clock_gettime(time.CLOCK_BOOTTIME) * 1000)

@@ -18,7 +18,8 @@ from conftest import HERE, python_environment
 
 from draws import drawn_by, repeated
 from hikebox import AsyncRetrying, Ending, Retrying, StoreError, StoreLost, TermsError, Usage, recurs, spaced, state_of
-from hikebox.leased import FileStore, Leased, LeasedQuota, QuotaRange, RedisStore, _Requests
+from hikebox._requests import Requests
+from hikebox.leased import FileStore, Leased, LeasedQuota, QuotaRange, RedisStore
 from hikebox.quota import Terms
 
 #: A window that no test sees the end of.
@@ -113,7 +114,7 @@ def test_a_quota_in_a_file(tmp_path: Path) -> None:
     assert (first.granted, second.granted) == (6, 2)
     # beside a budget of the same name
     assert Leased(store, "a", limit=10).draw() == 0
-    assert Leased(store, "a", limit=10, period=LONG).draw() == 0
+    assert Leased(store, "a", limit=10, per=LONG).draw() == 0
     assert LeasedQuota(store, "b", 1, 0, LONG).draw() == 0
     assert LeasedQuota(store, "a", 4, 0.5, 10 * LONG).draw() == 0
 
@@ -160,7 +161,7 @@ def test_terms() -> None:
 
 
 def test_requests_by_slices_of_a_window() -> None:
-    requests = _Requests(16.0)
+    requests = Requests(16.0)
     for now in (100.0, 100.5, 101.25, 103.75):
         requests.add(now)
     assert requests.count == 4
@@ -245,6 +246,37 @@ def test_when_a_store_that_had_none_left_is_asked_again() -> None:
         now[0] = float(moment)
         quota.deposit()
         assert quota.draw() is None and spent.asked == 1
+
+
+def test_a_quota_goes_on_after_an_empty_answer(tmp_path: Path) -> None:
+    now = [0.0]
+    store = FileStore(tmp_path / "counts")
+    quota = LeasedQuota(store, "a", 30, 0.2, LONG, lease=20, again_after=60, clock=lambda: now[0])
+    granted = 0
+    for _ in range(2595):
+        now[0] += 0.01
+        quota.deposit()
+        granted += quota.draw() is not None
+    # the reserve of 30, and a fifth of 2,595; the requests since it was asked last are worth less than a lease of 20
+    assert 549 - 20 < granted <= 549
+
+
+def test_a_store_that_lost_its_count_is_told_once(caplog: Any) -> None:
+    class Lost(Stub):
+        def take_of_quota(self, *how: Any) -> QuotaRange:
+            return super().take_of_quota(*how)._replace(lost=self.asked <= 3)
+
+    now = [0.0]
+    store = Lost((0, 0, 10.0, 0), (0, 0, 10.0, 0), (0, 0, 10.0, 0), (0, 2, 20.0, 0))
+    quota = LeasedQuota(store, "a", 5, 0.5, 10, spare=9, clock=lambda: now[0])
+    for now[0] in (0.0, 5.0):
+        assert quota.draw() is None
+    assert quota.seen() == Usage(7, 0, 0, 0, lost=True)
+    now[0] = 10.0
+    assert [quota.draw() for _ in range(2)] == [0, 1]
+    assert [record.getMessage() for record in caplog.records] == [
+        "a: the store may have lost its count of this window, and grants nothing of it"
+    ]
 
 
 def test_a_store_that_can_not_be_reached_grants_nothing_or_what_is_spared(caplog: Any) -> None:
@@ -372,21 +404,22 @@ def test_a_damaged_file_grants_nothing(tmp_path: Path) -> None:
 
 
 def test_a_later_window_in_the_file_grants_nothing(tmp_path: Path) -> None:
-    from hikebox import _stores
+    from hikebox import _file_store
 
     path = tmp_path / "counts"
     store = FileStore(path)
     assert LeasedQuota(store, "a", 9, 0, 1000).draw() == 0
     file = os.open(path, os.O_RDWR)
-    counts = _stores._read_counts(file, str(path))
+    counts = _file_store.read_counts(file, str(path))
     ((key, (window, given, asked)),) = counts.items()
     assert (key, given, asked) == ("quota of 1000000 ms of a", 1, 0)
     boot, number = window.split()
     counts[key] = [f"{boot} {int(number) + 100}", 1, 5]
-    _stores._write_counts(file, counts)
+    _file_store.write_counts(file, counts)
     assert LeasedQuota(store, "a", 9, 0, 1000).draw() is None
+    assert LeasedQuota(store, "a", 9, 0, 1000).seen() == Usage(int(number), 0, 0, 0, lost=True)
     counts[key] = [f"another-boot {int(number) + 100}", 9, 5]
-    _stores._write_counts(file, counts)
+    _file_store.write_counts(file, counts)
     assert LeasedQuota(store, "a", 9, 0, 1000).seen() == Usage(int(number), 0, 0, 9)
     os.close(file)
 
@@ -492,7 +525,7 @@ def test_a_quota_in_redis(redis_server: Any) -> None:
 
 
 def test_the_script_rounds_as_a_quota_does(redis_server: Any) -> None:
-    from hikebox import _stores
+    from hikebox import _redis_store
 
     client = redis_server().client()
     for reserve, share, asked, allowed in [
@@ -507,10 +540,10 @@ def test_the_script_rounds_as_a_quota_does(redis_server: Any) -> None:
         (5, 0, 2**40, 5),
     ]:
         client.delete("k")
-        given = client.eval(_stores._GRANT, 1, "k", asked, 2**40, reserve, share, 2**32, 1000)
+        given = client.eval(_redis_store.GRANT, 1, "k", asked, 2**40, reserve, share, 2**32, 1000)
         assert given == [0, allowed, asked]
         assert Terms(reserve, share, 1).allowed(asked) == allowed
-        assert client.eval(_stores._GRANT, 1, "k", 0, 5, reserve, share, 2**32, 1000) == [allowed, 0, asked]
+        assert client.eval(_redis_store.GRANT, 1, "k", 0, 5, reserve, share, 2**32, 1000) == [allowed, 0, asked]
 
 
 def test_windows_of_redis_two_processes_with_a_clock_an_hour_off(workers: Workers, redis_server: Any) -> None:

@@ -10,7 +10,7 @@ import random
 import subprocess
 from datetime import timedelta
 from pathlib import Path
-from typing import Any, Callable, List
+from typing import Any, Callable, List, Tuple
 
 import faults
 import pytest
@@ -392,7 +392,7 @@ def spoilt(rng: random.Random, tree: Any) -> Any:
 
 
 def test_durations() -> None:
-    assert spaced(0.0004) == spaced(0) and spaced(0.0016) == spaced(milliseconds(2))
+    assert spaced(0.0016) == spaced(milliseconds(2)) and spaced(0.001) == spaced(milliseconds(1))
     assert spaced(timedelta(microseconds=1500)) == spaced(milliseconds(2))
     assert spaced(timedelta(days=1)) == spaced(86400)
     assert spaced(FAR // 1000).to_json() == '{"spaced":%d}' % (FAR // 1000 * 1000)
@@ -416,8 +416,64 @@ def test_durations() -> None:
             call()
     with pytest.raises(PolicyError):
         exponential(1, 0.0001)
-    with pytest.raises(PolicyError):
-        spaced(1).jittered(1.2, 0.8)
+
+
+BELOW_THE_GRAIN: List[Tuple[Callable[[], Policy], str]] = [
+    (lambda: spaced(0.0004), "spaced: 0.0004 s is less than a millisecond"),
+    (lambda: spaced(0.0006), "spaced: 0.0006 s is less than a millisecond"),
+    (lambda: spaced(1).cap(timedelta(microseconds=700)), "cap: 0:00:00.000700 is less than a millisecond"),
+    (lambda: exponential(0.1, 1.0005), "exponential: the factor 1.0005 is less than a thousandth from 1"),
+    (lambda: exponential(0.1, 0.9996), "exponential: the factor 0.9996 is less than a thousandth from 1"),
+    (lambda: spaced(1).jittered(0.0001, 0.0004), "jittered: a ratio of 0.0001 is less than a thousandth"),
+    (lambda: spaced(1).jittered(0.9998, 1.0002), "jittered(0.9998, 1.0002): the range is less than a thousandth"),
+]
+
+
+@pytest.mark.parametrize("build, hint", BELOW_THE_GRAIN, ids=[hint for _, hint in BELOW_THE_GRAIN])
+def test_what_is_below_the_grain_is_refused(build: Callable[[], Policy], hint: str) -> None:
+    with pytest.raises(PolicyError) as caught:
+        build()
+    assert (caught.value.fault, caught.value.hint) == (Fault.OUT_OF_RANGE, hint)
+
+
+SPOKEN: List[Tuple[Callable[[], Policy], str]] = [
+    (lambda: fixed(0), "fixed: an interval is at least 0.001 s, not 0"),
+    (lambda: spaced(1).renew(0), "renew: an interval is at least 0.001 s, not 0"),
+    (lambda: recurs(-1), f"recurs: -1 is not from 0 to {FAR}"),
+    (lambda: exponential(1, 1001), "exponential: a factor: 1001 is not from 1 to 1000"),
+    (lambda: spaced(1).jittered(1.2, 0.8), "jittered(1.2, 0.8): the range is empty"),
+    (lambda: spaced(1).jittered(lane=4), "jittered: a lane: 4 is not from 0 to 3"),
+    (lambda: spaced(1).gather("sums"), "gather: one of sum, count, max, list is wanted, not 'sums'"),
+]
+
+
+@pytest.mark.parametrize("build, hint", SPOKEN, ids=[hint for _, hint in SPOKEN])
+def test_an_error_speaks_of_the_builder_that_was_called(build: Callable[[], Policy], hint: str) -> None:
+    with pytest.raises(PolicyError) as caught:
+        build()
+    assert caught.value.hint == hint
+
+
+def test_a_policy_is_neither_true_nor_false() -> None:
+    joins: List[Callable[[], object]] = [
+        lambda: recurs(3) and spaced(1),
+        lambda: recurs(3) or spaced(1),
+        lambda: not recurs(3),
+    ]
+    for joined in joins:
+        with pytest.raises(TypeError, match="joined by & and |"):
+            joined()
+
+
+def test_an_expression_in_the_place_of_json_is_named() -> None:
+    with pytest.raises(PolicyError, match="is an expression, which Policy.parse reads"):
+        Policy.of("recurs(3)")
+
+
+def test_a_preview_takes_inputs_in_turn() -> None:
+    steps = spaced(0.5).while_input(equal=202).preview(input=[202, 202, 200])
+    assert [str(step) for step in steps] == ["0: 0 next 500", "500: 1 next 1000", "1000: 2 done"]
+    assert [step.next_ms for step in spaced(1).while_input(equal=7).preview(3, input=[7])] == [1000, 2000, 3000]
     with pytest.raises(TypeError):
         spaced(1).while_input()
     with pytest.raises(TypeError):

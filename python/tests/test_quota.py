@@ -140,7 +140,7 @@ BAD_TERMS: List[Any] = [
     ((0, float("nan"), 1), "a share is from 0 to 1000 retries a request, not nan"),
     ((0, 0.0004, 1), "a share is counted in thousandths of a retry a request, and 0.0004 is less than one"),
     ((0, 0, 0), "the window of a quota is at least a millisecond long, not 0"),
-    ((0, 0, 0.0001), "the window of a quota is at least a millisecond long, not 0.0001"),
+    ((0, 0, 0.0001), "the window of a quota: 0.0001 s is less than a millisecond"),
     ((0, 0, timedelta(0)), "the window of a quota is at least a millisecond long, not datetime.timedelta(0)"),
     ((0, 0, -1), "the window of a quota: -1 is not from 0 to 4611686018427387903 milliseconds"),
     ((0, 0, float("inf")), "the window of a quota: a duration of inf seconds"),
@@ -271,16 +271,16 @@ def test_a_quota_serves_any_number_of_retries(clock: VirtualClock) -> None:
 def test_a_pass_with_one_part_left_is_exchanged(clock: VirtualClock) -> None:
     quota = Quota(10, 0, 60, clock=clock)
     assert quota.draw() == 0
-    whole = quota._idle.pop()
+    whole = quota.passes.lend()
     single = whole.split()
     assert single is not None and single.split() is None
-    quota._idle.append(single)
-    quota._out += 1
+    quota.passes.give_back(single)
+    quota.passes._out += 1
     retrying = Retrying(recurs(2), budget=quota, clock=clock, fallback=granted_and_ending)
     assert retrying(fails) == (2, "SCHEDULE_DONE")
     with pytest.raises(BudgetInUse):
         quota.close()
-    quota._idle.append(whole)
+    quota.passes.give_back(whole)
     assert quota.close() == 3
 
 
@@ -422,19 +422,17 @@ def test_counts_while_others_draw(clock: VirtualClock) -> None:
     assert quota.close() == 20_000
 
 
-def test_a_quota_belongs_to_its_process() -> None:
-    quota = Quota(5, 0, 3600)
+def test_a_forked_child_begins_anew() -> None:
+    quota = Quota(2, 0.5, 3600)
+    quota.deposit()
     assert quota.draw() is not None
     child = os.fork()
     if child == 0:
         status = 1
         try:
-            quota.draw()
-        except BudgetError:
-            try:
-                Retrying(recurs(1), budget=quota)(fails)
-            except BudgetError:
-                status = 0
+            retrying = Retrying(recurs(3), budget=quota, fallback=lambda state: state.granted)
+            found = (retrying(int, "3"), retrying(int, "x"), quota.seen().asked, quota.close())
+            status = 0 if found == (3, 3, 2, 3) else 2
         finally:
             os._exit(status)
     assert os.waitstatus_to_exitcode(os.waitpid(child, 0)[1]) == 0

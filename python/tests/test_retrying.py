@@ -324,12 +324,12 @@ def test_a_decorated_function() -> None:
     assert fetch("a", default=5) == 5
     assert calls == [("a", 5)] * 3
     assert fetch.__name__ == "fetch" and fetch.__doc__ == "Fetches."
-    retrying = fetch.retry  # type: ignore[attr-defined]
+    retrying = fetch.retry
     assert isinstance(retrying, Retrying) and retrying.policy == recurs(3)
     statistics = retrying.statistics
     assert (statistics.calls, statistics.attempts, statistics.retries, statistics.won) == (1, 3, 2, 1)
     calls.clear()
-    once = fetch.retry_with(policy=stop())  # type: ignore[attr-defined]
+    once = fetch.retry_with(policy=stop())
     with pytest.raises(KeyError):
         once("b")
     assert len(calls) == 1
@@ -347,7 +347,7 @@ def test_a_decorated_coroutine_function() -> None:
             raise KeyError(key)
         return key
 
-    assert isinstance(fetch.retry, AsyncRetrying)  # type: ignore[attr-defined]
+    assert isinstance(fetch.retry, AsyncRetrying)
     assert asyncio.iscoroutinefunction(fetch)
     assert asyncio.run(fetch("a")) == "a" and runs == ["a"] * 3
 
@@ -552,7 +552,7 @@ def test_many_coroutines_at_once_share_a_budget() -> None:
             ended = await asyncio.gather(*(retrying(call.later) for call in calls), return_exceptions=True)
         assert sum(granted_of(error) for error in ended) == 1000
         assert sum(call.runs for call in calls) == 1500
-        return budget.count
+        return budget.granted
 
     assert asyncio.run(main()) == 1000
 
@@ -573,7 +573,7 @@ def test_threads_share_a_retrying_and_a_budget() -> None:
             thread.start()
         for thread in threads:
             thread.join()
-    assert sum(granted) == 3000 == budget.count
+    assert sum(granted) == 3000 == budget.granted
     statistics = retrying.statistics
     assert statistics.calls == 80 and statistics.retries == 3000
     assert statistics.schedule_done + statistics.budget_refused == 80
@@ -585,7 +585,7 @@ def test_one_budget_serves_more_than_65536_retries() -> None:
         call = Scripted(7)
         for _ in range(70000):
             retrying(call)
-    assert budget.count == 70000 and call.runs == 140000
+    assert budget.granted == 70000 and call.runs == 140000
 
 
 def test_retries_without_a_budget_have_no_bound_but_the_policy() -> None:
@@ -671,7 +671,7 @@ def test_an_exception_that_is_raised_again_and_again_keeps_few_notes() -> None:
 def test_waits_to_the_end_of_time(kind: str, clock: VirtualClock) -> None:
     call = Scripted(7, 7, 7, "won")
     assert made(kind, spaced(milliseconds(FAR)), clock)(call) == "won"
-    assert clock.slept == pytest.approx([FAR / 1000, 0, 0]) if kind == "async" else len(clock.slept) == 1
+    assert clock.slept == pytest.approx([FAR / 1000])
 
 
 def test_parameters_of_any_name_are_passed_on() -> None:

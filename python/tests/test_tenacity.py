@@ -60,7 +60,7 @@ def test_a_budget_over_all_calls() -> None:
             thread.start()
         for thread in threads:
             thread.join()
-    assert budget.count == 100 and len(runs) == 108
+    assert budget.granted == 100 and len(runs) == 108
 
 
 def test_a_quota_over_all_calls() -> None:

@@ -58,9 +58,9 @@ macro_rules! until_it_succeeds {
     }};
 }
 
-/// [`retry`](crate::retry()) for futures: `call` makes one for each run, and between runs the task waits by tokio's timer.
-/// An async function will do, and an async closure that changes nothing which it captures; one that does is retried by
-/// [`Retrying::call_async_mut`].
+/// [`retry`](crate::retry()) for futures: `call` makes one for each run, and between runs the task waits by tokio's
+/// timer. An async function will do, and an async closure that changes nothing which it captures; one that does is
+/// retried by [`Retrying::call_async_mut`].
 ///
 /// A retry whose future is dropped is cancelled: its tickets stay counted, and it draws no more. A wait of nothing does
 /// not touch the timer.
@@ -129,7 +129,7 @@ macro_rules! retryable {
         /// # tokio::runtime::Builder::new_current_thread().enable_time().build().unwrap().block_on(async {
         /// let policy: Policy = r#"{"meet":[{"recurs":3},{"spaced":1}]}"#.parse()?;
         /// let budget = Budget::new(10)?;
-        /// let text = fetch.retry(&policy).budget(&budget).notify(|error, wait| eprintln!("{error}, {wait:?}")).run().await?;
+        /// let text = fetch.retry(&policy).budget(&budget).when(|error| error.raw_os_error().is_none()).run().await?;
         /// assert_eq!(text, "fetched");
         /// # Ok::<(), Box<dyn std::error::Error>>(())
         /// # }).unwrap();
@@ -173,8 +173,9 @@ impl<E, H: Hooked<E>, K: FnMut() -> Instant, S: AsyncSleep, R: Random> Retrying<
         until_it_succeeds!(self, call)
     }
 
-    /// The same for an async closure that changes what it captures. From Rust 1.85 on. Its future is not `Send` where the
-    /// closure borrows: a task that is spawned takes [`Retrying::call_async`], or a closure that owns what it changes.
+    /// The same for an async closure that changes what it captures. From Rust 1.85 on. Its future is not `Send` where
+    /// the closure borrows: a task that is spawned takes [`Retrying::call_async`], or a closure that owns what it
+    /// changes.
     ///
     /// ```
     /// # #[cfg(feature = "tokio")]

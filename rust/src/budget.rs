@@ -5,8 +5,8 @@ use std::error::Error;
 use std::fmt;
 use std::sync::{Arc, Mutex, MutexGuard, PoisonError};
 
-/// A number of tickets that all threads of a program share: a retry needs one, and no ticket is drawn twice. It is cheap
-/// to clone; all clones are the same budget.
+/// A number of tickets that all threads of a program share: a retry needs one, and no ticket is drawn twice. It is
+/// cheap to clone; all clones are the same budget.
 ///
 /// ```
 /// use hikebox::Budget;
@@ -65,8 +65,8 @@ impl Budget {
         Self::of(Handle::fixed(limit))
     }
 
-    /// A budget of `limit` tickets that [`Budget::raise`] may raise. A draw that is refused uses no ticket up, so a limit
-    /// that is raised by some gives as many tickets more.
+    /// A budget of `limit` tickets that [`Budget::raise`] may raise. A draw that is refused uses no ticket up, so a
+    /// limit that is raised by some gives as many tickets more.
     ///
     /// ```
     /// use hikebox::Budget;
@@ -175,7 +175,9 @@ impl fmt::Display for BudgetError {
             Self::LimitTooLarge => "the limit is above 4294967296",
             Self::Fixed => "the budget keeps its limit",
             Self::ReserveTooLarge => "the reserve is above 4294967296 retries a window",
-            Self::ShareOutOfRange => "the share is not 0, nor from 0.001 to 10 retries a request (0.2 is one for every five requests)",
+            Self::ShareOutOfRange => {
+                "the share is not 0, nor from 0.001 to 10 retries a request (0.2 is one for every five)"
+            }
             Self::PeriodTooShort => "the window is shorter than a millisecond",
             Self::PeriodTooLong => "the window is longer than 2^62 - 1 milliseconds",
             Self::TooManyPasses => "more than 2^42 passes are alive",

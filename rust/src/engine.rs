@@ -272,10 +272,10 @@ impl<K: Kind> Handle<K> {
     }
 }
 
-// SAFETY of all calls below: a pointer is to a handle of the kind that the call wants, or to an empty one that it fills; a
-// text or a room is valid for the length that is told; each result has a place of its own; and a handle that is lent by
-// `&mut` is used by no other thread. Passes that are joined, and a retry and the pass that it ends into, are of one budget or
-// quota: `Pass`, `QuotaPass` and `Machine` keep the one that theirs was split off.
+// SAFETY of all calls below: a pointer is to a handle of the kind that the call wants, or to an empty one that it
+// fills; a text or a room is valid for the length that is told; each result has a place of its own; and a handle that
+// is lent by `&mut` is used by no other thread. Passes that are joined, and a retry and the pass that it ends into, are
+// of one budget or quota: `Pass`, `QuotaPass` and `Machine` keep the one that theirs was split off.
 
 impl Handle<PolicyKind> {
     /// The policy that the text spells, or its first fault, and where that is if the text is not JSON.

@@ -7,8 +7,8 @@ use std::fmt;
 use std::sync::Arc;
 use std::time::Instant;
 
-/// What retries draw their tickets on: a [`Budget`], a [`Quota`], an `Arc` of [`Tickets`], or [`Unlimited`] for nothing.
-/// Whatever retries takes any of them.
+/// What retries draw their tickets on: a [`Budget`], a [`Quota`], an `Arc` of [`Tickets`], or [`Unlimited`] for
+/// nothing. Whatever retries takes any of them.
 ///
 /// ```
 /// use hikebox::{retry, Budget, Grants, Policy, Quota, RetryError, Unlimited};
@@ -39,8 +39,8 @@ impl<S: Tickets + 'static> Grants for Arc<S> {}
 #[derive(Clone, Copy, Debug, Default, PartialEq, Eq, Hash)]
 pub struct Unlimited;
 
-/// A store of tickets outside of the engine, as a table of a database or a file (with the feature `leased`, `Leased` and
-/// `LeasedQuota` are such). An `Arc` of it is given to whatever retries:
+/// A store of tickets outside of the engine, as a table of a database or a file (with the feature `leased`, `Leased`
+/// and `LeasedQuota` are such). An `Arc` of it is given to whatever retries:
 ///
 /// ```
 /// use hikebox::{retry, Policy, RetryError, Tickets};
@@ -65,8 +65,8 @@ pub struct Unlimited;
 /// # Ok::<(), hikebox::PolicyError>(())
 /// ```
 ///
-/// That it gives out no more tickets than it should is its own affair. A retry of a future draws on the thread that polls
-/// it, so what a draw waits for, as a disk, that thread waits for.
+/// That it gives out no more tickets than it should is its own affair. A retry of a future draws on the thread that
+/// polls it, so what a draw waits for, as a disk, that thread waits for.
 pub trait Tickets: Send + Sync {
     /// Counts a request, before its first run. Unless it is said, nothing is counted.
     fn deposit(&self) {}

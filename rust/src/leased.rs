@@ -149,7 +149,7 @@ impl Leased {
         };
         let millis = u64::try_from(period.as_millis()).unwrap_or(u64::MAX).max(1);
         let (key, window) = (format!("windows of {millis} ms of {}", self.name), Window::present(millis)?);
-        let [before] = counts.of_window(&key, &window)?.unwrap_or([MOST]);
+        let [before] = counts.of_window(&key, &window)?;
         match self.below_limit(before) {
             0 => Ok(None),
             tickets => {
@@ -238,7 +238,7 @@ impl LeasedQuota {
     ///
     /// # Errors
     ///
-    /// [`StoreError`] where the file can't be read or written.
+    /// [`StoreError`] where the file can't be read or written, or has lost its count of the present window.
     pub fn seen(&self) -> Result<Usage, StoreError> {
         let Found { window, before: given, asked, .. } = self.ask(false)?;
         let left = self.terms.allowed(asked).saturating_sub(given);
@@ -251,10 +251,7 @@ impl LeasedQuota {
         let counts = self.file.lock()?;
         let window = Window::present(self.terms.period)?;
         let key = format!("quota of {} ms of {}", self.terms.period, self.name);
-        let [before, asked] = match counts.of_window(&key, &window)? {
-            Some(found) => found,
-            None => return Ok(Found { window, before: MOST, tickets: 0, asked: 0 }),
-        };
+        let [before, asked] = counts.of_window(&key, &window)?;
         let told = lock(&self.requests).take(window.number);
         let asked = asked.saturating_add(told);
         let allowed = self.terms.allowed(asked);

@@ -23,7 +23,8 @@
 //! - [`repeat`] runs a call again after each success, [`poll_until`] until its answer is as wanted.
 //! - With the feature `tokio`, `retry_async` retries futures. [`Retrying::sleep`] takes the waits of any runtime.
 //! - With the feature `tower`, `RetryPolicy` is a `tower::retry::Policy`.
-//! - With the feature `leased`, `Leased` and `LeasedQuota` are shared by all processes of a machine, by a file. A store of
+//! - With the feature `leased`, `Leased` and `LeasedQuota` are shared by all processes of a machine, by a file. A store
+//!   of
 //!   your own implements [`Tickets`].
 //! - With the feature `serde`, a policy is read and written as a part of a configuration.
 //! - [`Machine`] is a retry that a host with a clock of its own steps.

@@ -139,15 +139,15 @@ impl Machine {
         Ok(Self { handle: Some(handle.map_err(BudgetError::of)?), draws_on, words: Words::new() })
     }
 
-    /// Steps it at the moment `now`, which is not before that of the step before, with random words of its own. A report
-    /// is of the run under way; where none is, it counts for nothing.
+    /// Steps it at the moment `now`, which is not before that of the step before, with random words of its own. A
+    /// report is of the run under way; where none is, it counts for nothing.
     pub fn step(&mut self, now: Duration, report: Option<Report>) -> Step {
         let words = self.words.next();
         self.step_with(now, report, words)
     }
 
-    /// The same with random words of the host's, of which each jitter takes the one of its lane: `u32::MAX / 2` picks the
-    /// middle.
+    /// The same with random words of the host's, of which each jitter takes the one of its lane: `u32::MAX / 2` picks
+    /// the middle.
     pub fn step_with(&mut self, now: Duration, report: Option<Report>, words: [u32; 4]) -> Step {
         let before = self.see().granted;
         let next = self.poll(whole_millis(now), report, &words);

@@ -10,8 +10,8 @@ use std::sync::{Arc, Mutex, PoisonError};
 /// The most events that a driver keeps.
 const MOST_EVENTS: usize = 65_536;
 
-/// A schedule that the engine has read, of at most 256 nodes and depth at most 32. It is cheap to clone, and threads may
-/// share it.
+/// A schedule that the engine has read, of at most 256 nodes and depth at most 32. It is cheap to clone, and threads
+/// may share it.
 ///
 /// ```
 /// use hikebox::{Policy, Schedule};
@@ -119,9 +119,9 @@ impl Policy {
         self.depth
     }
 
-    /// What the policy would do, event by event, as `zsched plan` prints it: the first event is at 0, each further one at
-    /// the start planned before it, with the input 0 and random words that pick the middle of each jitter. It ends after
-    /// `steps` events (at most 65,536), or with the one at which the policy is done.
+    /// What the policy would do, event by event, as `zsched plan` prints it: the first event is at 0, each further one
+    /// at the start planned before it, with the input 0 and random words that pick the middle of each jitter. It ends
+    /// after `steps` events (at most 65,536), or with the one at which the policy is done.
     ///
     /// ```
     /// use hikebox::Policy;

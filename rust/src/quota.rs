@@ -92,8 +92,8 @@ pub(crate) struct Terms {
 
 impl Quota {
     /// A quota of `reserve` retries in each window of this length (whole milliseconds), and `share` retries for each
-    /// request of the window: 0.2 is one for every five. The share is counted in thousandths, and is at most 10: a number
-    /// that was meant as per cent, as 20.0, is refused.
+    /// request of the window: 0.2 is one for every five. The share is counted in thousandths, and is at most 10: a
+    /// number that was meant as per cent, as 20.0, is refused.
     ///
     /// # Errors
     ///

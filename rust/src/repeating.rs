@@ -20,8 +20,8 @@ pub enum RepeatError<T, E> {
     Broken(PolicyError),
 }
 
-/// Runs the call once, and again after each success as the policy says: `recurs(2)` is three runs. Gives the last value.
-/// A repeat needs no budget.
+/// Runs the call once, and again after each success as the policy says: `recurs(2)` is three runs. Gives the last
+/// value. A repeat needs no budget.
 ///
 /// ```
 /// use hikebox::{repeat, Policy};

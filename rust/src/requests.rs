@@ -72,8 +72,8 @@ impl<Request: Clone, Response, E> RetryPolicy<Request, Response, E> {
 }
 
 impl<Request, Response, E> RetryPolicy<Request, Response, E> {
-    /// The same for requests that are not `Clone`: the function copies one, as tower's `clone_request`, or says by `None`
-    /// that it can't be made again.
+    /// The same for requests that are not `Clone`: the function copies one, as tower's `clone_request`, or says by
+    /// `None` that it can't be made again.
     pub fn copying(
         policy: Policy,
         budget: impl Grants,

@@ -118,8 +118,8 @@ impl Clone for SystemWords {
 /// Why a retry gave no value. Each way but the last keeps the last error of the call.
 ///
 /// Its text has that of the last error, so it has no [`source`](Error::source): [`RetryError::last`] leads to the error
-/// and its causes. It is an [`Error`] for every `E` that can be shown, `&str`, `Box<dyn Error>` and `anyhow::Error` too,
-/// so `?` takes it on.
+/// and its causes. It is an [`Error`] for every `E` that can be shown, `&str`, `Box<dyn Error>` and `anyhow::Error`
+/// too, so `?` takes it on.
 #[derive(Clone, Debug, PartialEq, Eq, Hash)]
 #[non_exhaustive]
 pub enum RetryError<E> {
@@ -248,9 +248,9 @@ impl<'a, E, F, H, K, S, R> Retrying<'a, E, F, H, Host<K, S, R>> {
         self.with(|hooks| hooks, |Host { sleep, words, .. }| Host { clock, sleep, words })
     }
 
-    /// How to wait: a function that blocks for so long, or of a retry of futures one that makes a future of any runtime,
-    /// as `async_std::task::sleep`. It is not called for a wait of nothing. After a wait the retry goes on, also where the
-    /// clock did not move.
+    /// How to wait: a function that blocks for so long, or of a retry of futures one that makes a future of any
+    /// runtime, as `async_std::task::sleep`. It is not called for a wait of nothing. After a wait the retry goes on,
+    /// also where the clock did not move.
     pub fn sleep<X>(self, sleep: X) -> Retrying<'a, E, F, H, Host<K, X, R>> {
         self.with(|hooks| hooks, |Host { clock, words, .. }| Host { clock, sleep, words })
     }
@@ -506,8 +506,8 @@ impl Run {
         let _ = self.step(now, Some(Report::Won(0)), [0; 4]);
     }
 
-    /// The run under way failed: how long it is to be waited from now on, or how the retry ended. The wait is the planned
-    /// one in full, whatever part of a millisecond the run ended at.
+    /// The run under way failed: how long it is to be waited from now on, or how the retry ended. The wait is the
+    /// planned one in full, whatever part of a millisecond the run ended at.
     pub(crate) fn lost(&mut self, code: u64, now: Instant, words: [u32; 4]) -> Result<Duration, Ended> {
         match self.step(now, Some(Report::Lost(code)), words) {
             Step::Run => Ok(Duration::ZERO),
@@ -519,8 +519,8 @@ impl Run {
         }
     }
 
-    /// Begins the run that is due, unless that is refused. A clock that did not move while it was waited is taken to have
-    /// moved.
+    /// Begins the run that is due, unless that is refused. A clock that did not move while it was waited is taken to
+    /// have moved.
     pub(crate) fn resume(&mut self, now: Instant, words: [u32; 4]) -> Result<(), Cause> {
         self.latest = self.latest.max(self.due);
         match self.step(now, None, words) {

@@ -11,8 +11,8 @@ use std::time::Duration;
 /// [`join`](Schedule::join) and [`feed`](Schedule::feed), as `&&`, `||` and `>>>` of ZIO's `Schedule`. A `Schedule` is
 /// text, and nothing is checked before it becomes a [`Policy`](crate::Policy).
 ///
-/// All times are whole milliseconds: a duration is rounded up. One that is not 0 and is below a millisecond is refused when
-/// the [`Policy`](crate::Policy) is made, and so is a ratio below a thousandth, and what else is out of its range:
+/// All times are whole milliseconds: a duration is rounded up. One that is not 0 and is below a millisecond is refused
+/// when the [`Policy`](crate::Policy) is made, and so is a ratio below a thousandth, and what else is out of its range:
 ///
 /// ```
 /// use hikebox::{Policy, Schedule};
@@ -107,12 +107,14 @@ impl Schedule {
 
     /// Delays of `base`, each `factor` (1 to 1000) times the one before.
     pub fn exponential(base: Duration, factor: u64) -> Self {
-        Self::node("exponential", format_args!("[{},{factor}]", millis(base)))
-            .checked(span(base).or(factor_of(factor, 1..=1000, FACTOR)), format_args!("exponential({base:?}, {factor})"))
+        Self::node("exponential", format_args!("[{},{factor}]", millis(base))).checked(
+            span(base).or(factor_of(factor, 1..=1000, FACTOR)),
+            format_args!("exponential({base:?}, {factor})"),
+        )
     }
 
-    /// Delays of `base`, each `thousandths` (1 to 1,000,000) thousandths of the one before: 1500 makes each half as long
-    /// again.
+    /// Delays of `base`, each `thousandths` (1 to 1,000,000) thousandths of the one before: 1500 makes each half as
+    /// long again.
     pub fn exponential_milli(base: Duration, thousandths: u64) -> Self {
         Self::node("exponential_milli", format_args!("[{},{thousandths}]", millis(base))).checked(
             span(base).or(factor_of(thousandths, 1..=1_000_000, THOUSANDTHS)),
@@ -263,8 +265,8 @@ impl Schedule {
             .checked(range_of(&ratios), format_args!("jittered({:?})", ratios))
     }
 
-    /// Each delay is multiplied by a ratio from `least` to `most` thousandths (at most 10,000) that the random word of the
-    /// lane, 0 to 3, picks.
+    /// Each delay is multiplied by a ratio from `least` to `most` thousandths (at most 10,000) that the random word of
+    /// the lane, 0 to 3, picks.
     #[must_use]
     pub fn jitter(self, lane: u8, least: u64, most: u64) -> Self {
         self.ratios(lane, least, most)
@@ -417,7 +419,7 @@ fn range_of(ratios: &Range<f64>) -> Option<&'static str> {
     match () {
         () if !ends.iter().all(|ratio| (0.0..=10.0).contains(ratio)) => Some("a ratio is from 0 to 10"),
         () if ratios.start > ratios.end => Some("the range is empty"),
-        () if ends.iter().any(|ratio| *ratio > 0.0 && thousandths(*ratio) == 0) => Some("a ratio is below a thousandth"),
+        () if ends.iter().any(|end| *end > 0.0 && thousandths(*end) == 0) => Some("a ratio is below a thousandth"),
         () => None,
     }
 }

@@ -22,6 +22,8 @@ pub enum StoreError {
     Locked,
     /// It is damaged, or no file of counts.
     Damaged,
+    /// It counts a later window than the present one, of which it has no count any more.
+    Lost,
     /// The range found no budget to draw from, for want of memory.
     NoMemory,
 }
@@ -85,7 +87,9 @@ impl Window {
     /// Whether a window of this text is a later one of the same start.
     fn is_before(&self, text: &str) -> bool {
         match text.split_once(' ') {
-            Some((boot, number)) => boot == self.boot && number.parse::<u64>().map_or(false, |number| number > self.number),
+            Some((boot, number)) => {
+                boot == self.boot && number.parse::<u64>().map_or(false, |number| number > self.number)
+            }
             None => false,
         }
     }
@@ -117,17 +121,18 @@ impl Counts {
         }
     }
 
-    /// Those of this key's window, which are 0 where the file has an earlier one; `None` where it has a later one.
-    pub(crate) fn of_window<const N: usize>(&self, key: &str, window: &Window) -> Result<Option<[u64; N]>, StoreError> {
+    /// Those of this key's window, which are 0 where the file has an earlier one; [`StoreError::Lost`] where it has a
+    /// later one.
+    pub(crate) fn of_window<const N: usize>(&self, key: &str, window: &Window) -> Result<[u64; N], StoreError> {
         let stored = match self.by_key.get(key) {
             Some(stored) => stored,
-            None => return Ok(Some([0; N])),
+            None => return Ok([0; N]),
         };
         let name = stored.get(0).and_then(Value::as_str).ok_or(StoreError::Damaged)?;
         if window.is_before(name) {
-            return Ok(None);
+            return Err(StoreError::Lost);
         }
-        if name == window.to_string() { numbers(stored).map(Some) } else { Ok(Some([0; N])) }
+        if name == window.to_string() { numbers(stored) } else { Ok([0; N]) }
     }
 
     /// Sets the counts of this key, as a whole or in a window, and writes all by one write, and to the disk.
@@ -180,6 +185,7 @@ impl fmt::Display for StoreError {
             Self::Io(error) => write!(f, "the file of counts: {error}"),
             Self::Locked => f.write_str("the file of counts is locked by another process"),
             Self::Damaged => f.write_str("the file of counts is damaged, or is none"),
+            Self::Lost => f.write_str("the file of counts has a later window, and has lost the present one's count"),
             Self::NoMemory => f.write_str("no memory"),
         }
     }

@@ -6,7 +6,8 @@ use serde_json::{from_str, json, to_string};
 
 #[test]
 fn a_policy_is_the_tree_that_its_json_spells() {
-    let (policy, at): (Policy, u8) = from_str(r#"[{"meet": [ {"recurs": 3}, {"spaced": 4611686018427387903} ]}, 7]"#).unwrap();
+    let text = r#"[{"meet": [ {"recurs": 3}, {"spaced": 4611686018427387903} ]}, 7]"#;
+    let (policy, at): (Policy, u8) = from_str(text).unwrap();
     assert_eq!(policy.as_json(), r#"{"meet":[{"recurs":3},{"spaced":4611686018427387903}]}"#);
     assert_eq!((policy.nodes(), at), (3, 7));
     assert_eq!(to_string(&policy).unwrap(), policy.as_json());

@@ -2,7 +2,8 @@
 #![cfg(all(feature = "tokio", feature = "tower"))]
 
 use hikebox::{
-    retry_async, BlockingRetryable, Budget, Policy, Quota, RetryError, RetryPolicy, Retryable, Retrying, Unlimited, Usage,
+    retry_async, BlockingRetryable, Budget, Policy, Quota, RetryError, RetryPolicy, Retryable, Retrying, Unlimited,
+    Usage,
 };
 use std::cell::RefCell;
 use std::future::{ready, Future};
@@ -229,8 +230,8 @@ struct Once(u64);
 
 #[tokio::test(start_paused = true)]
 async fn a_response_is_a_failure_and_asks_for_a_wait() {
-    let (limit, budget) = (r#"{"gate":["input",true,"at_least",500,{"meet":[{"recurs":2},{"spaced":100}]}]}"#, Budget::new(9));
-    let by = RetryPolicy::copying(policy(limit), budget.unwrap(), |request: &Once| Some(Once(request.0)))
+    let limit = r#"{"gate":["input",true,"at_least",500,{"meet":[{"recurs":2},{"spaced":100}]}]}"#;
+    let by = RetryPolicy::copying(policy(limit), Budget::new(9).unwrap(), |request: &Once| Some(Once(request.0)))
         .failed(|response: &Response| response.0 >= 400)
         .response_code(|response| response.0)
         .retry_after(|result: Result<&Response, &String>| result.ok()?.1)

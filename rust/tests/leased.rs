@@ -229,9 +229,24 @@ fn a_quota_that_python_wrote_goes_on() {
     assert_eq!(long_quota(&file.0, 5, 0.2).draw().unwrap(), Some(7));
     // a later window of this start of the machine, and one of another start
     written(&format!("{} {}", boot.trim(), window + 1));
-    assert_eq!(long_quota(&file.0, 5, 0.2).draw().unwrap(), None);
+    assert!(matches!(long_quota(&file.0, 5, 0.2).draw(), Err(StoreError::Lost)));
+    assert!(matches!(long_quota(&file.0, 5, 0.2).seen(), Err(StoreError::Lost)));
     written(&format!("another {}", window + 1));
     assert_eq!(long_quota(&file.0, 5, 0.2).draw().unwrap(), Some(0));
+}
+
+/// A request each time, whose retry draws: an empty answer does not keep what later requests are worth from it.
+#[test]
+fn a_quota_goes_on_after_an_empty_answer() {
+    let file = Scratch::new("goes-on");
+    let quota = long_quota(&file.0, 30, 0.2).lease(20);
+    let mut granted = 0;
+    for _ in 0..2595 {
+        quota.deposit();
+        granted += u64::from(quota.draw().unwrap().is_some());
+    }
+    // the reserve of 30, and a fifth of 2,595
+    assert_eq!(granted, 549);
 }
 
 /// The CRC-32 of a text, bit by bit.

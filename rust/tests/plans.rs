@@ -172,7 +172,7 @@ fn a_fault_of_a_schedule_is_told_in_the_words_of_the_call() {
         (Schedule::forever().up_to(small).first(), "up_to(400µs): the duration is below a millisecond"),
         (Schedule::forever().jittered(1.2..0.8), "jittered(1.2..0.8): the range is empty"),
         (Schedule::forever().jittered(0.0001..0.0004), "jittered(0.0001..0.0004): a ratio is below a thousandth"),
-        (Schedule::forever().jittered(0.0..10.5).then(Schedule::forever()), "jittered(0.0..10.5): a ratio is from 0 to 10"),
+        (Schedule::forever().jittered(0.0..10.5) & Schedule::forever(), "jittered(0.0..10.5): a ratio is from 0 to 10"),
         (Schedule::forever().jitter(4, 1, 2), "jitter(4, 1, 2): a lane is from 0 to 3"),
         (Schedule::forever().jitter(0, 3, 2), "jitter(0, 3, 2): the range is empty"),
         (Schedule::exponential(second, 0), "exponential(1s, 0): a factor is from 1 to 1000"),

@@ -304,7 +304,8 @@ fn a_machine_takes_its_random_words() {
 #[test]
 fn the_last_error_is_kept() {
     let budget = Budget::new(0).unwrap();
-    let error = retry(&policy(r#"{"recurs":5}"#), &budget, || Err::<(), _>(io::Error::new(io::ErrorKind::Other, "away"))).unwrap_err();
+    let away = || Err::<(), _>(io::Error::new(io::ErrorKind::Other, "away"));
+    let error = retry(&policy(r#"{"recurs":5}"#), &budget, away).unwrap_err();
     assert_eq!(error.to_string(), "away (the retry budget had no ticket)");
     assert!(error.source().is_none());
     assert_eq!(error.into_last().unwrap().kind(), io::ErrorKind::Other);

@@ -1,11 +1,13 @@
-//! Steps a schedule in place: `bench_steps [PLAN] [EVENTS] [driver]`, where PLAN is `pair`, `fixed`, `tree`, `crossed`,
-//! `exponential`, `retry` or `rounds`; of `pair` and 1,000 events where nothing is said. With `driver` a driver steps
-//! it, which keeps a journal. It prints where the run ended and no time; a script measures it from outside.
+//! Steps a schedule in place: `bench_steps [PLAN] [EVENTS] [driver|stepper]`, where PLAN is `pair`, `fixed`, `tree`,
+//! `crossed`, `exponential`, `retry` or `rounds`; of `pair` and 1,000 events where nothing is said. With `driver` a
+//! driver steps it, which keeps a journal, and with `stepper` one that keeps none. It prints where the run ended and no
+//! time; a script measures it from outside.
 #![tactic(auto)]
 
 ghost use Rattle.std.specs.Prelude.{ℕ, ◌≤◌, IfOk};
 
 use sched_driver::Driver;
+use sched_driver_stepper::Stepper;
 use sched_plan::{Fold, Plan, PlanFault, Val};
 use sched_step::initial;
 use sched_time::{FAR, Moment, NoMemory, Tick};
@@ -29,7 +31,8 @@ fn main(rt: HostRuntime) -> io::Result<()> {
     let Ok(plan) = plan_named(rt.alloc(), name) else {
         return println!(rt; "no plan");
     };
-    let ended = match words.next() {
+    let ended = match &words.next() {
+        Some(by) if by.as_str() == "stepper" => stepped_of(rt.alloc(), &plan, events),
         Some(_) => driven_of(rt.alloc(), &plan, events),
         None => run_of(rt.alloc(), &plan, events),
     };
@@ -122,6 +125,23 @@ fn drive(alloc: Global, plan: &Plan, from: Moment, events: u64) -> Result<Moment
     for _ in 0..events {
         let words = [0; 4];
         let Ok(decision) = driver.next(alloc, Tick { now, words }, Val::unit()) else {
+            return Err(NoMemory);
+        };
+        if let Some(start) = decision.start() {
+            now = start;
+        }
+    }
+    Ok(now)
+}
+
+/// The same by one stepper, which keeps no event.
+fn stepped_of(alloc: Global, plan: &Plan, events: u64) -> Result<Moment, NoMemory> {
+    let mut stepper = Stepper::new(alloc, plan.copy(alloc)?)?;
+    let input = Val::unit();
+    let mut now = Moment::new(0).unwrap();
+    for _ in 0..events {
+        let words = [0; 4];
+        let Ok(decision) = stepper.next(alloc, &Tick { now, words }, &input) else {
             return Err(NoMemory);
         };
         if let Some(start) = decision.start() {

@@ -5,7 +5,7 @@
 
 use anyhow::{Context, Result, bail};
 use sched_run::{
-    Budget, Driver, Ending, HostRetry, OnBudget, Plan, PlanFault, SystemClock, SystemWords, Tagged,
+    Budget, Ending, Machine, OnBudget, Plan, PlanFault, Stepper, SystemClock, SystemWords, Tagged,
     retry_call,
 };
 use std::alloc::{AllocGlobal, Global};
@@ -37,9 +37,9 @@ fn read<R: Runtime + RandomSource + AllocGlobal + Wait>(rt: &R, path: &str) -> R
     let alloc = rt.alloc();
     let mut clock = SystemClock::new(rt)?;
     let mut words = SystemWords::new(rt)?;
-    let driver = Driver::new(alloc, back_off(alloc)?)?;
+    let stepper = Stepper::new(alloc, back_off(alloc)?)?;
     let (budget, pass) = Budget::new(alloc, 10)?;
-    let mut retry = HostRetry::new(alloc, driver, OnBudget::new(pass, &budget));
+    let mut retry = Machine::new(stepper, OnBudget::new(pass, &budget));
     let ending = retry_call(
         rt,
         &mut retry,

@@ -107,7 +107,7 @@ module _ {R D K C I F : Type 0} (stands : R → Driven → Type 0) (keeps : Bool
         let polled = polls was.0 was.2 in
         let none = sym was.2.over ∙ unended in
         let turn : Turn grants (a_retry keeps) tells waits gives item_code fault_code (calling was.0 clock' words' call' last) tick
-            (calling polled.0 clock'' words'' call'' last') = record {
+        (calling polled.0 clock'' words'' call'' last') = record {
           told = told;
           finishes = subst (λ (running : Bool). Finishes item_code fault_code gives running call' last told call'' last')
               was.2.under_way finishes;

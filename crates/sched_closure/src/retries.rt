@@ -44,13 +44,13 @@ where
     requires callable { C.IsAlwaysCallable call }
     ensures turns { (ticks : List Ticked) × (called : C) × (last : Option (Result I F)) × HandsOut last result
         × ((v : Retrying D) → StandsFor S.stands S.keeps D.grants retry.old v →
-          (u : Retrying D)
-          × FoldsTo (Turn D.grants (a_retry S.keeps) K.tells K.waits C.step I.coded F.coded)
-          (calling v clock.old (G.stream words.old) call None)
-          ticks
-          (calling u clock.new (G.stream words.new) called last)
-          × EndingFits I.coded F.coded u.past.over u.past.runs result
-          × StandsFor S.stands S.keeps D.grants retry.new u) }
+        (u : Retrying D)
+        × FoldsTo (Turn D.grants (a_retry S.keeps) K.tells K.waits C.step I.coded F.coded)
+        (calling v clock.old (G.stream words.old) call None)
+        ticks
+        (calling u clock.new (G.stream words.new) called last)
+        × EndingFits I.coded F.coded u.past.over u.past.runs result
+        × StandsFor S.stands S.keeps D.grants retry.new u) }
     ensures over { retry.new.over ≡ Some (how_of result) }
 {
     let alloc = rt.alloc();

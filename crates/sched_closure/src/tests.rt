@@ -1,14 +1,14 @@
 ghost use Rattle.std.specs.Prelude.{◌≡◌, ⊤, []};
 ghost use Rattle.sched_ticket.specs.Held.{IsOf};
-ghost use Rattle.sched_task_law.specs.Past.{nothing_yet};
+ghost use Rattle.sched_driver_stepper.specs.Standing.{standing_after};
 
 use super::retry_call;
 use sched_driver::Driver;
-use sched_effect::Ran;
-use sched_host::HostRetry;
+use sched_driver_stepper::Stepper;
 use sched_plan::{Plan, PlanFault};
 use sched_retry::Ending;
-use sched_task::{Clock, How, MidWords, VirtualClock};
+use sched_run_machine::Machine;
+use sched_task::{Clock, MidWords, RunFault, VirtualClock};
 use sched_ticket::{Budget, Pass};
 use sched_ticket_draws::{OnBudget, Unlimited};
 use sched_time::{Millis, Moment};
@@ -20,12 +20,12 @@ fn moment(rt: &impl Abort, at: u64) -> Moment {
     Moment::new(at).expect(rt, "the moment is in range")
 }
 
-// A driver of at most so many recurrences, 100 milliseconds apart, before its first event.
-fn driver(rt: &impl Abort, alloc: Global, recurs: u64) -> Driver
-    ensures { result.journal ≡ [] }
+// A plan of at most so many recurrences, 100 milliseconds apart, before its first step.
+fn stepper(rt: &impl Abort, alloc: Global, recurs: u64) -> Stepper
+    ensures { result ≡ standing_after result.plan [] }
 {
     let plan = spaced(alloc, recurs).expect(rt, "the plan is built");
-    Driver::new(alloc, plan).expect(rt, "there is memory")
+    Stepper::new(alloc, plan).expect(rt, "there is memory")
 }
 
 fn spaced(alloc: Global, recurs: u64) -> Result<Plan, PlanFault> {
@@ -38,30 +38,11 @@ fn budget(rt: &impl Abort, alloc: Global, limit: u64) -> (Budget, Pass)
     Budget::new(alloc, limit).expect(rt, "the limit is in range")
 }
 
-fn assert_moments(rt: &impl Abort, begun: &[Moment], want: &[u64]) {
-    assert_eq!(rt; begun.len(), want.len());
-    for (begin, at) in begun.iter().zip(want) {
-        assert_eq!(rt; begin.get(), *at);
-    }
-}
-
-fn assert_runs(rt: &impl Abort, runs: &[Ran], want: &[Result<u32, u32>]) {
-    assert_eq!(rt; runs.len(), want.len());
-    for (ran, outcome) in runs.iter().zip(want) {
-        let wanted = match outcome {
-            Ok(code) => Ran::Won(Millis::from(*code)),
-            Err(code) => Ran::Lost(Millis::from(*code)),
-        };
-        assert_eq!(rt; *ran, wanted);
-    }
-}
-
 #[test]
 fn a_closure_is_called_until_it_succeeds(rt: HostRuntime) {
     let alloc = rt.alloc();
     let (budget, pass) = budget(&rt, alloc, 10);
-    let driver = driver(&rt, alloc, 5);
-    let mut retry = HostRetry::new(alloc, driver, OnBudget::new(pass, &budget));
+    let mut retry = Machine::new(stepper(&rt, alloc, 5), OnBudget::new(pass, &budget));
     let mut clock = VirtualClock::at(moment(&rt, 1000));
     let mut calls = 0u32;
     let ending = retry_call(&rt, &mut retry, &mut clock, &mut MidWords, || {
@@ -74,8 +55,6 @@ fn a_closure_is_called_until_it_succeeds(rt: HostRuntime) {
     });
     assert!(rt; matches!(ending, Ending::Won(5)));
     assert_eq!(rt; calls, 3);
-    assert_moments(&rt, retry.begun(), &[1000, 1100, 1200]);
-    assert_runs(&rt, retry.runs(), &[Err(1), Err(2), Ok(5)]);
     assert_eq!(rt; retry.granted(), 2);
     assert_eq!(rt; clock.now().get(), 1200);
 }
@@ -83,8 +62,7 @@ fn a_closure_is_called_until_it_succeeds(rt: HostRuntime) {
 #[test]
 fn the_last_failure_ends_it(rt: HostRuntime) {
     let alloc = rt.alloc();
-    let driver = driver(&rt, alloc, 1);
-    let mut retry = HostRetry::new(alloc, driver, Unlimited::new());
+    let mut retry = Machine::new(stepper(&rt, alloc, 1), Unlimited::new());
     let mut clock = VirtualClock::at(moment(&rt, 0));
     let mut calls = 0u32;
     let ending = retry_call(
@@ -99,16 +77,14 @@ fn the_last_failure_ends_it(rt: HostRuntime) {
     );
     assert!(rt; matches!(ending, Ending::ScheduleDone(2)));
     assert_eq!(rt; calls, 2);
-    assert_moments(&rt, retry.begun(), &[0, 100]);
-    assert_runs(&rt, retry.runs(), &[Err(1), Err(2)]);
+    assert_eq!(rt; clock.now().get(), 100);
 }
 
 #[test]
 fn no_call_is_made_without_a_ticket(rt: HostRuntime) {
     let alloc = rt.alloc();
     let (budget, pass) = budget(&rt, alloc, 2);
-    let driver = driver(&rt, alloc, 5);
-    let mut retry = HostRetry::new(alloc, driver, OnBudget::new(pass, &budget));
+    let mut retry = Machine::new(stepper(&rt, alloc, 5), OnBudget::new(pass, &budget));
     let mut clock = VirtualClock::at(moment(&rt, 0));
     let mut calls = 0u32;
     let ending = retry_call(
@@ -123,8 +99,8 @@ fn no_call_is_made_without_a_ticket(rt: HostRuntime) {
     );
     assert!(rt; matches!(ending, Ending::BudgetRefused(3)));
     assert_eq!(rt; calls, 3);
-    assert_moments(&rt, retry.begun(), &[0, 100, 200]);
     assert_eq!(rt; retry.granted(), 2);
+    assert_eq!(rt; clock.now().get(), 200);
 }
 
 // A clock that others move too. It wakes no later than 30 milliseconds after it began to wait.
@@ -156,8 +132,7 @@ impl<'a> Clock for Shared<'a> {
 #[test]
 fn a_delay_begins_where_its_call_ends(rt: HostRuntime) {
     let alloc = rt.alloc();
-    let driver = driver(&rt, alloc, 2);
-    let mut retry = HostRetry::new(alloc, driver, Unlimited::new());
+    let mut retry = Machine::new(stepper(&rt, alloc, 2), Unlimited::new());
     let now = Cell::new(moment(&rt, 0));
     let mut clock = Shared { moment: &now };
     let ending = retry_call(
@@ -171,6 +146,49 @@ fn a_delay_begins_where_its_call_ends(rt: HostRuntime) {
         },
     );
     assert!(rt; matches!(ending, Ending::ScheduleDone(4)));
-    assert_moments(&rt, retry.begun(), &[0, 150, 300]);
     assert_eq!(rt; now.get().get(), 350);
+}
+
+// A poll each second, which fails 200,000 times: two days and a third.
+#[test]
+fn a_retry_has_no_last_event(rt: HostRuntime) {
+    let alloc = rt.alloc();
+    let plan = Plan::spaced(1000).expect(&rt, "the plan is built");
+    let stepper = Stepper::new(alloc, plan).expect(&rt, "there is memory");
+    let mut retry = Machine::new(stepper, Unlimited::new());
+    let mut clock = VirtualClock::at(moment(&rt, 0));
+    let mut calls = 0u32;
+    let ending = retry_call(&rt, &mut retry, &mut clock, &mut MidWords, || {
+        calls = calls.saturating_add(1);
+        if calls <= 200_000 {
+            Err(calls)
+        } else {
+            Ok(7u32)
+        }
+    });
+    assert!(rt; matches!(ending, Ending::Won(7)));
+    assert_eq!(rt; calls, 200_001);
+    assert_eq!(rt; retry.granted(), 200_000);
+    assert_eq!(rt; clock.now().get(), 200_000_000);
+}
+
+// By a driver that keeps its journal the same ends where that is full, and has each event.
+#[test]
+fn a_journal_has_an_end(rt: HostRuntime) {
+    let alloc = rt.alloc();
+    let plan = Plan::spaced(1000).expect(&rt, "the plan is built");
+    let driver = Driver::new(alloc, plan).expect(&rt, "there is memory");
+    let mut retry = Machine::new(driver, Unlimited::new());
+    let mut clock = VirtualClock::at(moment(&rt, 0));
+    let ending = retry_call(
+        &rt,
+        &mut retry,
+        &mut clock,
+        &mut MidWords,
+        || -> Result<(), u32> { Err(3) },
+    );
+    assert!(rt; matches!(ending, Ending::Broken(RunFault::JournalFull)));
+    assert_eq!(rt; retry.granted(), 65_536);
+    assert_eq!(rt; retry.driver().journal().len(), 65_536);
+    assert_eq!(rt; clock.now().get(), 65_536_000);
 }

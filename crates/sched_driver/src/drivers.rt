@@ -7,7 +7,7 @@ ghost use Rattle.sched_step.specs.Starts.{StartsBy};
 ghost use Rattle.sched_driver.specs.Driven.{last_output, next_start_of, after};
 
 use sched_driver_stepper::{StepFault, Stepper};
-use sched_plan::{Event, Plan, Val};
+use sched_plan::{Event, Plan, SharedPlan, Val};
 use sched_step::State;
 use sched_time::{Decision, Moment, NoMemory, Tick};
 use std::alloc::Global;
@@ -87,7 +87,15 @@ impl Driver {
         ensures plan { IfOk result (λ driver. driver.plan ≡ plan) }
         ensures fresh { IfOk result (λ driver. driver.journal ≡ []) }
     {
-        let stepper = Stepper::new(alloc, plan)?;
+        Driver::of_shared(alloc, SharedPlan::new(alloc, plan)?)
+    }
+
+    /// The same of a plan that others hold too, with no copy of it. Where it fails, this share of the plan is dropped.
+    pub fn of_shared(alloc: Global, plan: SharedPlan) -> Result<Driver, NoMemory>
+        ensures plan { IfOk result (λ driver. driver.plan ≡ plan) }
+        ensures fresh { IfOk result (λ driver. driver.journal ≡ []) }
+    {
+        let stepper = Stepper::of_shared(alloc, plan)?;
         Ok(Driver {
             stepper,
             journal: Vec::new(alloc),

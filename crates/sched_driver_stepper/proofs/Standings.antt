@@ -10,7 +10,7 @@ use Rattle.sched_plan.specs.Answer.{answer}
 use Rattle.sched_plan.specs.declared.history.Event.{Event}
 use Rattle.sched_plan.specs.declared.history.Answer.{Answer}
 use Rattle.sched_step.specs.Progress.{Progress}
-use Rattle.sched_step.specs.StateOf.{IsStep}
+use Rattle.sched_step.specs.StateOf.{IsStep, state_of}
 use Rattle.sched_driver_stepper.specs.Standing.{Standing, last_answer, StandsFor}
 use Rattle.sched_driver_stepper.specs.Stepper.{Goes, Refuses, EndsEarly}
 use Rattle.sched_driver_stepper.specs.declared.steppers.StepFault.{StepFault}
@@ -35,14 +35,16 @@ stands_on v h e state given was later step =
       };
     }
 
--- with a step's state and answer it goes on as the plan answers the history with the step's event
-pub goes_on : (v : Standing) (h : List Event) (e : Event) (state : Progress) (given : Answer) →
-    StandsFor v h → v.floor ≤ e.now → IsStep v.plan (h ++ e ∷ []) state given →
+-- What it is after a step, whatever it stood for: the step was that of its plan, and gave this state and answer.
+pub goes_on : (v : Standing) (plan : Schedule) (e : Event) (state : Progress) (given : Answer) →
+    plan ≡ v.plan → v.floor ≤ e.now →
+    ((h : List Event) → v.state ≡ state_of plan h → IsStep plan (h ++ e ∷ []) state given) →
+    (h : List Event) → StandsFor v h →
     Goes v.plan (h ++ e ∷ []) given.decision record { plan = v.plan; state = state; last = Some given; floor = e.now }
-goes_on v h e state given was later step = record {
-  stands = stands_on v h e state given was later step;
-  decided = ap (λ (a : Answer). a.decision) step.answer_is;
-}
+goes_on v plan e state given same later law h was =
+    let step = subst (λ (p : Schedule). v.state ≡ state_of p h → IsStep p (h ++ e ∷ []) state given) same (law h)
+    (ap (λ (v : Standing). v.state) was.is) in
+    record { stands = stands_on v h e state given was later step; decided = ap (λ (a : Answer). a.decision) step.answer_is }
 
 -- it has had these events, after those that it had before
 pub record HasPlayed (old new : Standing) (events : List Event) : Type 0 where

@@ -5,7 +5,7 @@ ghost use Rattle.sched_step.specs.StateOf.{event_of};
 ghost use Rattle.sched_step.specs.Starts.{StartsBy};
 ghost use Rattle.sched_driver_stepper.specs.Standing.{standing_after, StandsFor, output_given, start_planned};
 
-use sched_plan::{Answer, Event, Plan, Val};
+use sched_plan::{Answer, Event, Plan, SharedPlan, Val};
 use sched_step::{State, initial};
 use sched_time::{Decision, Moment, NoMemory, Tick};
 use std::alloc::Global;
@@ -40,7 +40,7 @@ impl From<NoMemory> for StepFault {
 /// the last reset. It has the plan's state, what was last answered and the last moment, and no list of events.
 #[derive(Drop)]
 pub struct Stepper {
-    plan: Plan,
+    plan: SharedPlan,
     state: State,
     last: Option<Answer>,
     floor: Moment,
@@ -67,7 +67,14 @@ impl Stepper {
     pub fn new(alloc: Global, plan: Plan) -> Result<Stepper, NoMemory>
         ensures { IfOk result (λ stepper. stepper ≡ standing_after plan []) }
     {
-        let state = initial(alloc, &plan)?;
+        Stepper::of_shared(alloc, SharedPlan::new(alloc, plan)?)
+    }
+
+    /// The same of a plan that others hold too, with no copy of it. Where it fails, this share of the plan is dropped.
+    pub fn of_shared(alloc: Global, plan: SharedPlan) -> Result<Stepper, NoMemory>
+        ensures { IfOk result (λ stepper. stepper ≡ standing_after plan []) }
+    {
+        let state = initial(alloc, plan.get())?;
         Ok(Stepper {
             plan,
             state,
@@ -90,7 +97,7 @@ impl Stepper {
         ensures unchanged { IfErr result (λ _. self.new ≡ self.old) }
     {
         self.check_order(tick.now)?;
-        let answer = self.state.advance(alloc, &self.plan, tick, input)?;
+        let answer = self.state.advance(alloc, self.plan.get(), tick, input)?;
         let decision = answer.decision;
         self.last = Some(answer);
         self.floor = tick.now;
@@ -140,7 +147,7 @@ impl Stepper {
     pub fn plan(&self) -> &Plan
         ensures { result.now ≡ self.now.plan }
     {
-        &self.plan
+        self.plan.get()
     }
 
     /// The plan's state after the events since the last reset. It fits the plan from the last event's moment on, so that
@@ -178,7 +185,7 @@ impl Stepper {
     pub fn reset(&mut self)
         ensures { self.new ≡ standing_after self.old.plan [] }
     {
-        self.state.renew(&self.plan);
+        self.state.renew(self.plan.get());
         self.last = None;
         self.floor = Moment::new(0).unwrap();
     }

@@ -1,4 +1,5 @@
-//! Tests of `sched_driver`, of its public calls alone: here they are proved without a second proof of that library.
+//! Tests of `sched_driver` and `sched_driver_stepper`, of their public calls alone: here they are proved without a second
+//! proof of these libraries.
 #![tactic(auto)]
 
 #[cfg(test)]

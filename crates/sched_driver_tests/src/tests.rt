@@ -8,6 +8,7 @@ use std::test::Fail;
 
 mod cells;
 mod drivers;
+mod steppers;
 
 // Three recurrences, 100 milliseconds apart.
 fn spaced_recurs(alloc: Global) -> Result<Plan, PlanFault> {

@@ -12,14 +12,15 @@ use Rattle.sched_ticket_draws.specs.Budgets.{OfBudget}
 use Rattle.sched_ticket_draws.specs.Quotas.{OfQuota}
 use Rattle.sched_ticket.specs.View.{part_of, with_split}
 use Rattle.sched_ticket_quota.specs.View.{part_of as quota_part_of, without_part}
+use Rattle.sched_task_law.specs.Kind.{retry}
 use Rattle.sched_task_law.specs.Past.{Past, nothing_yet}
 use Rattle.sched_retry.specs.Retrying.{Retrying, gives_up}
-use Rattle.sched_host.specs.Host.{HostPoll, hears, next_of}
+use Rattle.sched_run_machine.specs.Next.{HostPoll, hears, next_of}
 use Rattle.sched_host.specs.Drawing.{granted_by, drawing_grants}
 use Rattle.sched_host.specs.declared.drawing.Drawing.{Drawing}
 use Rattle.sched_host.specs.declared.drawing.Drawing.TheVariants as by
-use Rattle.sched_host.specs.declared.retry.Next.{Next}
-use Rattle.sched_host.specs.declared.retry.Next.TheVariants as next
+use Rattle.sched_run_machine.specs.declared.next.Next.{Next}
+use Rattle.sched_run_machine.specs.declared.next.Next.TheVariants as next
 use Rattle.sched_handle.specs.Held.{kind_of, IsOther, OtherKind, Wants}
 use Rattle.sched_handle.specs.Passes.{IsPassOf, NoSplit}
 use Rattle.sched_handle.specs.Quotas.{IsQuotaOf, NoQuotaSplit}
@@ -97,10 +98,10 @@ RetriesUnlimited u (Err s) = Wants kind.Policy u s
 -- a poll, after a report where there is one
 abbrev pub RetryPolls : Tick → Option Ran → Retrying Drawing → Result Reply Status → Held → Type 0
 RetryPolls t None r (Ok x) v =
-    (u : Retrying Drawing) × (v ≡ Retry u) × HostPoll drawing_grants r t [] u × (x ≡ reply_of u.past)
+    (u : Retrying Drawing) × (v ≡ Retry u) × HostPoll drawing_grants retry r t [] u × (x ≡ reply_of u.past)
 RetryPolls t (Some ran) r (Ok x) v =
-    (m u : Retrying Drawing) × (v ≡ Retry u) × HostPoll drawing_grants r t (ran ∷ []) m
-    × HostPoll drawing_grants m t [] u × (x ≡ reply_of u.past)
+    (m u : Retrying Drawing) × (v ≡ Retry u) × HostPoll drawing_grants retry r t (ran ∷ []) m
+    × HostPoll drawing_grants retry m t [] u × (x ≡ reply_of u.past)
 RetryPolls t (Some ran) r (Err NoRun) v = (hears r.past ≡ false) × (v ≡ Retry r)
 RetryPolls t report r (Err _) v = ⊥
 

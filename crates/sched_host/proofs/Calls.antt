@@ -16,7 +16,8 @@ use Rattle.sched_retry.specs.Ending.{how_of}
 use Rattle.sched_retry.specs.Retrying.{Retrying, retrying, RetryLaw, RetryPoll}
 use Rattle.sched_retry.specs.declared.endings.Ending.{Ending}
 use Rattle.sched_retry.proofs.Polls.{Settled, Ready, can_run, ready_retry, rests_over, rests_waiting, pends, no_start, undenied, retry_goes_on, retry_ends}
-use Rattle.sched_host.specs.Host.{HostPoll, by_code}
+use Rattle.sched_run_machine.specs.Next.{HostPoll}
+use Rattle.sched_host.specs.Hosted.{by_code}
 
 module _ {D : Type 0} (grants : Grants D) (lawful : Lawful grants) (r : Runs) (over : Option How) (p : D) (had : ℕ) (t : Tick) where
   abbrev pub before : Retrying D
@@ -24,21 +25,21 @@ module _ {D : Type 0} (grants : Grants D) (lawful : Lawful grants) (r : Runs) (o
 
   -- a poll as the host sees it: w is the retry before it, u the one after it
   pub as_host : (w u : Retrying D) (ready : Bool) (told : List Ran) → before ≡ w → Settled grants lawful retry before t ready u →
-      u.past.runs ≡ r.runs ++ told → HostPoll grants w t told u
-  as_host w u ready told seen was runs = subst (λ (w : Retrying D). HostPoll grants w t told u) seen (record {
+      u.past.runs ≡ r.runs ++ told → HostPoll grants retry w t told u
+  as_host w u ready told seen was runs = subst (λ (w : Retrying D). HostPoll grants retry w t told u) seen (record {
     poll = subst (λ (ready : Bool). RetryPoll grants retry before t ready u) was.poll.poll.ready_is was.poll;
     runs = runs;
   })
 
   -- a retry that is over stays as it is
-  pub stays_over : (w : Retrying D) → before ≡ w → RetryLaw grants retry before → is_some over ≡ true → HostPoll grants w t [] w
-  stays_over w seen law is = subst (λ (w : Retrying D). HostPoll grants w t [] w) seen
+  pub stays_over : (w : Retrying D) → before ≡ w → RetryLaw grants retry before → is_some over ≡ true → HostPoll grants retry w t [] w
+  stays_over w seen law is = subst (λ (w : Retrying D). HostPoll grants retry w t [] w) seen
       (as_host before before true [] refl (rests_over grants lawful retry before t law is) (sym (append-nil r.runs)))
 
   -- and so does one that waits for a later moment
   pub stays_waiting : (w : Retrying D) → before ≡ w → RetryLaw grants retry before → over ≡ None →
-      IsSomeAnd (waits_for w.past) (λ m. t.now < m) → HostPoll grants w t [] w
-  stays_waiting w seen law unended waits = subst (λ (w : Retrying D). HostPoll grants w t [] w) seen
+      IsSomeAnd (waits_for w.past) (λ m. t.now < m) → HostPoll grants retry w t [] w
+  stays_waiting w seen law unended waits = subst (λ (w : Retrying D). HostPoll grants retry w t [] w) seen
       (as_host before before false [] refl
       (rests_waiting grants lawful retry before t law unended
       (subst (λ (w : Retrying D). IsSomeAnd (waits_for w.past) (λ m. t.now < m)) (sym seen) waits))
@@ -54,7 +55,7 @@ module _ {D : Type 0} (grants : Grants D) (lawful : Lawful grants) (r : Runs) (o
 
   -- what a call leaves: a retry that keeps its law, by one poll in which these runs finish
   abbrev pub Left : Retrying D → List Ran → Retrying D → Type 0
-  Left w told u = RetryLaw grants retry u × HostPoll grants w t told u
+  Left w told u = RetryLaw grants retry u × HostPoll grants retry w t told u
 
   -- a run begins, or is under way
   pub begun : (w : Retrying D) → before ≡ w → RetryLaw grants retry before → over ≡ None →

@@ -13,3 +13,7 @@ hosted grants r over drawing had = retrying grants r over (is_refused over) draw
 -- at most one run is under way, and then there is room for its outcome
 abbrev pub HasRoomToEnd : ℕ → ℕ → ℕ → Type 0
 HasRoomToEnd begun ended capacity = (begun ≤ ended + 1) × (ended < begun → ended < capacity)
+
+-- what a host tells of a run is its code
+abbrev pub by_code : ℕ → ℕ
+by_code code = code

@@ -1,4 +1,3 @@
 pub mod Drawing
 pub mod Hosted
-pub mod Host
 pub mod Worker

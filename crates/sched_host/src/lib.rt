@@ -12,5 +12,5 @@ mod worker;
 pub use close::CloseFault;
 pub use drawing::Drawing;
 pub use quota_worker::QuotaWorker;
-pub use retry::{HostRetry, Next};
+pub use retry::HostRetry;
 pub use worker::Worker;

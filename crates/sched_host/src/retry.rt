@@ -5,30 +5,19 @@ ghost use Rattle.sched_task_law.specs.Kind.{retry};
 ghost use Rattle.sched_task_law.specs.Past.{nothing_yet, is_under_way};
 ghost use Rattle.sched_retry.specs.Comes.{Comes};
 ghost use Rattle.sched_retry.specs.Retrying.{RetryLaw, gives_up};
-ghost use Rattle.sched_host.specs.Host.{HostPoll, hears, next_of, Rests, by_code};
+ghost use Rattle.sched_run_machine.specs.Next.{HostPoll, hears, next_of, Rests};
+ghost use Rattle.sched_host.specs.Hosted.{by_code};
 
 use crate::runs::HostRuns;
 use sched_driver::Driver;
 use sched_effect::Ran;
 use sched_retry::Ending;
+use sched_run_machine::Next;
 use sched_task::{How, RunFault};
 use sched_ticket_draws::Draws;
 use sched_time::{Millis, Moment, Tick};
 use std::alloc::Global;
 use std::marker::Model;
-
-/// What a host is to do for a retry.
-#[derive(Clone, Copy, Debug, PartialEq, Eq)]
-pub enum Next {
-    /// Poll: no run was begun.
-    Poll,
-    /// Run the call, and report how it went: a run is under way.
-    Run,
-    /// Wait until this moment, and poll.
-    Wait(Moment),
-    /// Nothing: the retry is over.
-    Over(How),
-}
 
 /// A call that a host runs until it succeeds, again after each failure as the driver's schedule says, with a ticket for
 /// each retry. The retry only says when to run it and when to wait, and is told how each run went.
@@ -75,7 +64,7 @@ impl<D: Draws> HostRetry<D> {
     /// Begins a run at the tick, where none is under way, the retry is not over and waits for no later moment. Where
     /// there is no memory to note it, the retry ends as `Broken`.
     pub fn poll(&mut self, tick: &Tick)
-        ensures { HostPoll D.grants self.old tick.entry.now [] self.new }
+        ensures { HostPoll D.grants retry self.old tick.entry.now [] self.new }
     {
         if self.over.is_some() {
             return;
@@ -97,7 +86,7 @@ impl<D: Draws> HostRetry<D> {
     pub fn report(&mut self, alloc: Global, tick: &Tick, ran: Ran) -> bool
         ensures heard { result ≡ hears self.old.past }
         ensures told { MatchBool result
-            (HostPoll D.grants self.old tick.entry.now (ran ∷ []) self.new) (self.new ≡ self.old) }
+            (HostPoll D.grants retry self.old tick.entry.now (ran ∷ []) self.new) (self.new ≡ self.old) }
     {
         if self.over.is_some() {
             return false;

@@ -64,7 +64,7 @@ pub enum Status {
     /// There is no ticket.
     #[error("there is no ticket")]
     NoTicket,
-    /// Too many passes were made, or the pass has no part to give.
+    /// The pass has one part, which it keeps.
     #[error("no more passes can be split off")]
     TooManyPasses,
     /// Another pass is alive or was dropped.

@@ -142,10 +142,10 @@ module _ {R D : Type 0} (stands : R → Driven → Type 0) (keeps : Bool) (grant
       pub ends_run : (r : Ran) (over : Option How) (s : R) (q : D) → Ends stands keeps grants m.driver m.drawing t r over s q →
           grants.stands q →
           Polls stands keeps grants m t (r ∷ []) (ended s over q)
-      ends_run (Won code) (Some how.Won) s q came holds v st =
+      ends_run (Won code) over s q came holds v st =
           let can = can_end v st in
-          polled (ended s (Some how.Won) q) v st (ends (Won code)) q (Won code ∷ []) can.unended (can, refl) (came.1 ∙ st.drawing)
-          holds refl refl (same_driver v s st came.0) (idle v (Won code) st) refl refl refl
+          polled (ended s over q) v st (ends (Won code)) q (Won code ∷ []) can.unended (can, refl) (came.2 ∙ st.drawing) holds refl
+          refl (same_driver v s st came.1) (idle v (Won code) st) came.0 refl refl
       ends_run (Lost code) None s q came holds v st =
           let step = came.0 v.past.driver st.driver in let steps = steps v s code false st step in
           polled (ended s None q) v st (recurs (Lost code)) q (Lost code ∷ []) steps.can.unended (steps, step.done_is)
@@ -164,12 +164,6 @@ module _ {R D : Type 0} (stands : R → Driven → Type 0) (keeps : Bool) (grant
           polled (ended s (Some (how.Broken fault)) q) v st (breaks (Lost code) fault) q (Lost code ∷ []) can.unended
           (can, refl, came.0 v.past.driver st.driver) (came.2 ∙ st.drawing) holds refl refl (same_driver v s st came.1)
           (idle v (Lost code) st) refl refl refl
-      ends_run (Won code) None s q came holds v st = absurd came
-      ends_run (Won code) (Some how.ScheduleDone) s q came holds v st = absurd came
-      ends_run (Won code) (Some how.BudgetRefused) s q came holds v st = absurd came
-      ends_run (Won code) (Some how.Failed) s q came holds v st = absurd came
-      ends_run (Won code) (Some how.Cancelled) s q came holds v st = absurd came
-      ends_run (Won code) (Some (how.Broken fault)) s q came holds v st = absurd came
       ends_run (Lost code) (Some how.Won) s q came holds v st = absurd came
       ends_run (Lost code) (Some how.Failed) s q came holds v st = absurd came
       ends_run (Lost code) (Some how.Cancelled) s q came holds v st = absurd came

@@ -1,10 +1,13 @@
 -- A step of a driver, of each journal that it may stand for.
-use Rattle.std.specs.Prelude.{◌≡◌, ℕ, Bool, []}
+use Rattle.std.specs.Prelude.{◌≡◌, ℕ, Bool, List, []}
+use mathlib.Core.Path.{ap}
 use Rattle.sched_time.specs.declared.numbers.Tick.{Tick}
 use Rattle.sched_plan.specs.Datum.{num}
 use Rattle.sched_plan.specs.Schedule.{Schedule}
+use Rattle.sched_plan.specs.declared.history.Event.{Event}
 use Rattle.sched_step.specs.StateOf.{event_of}
 use Rattle.sched_driver.specs.Driven.{Driven, after}
+use Rattle.sched_driver_stepper.specs.Standing.{Standing, StandsFor}
 use Rattle.sched_task.specs.declared.endings.RunFault.{RunFault}
 use Rattle.sched_task_law.specs.Past.{schedule_is_done}
 use Rattle.sched_task_law.specs.Poll.{RoomIn, RefusedIn}
@@ -12,6 +15,10 @@ use Rattle.sched_task_law.specs.Poll.{RoomIn, RefusedIn}
 -- a plan, and no step yet
 abbrev pub unstepped : Schedule → Driven
 unstepped plan = record { plan = plan; journal = [] }
+
+-- a driver without a step is its plan
+pub unstepped_driver : (d : Driven) → d.journal ≡ [] → d ≡ unstepped d.plan
+unstepped_driver d none = ap (λ (journal : List Event). record { plan = d.plan; journal = journal }) none
 
 -- the journal with the step of a run of this code
 abbrev pub with_code : Driven → Tick → ℕ → Driven
@@ -30,3 +37,7 @@ module _ {R : Type 0} (stands : R → Driven → Type 0) (keeps : Bool) where
 
   abbrev pub Refused : R → Tick → RunFault → Type 0
   Refused old t fault = (d : Driven) → stands old d → RefusedIn keeps d t.now fault
+
+-- a stepper of the plan that may stand for the journal
+abbrev pub IsStepped : Standing → Driven → Type 0
+IsStepped v d = (v.plan ≡ d.plan) × StandsFor v d.journal

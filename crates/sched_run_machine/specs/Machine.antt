@@ -89,10 +89,10 @@ module _ {R D : Type 0} (stands : R → Driven → Type 0) (keeps : Bool) (grant
   -- What the end of a run comes to: the driver r and what draws, p, become s and q. It draws where the schedule goes on,
   -- and nowhere else.
   abbrev pub Ends : R → D → Tick → Ran → Option How → R → D → Type 0
-  Ends r p t (Won code) (Some how.Won) s q = (s ≡ r) × (q ≡ p)
+  Ends r p t (Won code) over s q = (over ≡ Some how.Won) × (s ≡ r) × (q ≡ p)
   Ends r p t (Lost code) None s q = Stepped stands keeps r t code false s × grants.drew p t.now true q
   Ends r p t (Lost code) (Some how.ScheduleDone) s q = Stepped stands keeps r t code true s × (q ≡ p)
   Ends r p t (Lost code) (Some how.BudgetRefused) s q =
       Stepped stands keeps r t code false s × grants.drew p t.now false q
   Ends r p t (Lost code) (Some (how.Broken fault)) s q = Refused stands keeps r t fault × (s ≡ r) × (q ≡ p)
-  Ends r p t _ _ s q = ⊥
+  Ends r p t (Lost code) _ s q = ⊥

@@ -1,8 +1,6 @@
 //! The machine of a retry.
 ghost use Rattle.std.specs.Prelude.{◌≡◌, ◌+◌, [], ◌∷◌, true, false, None};
-ghost use Rattle.sched_plan.specs.Schedule.{Schedule};
 ghost use Rattle.sched_retry.specs.Retrying.{Retrying, gives_up};
-ghost use Rattle.sched_run_machine.specs.Drives.{unstepped};
 ghost use Rattle.sched_run_machine.specs.Machine.{begins, unbegun, is_told, cancelled, StandsFor, Polls, Finds, Ends, EndsAs};
 ghost use Rattle.sched_run_machine.specs.Next.{next_of, Rests};
 
@@ -51,10 +49,9 @@ impl<R: Drives, D: Draws> Model for Machine<R, D> {
 impl<R: Drives, D: Draws> Machine<R, D> {
     /// The machine of a retry that has not begun, and that draws its tickets by this value. It takes no memory.
     pub fn new(driver: R, drawing: D) -> Machine<R, D>
-        requires unstepped { (plan : Schedule) × R.stands driver (unstepped plan) }
+        requires fresh { R.fresh driver }
         ensures begins { result ≡ begins D.grants driver drawing }
-        ensures stands { (plan : Schedule) → R.stands driver (unstepped plan) →
-            StandsFor R.stands R.keeps D.grants result (unbegun D.grants plan drawing) }
+        ensures stands { StandsFor R.stands R.keeps D.grants result (unbegun D.grants (R.plan driver) drawing) }
     {
         let had = drawing.granted();
         Machine {

@@ -13,24 +13,7 @@ engine in `libhikebox.so`, which this package calls.
 
 from ._time import FAR, Duration, Milliseconds, milliseconds
 from .budget import Budget
-from .errors import (
-    BudgetClosed,
-    BudgetError,
-    BudgetInUse,
-    EngineError,
-    Fault,
-    HikeboxError,
-    PolicyError,
-    ResultRefused,
-    StoreError,
-    StoreLost,
-    TermsError,
-    TryAgain,
-)
-from .log import after_log, before_log, before_sleep_log
-from .policy import (
-    Policy,
-    Step,
+from .builders import (
     decorrelated,
     elapsed,
     exponential,
@@ -49,7 +32,24 @@ from .policy import (
     unfold,
     windowed,
 )
+from .errors import (
+    BudgetClosed,
+    BudgetError,
+    BudgetInUse,
+    EngineError,
+    Fault,
+    HikeboxError,
+    PolicyError,
+    ResultRefused,
+    StoreError,
+    StoreLost,
+    TermsError,
+    TryAgain,
+)
+from .log import after_log, before_log, before_sleep_log
+from .policy import Policy, Step
 from .quota import Quota, Usage
+from .repeating import AsyncRepeating, Repeating, poll_until, repeat
 from .retrying import AsyncRetrying, Attempt, Retrying, Tickets, retry
 from .state import Ending, Outcome, RetryState, Statistics, code_of, state_of
 from .version import VERSION
@@ -58,6 +58,7 @@ __version__ = VERSION
 
 __all__ = [
     "FAR",
+    "AsyncRepeating",
     "AsyncRetrying",
     "Attempt",
     "Budget",
@@ -74,6 +75,7 @@ __all__ = [
     "Policy",
     "PolicyError",
     "Quota",
+    "Repeating",
     "ResultRefused",
     "RetryState",
     "Retrying",
@@ -102,7 +104,9 @@ __all__ = [
     "lone",
     "milliseconds",
     "once",
+    "poll_until",
     "recurs",
+    "repeat",
     "retry",
     "spaced",
     "state_of",

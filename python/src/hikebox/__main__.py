@@ -2,6 +2,6 @@
 
 import sys
 
-from ._cli import main
+from hikebox_program import main
 
 sys.exit(main())

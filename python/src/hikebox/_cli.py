@@ -3,15 +3,17 @@
 from __future__ import annotations
 
 import argparse
+import logging
 import os
 import sys
-from typing import Any, List, NoReturn, Optional, Union
+from itertools import repeat
+from typing import Any, Iterator, List, NoReturn, Optional, Set, Union
 
-from ._run import RunOptions, run_command, statuses
+from . import _words
+from ._run import RunOptions, run_command
+from ._seeded import seeded
 from ._time import FAR, milliseconds
-from .budget import Budget
 from .errors import BudgetError, PolicyError
-from .leased import FileStore, Leased, LeasedQuota
 from .policy import Policy
 from .version import VERSION
 
@@ -35,7 +37,7 @@ examples:
   hikebox run -- curl --fail https://example.org
   hikebox run --policy 'recurs(9) & spaced(2)' --on 1-3 --timeout 30 -- ./job
   hikebox run --budget 100@/run/lock/nightly -- ./job   # at most 100 retries over all runs with that file
-  hikebox run --quota 10/0.2/3600@/run/lock/jobs -- ./job   # in each hour 10 over all runs, and one for every five runs
+  hikebox run --quota 10/20%/1h@/run/lock/jobs -- ./job   # in each hour 10 over all runs, and one for every five runs
 """
 
 
@@ -74,25 +76,32 @@ def _parser() -> argparse.ArgumentParser:
     run.add_argument("--policy", metavar="POLICY", default=DEFAULT, help="when to run it again")
     bounds = run.add_mutually_exclusive_group()
     bounds.add_argument("--budget", metavar="N[@FILE]", help="at most N retries; with FILE over all runs that name it")
-    quota = "in each window of PERIOD seconds RESERVE retries over all runs that name FILE, and SHARE for each run"
-    bounds.add_argument("--quota", metavar="RESERVE/SHARE/PERIOD@FILE", help=quota)
-    run.add_argument("--on", metavar="CODES", type=_statuses, help="retry these statuses alone, as 1,3-5")
-    run.add_argument("--timeout", metavar="SECONDS", type=_duration, help="how long an attempt may take")
+    quota = "in each window of PERIOD, as 60s, RESERVE retries over all runs that name FILE, and SHARE for each run"
+    bounds.add_argument("--quota", metavar="RESERVE/SHARE%/PERIOD@FILE", help=quota.replace("%", "%%"))
+    run.add_argument("--on", metavar="CODES", type=_words.statuses, help="retry these statuses alone, as 1,3-5")
+    run.add_argument("--timeout", metavar="SECONDS", type=_words.duration, help="how long an attempt may take")
     grace = "SIGKILL so long after SIGTERM (5)"
-    run.add_argument("--kill-after", metavar="SECONDS", type=_duration, default=5.0, help=grace)
+    run.add_argument("--kill-after", metavar="SECONDS", type=_words.duration, default=5.0, help=grace)
     run.add_argument("--replay-input", action="store_true", help="give each attempt the whole standard input")
     run.add_argument("--last-output", action="store_true", help="let out the last attempt's standard output alone")
-    run.add_argument("--verbose", "-v", action="store_true", help="say on standard error what is done")
+    tells = run.add_mutually_exclusive_group()
+    tells.add_argument("--verbose", "-v", action="store_true", help="say on standard error what is done")
+    tells.add_argument("--quiet", "-q", action="store_true", help="show no line on a terminal while it waits")
     run.add_argument("command", nargs=argparse.REMAINDER, metavar="COMMAND")
     run.set_defaults(does=_run)
 
     plan = commands.add_parser("plan", help="play a policy and print what it does, in milliseconds")
     plan.add_argument("file", nargs="?", default="-", metavar="POLICY", help="as for run; - or nothing: standard input")
-    plan.add_argument("--steps", type=_number(4096), default=10, metavar="N", help="how many events at most (10)")
-    plan.add_argument("--from", type=_number(FAR), default=0, metavar="M", dest="start", help="the first moment (0)")
-    plan.add_argument("--took", type=_number(FAR), default=0, metavar="M", help="how long each further call takes (0)")
-    plan.add_argument("--input", type=_number(FAR), default=0, metavar="N", help="the code of each failure (0)")
-    plan.add_argument("--word", type=_number(2**32 - 1), default=2**31, metavar="W", help="each random word (middle)")
+    plan.add_argument("--steps", type=_words.number(4096), default=10, metavar="N", help="how many events at most (10)")
+    plan.add_argument("--from", type=_words.number(FAR), default=0, metavar="M", dest="start", help="the first moment (0)")
+    plan.add_argument("--took", type=_words.number(FAR), default=0, metavar="M", help="how long each further call takes (0)")
+    codes = plan.add_mutually_exclusive_group()
+    codes.add_argument("--input", type=_words.number(FAR), default=0, metavar="N", help="the code of each failure (0)")
+    in_turn = "the codes of the failures, in turn; the last one is that of all later ones"
+    codes.add_argument("--inputs", type=_words.inputs(FAR), metavar="A,B,..", help=in_turn)
+    words = plan.add_mutually_exclusive_group()
+    words.add_argument("--word", type=_words.number(2**32 - 1), default=2**31, metavar="W", help="each random word (middle)")
+    words.add_argument("--words", type=_words.number(2**64 - 1), metavar="SEED", help="other random words, by a seed")
     plan.set_defaults(does=_plan)
 
     check = commands.add_parser("check", help="say what a policy is, or where it is wrong")
@@ -101,20 +110,36 @@ def _parser() -> argparse.ArgumentParser:
     return parser
 
 
+class _Told(logging.Handler):
+    """Tells what the package warns of on standard error, each thing once."""
+
+    def __init__(self) -> None:
+        super().__init__(logging.WARNING)
+        self.told: Set[str] = set()
+
+    def emit(self, record: logging.LogRecord) -> None:
+        line = record.getMessage()
+        if line not in self.told:
+            self.told.add(line)
+            print(f"hikebox: {line}", file=sys.stderr, flush=True)
+
+
 def _run(given: Any) -> int:
     command = given.command[1:] if given.command[:1] == ["--"] else given.command
     if not command:
         return _fails("run: a command is wanted", BAD_COMMAND_LINE)
     options = RunOptions(
         policy=_policy(given.policy),
-        budget=_budget(given.budget) if given.quota is None else _quota(given.quota),
+        budget=_words.budget(given.budget) if given.quota is None else _words.quota(given.quota),
         on=given.on,
         timeout=given.timeout,
         grace=given.kill_after,
         verbose=given.verbose,
+        quiet=given.quiet,
         replay_input=given.replay_input,
         last_output=given.last_output,
     )
+    logging.getLogger("hikebox").addHandler(_Told())
     try:
         return run_command(command, options)
     except OSError as error:
@@ -123,12 +148,13 @@ def _run(given: Any) -> int:
 
 def _plan(given: Any) -> int:
     policy = _policy(given.file)
+    words: Iterator[int] = repeat(given.word) if given.words is None else seeded(given.words)
     steps = policy.preview(
         given.steps,
         start=milliseconds(given.start),
         took=milliseconds(given.took),
-        input=given.input,
-        random=lambda: float(given.word / 2**32),
+        input=given.input if given.inputs is None else given.inputs,
+        random=lambda: next(words) / 2**32,
     )
     return _prints("".join(f"{step}\n" for step in steps))
 
@@ -181,54 +207,3 @@ def _read(source: Union[int, str]) -> bytes:
 
 def _stop(line: str, status: int) -> NoReturn:
     raise SystemExit(_fails(line, status))
-
-
-def _budget(text: Optional[str]) -> Union[Budget, Leased, None]:
-    """A budget of this run, or one that all runs with the same file share."""
-    if text is None:
-        return None
-    number, at, path = text.partition("@")
-    if not number.isdigit():
-        raise BudgetError(f"{text!r} is not N or N@FILE")
-    return Leased(FileStore(path), "run", int(number), lease=1) if at else Budget(int(number))
-
-
-def _quota(text: str) -> LeasedQuota:
-    """A quota that all runs with the same file share."""
-    terms, at, path = text.partition("@")
-    words = terms.split("/")
-    try:
-        reserve, share, period = int(words[0]), float(words[1]), float(words[2])
-    except (IndexError, ValueError):
-        at = ""
-    if not at or len(words) > 3:
-        raise BudgetError(f"{text!r} is not RESERVE/SHARE/PERIOD@FILE")
-    return LeasedQuota(FileStore(path), "run", reserve, share, period, lease=1)
-
-
-def _number(most: int) -> Any:
-    def number(text: str) -> int:
-        if not (text.isascii() and text.isdigit()) or int(text) > most:
-            raise argparse.ArgumentTypeError(f"{text!r} is not a number from 0 to {most}")
-        return int(text)
-
-    return number
-
-
-def _duration(text: str) -> float:
-    try:
-        count: float = float(text)
-    except ValueError:
-        count = -1.0
-    if 0 < count < 1e9:
-        return count
-    raise argparse.ArgumentTypeError(f"{text!r} is no number of seconds")
-
-
-def _statuses(text: str) -> Any:
-    try:
-        return statuses(text)
-    except ValueError as error:
-        raise argparse.ArgumentTypeError(str(error)) from None
-
-

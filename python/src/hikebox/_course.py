@@ -1,34 +1,51 @@
-"""One retry under way: what the engine is asked and told, and what the hooks are."""
+"""One retry under way, without a call, a wait or a hook of its own: what it asks for is done by who drives it.
+
+Its parts are generators. Each thing that they yield is a function and its argument: the driver calls it, awaits what it
+gives where it can, and sends that back. Where nothing is to be called, a part is its answer alone, which costs less.
+`hikebox._drivers` has the two drivers.
+"""
 
 from __future__ import annotations
 
 import logging
-from typing import TYPE_CHECKING, Any, Callable, List, Mapping, Optional, Tuple, Union
+from math import ceil
+from typing import TYPE_CHECKING, Any, Callable, Generator, List, Mapping, Optional, Tuple, TypeVar, Union
 
-from ._engine import LOST, NO_REPORT, OVER, RUN, WAIT, Machine, machines
-from ._passes import NO_BUDGET, NoBudget
+from ._engine import LOST, NO_REPORT, OVER, RUN, WAIT
+from ._machine import Machine, lend_machine, take_machine_back
+from ._passes import NO_BUDGET, DrawnOn
+from ._preview import word_of
 from ._time import FAR, HAIR
-from .budget import Budget
-from .policy import word_of
-from .quota import Quota
+from .errors import ResultRefused
 from .state import ENDINGS, Ending, Outcome, RetryState
 
 if TYPE_CHECKING:
     from .retrying import BaseRetrying
 
-__all__ = ["Course"]
+__all__ = ["Course", "Steps", "switch"]
 
 logger = logging.getLogger("hikebox")
+
+Answer = TypeVar("Answer")
+#: What is to be called, with what; the answer is sent back.
+Ask = Tuple[Callable[[Any], Any], Any]
+Steps = Generator[Ask, Any, Answer]
 
 #: The most notes of its own that an exception keeps, where one object is raised again and again.
 _MOST_NOTES = 8
 
 
-def _with_note(notes: List[str], note: str) -> List[str]:
-    """An exception's notes with one more."""
-    own = [old for old in notes if old.startswith("hikebox: ")]
-    dropped = own[: max(0, len(own) - _MOST_NOTES + 1)]
-    return [*(old for old in notes if old not in dropped), note]
+class _Switch:
+    """Whether waits are left out: `hikebox.testing.no_waits` turns it."""
+
+    __slots__ = ("no_waits",)
+
+    def __init__(self) -> None:
+        #: How many `with` blocks ask for that.
+        self.no_waits = 0
+
+
+switch = _Switch()
 
 
 class Course:
@@ -36,10 +53,12 @@ class Course:
     which it began and failed; until then there is nothing to decide."""
 
     __slots__ = (
-        "owner",
+        "settings",
         "state",
+        "answer",
+        "over",
+        "_counts",
         "_clock",
-        "_start",
         "_ahead",
         "_origin",
         "_last",
@@ -47,7 +66,7 @@ class Course:
         "_begun",
         "_machine",
         "_drawn_on",
-        "_tickets",
+        "_generation",
         "_logs",
         "_closed",
     )
@@ -58,11 +77,15 @@ class Course:
         fn: Optional[Callable[..., Any]] = None,
         args: Tuple[Any, ...] = (),
         kwargs: Mapping[str, Any] = {},
+        start: Optional[float] = None,
     ) -> None:
-        self.owner = owner
-        self.state = RetryState(owner, fn, args, kwargs)
-        self._clock = owner.clock
-        self._start = self._clock()
+        settings = self.settings = owner.settings
+        self._counts = owner.counts
+        self._clock = settings.clock
+        self.state = RetryState(owner, fn, args, kwargs, self._clock() if start is None else start)
+        #: Whether no attempt follows, and what comes of the retry, where that is not the exception at hand.
+        self.over = False
+        self.answer: Optional[Outcome] = None
         #: Seconds by which a sleep came back before the moment that it was to wait for.
         self._ahead = 0.0
         #: The engine's moment at the start: 0, or of a quota the one on its clock.
@@ -75,111 +98,167 @@ class Course:
         self._begun = False
         self._machine: Optional[Machine] = None
         #: What the engine's retry draws on.
-        self._drawn_on: Union[Budget, Quota, NoBudget] = NO_BUDGET
-        self._tickets = owner._tickets
+        self._drawn_on: DrawnOn = NO_BUDGET
+        self._generation = 0
         #: Whether each attempt that failed is logged.
         self._logs = False
         self._closed = False
 
-    # What the attempts say
+    # An attempt
 
-    def begin(self) -> None:
-        """An attempt begins. The first one is a request."""
-        owner = self.owner
-        self.state.outcome = None
-        if owner._deposit is not None and self.state.attempt_number == 1:
-            owner._deposit()
-        if owner.before is not None:
-            owner.before(self.state)
-
-    def returned(self, value: Any) -> bool:
-        """The attempt gave this result: whether the retry goes on, since it is not accepted."""
-        refuses = self.owner.on_result
-        if refuses is None or not refuses(value):
-            self.state.outcome = Outcome(value)
-            self.state.ending = Ending.WON
+    def begins(self) -> Union[bool, Steps[bool]]:
+        """Whether one more attempt is to be made, once the wait for it is over. The first one is a request."""
+        if self.over:
             return False
-        return self.lost(Outcome(value))
+        if self._begun and self.settings.is_plain and self.settings.pause is None:
+            self._planned()
+            self.waited()
+            self.state.outcome = None
+            return True
+        return self._begins()
 
-    def raised(self, error: BaseException) -> bool:
-        """The attempt raised this exception: whether the retry goes on."""
-        if not self.owner._retries(error):
-            self.state.outcome = Outcome(error=error)
-            self.state.ending = Ending.NOT_RETRIED
+    def _begins(self) -> Steps[bool]:
+        settings, state = self.settings, self.state
+        if state.outcome is not None:
+            delay = self._planned()
+            for hook in settings.hooks_before_sleep:
+                yield hook, state
+            if delay > 0 and not switch.no_waits:
+                yield settings.sleeps, delay
+            elif settings.pause is not None:
+                yield settings.pause, 0
+            if settings.is_stopped is not None and settings.is_stopped(state):
+                state.ending = Ending.STOPPED
+                yield from self._ends_later()
+                return False
+            self.waited()
+        elif settings.deposit is not None:
+            settings.deposit()
+        state.outcome = None
+        for hook in settings.hooks_before:
+            yield hook, state
+        return True
+
+    def returned(self, value: Any) -> Steps[None]:
+        """The attempt gave this result: the retry is over, or goes on where it is not accepted."""
+        settings, state = self.settings, self.state
+        outcome = Outcome(value, attempt_number=state.attempt_number)
+        refuses = settings.on_result
+        if refuses is not None and (yield refuses, value):
+            if not (yield from self.judges(outcome)):
+                yield from self._ends()
+            return
+        if settings.repeats and (yield from self.judges(outcome)):
+            return
+        if not settings.repeats or state.ending is None:
+            state.outcome = outcome
+            state.ending = Ending.WON
+        self.over, self.answer = True, outcome
+        for hook in settings.hooks_on_success:
+            yield hook, state
+
+    def raised(self, error: BaseException) -> Union[bool, Steps[bool]]:
+        """The attempt raised this exception: False where that is to be raised now."""
+        outcome = Outcome(None, error, self.state.attempt_number)
+        if not self.settings.is_plain or not isinstance(error, self.settings.types):
+            return self._raised(error, outcome)
+        self._notes(outcome)
+        if self._asks_engine(outcome):
+            if self.state.fn is not None and not self._logs:
+                # nobody looks at it while it waits, and it holds the frames of the call
+                self.state.outcome = _FAILED
+            return True
+        self.over = True
+        self._gave_up(error)
+        return False
+
+    def _raised(self, error: BaseException, outcome: Outcome) -> Steps[bool]:
+        settings, state = self.settings, self.state
+        retried = isinstance(error, settings.types)
+        if not retried and isinstance(error, Exception):
+            for test in settings.tests:
+                if (yield test, error):
+                    retried = True
+                    break
+        if not retried:
+            state.outcome = outcome
+            state.ending = Ending.NOT_RETRIED
+            self.over = True
             return False
-        return self.lost(Outcome(error=error))
+        if (yield from self.judges(outcome)):
+            return True
+        return (yield from self._ends())
 
-    def lost(self, outcome: Outcome) -> bool:
-        """The attempt failed: what the policy and the budget say."""
-        owner, state = self.owner, self.state
+    def judges(self, outcome: Outcome) -> Steps[bool]:
+        """The attempt failed so: whether the policy goes on, and there is a ticket."""
+        settings, state = self.settings, self.state
+        self._notes(outcome)
+        for hook in settings.hooks_after:
+            yield hook, state
+        if settings.is_stopped is not None and settings.is_stopped(state):
+            state.ending = Ending.STOPPED
+            return False
+        if not self._asks_engine(outcome):
+            return False
+        if settings.draw is None:
+            return True
+        ticket = yield _called, settings.draw
+        if ticket is None:
+            state.ending = Ending.BUDGET_REFUSED
+            return False
+        state.granted += 1
+        return True
+
+    def _notes(self, outcome: Outcome) -> None:
+        """Notes when and how the attempt ended."""
+        state = self.state
         seconds = self._seconds()
         state.outcome = outcome
         state.seconds_since_start = seconds
-        if owner.after is not None:
-            owner.after(state)
-        machine = self._machine
-        if machine is None:
-            machine = self._begin()
-        for lane in owner._lanes:
-            machine.words[lane] = word_of(owner.random())
-        now = self._moment(seconds)
-        what = machine.poll(self._origin + now, LOST, owner._code_for(outcome) if owner._reads_codes else 0)
-        report = machine.next
-        if what == OVER:
-            state.ending = ENDINGS[report.how]
-            return False
-        self._begun = what == RUN
-        self._until = report.until - self._origin if what == WAIT else now
-        if self._tickets is None:
-            state.granted = report.granted
-        return True
-
-    # A budget on which the engine's retry does not draw itself
-
-    def draw(self) -> bool:
-        """Draws a ticket of such a budget, where there is one: whether there was a ticket."""
-        tickets = self._tickets
-        return tickets is None or self._drew(tickets.draw())
-
-    async def draw_async(self) -> bool:
-        """The same where a draw may have to wait."""
-        tickets = self._tickets
-        if tickets is None:
-            return True
-        draw = getattr(tickets, "draw_async", None)
-        return self._drew(tickets.draw() if draw is None else await draw())
-
-    def _drew(self, ticket: Optional[int]) -> bool:
-        if ticket is None:
-            self.state.ending = Ending.BUDGET_REFUSED
-            return False
-        self.state.granted += 1
-        return True
+        state.outcome_timestamp = state.start_time + seconds
 
     # Between two attempts
 
-    def wait(self) -> float:
-        """How many seconds are waited before the next attempt."""
-        owner, state = self.owner, self.state
-        seconds = self._seconds()
-        delay = max(0.0, self._until / 1000 - seconds)
-        if owner.at_least is not None:
-            error = state.outcome.exception() if state.outcome is not None else None
-            least = owner.at_least(error) if error is not None else None
-            if least is not None and least > delay:
-                delay = float(least)
-                self._until = max(self._until, self._moment(seconds + delay))
+    def delay(self) -> Steps[float]:
+        """How many seconds are waited before the next attempt, where somebody else does that."""
+        delay = self._planned()
+        for hook in self.settings.hooks_before_sleep:
+            yield hook, self.state
+        return 0.0 if switch.no_waits else delay
+
+    def _planned(self) -> float:
+        """How many seconds the policy, and who asks for more, has the retry wait. What is past is not waited for."""
+        settings, state = self.settings, self.state
+        delay = self._until / 1000 - self._seconds() if self._until else 0.0
+        if delay < 0.0:
+            delay = 0.0
+        if settings.at_least is not None or settings.wait is not None:
+            asked = self._asked_for()
+            if asked > delay:
+                delay = asked
+                self._until = max(self._until, self._moment(self._seconds() + delay))
         state.upcoming_sleep = delay
-        if owner.before_sleep is not None:
-            owner.before_sleep(state)
+        state.idle_for += delay
         if self._logs:
-            logger.debug("%s: attempt %d %s; next in %.3f s", self._name(), state.attempt_number, state.outcome, delay)
+            fields = self._fields(hikebox_delay=delay)
+            text = "%s: attempt %d %s; next in %.3f s"
+            logger.debug(text, state.name, state.attempt_number, state.outcome, delay, extra=fields)
         return delay
+
+    def _asked_for(self) -> float:
+        """How many seconds `at_least` and `wait` ask for, up to `longest`."""
+        settings, outcome = self.settings, self.state.outcome
+        error = None if outcome is None else outcome.exception()
+        asked = [0.0]
+        if settings.at_least is not None and error is not None:
+            asked.append(float(settings.at_least(error) or 0.0))
+        if settings.wait is not None:
+            asked.append(float(settings.wait(self.state) or 0.0))
+        return min(settings.longest, max(asked))
 
     def waited(self) -> None:
         """The wait is over, and the next attempt is to begin."""
         state = self.state
-        state.idle_for += state.upcoming_sleep
         state.upcoming_sleep = 0.0
         state.attempt_number += 1
         seconds = self._seconds()
@@ -193,22 +272,39 @@ class Course:
         now = self._moment(seconds)
         if now < self._until:
             now = self._last = self._until
-        if machine.poll(self._origin + now, NO_REPORT, 0) != RUN:
-            state.ending = ENDINGS[machine.next.how]
+        what, detail, _ = machine.poll(self._origin + now, NO_REPORT, 0)
+        if what != RUN:
+            state.ending = ENDINGS[detail] if what == OVER else None
             raise MemoryError("the engine found no memory for one more attempt")
 
     # The end
 
-    def falls_back(self) -> bool:
-        """Whether a fallback answers in the place of the last exception."""
-        return self.owner.fallback is not None and self.state.ending is not Ending.NOT_RETRIED
+    def _ends(self) -> Steps[bool]:
+        """The last attempt failed: False where its exception is to be raised now."""
+        self.over = True
+        fallback, outcome = self.settings.fallback, self.state.outcome
+        if fallback is not None:
+            self.answer = Outcome((yield fallback, self.state))
+            return True
+        error = None if outcome is None else outcome.exception()
+        if error is not None:
+            self._gave_up(error)
+            return False
+        refused = ResultRefused(outcome.result() if outcome is not None else None)
+        self._gave_up(refused)
+        raise refused
 
-    def gave_up(self, error: BaseException) -> None:
+    def _ends_later(self) -> Steps[None]:
+        """The same where the exception is no longer at hand."""
+        outcome = self.state.outcome
+        if not (yield from self._ends()):
+            self.answer = outcome
+
+    def _gave_up(self, error: BaseException) -> None:
         """Notes on the last exception how the retry ended."""
         state = self.state
         state.outcome = None
-        if state.ending is None or state.ending is Ending.NOT_RETRIED:
-            return
+        assert state.ending is not None
         tries = "1 attempt" if state.attempt_number == 1 else f"{state.attempt_number} attempts"
         note = f"hikebox: gave up after {tries} in {state.seconds_since_start or 0.0:.3f} s: {state.ending.value}"
         try:
@@ -216,7 +312,7 @@ class Course:
             setattr(error, "__notes__", _with_note(getattr(error, "__notes__", []), note))
         except (AttributeError, TypeError):
             pass  # an exception that takes no attributes is raised as it is
-        logger.debug("%s: %s", self._name(), note)
+        logger.debug("%s: %s", state.name, note, extra=self._fields(hikebox_ending=state.ending.name))
 
     def close(self) -> None:
         """Gives the engine's retry back, and counts the call."""
@@ -228,13 +324,13 @@ class Course:
         if machine is not None:
             self._machine = None
             try:
-                self._drawn_on._end_retry(machine)
+                if self._generation == self._drawn_on.generation:
+                    self._drawn_on.end_retry(machine)
             finally:
-                machine.free()
-            machines.append(machine)
+                take_machine_back(machine)
         if state.ending is None:
             state.ending = Ending.CANCELLED
-        self.owner._counts.add(state.attempt_number, state.idle_for, state.ending)
+        self._counts.add(state.attempt_number, state.idle_for, state.ending)
 
     def __del__(self) -> None:
         try:
@@ -245,37 +341,71 @@ class Course:
 
     # The engine's retry, and its clock
 
+    def _asks_engine(self, outcome: Outcome) -> bool:
+        """Whether the policy goes on, and the engine's retry drew a ticket where it does that itself."""
+        settings, state = self.settings, self.state
+        machine = self._machine
+        if machine is None:
+            machine = self._begin()
+        seconds = state.seconds_since_start or 0.0
+        words = {lane: word_of(settings.random()) for lane in settings.lanes} if settings.lanes else None
+        code = settings.code_for(outcome) if settings.reads_codes else 0
+        what, detail, granted = machine.poll(self._origin + self._moment(seconds), LOST, code, words)
+        if what == OVER:
+            state.ending = ENDINGS[detail]
+            return False
+        self._begun = what == RUN
+        self._until = detail - self._origin if what == WAIT else 0
+        if settings.draw is None:
+            state.granted = granted
+        return True
+
     def _begin(self) -> Machine:
         """A retry of the engine, whose first attempt began at the start."""
-        owner = self.owner
+        settings = self.settings
+        machine = lend_machine()
+        plan, drawn_on = settings.policy.plan, settings.drawn_on
+        handle = plan.lend()
         try:
-            machine = machines.pop()
-        except IndexError:
-            machine = Machine()
-        handle = owner.policy._lend()
-        try:
-            self._drawn_on = NO_BUDGET if owner._budget is None else owner._budget
-            self._drawn_on._begin_retry(machine, handle)
-            self._origin = self._drawn_on._moment_of(self._start)
+            drawn_on.begin_retry(machine, handle)
         finally:
-            owner.policy._give_back(handle)
+            plan.give_back(handle)
+        self._drawn_on, self._generation = drawn_on, drawn_on.generation
+        self._origin = drawn_on.moment_of(self.state.start_time)
         self._machine = machine
         self._logs = logger.isEnabledFor(logging.DEBUG)
-        if machine.poll(self._origin, NO_REPORT, 0) != RUN:
+        if machine.poll(self._origin, NO_REPORT, 0)[0] != RUN:
             raise MemoryError("the engine found no memory for an attempt")
         return machine
 
     def _seconds(self) -> float:
         """Seconds since the start of the first attempt."""
-        return self._clock() - self._start + self._ahead
+        return self._clock() - self.state.start_time + self._ahead
 
     def _moment(self, seconds: float) -> int:
-        """The same in whole milliseconds, never less than before, and at most the last moment that there is."""
-        moment = int(seconds * 1000 + HAIR)
+        """The first whole millisecond that is not before that, never less than before, and at most the last one that
+        there is."""
+        moment = ceil(seconds * 1000 - HAIR)
         if moment > self._last:
             self._last = min(FAR - self._origin, moment)
         return self._last
 
-    def _name(self) -> str:
-        fn = self.state.fn
-        return getattr(fn, "__qualname__", None) or ("a block" if fn is None else repr(fn))
+    def _fields(self, **more: Any) -> Mapping[str, Any]:
+        """The fields of a log record."""
+        state = self.state
+        return {"hikebox_call": state.name, "hikebox_attempt": state.attempt_number, **more}
+
+
+#: In the place of an attempt that failed, and of which nobody asks how.
+_FAILED = Outcome()
+
+
+def _called(fn: Callable[[], Any]) -> Any:
+    return fn()
+
+
+def _with_note(notes: List[str], note: str) -> List[str]:
+    """An exception's notes with one more."""
+    own = [old for old in notes if old.startswith("hikebox: ")]
+    dropped = own[: max(0, len(own) - _MOST_NOTES + 1)]
+    return [*(old for old in notes if old not in dropped), note]

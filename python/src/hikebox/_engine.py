@@ -14,7 +14,20 @@ from typing import Any, Callable, ClassVar, Dict, List, NamedTuple, Optional, Tu
 
 from .errors import EngineError
 
-__all__ = ["AnyPass", "Driver", "Handle", "Machine", "Pass", "PolicyHandle", "QuotaPass", "SIGNATURES", "library_path"]
+__all__ = [
+    "AnyPass",
+    "BasePass",
+    "Driver",
+    "Handle",
+    "Pass",
+    "PolicyHandle",
+    "QuotaPass",
+    "SIGNATURES",
+    "library",
+    "library_path",
+    "refused",
+    "unchecked",
+]
 
 OK = 0
 NO_MEMORY = 4
@@ -135,22 +148,19 @@ def _load() -> Any:
     return library
 
 
-def _unchecked(call: str) -> Any:
+def unchecked(call: str) -> Any:
     """A call with no check of the arguments' types, which would double its time: for those that are made at each step
     of a retry, at each request and at each draw. They are only made below, with an argument of the right size in each
     place."""
-    function = _library[call]
+    function = library[call]
     function.restype = c_uint32
     return function
 
 
-_library = _load()
-_retry_poll = _unchecked("hikebox_retry_poll")
-_pass_draw = _unchecked("hikebox_pass_draw")
-_quota_deposit = _unchecked("hikebox_quota_deposit")
-_quota_draw = _unchecked("hikebox_quota_draw")
-_retry_unlimited = _library.hikebox_retry_unlimited
-_retry_free = _library.hikebox_retry_free
+library = _load()
+_pass_draw = unchecked("hikebox_pass_draw")
+_quota_deposit = unchecked("hikebox_quota_deposit")
+_quota_draw = unchecked("hikebox_quota_draw")
 
 
 def refused(call: str, status: int) -> Exception:
@@ -186,7 +196,7 @@ def _refusal(status: int, text: bytes, place: Place) -> Refusal:
     """Why this text is no policy, which was refused with this status."""
     if status == NOT_JSON:
         return Refusal(status, f"line {place.line}, column {place.column}" if place.line else "", "")
-    fault = _text("hikebox_policy_fault", lambda *room: _library.hikebox_policy_fault(text, len(text), *room))
+    fault = _text("hikebox_policy_fault", lambda *room: library.hikebox_policy_fault(text, len(text), *room))
     where, _, wanted = fault.decode().partition(": ")
     return Refusal(status, "" if where == "top" else where, wanted)
 
@@ -199,12 +209,12 @@ class PolicyHandle:
     def __init__(self) -> None:
         self.handle = Handle()
         self.at = byref(self.handle)
-        self._free = _library.hikebox_policy_free
+        self._free = library.hikebox_policy_free
 
     def read(self, text: bytes) -> Optional[Refusal]:
         """Reads the text, or says why not."""
         place = Place()
-        status = _library.hikebox_policy_read(text, len(text), self.at, byref(place))
+        status = library.hikebox_policy_read(text, len(text), self.at, byref(place))
         if status == OK:
             return None
         if NOT_JSON <= status <= TOO_MANY:
@@ -214,7 +224,7 @@ class PolicyHandle:
     def size(self) -> Tuple[int, int]:
         """How many nodes the policy has, and how deep it is."""
         nodes, depth = c_uint64(), c_uint64()
-        status = _library.hikebox_policy_size(self.at, byref(nodes), byref(depth))
+        status = library.hikebox_policy_size(self.at, byref(nodes), byref(depth))
         if status != OK:
             raise refused("hikebox_policy_size", status)
         return nodes.value, depth.value
@@ -232,24 +242,24 @@ class Driver:
     def __init__(self, policy: PolicyHandle) -> None:
         self.handle = Handle()
         self.at = byref(self.handle)
-        self._free = _library.hikebox_driver_free
+        self._free = library.hikebox_driver_free
         self._decision = Decision()
         self._words = Words()
-        status = _library.hikebox_driver_new(policy.at, self.at)
+        status = library.hikebox_driver_new(policy.at, self.at)
         if status != OK:
             raise refused("hikebox_driver_new", status)
 
     def next(self, now: int, words: Tuple[int, int, int, int], code: int) -> Optional[int]:
         """One more event: the start that is planned, or None where the policy does not go on."""
         self._words[:] = list(words)
-        status = _library.hikebox_driver_next(self.at, now, self._words, code, byref(self._decision))
+        status = library.hikebox_driver_next(self.at, now, self._words, code, byref(self._decision))
         if status != OK:
             raise refused("hikebox_driver_next", status)
         return self._decision.start if self._decision.goes_on else None
 
     def last_text(self) -> str:
         """The output of the last event, as `zsched plan` prints it."""
-        return _text("hikebox_driver_last_text", lambda *room: _library.hikebox_driver_last_text(self.at, *room)).decode()
+        return _text("hikebox_driver_last_text", lambda *room: library.hikebox_driver_last_text(self.at, *room)).decode()
 
     def __del__(self) -> None:
         if self.handle.held:
@@ -268,8 +278,8 @@ class BasePass:
     #: How the engine's calls on it begin, the one that frees it, and those that begin and end a retry with a part of it.
     _CALLS: ClassVar[str]
     _FREE: ClassVar[Any]
-    _BEGIN: ClassVar[Any]
-    _END: ClassVar[Any]
+    BEGIN: ClassVar[Any]
+    END: ClassVar[Any]
 
     def __init__(self) -> None:
         self.handle = Handle()
@@ -303,7 +313,7 @@ class BasePass:
     def _does(self, verb: str, *given: Any, unless: Optional[int] = None) -> bool:
         """Makes this call: False where it answers the one status that is no error."""
         call = self._CALLS + verb
-        status = getattr(_library, call)(self.at, *given)
+        status = getattr(library, call)(self.at, *given)
         if status == OK:
             return True
         if status == unless:
@@ -317,16 +327,16 @@ class Pass(BasePass):
     __slots__ = ()
 
     _CALLS = "hikebox_pass_"
-    _FREE = _library.hikebox_pass_free
-    _BEGIN = _library.hikebox_retry_new
-    _END = _library.hikebox_retry_end
+    _FREE = library.hikebox_pass_free
+    BEGIN = library.hikebox_retry_new
+    END = library.hikebox_retry_end
 
     @classmethod
     def of_budget(cls, limit: int, rising: bool) -> Pass:
         """The first pass of a new budget."""
         made = cls()
         call = "hikebox_budget_rising" if rising else "hikebox_budget_fixed"
-        status = getattr(_library, call)(limit, made.at)
+        status = getattr(library, call)(limit, made.at)
         if status != OK:
             raise refused(call, status)
         return made
@@ -351,9 +361,9 @@ class QuotaPass(BasePass):
     __slots__ = ("_now", "_usage")
 
     _CALLS = "hikebox_quota_"
-    _FREE = _library.hikebox_quota_free
-    _BEGIN = _library.hikebox_retry_on_quota
-    _END = _library.hikebox_retry_end_on_quota
+    _FREE = library.hikebox_quota_free
+    BEGIN = library.hikebox_retry_on_quota
+    END = library.hikebox_retry_end_on_quota
 
     def __init__(self) -> None:
         super().__init__()
@@ -364,7 +374,7 @@ class QuotaPass(BasePass):
     def of_quota(cls, reserve: int, share: int, period: int) -> QuotaPass:
         """The first pass of a new quota."""
         made = cls()
-        status = _library.hikebox_quota_new(reserve, share, period, made.at)
+        status = library.hikebox_quota_new(reserve, share, period, made.at)
         if status != OK:
             raise refused("hikebox_quota_new", status)
         return made
@@ -391,68 +401,3 @@ class QuotaPass(BasePass):
         usage = self._usage
         self._does("seen", now, byref(usage))
         return usage.window, usage.asked, usage.given, usage.left
-
-
-class Machine:
-    """A retry that is stepped. One object serves many retries, one after the other."""
-
-    __slots__ = ("handle", "at", "words", "next", "_at_next", "_at_words", "_now", "_code")
-
-    def __init__(self) -> None:
-        self.handle = Handle()
-        self.at = byref(self.handle)
-        self.words = Words(1 << 31, 1 << 31, 1 << 31, 1 << 31)
-        self.next = Next()
-        self._at_next = byref(self.next)
-        self._at_words = byref(self.words)
-        self._now = c_uint64()
-        self._code = c_uint64()
-
-    def begin(self, policy: PolicyHandle, drawn: BasePass) -> bool:
-        """Begins a retry with a pass split off this one; False where that has a single part. On a quota it draws at the
-        moments of its polls."""
-        return _begun(drawn._BEGIN.__name__, drawn._BEGIN(policy.at, drawn.at, self.at))
-
-    def begin_unlimited(self, policy: PolicyHandle) -> None:
-        """Begins a retry that draws on nothing. `free` ends it."""
-        _begun("hikebox_retry_unlimited", _retry_unlimited(policy.at, self.at))
-
-    def poll(self, now: int, report: int, code: int) -> int:
-        """One step: what is to be done, with the rest in `next`."""
-        self._now.value = now
-        self._code.value = code
-        status = _retry_poll(self.at, self._now, self._at_words, report, self._code, self._at_next)
-        if status != OK:
-            raise refused("hikebox_retry_poll", status)
-        what: int = self.next.what
-        return what
-
-    def cancel(self) -> None:
-        """Ends the retry as cancelled, where it is not over."""
-        status = _library.hikebox_retry_cancel(self.at)
-        if status != OK:
-            raise refused("hikebox_retry_cancel", status)
-
-    def end(self, drawn: BasePass) -> None:
-        """Frees the retry, over or not, and joins its pass into this one, which is of the same budget or quota."""
-        status = drawn._END(self.at, drawn.at)
-        if status != OK:
-            raise refused(drawn._END.__name__, status)
-
-    def free(self) -> None:
-        """Frees the retry and its pass, where there is one: what that is of can't be closed then."""
-        if self.handle.held:
-            _retry_free(self.at)
-
-
-def _begun(call: str, status: int) -> bool:
-    """Whether a retry was begun; False where there was no pass for it."""
-    if status == OK:
-        return True
-    if status == TOO_MANY_PASSES:
-        return False
-    raise refused(call, status)
-
-
-#: Machines that hold no retry, for the next ones. Who holds a machine with a retry ends or frees it.
-machines: List[Machine] = []

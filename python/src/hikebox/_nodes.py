@@ -6,10 +6,13 @@ from typing import Any, Dict, Iterator, List, Optional, Tuple
 
 from ._time import FAR
 
-__all__ = ["FORMS", "NAMES", "most_goes", "parts_of", "walk"]
+__all__ = ["FOLDS", "FORMS", "NAMES", "most_goes", "parts_of", "walk"]
 
 #: The leaves that are spelt as a string alone.
 NAMES = ("forever", "elapsed", "identity")
+
+#: How outputs are gathered.
+FOLDS = ("sum", "count", "max", "list")
 
 _DELAY = ("number", "plan")
 _ONE = ("plan",)

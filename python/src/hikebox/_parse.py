@@ -5,14 +5,14 @@ from __future__ import annotations
 import ast
 from typing import Any, Dict, List
 
-from . import policy as _policy
+from . import builders
 from ._time import milliseconds
 from .errors import Fault, PolicyError
 from .policy import Policy
 
 __all__ = ["parse"]
 
-_BUILDERS = {name: getattr(_policy, name) for name in _policy.__all__ if name not in ("Policy", "Step")}
+_BUILDERS = {name: getattr(builders, name) for name in builders.__all__}
 _METHODS = (
     "add_delay",
     "add_output",

@@ -1,113 +1,111 @@
-"""What a `Budget` and a `Quota` have in common: passes of the engine, each lent to one user at a time."""
+"""What a `Budget` and a `Quota` are made of: passes of the engine, each lent to one user at a time."""
 
 from __future__ import annotations
 
-import os
+import contextlib
 import threading
-from typing import Any, ClassVar, Generic, List, Optional, TypeVar
+from typing import Callable, Generic, Iterator, List, Optional, Protocol
 
-from ._engine import AnyPass, Machine, PolicyHandle
+from ._engine import AnyPass, PolicyHandle
+from ._forks import begins_anew_in_a_child
+from ._machine import Machine
 from .errors import BudgetClosed, BudgetError, BudgetInUse
 
-__all__ = ["NO_BUDGET", "NoBudget", "Shared"]
-
-Self = TypeVar("Self", bound="Shared[Any]")
+__all__ = ["NO_BUDGET", "DrawnOn", "NoBudget", "Passes"]
 
 
-class Shared(Generic[AnyPass]):
-    """Something of the engine's that all threads of a process draw on, each with a pass that nobody sees."""
+class Passes(Generic[AnyPass]):
+    """The passes of one budget or quota, which all threads of a process share. A forked child begins with new ones."""
 
-    __slots__ = ("_lock", "_root", "_idle", "_out", "_closed", "_process", "__weakref__")
+    __slots__ = ("kind", "generation", "closed", "_make", "_lock", "_root", "_idle", "_out", "__weakref__")
 
-    #: What it is called in the texts of errors.
-    _KIND: ClassVar[str]
+    def __init__(self, kind: str, make: Callable[[], AnyPass]) -> None:
+        #: What these are passes of, in the texts of errors.
+        self.kind = kind
+        #: How often it began anew.
+        self.generation = 0
+        self._make = make
+        self._begin()
+        begins_anew_in_a_child(self)
 
-    def _open(self, root: AnyPass) -> None:
-        """Begins with this first pass."""
+    def _begin(self) -> None:
+        #: How many tickets were drawn in all, once it is closed.
+        self.closed: Optional[int] = None
         #: Taken again by the same thread where a retry that nobody holds any more is freed meanwhile.
         self._lock = threading.RLock()
         #: The pass that others are split off, under the lock.
-        self._root = root
+        self._root = self._make()
         #: Passes that nobody uses now. `pop` and `append` are each one step, so no lock is taken for them.
         self._idle: List[AnyPass] = []
         #: How many passes were split off the root.
         self._out = 0
-        self._closed: Optional[int] = None
-        self._process = os.getpid()
 
-    @property
-    def closed(self) -> bool:
-        """Whether it was closed."""
-        return self._closed is not None
+    def begin_anew(self) -> None:
+        """Begins with nothing drawn."""
+        self.generation += 1
+        self._begin()
 
-    def close(self) -> int:
-        """Ends it: how many tickets were drawn, exactly. Where a retry is still under way it is a `BudgetInUse`, and
-        nothing has changed. Closing it again gives the same number."""
-        self._look_at_process()
-        with self._lock:
-            if self._closed is not None:
-                return self._closed
-            taken = self._take_idle()
-            if len(taken) < self._out:
-                self._idle.extend(taken)
-                raise BudgetInUse(f"a call on this {self._KIND} is under way")
-            for other in taken:
-                self._root.join(other)
-            self._out = 0
-            count = self._root.close()
-            if count is None:
-                raise BudgetInUse(f"a retry under this {self._KIND} is under way")
-            self._closed = count
-            return count
-
-    def __enter__(self: Self) -> Self:
-        return self
-
-    def __exit__(self, kind: Any, error: Any, trace: Any) -> None:
+    def lend(self) -> AnyPass:
+        """A pass that nobody else uses until it is given back."""
         try:
-            self.close()
-        except BudgetInUse:
-            if kind is None:
-                raise
+            return self._idle.pop()
+        except IndexError:
+            pass
+        with self._lock:
+            return self._split()
 
-    def __repr__(self) -> str:
-        state = f", closed at {self._closed}" if self._closed is not None else ""
-        return f"<{self._made()}{state}>"
+    def give_back(self, lent: AnyPass) -> None:
+        """Takes a pass back that was lent."""
+        self._idle.append(lent)
 
-    def __reduce__(self) -> Any:
-        raise TypeError(f"a {self._KIND} belongs to its process; hikebox.leased has {self._KIND}s that processes share")
+    def exchange(self, lent: AnyPass) -> AnyPass:
+        """Another pass for one that has a single part left, since retries may give their parts back to other passes
+        than they had them of. The root has so many parts that it does not run out of them."""
+        with self._lock:
+            other = self._split()
+            self._root.join(lent)
+            self._out -= 1
+            return other
 
-    def __del__(self) -> None:
-        for drawn in (*getattr(self, "_idle", ()), getattr(self, "_root", None)):
-            if drawn is not None:
-                drawn.free()
+    @contextlib.contextmanager
+    def root(self) -> Iterator[AnyPass]:
+        """The first pass, under the lock."""
+        with self._lock:
+            self._look_open()
+            yield self._root
 
-    def _made(self) -> str:
-        """The expression that makes one like it."""
-        raise NotImplementedError
-
-    def _drawn(self) -> int:
+    def drawn(self) -> int:
         """How many tickets were drawn, without those of retries that are under way."""
         with self._lock:
-            if self._closed is not None:
-                return self._closed
+            if self.closed is not None:
+                return self.closed
             taken = self._take_idle()
             try:
                 return self._root.count() + sum(drawn.count() for drawn in taken)
             finally:
                 self._idle.extend(taken)
 
-    # Passes, each used by one thread at a time
-
-    def _look_at_process(self) -> None:
-        if self._process != os.getpid():
-            raise BudgetError(
-                f"this {self._KIND} is another process's; hikebox.leased has {self._KIND}s that processes share"
-            )
+    def close(self) -> int:
+        """Ends it: how many tickets were drawn, exactly; a `BudgetInUse` where a retry is under way."""
+        with self._lock:
+            if self.closed is not None:
+                return self.closed
+            taken = self._take_idle()
+            if len(taken) < self._out:
+                self._idle.extend(taken)
+                raise BudgetInUse(f"a call on this {self.kind} is under way")
+            for other in taken:
+                self._root.join(other)
+            self._out = 0
+            count = self._root.close()
+            if count is None:
+                raise BudgetInUse(f"a retry under this {self.kind} is under way")
+            self.closed = count
+            return count
 
     def _look_open(self) -> None:
-        if self._closed is not None:
-            raise BudgetClosed(f"this {self._KIND} was closed")
+        if self.closed is not None:
+            raise BudgetClosed(f"this {self.kind} was closed")
 
     def _take_idle(self) -> List[AnyPass]:
         taken: List[AnyPass] = []
@@ -117,57 +115,36 @@ class Shared(Generic[AnyPass]):
             except IndexError:
                 return taken
 
-    def _lend(self) -> AnyPass:
-        """A pass that nobody else uses until it is appended to `_idle` again."""
-        if self._process != os.getpid():
-            self._look_at_process()
-        try:
-            return self._idle.pop()
-        except IndexError:
-            return self._split()
-
     def _split(self) -> AnyPass:
         """A pass more, since all are in use."""
-        with self._lock:
-            self._look_open()
-            part = self._root.split()
-            if part is None:
-                raise BudgetError(f"more threads draw on one {self._KIND} at once than it has passes")
-            self._out += 1
-            return part
+        self._look_open()
+        part = self._root.split()
+        if part is None:
+            raise BudgetError(f"more threads draw on one {self.kind} at once than it has passes")
+        self._out += 1
+        return part
 
-    # Retries that draw on it
+    def __del__(self) -> None:
+        for drawn in (*getattr(self, "_idle", ()), getattr(self, "_root", None)):
+            if drawn is not None:
+                drawn.free()
 
-    def _begin_retry(self, machine: Machine, policy: PolicyHandle) -> None:
+
+class DrawnOn(Protocol):
+    """What the engine's retry draws on by itself."""
+
+    @property
+    def generation(self) -> int:
+        """How often it began anew, as in a forked child: a retry that began before is not its own any more."""
+
+    def begin_retry(self, machine: Machine, policy: PolicyHandle) -> None:
         """Begins a retry in this machine, with a pass of its own."""
-        lent = self._lend()
-        try:
-            if not machine.begin(policy, lent):
-                lent = self._exchanged(lent)
-                machine.begin(policy, lent)
-        finally:
-            self._idle.append(lent)
 
-    def _end_retry(self, machine: Machine) -> None:
+    def end_retry(self, machine: Machine) -> None:
         """Takes the pass of the machine's retry back, with its tickets."""
-        lent = self._lend()
-        try:
-            machine.end(lent)
-        finally:
-            self._idle.append(lent)
 
-    def _exchanged(self, lent: AnyPass) -> AnyPass:
-        """Another pass for one that has a single part left, since retries may give their parts back to other passes
-        than they had them of. The root has so many parts that it does not run out of them."""
-        with self._lock:
-            other = self._split()
-            self._root.join(lent)
-            self._out -= 1
-            return other
-
-    def _moment_of(self, seconds: float) -> int:
-        """The engine's moment at which a retry begins that begins so many seconds on its clock."""
-        raise NotImplementedError
+    def moment_of(self, clock: float) -> int:
+        """The moment at which a retry begins that begins at so many seconds of its clock."""
 
 
 class NoBudget:
@@ -175,13 +152,15 @@ class NoBudget:
 
     __slots__ = ()
 
-    def _begin_retry(self, machine: Machine, policy: PolicyHandle) -> None:
+    generation = 0
+
+    def begin_retry(self, machine: Machine, policy: PolicyHandle) -> None:
         machine.begin_unlimited(policy)
 
-    def _end_retry(self, machine: Machine) -> None:
+    def end_retry(self, machine: Machine) -> None:
         machine.free()
 
-    def _moment_of(self, seconds: float) -> int:
+    def moment_of(self, clock: float) -> int:
         return 0
 
 

@@ -2,7 +2,8 @@
 
 from __future__ import annotations
 
-import contextlib
+import logging
+import math
 import os
 import signal
 import sys
@@ -11,6 +12,7 @@ import time
 from dataclasses import dataclass
 from typing import Any, FrozenSet, List, Optional, Sequence, Tuple, Union
 
+from ._status_line import StatusLine
 from .budget import Budget
 from .errors import StoreError
 from .leased import Leased, LeasedQuota
@@ -19,6 +21,8 @@ from .retrying import Retrying
 from .state import RetryState
 
 __all__ = ["TIMED_OUT", "RunOptions", "run_command"]
+
+logger = logging.getLogger("hikebox")
 
 #: The status of an attempt that took too long, as of timeout(1).
 TIMED_OUT = 124
@@ -45,6 +49,8 @@ class RunOptions:
     timeout: Optional[float] = None
     grace: float = 5.0
     verbose: bool = False
+    #: Tells nothing on a terminal either.
+    quiet: bool = False
     #: Gives each attempt the whole standard input, and lets out the last attempt's output alone.
     replay_input: bool = False
     last_output: bool = False
@@ -75,7 +81,7 @@ def run_command(command: Sequence[str], options: RunOptions) -> int:
             on=runner.retries,
             code=lambda error: error.status if isinstance(error, _Failed) else 0,
             before=_tell_request if isinstance(options.budget, LeasedQuota) else None,
-            before_sleep=runner.tell_wait if options.verbose else None,
+            before_sleep=runner.tell_wait,
             sleep=runner.wait,
         )
         try:
@@ -94,8 +100,10 @@ def _tell_request(state: RetryState) -> None:
     """Tells the store of a quota that there is one more run, as its first attempt begins: also of one that succeeds."""
     quota = state.retry_object.budget if state.retry_object is not None else None
     if state.attempt_number == 1 and isinstance(quota, LeasedQuota):
-        with contextlib.suppress(StoreError):
+        try:
             quota.seen()
+        except StoreError as error:
+            logger.warning("%s: %s; it grants nothing until it can be reached", quota.name, error)
 
 
 class _Runner:
@@ -107,6 +115,9 @@ class _Runner:
         self.input: Optional[int] = None
         self.output: Optional[int] = None
         self.ended_by: Optional[int] = None
+        #: What is told while it waits, on a terminal.
+        self.line = StatusLine(sys.stderr, wanted=not (options.quiet or options.verbose))
+        self.waits_for = ""
         self.watched = {signal.SIGCHLD}
         for number in (*_ENDING, *_PASSED):
             if signal.getsignal(number) is not signal.SIG_IGN:
@@ -194,12 +205,18 @@ class _Runner:
     def wait(self, seconds: float) -> None:
         """Waits between two attempts; a signal that ends the run ends it now."""
         until = time.monotonic() + seconds
-        while True:
-            came = self._signal(until)
-            if came is None:
-                return
-            if came.si_signo in _ENDING:
-                raise _Ended(128 + came.si_signo)
+        try:
+            while True:
+                left = until - time.monotonic()
+                if left <= 0:
+                    return
+                shown = max(1, math.ceil(left - 0.01))
+                self.line.show(f"hikebox: {self.waits_for} in {shown} s")
+                came = self._signal(until - (shown - 1) if self.line.is_on else until)
+                if came is not None and came.si_signo in _ENDING:
+                    raise _Ended(128 + came.si_signo)
+        finally:
+            self.line.clear()
 
     def _signal(self, until: Optional[float]) -> Any:
         """The next signal, or None where the moment came first."""
@@ -228,7 +245,9 @@ class _Runner:
     def tell_wait(self, state: RetryState) -> None:
         outcome = state.outcome
         failed = outcome.exception() if outcome is not None else None
-        self._tell(f"attempt {state.attempt_number}: {failed}; next in {state.upcoming_sleep:.3f} s")
+        number = state.attempt_number
+        self.waits_for = f"attempt {number}: {failed}; attempt {number + 1}"
+        self._tell(f"attempt {number}: {failed}; next in {state.upcoming_sleep:.3f} s")
 
     def tell_end(self, failed: _Failed) -> None:
         state = getattr(failed, "retry_state", None)
@@ -261,21 +280,3 @@ def _spooled(source: int) -> int:
 def _write_all(file: int, text: bytes) -> None:
     while text:
         text = text[os.write(file, text) :]
-
-
-def statuses(text: str) -> FrozenSet[int]:
-    """Exit statuses, as numbers and ranges: `1,3-5`.
-
-    >>> sorted(statuses("1,3-5"))
-    [1, 3, 4, 5]
-    """
-    found: List[int] = []
-    for part in text.split(","):
-        least, dash, most = part.strip().partition("-")
-        if not least.isdigit() or (dash and not most.isdigit()):
-            raise ValueError(f"{part!r} is no exit status")
-        first, last = int(least), int(most if dash else least)
-        if not 1 <= first <= last <= 255:
-            raise ValueError(f"{part!r} is not within 1 to 255")
-        found.extend(range(first, last + 1))
-    return frozenset(found)

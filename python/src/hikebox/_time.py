@@ -16,6 +16,9 @@ FAR = 2**62 - 1
 #: So much of a millisecond is not taken for less than a whole one.
 HAIR = 1e-6
 
+#: So many seconds a millisecond of floating point may be short of one.
+_GRAIN_OFF = 1e-12
+
 
 class Milliseconds(int):
     """A whole number of milliseconds, where a number alone would be taken for seconds."""
@@ -42,29 +45,36 @@ def milliseconds(count: int) -> Milliseconds:
     return Milliseconds(count)
 
 
-def seconds(duration: Duration) -> int:
-    """The duration in whole milliseconds, rounded; refused below 0 and past the range.
+def seconds(duration: Duration, what: str = "") -> int:
+    """The duration in whole milliseconds, rounded; refused below 0, past the range, and where it is less than one but
+    not 0. `what` it is for stands in the error.
 
     >>> seconds(0.1), seconds(2), seconds(timedelta(minutes=1))
     (100, 2000, 60000)
+    >>> seconds(0.0004, "spaced")
+    Traceback (most recent call last):
+    ...
+    hikebox.errors.PolicyError: number out of range: spaced: 0.0004 s is less than a millisecond
     """
+    place = f"{what}: " if what else ""
     if isinstance(duration, Milliseconds):
-        count = int(duration)
+        count, is_less = int(duration), False
     elif isinstance(duration, timedelta):
         micros = (duration.days * 86400 + duration.seconds) * 1000000 + duration.microseconds
-        count = _rounded(micros, 1000)
+        count, is_less = _rounded(micros, 1000), 0 < micros < 1000
     elif isinstance(duration, bool) or not isinstance(duration, (int, float)):
-        raise TypeError(f"seconds or a timedelta are wanted, not {duration!r}")
+        raise TypeError(f"{place}seconds or a timedelta are wanted, not {duration!r}")
     elif not math.isfinite(duration):
-        raise PolicyError(Fault.OUT_OF_RANGE, hint=f"a duration of {duration!r} seconds")
+        raise PolicyError(Fault.OUT_OF_RANGE, hint=f"{place}a duration of {duration!r} seconds")
     elif isinstance(duration, int):
-        count = duration * 1000
-    elif duration < 0:
-        count = -1
+        count, is_less = duration * 1000, False
     else:
-        count = round(duration * 1000)
+        count, is_less = -1 if duration < 0 else round(duration * 1000), 0 < duration < 0.001 - _GRAIN_OFF
     if not 0 <= count <= FAR:
-        raise PolicyError(Fault.OUT_OF_RANGE, hint=f"{duration!r} is not from 0 to {FAR} milliseconds")
+        raise PolicyError(Fault.OUT_OF_RANGE, hint=f"{place}{duration!r} is not from 0 to {FAR} milliseconds")
+    if is_less:
+        text = duration if isinstance(duration, timedelta) else f"{duration!r} s"
+        raise PolicyError(Fault.OUT_OF_RANGE, hint=f"{place}{text} is less than a millisecond")
     return count
 
 

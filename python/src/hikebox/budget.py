@@ -2,16 +2,19 @@
 
 from __future__ import annotations
 
+from functools import partial
 from typing import Optional
 
+from ._deprecated import deprecated
 from ._engine import MOST_TICKETS, Pass
-from ._passes import Shared
+from ._granting import Granting
+from ._passes import Passes
 from .errors import BudgetError, TermsError
 
 __all__ = ["Budget"]
 
 
-class Budget(Shared[Pass]):
+class Budget(Granting[Pass]):
     """A number of tickets, each of which is drawn once. A retry needs one, so no more retries happen than there are.
 
     All threads may share it, and draw at once, for any number of retries. `Budget(limit)` keeps its limit,
@@ -21,16 +24,14 @@ class Budget(Shared[Pass]):
     >>> with Budget(2) as budget:
     ...     budget.draw(), budget.draw(), budget.draw()
     (0, 1, None)
-    >>> budget.count
+    >>> budget.granted
     2
 
-    A budget belongs to its process: in a forked child it grants nothing and raises `BudgetError`. For one that
-    processes share see `hikebox.leased`.
+    A budget belongs to its process: a forked child has one of its own, with nothing drawn. For one that processes share
+    see `hikebox.leased`.
     """
 
     __slots__ = ("_limit", "_rising")
-
-    _KIND = "budget"
 
     def __init__(self, limit: int) -> None:
         self._begin(limit, False)
@@ -54,7 +55,7 @@ class Budget(Shared[Pass]):
         _look_at_limit(limit)
         self._limit = limit
         self._rising = rising
-        self._open(Pass.of_budget(limit, rising))
+        self.passes = Passes("budget", partial(Pass.of_budget, limit, rising))
 
     @property
     def limit(self) -> int:
@@ -63,36 +64,34 @@ class Budget(Shared[Pass]):
 
     @property
     def count(self) -> int:
-        """How many tickets were drawn: exact once the budget is closed, and before that without those that retries
-        still under way have drawn."""
-        return self._drawn()
+        """The old name of `granted`."""
+        deprecated("Budget.count", "Budget.granted")
+        return self.granted
 
     def draw(self) -> Optional[int]:
         """A ticket, by its number from 0, or None where there is none left."""
-        drawn = self._lend()
+        lent = self.passes.lend()
         try:
-            return drawn.draw()
+            return lent.draw()
         finally:
-            self._idle.append(drawn)
+            self.passes.give_back(lent)
 
     def raise_to(self, limit: int) -> int:
         """Makes the limit of a rising budget the greater of itself and this one, and answers it."""
         if not self._rising:
             raise BudgetError("this budget keeps its limit: Budget.rising makes one that can be raised")
         _look_at_limit(limit)
-        self._look_at_process()
-        with self._lock:
-            self._look_open()
-            now = self._root.raise_to(limit)
+        with self.passes.root() as root:
+            now = root.raise_to(limit)
             assert now is not None, "the budget is a rising one"
             self._limit = now
             return now
 
-    def _made(self) -> str:
+    def expression(self) -> str:
         return f"Budget.rising({self._limit})" if self._rising else f"Budget({self._limit})"
 
-    def _moment_of(self, seconds: float) -> int:
-        """The moment at which a retry begins that begins so many seconds on its clock: a budget has no clock."""
+    def moment_of(self, clock: float) -> int:
+        """The moment at which a retry begins: 0, since a budget has no clock."""
         return 0
 
 

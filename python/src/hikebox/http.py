@@ -7,7 +7,13 @@ import time
 from datetime import timezone
 from typing import Any, Callable, Optional
 
-__all__ = ["parse_retry_after", "retry_after"]
+__all__ = ["METHODS", "STATUSES", "parse_retry_after", "retry_after", "retry_after_of"]
+
+#: The statuses that the adapters retry where nothing else is said.
+STATUSES = frozenset({429, 502, 503, 504})
+
+#: The methods that may be repeated.
+METHODS = frozenset({"DELETE", "GET", "HEAD", "OPTIONS", "PUT", "TRACE"})
 
 
 def parse_retry_after(text: Optional[str], now: Callable[[], float] = time.time) -> Optional[float]:
@@ -32,16 +38,17 @@ def parse_retry_after(text: Optional[str], now: Callable[[], float] = time.time)
     return max(0.0, moment.timestamp() - now())
 
 
+def retry_after_of(response: object) -> Optional[float]:
+    """The seconds that the headers of a response ask to wait, where they do."""
+    headers: Any = getattr(response, "headers", None)
+    return parse_retry_after(headers.get("Retry-After")) if hasattr(headers, "get") else None
+
+
 def retry_after(error: BaseException) -> Optional[float]:
     """For `at_least`: the seconds that the response of an HTTP error asks to wait, where it has a `Retry-After`.
 
     It reads the headers of the exception (as of `urllib.error.HTTPError`), or those of its `response` (as of
     `requests` and `httpx`).
     """
-    for holder in (error, getattr(error, "response", None)):
-        headers: Any = getattr(holder, "headers", None)
-        if headers is not None and hasattr(headers, "get"):
-            found = parse_retry_after(headers.get("Retry-After"))
-            if found is not None:
-                return found
-    return None
+    found = retry_after_of(error)
+    return retry_after_of(getattr(error, "response", None)) if found is None else found

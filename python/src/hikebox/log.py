@@ -3,7 +3,7 @@
 from __future__ import annotations
 
 import logging
-from typing import Any, Callable
+from typing import Any, Callable, Dict
 
 from .state import RetryState
 
@@ -12,42 +12,46 @@ __all__ = ["after_log", "before_log", "before_sleep_log"]
 Hook = Callable[[RetryState], None]
 
 
-def _name(state: RetryState) -> Any:
-    return getattr(state.fn, "__qualname__", state.fn if state.fn is not None else "a block")
+def _fields(state: RetryState, **more: Any) -> Dict[str, Any]:
+    """The fields of a log record: what is called, and the attempt's number."""
+    return {"hikebox_call": state.name, "hikebox_attempt": state.attempt_number, **more}
 
 
-def before_log(logger: logging.Logger, level: int) -> Hook:
+def before_log(logger: logging.Logger, log_level: int) -> Hook:
     """A hook for `before`, which logs that an attempt begins."""
 
     def log(state: RetryState) -> None:
-        logger.log(level, "%s: attempt %d begins", _name(state), state.attempt_number)
+        logger.log(log_level, "%s: attempt %d begins", state.name, state.attempt_number, extra=_fields(state))
 
     return log
 
 
-def after_log(logger: logging.Logger, level: int) -> Hook:
-    """A hook for `after`, which logs that an attempt failed."""
+def after_log(logger: logging.Logger, log_level: int, sec_format: str = "%0.3f") -> Hook:
+    """A hook for `after`, which logs that an attempt failed, and the seconds since the first one began, so written."""
 
     def log(state: RetryState) -> None:
         seconds = state.seconds_since_start or 0.0
-        logger.log(level, "%s: attempt %d failed after %.3f s", _name(state), state.attempt_number, seconds)
+        text = f"%s: attempt %d failed after {sec_format} s"
+        fields = _fields(state, hikebox_seconds=seconds)
+        logger.log(log_level, text, state.name, state.attempt_number, seconds, extra=fields)
 
     return log
 
 
-def before_sleep_log(logger: logging.Logger, level: int, exc_info: bool = False) -> Hook:
+def before_sleep_log(logger: logging.Logger, log_level: int, exc_info: bool = False) -> Hook:
     """A hook for `before_sleep`, which logs how an attempt went and how long is waited."""
 
     def log(state: RetryState) -> None:
         error = state.outcome.exception() if state.outcome is not None else None
         logger.log(
-            level,
+            log_level,
             "%s: attempt %d %s; next in %.3f s",
-            _name(state),
+            state.name,
             state.attempt_number,
             state.outcome,
             state.upcoming_sleep,
             exc_info=error if exc_info else None,
+            extra=_fields(state, hikebox_delay=state.upcoming_sleep),
         )
 
     return log

@@ -5,10 +5,12 @@ from __future__ import annotations
 import math
 import time
 from dataclasses import dataclass
+from functools import partial
 from typing import Callable, NamedTuple, Optional
 
 from ._engine import MOST_SHARE, MOST_TICKETS, QuotaPass
-from ._passes import Shared
+from ._granting import Granting
+from ._passes import Passes
 from ._time import Duration, moment, seconds, seconds_text
 from .errors import PolicyError, TermsError
 
@@ -50,9 +52,11 @@ class Usage:
     given: int
     #: The tickets that it may yet give for the requests counted so far.
     left: int
+    #: Of a `LeasedQuota`: whether the store may have lost its count of the window, and so grants nothing of it.
+    lost: bool = False
 
 
-class Quota(Shared[QuotaPass]):
+class Quota(Granting[QuotaPass]):
     """Retries for a service: in each window of time no more than a reserve, and a share of the requests made in it.
 
     `reserve`
@@ -76,20 +80,18 @@ class Quota(Shared[QuotaPass]):
     ('fetched', 11)
 
     All threads may share it, and draw at once. Closing it, or leaving it as a context, gives the exact number of all
-    tickets drawn; a service that runs until it is stopped need not close it. A quota belongs to its process: in a
-    forked child it raises `BudgetError`. For one that processes share see `hikebox.leased`.
+    tickets drawn; a service that runs until it is stopped need not close it. A quota belongs to its process: a
+    forked child has one of its own, with nothing counted. For one that processes share see `hikebox.leased`.
     """
 
     __slots__ = ("_terms", "_clock")
-
-    _KIND = "quota"
 
     def __init__(
         self, reserve: int, share: float, per: Duration, *, clock: Callable[[], float] = time.monotonic
     ) -> None:
         self._terms = terms_of(reserve, share, per)
         self._clock = clock
-        self._open(QuotaPass.of_quota(*self._terms))
+        self.passes = Passes("quota", partial(QuotaPass.of_quota, *self._terms))
 
     @property
     def reserve(self) -> int:
@@ -111,19 +113,13 @@ class Quota(Shared[QuotaPass]):
         """What tells the seconds by which windows are counted."""
         return self._clock
 
-    @property
-    def granted(self) -> int:
-        """How many tickets were drawn in all: exact once the quota is closed, and before that without those that
-        retries still under way have drawn."""
-        return self._drawn()
-
     def deposit(self) -> None:
         """Counts a request in the present window. Calls that are retried under the quota do it by themselves."""
-        lent = self._lend()
+        lent = self.passes.lend()
         try:
             lent.deposit(moment(self._clock()))
         finally:
-            self._idle.append(lent)
+            self.passes.give_back(lent)
 
     def draw(self) -> Optional[int]:
         """A ticket, or None where the present window has none left: a later one may, and so may this one after more
@@ -135,26 +131,26 @@ class Quota(Shared[QuotaPass]):
         >>> quota.deposit(), quota.deposit(), quota.draw() is not None
         (None, None, True)
         """
-        lent = self._lend()
+        lent = self.passes.lend()
         try:
             return lent.draw(moment(self._clock()))
         finally:
-            self._idle.append(lent)
+            self.passes.give_back(lent)
 
     def seen(self) -> Usage:
         """What was asked of the present window, what it has given, and what it has left."""
-        lent = self._lend()
+        lent = self.passes.lend()
         try:
             return Usage(*lent.seen(moment(self._clock())))
         finally:
-            self._idle.append(lent)
+            self.passes.give_back(lent)
 
-    def _made(self) -> str:
+    def expression(self) -> str:
         return f"Quota({self._terms})"
 
-    def _moment_of(self, seconds: float) -> int:
-        """The moment at which a retry begins that begins so many seconds on the quota's clock."""
-        return moment(seconds)
+    def moment_of(self, clock: float) -> int:
+        """The moment at which a retry begins that begins at so many seconds of the quota's clock."""
+        return moment(clock)
 
 
 def terms_of(reserve: int, share: float, per: Duration) -> Terms:

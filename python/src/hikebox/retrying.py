@@ -6,62 +6,103 @@ import functools
 import inspect
 import random as _random
 import time
-from types import TracebackType
 from typing import (
     TYPE_CHECKING,
     Any,
     AsyncIterator,
     Awaitable,
     Callable,
+    ClassVar,
+    Coroutine,
     Dict,
+    Generic,
     Iterator,
     Optional,
     Protocol,
-    Tuple,
     Type,
     TypeVar,
     Union,
     cast,
+    overload,
 )
 
-from ._course import Course
-from ._nodes import walk
-from ._time import FAR
+from ._attempts import AsyncAttempts, Attempt, Attempts
+from ._drivers import run, run_async
+from ._kinds import is_async
+from ._settings import GIVEN, LONGEST, Hook, Hooks, On, Settings, Stop, Tickets
 from .budget import Budget
-from .errors import ResultRefused, TryAgain
 from .policy import Policy
 from .quota import Quota
-from .state import Counts, Ending, Outcome, RetryState, Statistics, code_of
+from .state import Counts, Statistics
 
-__all__ = ["AsyncRetrying", "Attempt", "BaseRetrying", "Retrying", "Tickets", "retry"]
+__all__ = ["AsyncRetrying", "Attempt", "BaseRetrying", "Retried", "Retrying", "Tickets", "retry"]
 
-Wrapped = TypeVar("Wrapped", bound=Callable[..., Any])
+Value = TypeVar("Value")
 Result = TypeVar("Result")
+Answer = TypeVar("Answer", covariant=True)
+Wrapped = TypeVar("Wrapped", bound=Callable[..., Any])
 Self = TypeVar("Self", bound="BaseRetrying")
-
-#: Which exceptions are retried: their types, or a function that says so.
-On = Union[Type[BaseException], Tuple[Type[BaseException], ...], Callable[[BaseException], bool]]
-Hook = Callable[[RetryState], Any]
 
 if TYPE_CHECKING:
     from typing_extensions import Concatenate, ParamSpec
 
     Parameters = ParamSpec("Parameters")
+    Others = ParamSpec("Others")
+
+    class Retried(Protocol[Parameters, Answer]):
+        """A function that is retried at each call."""
+
+        __name__: str
+        #: How it is retried, with its `statistics`. What is set on it counts for later calls.
+        retry: BaseRetrying
+
+        def retry_with(self, **changes: Any) -> Retried[Parameters, Answer]:
+            """The same function with these parameters of `Retrying` in the place of its own."""
+
+        def __call__(self, *args: Parameters.args, **kwargs: Parameters.kwargs) -> Answer:
+            """Calls the function until it succeeds."""
+
+        @overload
+        def __get__(self: Retried[Parameters, Answer], instance: None, owner: Any) -> Retried[Parameters, Answer]:
+            ...
+
+        @overload
+        def __get__(
+            self: Retried[Concatenate[Any, Others], Answer], instance: object, owner: Any
+        ) -> Retried[Others, Answer]:
+            ...
+
+else:
+
+    class Retried:
+        """A function that is retried at each call: it has `retry` and `retry_with(..)`."""
 
 
-class Tickets(Protocol):
-    """What a retry can draw on beside a `Budget` or a `Quota`: one that is kept elsewhere, as by `hikebox.leased`.
+class Setting(Generic[Value]):
+    """A parameter of a `Retrying`. Where it is set, the new value counts for the calls that begin from then on."""
 
-    Where it has a `draw_async()`, coroutines await that in the place of `draw()`. Where it has a `deposit()`, that is
-    called once for each call, at its first attempt.
-    """
+    name: str
 
-    def draw(self) -> Optional[int]:
-        """A ticket, or None where there is none."""
+    def __set_name__(self, owner: Any, name: str) -> None:
+        self.name = name
+
+    @overload
+    def __get__(self, retrying: None, owner: Any = None) -> Setting[Value]:
+        ...
+
+    @overload
+    def __get__(self, retrying: BaseRetrying, owner: Any = None) -> Value:
+        ...
+
+    def __get__(self, retrying: Any, owner: Any = None) -> Any:
+        return self if retrying is None else getattr(retrying.settings, self.name)
+
+    def __set__(self, retrying: BaseRetrying, value: Value) -> None:
+        retrying.change(**{self.name: value})
 
 
 class BaseRetrying:
-    """What `Retrying` and `AsyncRetrying` have in common: how to retry. It never changes, and threads may share it.
+    """What `Retrying` and `AsyncRetrying` have in common: how to retry. Threads may share it.
 
     `policy`
         When to call again: a `Policy`, or its JSON as text or a dict.
@@ -69,16 +110,25 @@ class BaseRetrying:
         A `Budget` or a `Quota` that all calls share, or other `Tickets`; None for none. Each call is a request of a
         quota.
     `on`
-        Which exceptions are retried: a type, a tuple of types, or a function of the exception. All others are raised
-        at once.
+        Which exceptions are retried: a type, a function of the exception, or a tuple of such. All others are raised at
+        once. Functions are asked of each `Exception`, and never of a `KeyboardInterrupt`, a `SystemExit` or a task's
+        cancellation: a type may name these.
     `on_result`
         A function of the result that says whether the call is to be retried.
     `code`
-        A function that gives an exception's number, which the policy reads; `code_of` where it is None.
-    `at_least`
-        A function that gives, for an exception, the seconds that are waited at least, or None: as `Retry-After`.
-    `before`, `after`, `before_sleep`
-        Functions of the `RetryState`, called before each attempt, after each that failed, and before each wait.
+        A function that gives the number by which the policy knows a failure: an exception, or a result that
+        `on_result` refused. `code_of` where it is None.
+    `at_least`, `wait`
+        Functions of the exception, and of the `RetryState`, that give the seconds that are waited at least, or None:
+        as `Retry-After`. The policy's wait is the least.
+    `longest`
+        How many seconds these two may ask for, at most; None for any number.
+    `stop`
+        What ends a retry, though its policy goes on: an event of threading or asyncio that is set, which ends its wait
+        too, or a function of the `RetryState`, asked after each attempt that failed and each wait.
+    `before`, `after`, `before_sleep`, `on_success`
+        Functions of the `RetryState`, or lists of them, called before each attempt, after each that failed, before each
+        wait, and where a call succeeded in the end.
     `fallback`
         A function of the `RetryState` whose result is given in the end, in the place of the last exception.
     `sleep`, `clock`, `random`
@@ -86,85 +136,107 @@ class BaseRetrying:
         Where `sleep` comes back too early by `clock`, the retry goes on as if it had not.
     """
 
+    __slots__ = ("settings", "counts", "__weakref__")
+
+    #: Which calls are for it: whether they are awaited, and whether it repeats them.
+    _AWAITS: ClassVar[bool] = False
+    _REPEATS: ClassVar[bool] = False
+
+    policy = Setting[Policy]()
+    budget = Setting[Union[Budget, Quota, Tickets, None]]()
+    on = Setting[On]()
+    on_result = Setting[Optional[Callable[[Any], Any]]]()
+    code = Setting[Optional[Callable[[Any], int]]]()
+    at_least = Setting[Optional[Callable[[Any], Optional[float]]]]()
+    wait = Setting[Any]()
+    longest = Setting[Optional[float]]()
+    stop = Setting[Any]()
+    before = Setting[Hooks]()
+    after = Setting[Hooks]()
+    before_sleep = Setting[Hooks]()
+    on_success = Setting[Hooks]()
+    fallback = Setting[Optional[Hook]]()
+    sleep = Setting[Optional[Callable[[float], Any]]]()
+    clock = Setting[Callable[[], float]]()
+    random = Setting[Callable[[], float]]()
+
     def __init__(
         self,
         policy: Union[Policy, str, bytes, Dict[str, Any]],
         *,
         budget: Union[Budget, Quota, Tickets, None] = None,
         on: On = Exception,
-        on_result: Optional[Callable[[Any], bool]] = None,
-        code: Optional[Callable[[BaseException], int]] = None,
-        at_least: Optional[Callable[[BaseException], Optional[float]]] = None,
-        before: Optional[Hook] = None,
-        after: Optional[Hook] = None,
-        before_sleep: Optional[Hook] = None,
+        on_result: Optional[Callable[[Any], Any]] = None,
+        code: Optional[Callable[[Any], int]] = None,
+        at_least: Optional[Callable[[Any], Optional[float]]] = None,
+        wait: Optional[Callable[[Any], Optional[float]]] = None,
+        longest: Optional[float] = LONGEST,
+        stop: Optional[Stop] = None,
+        before: Hooks = None,
+        after: Hooks = None,
+        before_sleep: Hooks = None,
+        on_success: Hooks = None,
         fallback: Optional[Hook] = None,
         sleep: Optional[Callable[[float], Any]] = None,
         clock: Callable[[], float] = time.monotonic,
         random: Callable[[], float] = _random.random,
     ) -> None:
-        self.policy = Policy.of(policy)
-        self.budget = budget
-        self.on = on
-        self.on_result = on_result
-        self.code = code
-        self.at_least = at_least
-        self.before = before
-        self.after = after
-        self.before_sleep = before_sleep
-        self.fallback = fallback
-        self.sleep: Callable[[float], Any] = self._default_sleep() if sleep is None else sleep
-        self.clock = clock
-        self.random = random
-        self._counts = Counts()
-        self._retries = _test_of(on)
-        self._lanes = self.policy._jitters()
-        self._reads_codes = any(_reads_code(name, own) for name, own in walk(self.policy._tree))
-        #: What the engine's retry draws on by itself, or else what the package draws on for it, where there is either.
-        #: Of a quota the first wants moments of its clock, so this retry has to go by the same.
-        self._budget: Union[Budget, Quota, None] = None
-        self._tickets: Optional[Tickets] = None
-        if isinstance(budget, Budget) or (isinstance(budget, Quota) and budget.clock == clock):
-            self._budget = budget
-        else:
-            self._tickets = budget
-        if budget is not None and not callable(getattr(budget, "draw", None)):
-            raise TypeError(f"a Budget, a Quota, or something with draw(), is wanted, not {budget!r}")
-        #: What counts a request, where the budget does.
-        self._deposit: Optional[Callable[[], Any]] = getattr(budget, "deposit", None)
+        given = locals()
+        #: What it was made with, and what follows from it.
+        self.settings = self._settings_of({name: given[name] for name in GIVEN})
+        #: What is counted of its calls.
+        self.counts = Counts()
 
-    def _default_sleep(self) -> Callable[[float], Any]:
-        return _sleep
+    def _settings_of(self, given: Dict[str, Any]) -> Settings:
+        return Settings(**given, awaits=self._AWAITS, repeats=self._REPEATS)
+
+    @property
+    def given(self) -> Dict[str, Any]:
+        """The parameters that it has."""
+        return {name: getattr(self.settings, name) for name in GIVEN}
+
+    def change(self, **changes: Any) -> None:
+        """Changes these parameters, for the calls that begin from then on."""
+        self.settings = self._settings_of({**self.given, **changes})
 
     def copy(self: Self, **changes: Any) -> Self:
         """The same with these parameters in the place of its own, and counts of its own."""
-        return type(self)(**{**{own.name: getattr(self, own.name) for own in _PARAMETERS}, **changes})
+        return type(self)(**{**self.given, **changes})
+
+    def __copy__(self: Self) -> Self:
+        return self.copy()
+
+    def __reduce__(self) -> Any:
+        plain = _defaults()
+        return _made, (type(self), {name: own for name, own in self.given.items() if own is not plain.get(name)})
+
+    def __setattr__(self, name: str, value: Any) -> None:
+        try:
+            super().__setattr__(name, value)
+        except AttributeError:
+            raise AttributeError(f"a {type(self).__name__} has no {name!r}: {', '.join(GIVEN)} can be set") from None
 
     @property
     def statistics(self) -> Statistics:
         """Counts over all calls that are over, from all threads."""
-        return self._counts.seen()
+        return self.counts.seen()
 
-    def _code_for(self, outcome: Optional[Outcome]) -> int:
-        """The number of an outcome that failed, as the policy is given it; 0 of a result."""
-        error = outcome.exception() if outcome is not None else None
-        if error is None:
-            return 0
-        if self.code is None:
-            return code_of(error)
-        number = self.code(error)
-        if isinstance(number, bool) or not isinstance(number, int) or not 0 <= number <= FAR:
-            raise ValueError(f"a code is a whole number from 0 to {FAR}, not {number!r}")
-        return number
-
-    def wraps(self, fn: Wrapped) -> Wrapped:
+    def wraps(self, fn: Callable[Parameters, Result]) -> Retried[Parameters, Result]:
         """The function, retried at each call; with `retry`, this object, and `retry_with(..)`, a copy with changes."""
-        raise NotImplementedError
-
-    def _dress(self, wrapped: Any, fn: Any) -> Any:
+        inner: Any = fn
+        if isinstance(inner, (classmethod, staticmethod)):
+            return cast("Retried[Parameters, Result]", type(inner)(self.wraps(inner.__func__)))
+        if not callable(inner):
+            raise TypeError(f"a function is wanted, not {inner!r}")
+        if inspect.isgeneratorfunction(inner) or inspect.isasyncgenfunction(inner):
+            raise TypeError("a generator runs after its call has returned: retry what it calls")
+        wrapped = self._wrapped(inner)
         wrapped.retry = self
-        wrapped.retry_with = lambda **changes: self.copy(**changes).wraps(fn)
-        return wrapped
+        wrapped.retry_with = lambda **changes: self.copy(**changes).wraps(inner)
+        return cast("Retried[Parameters, Result]", wrapped)
+
+    def _wrapped(self, fn: Any) -> Any:
+        raise NotImplementedError
 
     def __repr__(self) -> str:
         budget = f", budget={self.budget!r}" if self.budget is not None else ""
@@ -173,6 +245,14 @@ class BaseRetrying:
 
 #: The parameters that say how to retry.
 _PARAMETERS = list(inspect.signature(BaseRetrying.__init__).parameters.values())[1:]
+
+
+def _defaults() -> Dict[str, Any]:
+    return {own.name: own.default for own in _PARAMETERS}
+
+
+def _made(kind: Type[BaseRetrying], given: Dict[str, Any]) -> BaseRetrying:
+    return kind(**given)
 
 
 class Retrying(BaseRetrying):
@@ -198,48 +278,27 @@ class Retrying(BaseRetrying):
     'here'
     """
 
+    __slots__ = ()
+
     def __call__(self, fn: Callable[..., Result], /, *args: Any, **kwargs: Any) -> Result:
         """Calls the function until it succeeds; in the end its last exception is raised."""
-        course = Course(self, fn, args, kwargs)
-        try:
-            while True:
-                course.begin()
-                try:
-                    result = fn(*args, **kwargs)
-                except BaseException as error:
-                    if not (course.raised(error) and course.draw()):
-                        if course.falls_back():
-                            return cast(Result, self.fallback(course.state))  # type: ignore[misc]
-                        course.gave_up(error)
-                        raise
-                else:
-                    if not course.returned(result):
-                        if course.state.ending is Ending.WON:
-                            return result
-                        return cast(Result, _not_accepted(course))
-                    if not course.draw():
-                        return cast(Result, _not_accepted(course))
-                delay = course.wait()
-                if delay > 0:
-                    self.sleep(delay)
-                course.waited()
-        finally:
-            course.close()
+        return cast(Result, run(self, fn, args, kwargs))
 
     #: The same, by its name.
     call = __call__
 
     def __iter__(self) -> Iterator[Attempt]:
-        return _Attempts(self)
+        return Attempts(self)
 
-    def wraps(self, fn: Wrapped) -> Wrapped:
-        _refuse_generators(fn)
+    def _wrapped(self, fn: Any) -> Any:
+        if is_async(fn):
+            raise TypeError(f"{fn!r} is a coroutine function: AsyncRetrying is for these")
 
         @functools.wraps(fn)
         def wrapped(*args: Any, **kwargs: Any) -> Any:
-            return self(fn, *args, **kwargs)
+            return run(self, fn, args, kwargs)
 
-        return cast(Wrapped, self._dress(wrapped, fn))
+        return wrapped
 
 
 class AsyncRetrying(BaseRetrying):
@@ -256,189 +315,33 @@ class AsyncRetrying(BaseRetrying):
     >>> asyncio.run(main())
     3
 
-    It waits by `asyncio.sleep`; `sleep=trio.sleep` makes it one for trio.
+    It waits by `asyncio.sleep`; `sleep=trio.sleep` makes it one for trio. Hooks, `on`, `on_result` and `fallback` may be
+    coroutine functions.
     """
 
-    def _default_sleep(self) -> Callable[[float], Any]:
-        import asyncio  # which takes longer to load than all the rest
+    __slots__ = ()
 
-        return asyncio.sleep
+    _AWAITS = True
 
-    async def __call__(self, fn: Callable[..., Awaitable[Result]], /, *args: Any, **kwargs: Any) -> Result:
+    def __call__(self, fn: Callable[..., Awaitable[Result]], /, *args: Any, **kwargs: Any) -> Coroutine[Any, Any, Result]:
         """Awaits the coroutine function's calls until one succeeds; in the end its last exception is raised."""
-        course = Course(self, fn, args, kwargs)
-        try:
-            while True:
-                course.begin()
-                try:
-                    result = await fn(*args, **kwargs)
-                except BaseException as error:
-                    if not (course.raised(error) and await course.draw_async()):
-                        if course.falls_back():
-                            return cast(Result, self.fallback(course.state))  # type: ignore[misc]
-                        course.gave_up(error)
-                        raise
-                else:
-                    if not course.returned(result):
-                        if course.state.ending is Ending.WON:
-                            return result
-                        return cast(Result, _not_accepted(course))
-                    if not await course.draw_async():
-                        return cast(Result, _not_accepted(course))
-                await self.sleep(course.wait())
-                course.waited()
-        finally:
-            course.close()
+        return run_async(self, fn, args, kwargs)
 
     #: The same, by its name.
     call = __call__
 
     def __aiter__(self) -> AsyncIterator[Attempt]:
-        return _AsyncAttempts(self)
+        return AsyncAttempts(self)
 
-    def wraps(self, fn: Wrapped) -> Wrapped:
-        _refuse_generators(fn)
+    def _wrapped(self, fn: Any) -> Any:
+        if not is_async(inspect.unwrap(fn)):
+            raise TypeError(f"{fn!r} is no coroutine function: Retrying is for these")
 
         @functools.wraps(fn)
         async def wrapped(*args: Any, **kwargs: Any) -> Any:
-            return await self(fn, *args, **kwargs)
+            return await run_async(self, fn, args, kwargs)
 
-        return cast(Wrapped, self._dress(wrapped, fn))
-
-
-class Attempt:
-    """One attempt of a loop, to be used in a `with` block. Its last one lets the exception out."""
-
-    __slots__ = ("_attempts",)
-
-    def __init__(self, attempts: _BaseAttempts) -> None:
-        self._attempts = attempts
-
-    @property
-    def retry_state(self) -> RetryState:
-        """What the retry is at."""
-        return self._attempts.course.state
-
-    @property
-    def number(self) -> int:
-        """The number of the attempt, from 1."""
-        return self.retry_state.attempt_number
-
-    def __enter__(self) -> Attempt:
-        return self
-
-    def __exit__(
-        self,
-        kind: Optional[Type[BaseException]],
-        error: Optional[BaseException],
-        trace: Optional[TracebackType],
-    ) -> bool:
-        return self._attempts.ended(error)
-
-
-class _BaseAttempts:
-    """The attempts of one loop."""
-
-    def __init__(self, owner: BaseRetrying) -> None:
-        self.course = Course(owner)
-        #: Whether an attempt is under way, and whether one more follows.
-        self.under_way = False
-        self.goes_on = True
-        #: The exception to raise where a budget that may have to be waited for has no ticket.
-        self.last: Optional[BaseException] = None
-
-    def begins(self) -> Attempt:
-        self.under_way = True
-        self.course.begin()
-        return Attempt(self)
-
-    def stops(self) -> bool:
-        """Whether the loop is over."""
-        if self.under_way:
-            self.course.close()
-            raise RuntimeError("each attempt of the loop wants its `with attempt:` block")
-        return not self.goes_on
-
-    def ended(self, error: Optional[BaseException]) -> bool:
-        """The attempt's block was left: whether its exception stops there."""
-        self.under_way = False
-        course = self.course
-        if error is None:
-            given = course.state.outcome
-            self.goes_on = course.returned(None if given is None else given.result()) and self.draws()
-            if not self.goes_on and course.state.ending is not Ending.WON:
-                try:
-                    _not_accepted(course)
-                finally:
-                    course.close()
-        else:
-            self.goes_on = course.raised(error) and self.draws()
-            self.last = error if self.goes_on else None
-            if not self.goes_on:
-                return self.gives_up(error)
-        if not self.goes_on:
-            course.close()
-        return True
-
-    def gives_up(self, error: BaseException) -> bool:
-        """The retry is over: whether a fallback was asked in the place of the exception."""
-        course = self.course
-        try:
-            if course.falls_back():
-                course.owner.fallback(course.state)  # type: ignore[misc]
-                return True
-            course.gave_up(error)
-            return False
-        finally:
-            course.close()
-
-    def draws(self) -> bool:
-        raise NotImplementedError
-
-
-class _Attempts(_BaseAttempts):
-    def __iter__(self) -> _Attempts:
-        return self
-
-    def draws(self) -> bool:
-        return self.course.draw()
-
-    def __next__(self) -> Attempt:
-        if self.stops():
-            raise StopIteration
-        if self.course.state.outcome is not None:
-            self.last = None
-            delay = self.course.wait()
-            if delay > 0:
-                self.course.owner.sleep(delay)
-            self.course.waited()
-        return self.begins()
-
-
-class _AsyncAttempts(_BaseAttempts):
-    def __aiter__(self) -> _AsyncAttempts:
-        return self
-
-    def draws(self) -> bool:
-        return True
-
-    async def __anext__(self) -> Attempt:
-        if self.stops():
-            raise StopAsyncIteration
-        course = self.course
-        if course.state.outcome is not None:
-            last, self.last = self.last, None
-            if not await course.draw_async():
-                self.goes_on = False
-                if last is None:
-                    _not_accepted(course)
-                elif not self.gives_up(last):
-                    raise last
-                course.close()
-                raise StopAsyncIteration
-            await course.owner.sleep(course.wait())
-            course.waited()
-        return self.begins()
+        return wrapped
 
 
 def _takes_what(
@@ -448,13 +351,22 @@ def _takes_what(
 
     def give(fn: Any) -> Any:
         fn.__signature__ = inspect.signature(fn).replace(parameters=_PARAMETERS)
+        parameters = (BaseRetrying.__doc__ or "").partition("\n\n")[2]
+        fn.__doc__ = f"{(fn.__doc__ or '').rstrip()}\n\n{parameters}"
         return fn
 
     return give
 
 
+class Decorator(Protocol):
+    """What makes a function one that is retried."""
+
+    def __call__(self, fn: Callable[Parameters, Result]) -> Retried[Parameters, Result]:
+        """The function, retried at each call."""
+
+
 @_takes_what(BaseRetrying.__init__)
-def retry(policy: Union[Policy, str, bytes, Dict[str, Any]], **how: Any) -> Callable[[Wrapped], Wrapped]:
+def retry(policy: Union[Policy, str, bytes, Dict[str, Any]], **how: Any) -> Decorator:
     """Retries each call of a function or a coroutine function by a policy. It takes what `Retrying` takes.
 
     >>> from hikebox import exponential, recurs
@@ -469,53 +381,17 @@ def retry(policy: Union[Policy, str, bytes, Dict[str, Any]], **how: Any) -> Call
 
     The function has `retry`, its `Retrying`, with `retry.statistics`; and `retry_with(..)`, itself with changes.
     """
-    if callable(policy) and not isinstance(policy, Policy):
-        raise TypeError("a policy is wanted: @retry(recurs(3) & spaced(1))")
+    return decorator(Retrying, AsyncRetrying, "retry", policy, how)
+
+
+def decorator(plain: Type[BaseRetrying], awaits: Type[BaseRetrying], name: str, policy: Any, how: Any) -> Decorator:
+    """The decorator that makes one of the two, by what it is given."""
+    if not isinstance(policy, Policy) and (callable(policy) or isinstance(policy, (classmethod, staticmethod))):
+        raise TypeError(f"a policy is wanted: @{name}(recurs(3) & spaced(1)), with parentheses")
     read = Policy.of(policy)
 
-    def decorate(fn: Wrapped) -> Wrapped:
-        kind = AsyncRetrying if _is_coroutine_function(fn) else Retrying
-        return kind(read, **how).wraps(fn)
+    def decorate(fn: Any) -> Any:
+        inner = fn.__func__ if isinstance(fn, (classmethod, staticmethod)) else fn
+        return (awaits if is_async(inner) else plain)(read, **how).wraps(fn)
 
-    return decorate
-
-
-def _sleep(seconds: float) -> None:
-    """Waits; for centuries at most, since the system takes no more."""
-    time.sleep(min(seconds, 9e9))
-
-
-def _is_coroutine_function(fn: Any) -> bool:
-    return inspect.iscoroutinefunction(fn) or inspect.iscoroutinefunction(getattr(fn, "__call__", None))
-
-
-def _refuse_generators(fn: Any) -> None:
-    if inspect.isgeneratorfunction(fn) or inspect.isasyncgenfunction(fn):
-        raise TypeError("a generator runs after its call has returned: retry what it calls")
-
-
-def _test_of(on: On) -> Callable[[BaseException], bool]:
-    """A function that says whether an exception is retried."""
-    types = on if isinstance(on, tuple) else (on,)
-    if all(isinstance(kind, type) and issubclass(kind, BaseException) for kind in types):
-        wanted = cast(Tuple[Type[BaseException], ...], (*types, TryAgain))
-        return lambda error: isinstance(error, wanted)
-    if isinstance(on, tuple) or not callable(on):
-        raise TypeError(f"exception types or a function are wanted, not {on!r}")
-    asked = cast(Callable[[BaseException], bool], on)
-    return lambda error: isinstance(error, TryAgain) or asked(error)
-
-
-def _reads_code(name: str, own: Any) -> bool:
-    """Whether a node reads the code of the failure."""
-    return name == "identity" or (name == "gate" and own[0] == "input")
-
-
-def _not_accepted(course: Course) -> Any:
-    """What comes of a retry whose last result was not accepted."""
-    if course.falls_back():
-        return course.owner.fallback(course.state)  # type: ignore[misc]
-    outcome = course.state.outcome
-    error = ResultRefused(outcome.result() if outcome is not None else None)
-    course.gave_up(error)
-    raise error
+    return cast(Decorator, decorate)

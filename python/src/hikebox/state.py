@@ -4,15 +4,16 @@ from __future__ import annotations
 
 import enum
 import threading
-from dataclasses import dataclass
-from typing import TYPE_CHECKING, Any, Callable, Dict, Mapping, Optional, Tuple
+from dataclasses import asdict, dataclass
+from typing import TYPE_CHECKING, Any, Callable, Dict, Mapping, NamedTuple, Optional, Tuple
 
+from ._forks import begins_anew_in_a_child
 from ._time import FAR
 
 if TYPE_CHECKING:
     from .retrying import BaseRetrying
 
-__all__ = ["Ending", "Outcome", "RetryState", "Statistics", "code_of", "state_of"]
+__all__ = ["Ending", "NextAction", "Outcome", "RetryState", "Statistics", "code_of", "state_of"]
 
 
 class Ending(enum.Enum):
@@ -20,12 +21,14 @@ class Ending(enum.Enum):
 
     #: The last call succeeded.
     WON = "won"
-    #: The last call failed, and the policy did not go on.
+    #: The last call failed, and the policy did not go on. Of a repetition: the policy did not go on.
     SCHEDULE_DONE = "the policy was done"
     #: The last call failed, the policy went on, and the budget had no ticket.
     BUDGET_REFUSED = "the budget had no ticket"
     #: The last call failed in a way that `on` does not name.
     NOT_RETRIED = "the error is not one that is retried"
+    #: What was given as `stop` said so.
+    STOPPED = "it was stopped"
     #: It was left before it was over: a coroutine was cancelled, or a loop was left.
     CANCELLED = "it was cancelled"
     #: The engine found no memory.
@@ -52,9 +55,11 @@ ENDINGS: Tuple[Optional[Ending], ...] = (
 class Outcome:
     """How a call went: its result, or the exception that it raised."""
 
-    __slots__ = ("_result", "_error")
+    __slots__ = ("attempt_number", "_result", "_error")
 
-    def __init__(self, result: Any = None, error: Optional[BaseException] = None) -> None:
+    def __init__(self, result: Any = None, error: Optional[BaseException] = None, attempt_number: int = 1) -> None:
+        #: Of which attempt it is.
+        self.attempt_number = attempt_number
         self._result = result
         self._error = error
 
@@ -63,18 +68,32 @@ class Outcome:
         """Whether it raised."""
         return self._error is not None
 
+    def done(self) -> bool:
+        """True, as of a future that has its result."""
+        return True
+
     def exception(self) -> Optional[BaseException]:
         """The exception, or None where it gave a result."""
         return self._error
 
     def result(self) -> Any:
         """The result; raises the exception where there is one."""
-        if self._error is not None:
+        if self._error is None:
+            return self._result
+        try:
             raise self._error
-        return self._result
+        finally:
+            del self  # which the exception's traceback would keep, and it the exception
 
     def __repr__(self) -> str:
         return f"raised {self._error!r}" if self._error is not None else f"returned {self._result!r}"
+
+
+class NextAction(NamedTuple):
+    """What a retry does next, while it waits."""
+
+    #: How many seconds are waited before the next attempt.
+    sleep: float
 
 
 class RetryState:
@@ -88,8 +107,10 @@ class RetryState:
         "fn",
         "args",
         "kwargs",
+        "start_time",
         "attempt_number",
         "outcome",
+        "outcome_timestamp",
         "seconds_since_start",
         "idle_for",
         "upcoming_sleep",
@@ -103,6 +124,7 @@ class RetryState:
         fn: Optional[Callable[..., Any]],
         args: Tuple[Any, ...],
         kwargs: Mapping[str, Any],
+        start_time: float = 0.0,
     ) -> None:
         #: The `Retrying` that made it; None of a state that was pickled, as is what was called.
         self.retry_object = retry_object
@@ -110,13 +132,17 @@ class RetryState:
         self.fn = fn
         self.args = args
         self.kwargs = kwargs
+        #: When the first attempt began, by the retry's clock.
+        self.start_time = start_time
         #: The number of the present attempt, from 1.
         self.attempt_number = 1
         #: How the present attempt went, where it is over. None again once the last exception was raised.
         self.outcome: Optional[Outcome] = None
+        #: When the last attempt that is over ended, by the retry's clock.
+        self.outcome_timestamp: Optional[float] = None
         #: From the start of the first attempt to the end of the last one that is over.
         self.seconds_since_start: Optional[float] = None
-        #: How many seconds were waited between attempts.
+        #: How many seconds were waited between attempts, with the wait that is to come.
         self.idle_for = 0.0
         #: How many seconds are waited before the next attempt, where one follows.
         self.upcoming_sleep = 0.0
@@ -126,13 +152,25 @@ class RetryState:
         self.ending: Optional[Ending] = None
 
     @property
+    def next_action(self) -> Optional[NextAction]:
+        """What comes next where one more attempt does: a wait."""
+        outcome = self.outcome
+        return None if outcome is None or self.ending is not None else NextAction(self.upcoming_sleep)
+
+    @property
     def code(self) -> int:
         """The code of the present outcome, which the policy is given."""
-        return 0 if self.retry_object is None else self.retry_object._code_for(self.outcome)
+        return 0 if self.retry_object is None else self.retry_object.settings.code_for(self.outcome)
+
+    @property
+    def name(self) -> str:
+        """What is called, in texts."""
+        fn = self.fn
+        return getattr(fn, "__qualname__", None) or ("a block" if fn is None else repr(fn))
 
     def set_result(self, value: Any) -> None:
-        """Says, in a loop of attempts, what this one gave: for `on_result`."""
-        self.outcome = Outcome(value)
+        """Says, in a loop of attempts, what this one gave: for `on_result` and `on_success`."""
+        self.outcome = Outcome(value, attempt_number=self.attempt_number)
 
     def __reduce__(self) -> Any:
         kept = (self.attempt_number, self.seconds_since_start, self.idle_for, self.granted, self.ending)
@@ -167,21 +205,25 @@ def state_of(error: BaseException) -> Optional[RetryState]:
 _CODES = ("status", "status_code", "code", "errno", "returncode")
 
 
-def code_of(error: BaseException) -> int:
-    """The number by which a policy knows an exception, where no `code` says otherwise.
+def code_of(failure: object) -> int:
+    """The number by which a policy knows an exception, or a result that was not accepted, where no `code` says
+    otherwise.
 
     It is the first that is a whole number of its attributes `status`, `status_code`, `code`, `errno` and
-    `returncode`, and of its response's `status_code`; and 0 where there is none.
+    `returncode`, and of its response's `status_code`; a result that is a whole number is its own; and 0 where there is
+    none.
 
-    >>> code_of(ConnectionRefusedError(111, "refused")), code_of(ValueError())
-    (111, 0)
+    >>> code_of(ConnectionRefusedError(111, "refused")), code_of(ValueError()), code_of(202)
+    (111, 0, 202)
     """
+    if type(failure) is int:
+        return failure if 0 <= failure <= FAR else 0
     for name in _CODES:
-        value = getattr(error, name, None)
-        if type(value) is int and 0 <= value <= FAR:
-            return value
-    value = getattr(getattr(error, "response", None), "status_code", None)
-    return value if type(value) is int and 0 <= value <= FAR else 0
+        value = getattr(failure, name, None)
+        if isinstance(value, int) and not isinstance(value, bool) and 0 <= value <= FAR:
+            return int(value)
+    value = getattr(getattr(failure, "response", None), "status_code", None)
+    return int(value) if isinstance(value, int) and not isinstance(value, bool) and 0 <= value <= FAR else 0
 
 
 @dataclass(frozen=True)
@@ -201,20 +243,32 @@ class Statistics:
     not_retried: int = 0
     cancelled: int = 0
     broken: int = 0
+    stopped: int = 0
 
     @property
     def retries(self) -> int:
         """Attempts but the first of each call."""
         return self.attempts - self.calls
 
+    @property
+    def by_ending(self) -> Dict[str, int]:
+        """The calls that are over by how they ended: for a counter with a label.
+
+        >>> Statistics(calls=3, attempts=5, won=2, stopped=1).by_ending["stopped"]
+        1
+        """
+        counts = asdict(self)
+        return {name: counts[name] for name in (*_NAMED, "broken")}
+
 
 _BROKEN = (Ending.NO_MEMORY, Ending.JOURNAL_FULL, Ending.CLOCK_WENT_BACK)
+_NAMED = tuple(ending.name.lower() for ending in Ending if ending not in _BROKEN)
 
 
 class Counts:
     """The counts behind `Statistics`, shared by threads."""
 
-    __slots__ = ("_lock", "_calls", "_attempts", "_idle_for", "_endings")
+    __slots__ = ("_lock", "_calls", "_attempts", "_idle_for", "_endings", "__weakref__")
 
     def __init__(self) -> None:
         self._lock = threading.RLock()
@@ -222,6 +276,11 @@ class Counts:
         self._attempts = 0
         self._idle_for = 0.0
         self._endings: Dict[Ending, int] = dict.fromkeys(Ending, 0)
+        begins_anew_in_a_child(self)
+
+    def begin_anew(self) -> None:
+        """Takes a new lock, as in a forked child, and goes on counting."""
+        self._lock = threading.RLock()
 
     def add(self, attempts: int, idle_for: float, ending: Ending) -> None:
         """Counts a call that is over."""

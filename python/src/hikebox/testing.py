@@ -1,10 +1,33 @@
-"""For tests of code that retries: a clock that goes on by sleeping."""
+"""For tests of code that retries: a clock that goes on by sleeping, and a switch that leaves all waits out."""
 
 from __future__ import annotations
 
-from typing import List
+import contextlib
+from typing import Iterator, List
 
-__all__ = ["VirtualClock"]
+from ._course import switch
+
+__all__ = ["VirtualClock", "no_waits"]
+
+
+@contextlib.contextmanager
+def no_waits() -> Iterator[None]:
+    """Leaves out the waits of all retries of the process, also of functions that were decorated before: they go on at
+    once, as if the time had passed. Nothing else changes: policies, budgets and hooks are as ever.
+
+    >>> from hikebox import recurs, retry, spaced
+    >>> @retry(recurs(3) & spaced(3600))
+    ... def fetch(answers=["fetched", "", ""]):
+    ...     return answers.pop() or 1 / 0
+    >>> with no_waits():
+    ...     fetch()
+    'fetched'
+    """
+    switch.no_waits += 1
+    try:
+        yield
+    finally:
+        switch.no_waits -= 1
 
 
 class VirtualClock:

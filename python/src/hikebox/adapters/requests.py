@@ -8,26 +8,29 @@
 
 from __future__ import annotations
 
-from typing import Any, Collection, Dict, Union
+import inspect
+from typing import Any, Collection, Dict, Optional, Union
 
 from requests.adapters import HTTPAdapter
 
 from ..budget import Budget
 from ..policy import Policy
 from ..quota import Quota
-from ..retrying import Tickets
+from ..retrying import Retrying, Tickets
+from ..state import Statistics
 from .urllib3 import STATUSES, PolicyRetry
 
 __all__ = ["PolicyAdapter"]
 
-_RETRY = ("longest_retry_after", "sleep", "clock", "random", "allowed_methods", "raise_on_status", "redirect")
+#: What is HTTPAdapter's own; all else is the retry's.
+_ADAPTERS = frozenset(inspect.signature(HTTPAdapter.__init__).parameters)
 
 
 class PolicyAdapter(HTTPAdapter):
     """Retries a session's requests by a policy, under a budget, as `hikebox.adapters.urllib3.PolicyRetry` does.
 
-    It takes what that takes; everything else goes to `HTTPAdapter`. In the end the session gives the last response,
-    or raises what requests raises for the last failure.
+    It takes what that takes, and what `HTTPAdapter` takes. In the end the session gives the last response, or raises
+    what requests raises for the last failure. A session with one can be copied, and pickled where its budget can.
     """
 
     def __init__(
@@ -38,5 +41,19 @@ class PolicyAdapter(HTTPAdapter):
         on_status: Collection[int] = STATUSES,
         **kw: Any,
     ) -> None:
-        retry = {name: kw.pop(name) for name in _RETRY if name in kw}
-        super().__init__(max_retries=PolicyRetry(policy, budget=budget, on_status=on_status, **retry), **kw)
+        own = {name: kw.pop(name) for name in list(kw) if name in _ADAPTERS}
+        super().__init__(max_retries=PolicyRetry(policy, budget=budget, on_status=on_status, **kw), **own)
+
+    @property
+    def retrying(self) -> Optional[Retrying]:
+        """How it retries: what is set on it counts for later requests."""
+        retries: Any = self.max_retries
+        retrying: Optional[Retrying] = retries.retrying
+        return retrying
+
+    @property
+    def statistics(self) -> Statistics:
+        """Counts over all requests that are over."""
+        retries: Any = self.max_retries
+        statistics: Statistics = retries.statistics
+        return statistics

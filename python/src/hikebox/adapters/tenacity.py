@@ -21,6 +21,7 @@ from tenacity.stop import stop_base
 from tenacity.wait import wait_base
 
 from .._course import Course
+from .._drivers import settle
 from ..leased import LeasedQuota
 from ..policy import Policy
 from ..quota import Quota
@@ -93,8 +94,8 @@ class _Shared:
         if answer.attempt:
             course.waited()
         answer.attempt = state.attempt_number
-        answer.goes_on = course.lost(_outcome(state.outcome)) and course.draw()
-        answer.delay = course.wait() if answer.goes_on else 0.0
+        answer.goes_on = settle(course.judges(_outcome(state.outcome)))
+        answer.delay = settle(course.delay()) if answer.goes_on else 0.0
         if not answer.goes_on:
             course.close()
         return answer

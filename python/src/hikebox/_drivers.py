@@ -1,0 +1,139 @@
+"""The two drivers of a course: one that blocks, and one for coroutines."""
+
+from __future__ import annotations
+
+from types import CoroutineType
+from typing import TYPE_CHECKING, Any, Callable, Tuple, TypeVar, Union
+
+from ._course import Course, Steps
+from .state import Ending
+
+if TYPE_CHECKING:
+    from .retrying import BaseRetrying
+
+__all__ = ["advance", "answer_of", "refuse_awaitable", "run", "run_async", "settle", "settle_async"]
+
+Answer = TypeVar("Answer")
+
+
+def advance(steps: Union[bool, Steps[Any]], answer: Any = None) -> Tuple[bool, Any]:
+    """Does what the steps ask for up to their end, or up to something that has to be awaited: whether it is the end,
+    and the steps' answer or what is to be awaited."""
+    if isinstance(steps, bool):
+        return True, steps
+    send = steps.send
+    while True:
+        try:
+            function, argument = send(answer)
+        except StopIteration as done:
+            return True, done.value
+        answer = function(argument)
+        if hasattr(type(answer), "__await__"):
+            return False, answer
+
+
+def settle(steps: Union[bool, Steps[Answer]]) -> Any:
+    """The answer of steps of which nothing is awaited."""
+    if isinstance(steps, bool):
+        return steps
+    send, answer = steps.send, None
+    while True:
+        try:
+            function, argument = send(answer)
+        except StopIteration as done:
+            return done.value
+        answer = function(argument)
+        if hasattr(type(answer), "__await__"):
+            refuse_awaitable("what was given to a Retrying", answer)
+
+
+async def settle_async(steps: Union[bool, Steps[Answer]]) -> Any:
+    """The answer of steps of which some may have to be awaited."""
+    done, answer = advance(steps)
+    while not done:
+        done, answer = advance(steps, await answer)
+    return answer
+
+
+def run(owner: BaseRetrying, fn: Callable[..., Any], args: Any, kwargs: Any) -> Any:
+    """Calls the function until its retry is over."""
+    settings = owner.settings
+    start = settings.clock()
+    # until something is to be done for it, a retry is only its start
+    course = None if settings.is_quiet else Course(owner, fn, args, kwargs, start)
+    try:
+        while course is None or settle(course.begins()):
+            try:
+                result = fn(*args, **kwargs)
+            except BaseException as error:
+                if course is None:
+                    course = Course(owner, fn, args, kwargs, start)
+                if not settle(course.raised(error)):
+                    raise
+            else:
+                if type(result) is CoroutineType:
+                    refuse_awaitable(repr(fn), result)
+                if course is None:
+                    owner.counts.add(1, 0.0, Ending.WON)
+                    return result
+                settle(course.returned(result))
+                if course.over:
+                    break
+        return answer_of(course)
+    finally:
+        if course is not None:
+            course.close()
+
+
+async def run_async(owner: BaseRetrying, fn: Callable[..., Any], args: Any, kwargs: Any) -> Any:
+    """Awaits the function's calls until its retry is over."""
+    settings = owner.settings
+    start = settings.clock()
+    course = None if settings.is_quiet else Course(owner, fn, args, kwargs, start)
+    try:
+        goes_on = True if course is None else await settle_async(course.begins())
+        while goes_on:
+            try:
+                awaitable = fn(*args, **kwargs)
+                result = await awaitable if hasattr(type(awaitable), "__await__") else _NOT_AWAITABLE
+            except BaseException as error:
+                if course is None:
+                    course = Course(owner, fn, args, kwargs, start)
+                judged = course.raised(error)
+                if not (judged if isinstance(judged, bool) else await settle_async(judged)):
+                    raise
+            else:
+                if result is _NOT_AWAITABLE:
+                    raise TypeError(f"{fn!r} gave nothing that is awaited: a Retrying is for functions")
+                if course is None:
+                    owner.counts.add(1, 0.0, Ending.WON)
+                    return result
+                await settle_async(course.returned(result))
+            # (what waits for the next attempt is kept small, since many may wait)
+            steps = course.begins()
+            done, goes_on = advance(steps)
+            while not done:
+                done, goes_on = advance(steps, await goes_on)
+        return None if course is None else answer_of(course)
+    finally:
+        if course is not None:
+            course.close()
+
+
+_NOT_AWAITABLE = object()
+
+
+def answer_of(course: Course) -> Any:
+    """What comes of a course that is over: a result, or the exception that is raised here."""
+    outcome, course.answer = course.answer, None
+    try:
+        return None if outcome is None else outcome.result()
+    finally:
+        del outcome
+
+
+def refuse_awaitable(what: str, awaitable: Any) -> None:
+    """Refuses something that a call gave, and only a coroutine could await."""
+    if type(awaitable) is CoroutineType:
+        awaitable.close()
+    raise TypeError(f"{what} gave {type(awaitable).__name__}, which is not awaited here: AsyncRetrying awaits")

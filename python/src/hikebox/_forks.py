@@ -1,0 +1,32 @@
+"""What begins anew in a forked child: things of the engine, and locks that another thread may have held at the fork."""
+
+from __future__ import annotations
+
+import os
+from typing import Protocol
+from weakref import WeakSet
+
+__all__ = ["BeginsAnew", "begins_anew_in_a_child"]
+
+
+class BeginsAnew(Protocol):
+    """Something that belongs to its process."""
+
+    def begin_anew(self) -> None:
+        """Begins as in a process of its own."""
+
+
+_things: WeakSet[BeginsAnew] = WeakSet()
+
+
+def begins_anew_in_a_child(thing: BeginsAnew) -> None:
+    """Has this begin anew in each child that is forked from here on."""
+    _things.add(thing)
+
+
+def _begin_all() -> None:
+    for thing in list(_things):
+        thing.begin_anew()
+
+
+os.register_at_fork(after_in_child=_begin_all)

@@ -1,0 +1,92 @@
+"""What `Budget` and `Quota` have in common for their users."""
+
+from __future__ import annotations
+
+from typing import Any, Generic, TypeVar
+
+from ._engine import AnyPass, PolicyHandle
+from ._machine import Machine
+from ._passes import Passes
+from .errors import BudgetInUse
+
+__all__ = ["Granting"]
+
+Self = TypeVar("Self", bound="Granting[Any]")
+
+
+class Granting(Generic[AnyPass]):
+    """Something that grants tickets, and can be closed."""
+
+    __slots__ = ("passes", "__weakref__")
+
+    #: The engine's passes, which are handed out inside.
+    passes: Passes[AnyPass]
+
+    @property
+    def granted(self) -> int:
+        """How many tickets were drawn: exact once it is closed, and before that without those that retries still under
+        way have drawn."""
+        return self.passes.drawn()
+
+    @property
+    def closed(self) -> bool:
+        """Whether it was closed."""
+        return self.passes.closed is not None
+
+    @property
+    def generation(self) -> int:
+        """How often it began anew: in a forked child once more than in its parent."""
+        return self.passes.generation
+
+    def close(self) -> int:
+        """Ends it: how many tickets were drawn, exactly. Where a retry is still under way it is a `BudgetInUse`, and
+        nothing has changed. Closing it again gives the same number."""
+        return self.passes.close()
+
+    def __enter__(self: Self) -> Self:
+        return self
+
+    def __exit__(self, kind: Any, error: Any, trace: Any) -> None:
+        try:
+            self.close()
+        except BudgetInUse:
+            if kind is None:
+                raise
+
+    def __repr__(self) -> str:
+        state = f", closed at {self.passes.closed}" if self.closed else ""
+        return f"<{self.expression()}{state}>"
+
+    def __copy__(self: Self) -> Self:
+        return self
+
+    def __deepcopy__(self: Self, _: Any) -> Self:
+        return self
+
+    def __reduce__(self) -> Any:
+        kind = self.passes.kind
+        raise TypeError(f"a {kind} belongs to its process; hikebox.leased has {kind}s that processes share")
+
+    # Retries that draw on it
+
+    def begin_retry(self, machine: Machine, policy: PolicyHandle) -> None:
+        """Begins a retry in this machine, with a pass of its own."""
+        lent = self.passes.lend()
+        try:
+            if not machine.begin(policy, lent):
+                lent = self.passes.exchange(lent)
+                machine.begin(policy, lent)
+        finally:
+            self.passes.give_back(lent)
+
+    def end_retry(self, machine: Machine) -> None:
+        """Takes the pass of the machine's retry back, with its tickets."""
+        lent = self.passes.lend()
+        try:
+            machine.end(lent)
+        finally:
+            self.passes.give_back(lent)
+
+    def expression(self) -> str:
+        """The expression that makes one like it."""
+        raise NotImplementedError

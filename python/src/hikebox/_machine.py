@@ -1,0 +1,133 @@
+"""A retry of the engine, step by step."""
+
+from __future__ import annotations
+
+from ctypes import byref, c_uint64
+from typing import Dict, List, Optional, Tuple
+
+from ._engine import (
+    OK,
+    OVER,
+    TOO_MANY_PASSES,
+    WAIT,
+    BasePass,
+    Handle,
+    Next,
+    PolicyHandle,
+    Words,
+    library,
+    refused,
+    unchecked,
+)
+
+__all__ = ["Machine", "lend_machine", "take_machine_back"]
+
+_retry_poll = unchecked("hikebox_retry_poll")
+_retry_unlimited = library.hikebox_retry_unlimited
+_retry_free = library.hikebox_retry_free
+
+#: What is to be done; the moment up to which is waited, or how it ended; and the tickets granted so far, as of a report.
+Polled = Tuple[int, int, int]
+
+
+class _Slate:
+    """What a poll is handed, and what it is told: for one user at a time."""
+
+    __slots__ = ("words", "next", "now", "code", "at_words", "at_next")
+
+    def __init__(self) -> None:
+        self.words = Words(1 << 31, 1 << 31, 1 << 31, 1 << 31)
+        self.next = Next()
+        self.now = c_uint64()
+        self.code = c_uint64()
+        self.at_words = byref(self.words)
+        self.at_next = byref(self.next)
+
+
+#: Slates that nobody uses now.
+_slates: List[_Slate] = []
+
+
+class Machine:
+    """A retry that is stepped. One object serves many retries, one after the other."""
+
+    __slots__ = ("handle", "at")
+
+    def __init__(self) -> None:
+        self.handle = Handle()
+        self.at = byref(self.handle)
+
+    def begin(self, policy: PolicyHandle, drawn: BasePass) -> bool:
+        """Begins a retry with a pass split off this one; False where that has a single part. On a quota it draws at the
+        moments of its polls."""
+        return _begun(drawn.BEGIN.__name__, drawn.BEGIN(policy.at, drawn.at, self.at))
+
+    def begin_unlimited(self, policy: PolicyHandle) -> None:
+        """Begins a retry that draws on nothing. `free` ends it."""
+        _begun("hikebox_retry_unlimited", _retry_unlimited(policy.at, self.at))
+
+    def poll(self, now: int, report: int, code: int, words: Optional[Dict[int, int]] = None) -> Polled:
+        """One step: what is to be done. `words` are the random words of the lanes that the policy reads."""
+        try:
+            slate = _slates.pop()
+        except IndexError:  # another thread may have taken the last one just now
+            slate = _Slate()
+        slate.now.value = now
+        slate.code.value = code
+        if words is not None:
+            for lane, word in words.items():
+                slate.words[lane] = word
+        status = _retry_poll(self.at, slate.now, slate.at_words, report, slate.code, slate.at_next)
+        if status != OK:
+            raise refused("hikebox_retry_poll", status)
+        told = slate.next
+        what = told.what
+        polled = (what, told.until if what == WAIT else told.how if what == OVER else 0, told.granted if report else 0)
+        _slates.append(slate)
+        return polled
+
+    def cancel(self) -> None:
+        """Ends the retry as cancelled, where it is not over."""
+        status = library.hikebox_retry_cancel(self.at)
+        if status != OK:
+            raise refused("hikebox_retry_cancel", status)
+
+    def end(self, drawn: BasePass) -> None:
+        """Frees the retry, over or not, and joins its pass into this one, which is of the same budget or quota."""
+        status = drawn.END(self.at, drawn.at)
+        if status != OK:
+            raise refused(drawn.END.__name__, status)
+
+    def free(self) -> None:
+        """Frees the retry and its pass, where there is one: what that is of can't be closed then."""
+        if self.handle.held:
+            _retry_free(self.at)
+
+
+def _begun(call: str, status: int) -> bool:
+    """Whether a retry was begun; False where there was no pass for it."""
+    if status == OK:
+        return True
+    if status == TOO_MANY_PASSES:
+        return False
+    raise refused(call, status)
+
+
+#: Machines that hold no retry, for the next ones; those of many concurrent retries are given up.
+_machines: List[Machine] = []
+_MOST_MACHINES = 64
+
+
+def lend_machine() -> Machine:
+    """A machine that holds no retry."""
+    try:
+        return _machines.pop()
+    except IndexError:
+        return Machine()
+
+
+def take_machine_back(machine: Machine) -> None:
+    """Takes a machine back, and frees its retry where it holds one."""
+    machine.free()
+    if len(_machines) < _MOST_MACHINES:
+        _machines.append(machine)

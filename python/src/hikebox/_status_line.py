@@ -1,0 +1,36 @@
+"""A line of standard error that is rewritten while something waits."""
+
+from __future__ import annotations
+
+from typing import TextIO
+
+__all__ = ["StatusLine"]
+
+
+class StatusLine:
+    """A line at the bottom of a terminal. Where the stream is no terminal, or it is not wanted, it does nothing."""
+
+    def __init__(self, stream: TextIO, wanted: bool) -> None:
+        self.stream = stream
+        #: Whether there is anything to rewrite.
+        self.is_on = wanted and stream.isatty()
+        self._shown = ""
+
+    def show(self, text: str) -> None:
+        """Has the line say this."""
+        if self.is_on and text != self._shown:
+            self._write(f"\r{text}\033[K")
+            self._shown = text
+
+    def clear(self) -> None:
+        """Takes the line away."""
+        if self._shown:
+            self._write("\r\033[K")
+            self._shown = ""
+
+    def _write(self, text: str) -> None:
+        try:
+            self.stream.write(text)
+            self.stream.flush()
+        except OSError:
+            self.is_on = False

@@ -1,0 +1,50 @@
+"""How the package is laid out."""
+
+from __future__ import annotations
+
+import ast
+from pathlib import Path
+from typing import Iterator, Set
+
+import pytest
+from conftest import TOP
+
+MODULES = sorted((TOP / "python" / "src").rglob("*.py"))
+
+
+def is_private(name: str) -> bool:
+    return name.startswith("_") and not name.startswith("__")
+
+
+def declared(tree: ast.AST) -> Iterator[str]:
+    """The names that a module gives to members of its own: methods, attributes of self and of a class, and slots."""
+    for node in ast.walk(tree):
+        if isinstance(node, (ast.FunctionDef, ast.AsyncFunctionDef, ast.ClassDef)):
+            yield node.name
+        elif isinstance(node, ast.Name) and isinstance(node.ctx, ast.Store):
+            yield node.id
+        elif isinstance(node, ast.Attribute) and isinstance(node.ctx, ast.Store):
+            yield node.attr
+        elif isinstance(node, ast.Constant) and isinstance(node.value, str):
+            yield node.value
+
+
+#: Members of libraries and of the language that have no other name.
+THEIRS = {"_replace", "_exit", "_asdict"}
+
+
+@pytest.mark.parametrize("path", MODULES, ids=[path.stem for path in MODULES])
+def test_no_module_reads_anothers_underscored_members(path: Path) -> None:
+    tree = ast.parse(path.read_text())
+    own: Set[str] = set(declared(tree))
+    read = {node.attr for node in ast.walk(tree) if isinstance(node, ast.Attribute) and is_private(node.attr)}
+    taken = {
+        alias.name for node in ast.walk(tree) if isinstance(node, ast.ImportFrom) for alias in node.names
+    } - {path.stem for path in MODULES}
+    assert {name for name in read if name not in own} - THEIRS == set()
+    assert {name for name in taken if is_private(name)} == set()
+
+
+@pytest.mark.parametrize("path", MODULES, ids=[path.stem for path in MODULES])
+def test_a_module_is_under_500_lines(path: Path) -> None:
+    assert len(path.read_text().splitlines()) < 500

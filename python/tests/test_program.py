@@ -1,0 +1,196 @@
+"""The program hikebox on a terminal, in a pipe, at its start, and where its store can't be reached."""
+
+from __future__ import annotations
+
+import os
+import pty
+import random
+import signal
+import subprocess
+import sys
+import time
+from pathlib import Path
+from typing import Any, List, Tuple
+
+import pytest
+from conftest import TOP, python_environment
+from test_cli import hikebox
+
+from hikebox import BudgetError
+from hikebox._seeded import seeded
+from hikebox._words import quota, terms
+
+PROGRAM = [sys.executable, "-m", "hikebox"]
+
+
+# Quotas with units
+
+
+def test_terms_with_their_units() -> None:
+    assert terms("10/20%/60s") == (10, 0.2, 60.0)
+    assert terms("10/0.1%/1.5m") == (10, 0.001, 90.0)
+    assert [terms(f"1/1%/2{unit}")[2] for unit in ("ms", "s", "m", "h", "d")] == [0.002, 2, 120, 7200, 172800]
+    for bad in ("10/20%/60", "10/0.2/60s", "10/20%/60x", "10/20%", "/20%/60s", "1.5/20%/60s", "10/20 %/60s"):
+        with pytest.raises(BudgetError, match="as 10/20%/60s; units are ms, s, m, h and d"):
+            terms(bad)
+    assert repr(quota("10/20%/60s@/nowhere/f")).endswith("'run', 10, 0.2, per=60, lease=1)")
+
+
+def test_a_quota_without_units_is_refused_with_both_spellings() -> None:
+    status, output, errors = hikebox("run", "--quota", "1/500/100@f", "--", "true")
+    assert (status, output) == (2, "")
+    assert errors == (
+        "hikebox: '1/500/100' has no units: as retries a request and seconds it is 1/50000%/100s, as thousandths and "
+        "milliseconds, which zsched reads, 1/50%/100ms\n"
+    )
+    assert "1/20%/60s" in hikebox("run", "--quota", "1/0.2/60@f", "--", "true")[2]
+
+
+# Plans
+
+
+def test_inputs_in_turn_and_words_by_a_seed() -> None:
+    lines = "0: 0 next 500\n500: 1 next 1000\n1000: 2 done\n"
+    path = str(TOP / "plans" / "while-busy.json")
+    assert hikebox("plan", "--inputs", "202,202,200", path) == (0, lines, "")
+    assert hikebox("plan", "--inputs", "202,x", path)[0] == 2
+    assert hikebox("plan", "--inputs", "202", "--input", "202", path)[0] == 2
+    assert hikebox("plan", "--words", "7", "--word", "0", path)[0] == 2
+    jittered = hikebox("plan", "--words", "7", "spaced(1).jittered(0, 1)")[1]
+    assert len(set(jittered.splitlines())) == 10
+    assert hikebox("plan", "--words", "7", "spaced(1).jittered(0, 1)")[1] == jittered
+
+
+def test_the_words_of_a_seed() -> None:
+    # of the authors' own program, xoshiro128plusplus.c, with the state 1, 2, 3, 4
+    from hikebox import _seeded
+
+    state = [1 | 2 << 32, 3 | 4 << 32]
+    original, _seeded._split_mix = _seeded._split_mix, lambda seed: iter(state)
+    try:
+        words = seeded(0)
+        assert [next(words) for _ in range(10)] == [
+            641,
+            1573767,
+            3222811527,
+            3517856514,
+            836907274,
+            4247214768,
+            3867114732,
+            1355841295,
+            495546011,
+            621204420,
+        ]
+    finally:
+        _seeded._split_mix = original
+    # of SplitMix64, seeded with 1234567
+    numbers = _seeded._split_mix(1234567)
+    assert [next(numbers) for _ in range(3)] == [6457827717110365317, 3203168211198807973, 9817491932198370423]
+
+
+def test_words_beside_zsched() -> None:
+    program = os.environ.get("HIKEBOX_ZSCHED")
+    if program is None or b"--words" not in subprocess.run([program, "plan", "--help"], capture_output=True).stdout:
+        pytest.skip("HIKEBOX_ZSCHED names no zsched with --words")
+    rng = random.Random(6)
+    for number in range(10):
+        how = ["--words", str(rng.randrange(2**64)), "--inputs", "202,7,202"]
+        for path in ("jittered-back-off.json", "while-busy.json"):
+            file = str(TOP / "plans" / path)
+            theirs = subprocess.run([program, "plan", *how, file], capture_output=True, text=True, check=True).stdout
+            assert hikebox("plan", *how, file) == (0, theirs, ""), (number, path)
+
+
+# Pipes, and the start
+
+
+def test_a_closed_pipe_ends_quietly() -> None:
+    for words in (["plan", "--steps", "4096", "spaced(1)"], ["--help"]):
+        ends = os.pipe()
+        os.close(ends[0])
+        process = subprocess.Popen([*PROGRAM, *words], stdout=ends[1], stderr=subprocess.PIPE, env=python_environment())
+        os.close(ends[1])
+        assert process.communicate(timeout=30)[1] == b""
+        assert process.returncode == -signal.SIGPIPE
+
+
+def test_control_c_at_the_start_prints_no_traceback(tmp_path: Path) -> None:
+    slow = tmp_path / "hikebox"
+    slow.mkdir()
+    (slow / "__init__.py").write_text(
+        f"import time\nopen({str(tmp_path / 'loading')!r}, 'w').close()\ntime.sleep(60)\n"
+    )
+    environment = python_environment()
+    environment["PYTHONPATH"] = f"{tmp_path}{os.pathsep}{environment['PYTHONPATH']}"
+    program = "from hikebox_program import main; main()"
+    process = subprocess.Popen([sys.executable, "-c", program], stderr=subprocess.PIPE, env=environment)
+    until = time.monotonic() + 20
+    while not (tmp_path / "loading").exists():
+        assert time.monotonic() < until
+        time.sleep(0.01)
+    process.send_signal(signal.SIGINT)
+    assert process.communicate(timeout=20)[1] == b""
+    assert process.returncode == -signal.SIGINT
+
+
+def test_control_c_that_is_ignored_stays_ignored() -> None:
+    program = "import signal, hikebox_program; print(signal.getsignal(signal.SIGINT) == signal.SIG_IGN)"
+    script = f"trap '' INT; exec {sys.executable} -c '{program}'"
+    done = subprocess.run(["sh", "-c", script], env=python_environment(), capture_output=True, text=True, timeout=20)
+    assert done.stdout == "True\n"
+
+
+# A store that can't be reached
+
+
+def test_a_store_that_can_not_be_reached_is_told_once() -> None:
+    said = "hikebox: run: /nowhere/f: No such file or directory; it grants nothing until it can be reached\n"
+    for option in ("--budget=5@/nowhere/f", "--quota=5/10%/60s@/nowhere/f"):
+        words = ["run", option, "--policy", "recurs(3)", "--", "sh", "-c", "exit 7"]
+        assert hikebox(*words) == (7, "", said)
+
+
+# A terminal
+
+
+def on_a_terminal(*words: str) -> Tuple[int, str]:
+    """How it ended, and what it wrote on its terminal."""
+    ours, theirs = pty.openpty()
+    process = subprocess.Popen(
+        [*PROGRAM, *words], stdin=subprocess.DEVNULL, stdout=subprocess.DEVNULL, stderr=theirs, env=python_environment()
+    )
+    os.close(theirs)
+    written: List[bytes] = []
+    while True:
+        try:
+            part = os.read(ours, 4096)
+        except OSError:  # the other end is closed
+            break
+        if not part:
+            break
+        written.append(part)
+    os.close(ours)
+    return process.wait(timeout=20), b"".join(written).decode()
+
+
+def test_a_line_on_a_terminal_tells_the_attempt_and_the_wait() -> None:
+    words = ["--policy", "recurs(1) & spaced(1.2)", "--", "sh", "-c", "exit 7"]
+    status, written = on_a_terminal("run", *words)
+    assert status == 7
+    line = "\rhikebox: attempt 1: status 7; attempt 2 in {} s\033[K"
+    assert written == line.format(2) + line.format(1) + "\r\033[K"
+    assert on_a_terminal("run", "--quiet", *words) == (7, "")
+    assert "\r\033[K" not in on_a_terminal("run", "--verbose", *words)[1]
+    assert hikebox("run", *words) == (7, "", "")
+
+
+def test_a_signal_takes_the_line_away() -> None:
+    ours, theirs = pty.openpty()
+    words = [*PROGRAM, "run", "--policy", "spaced(60)", "--", "sh", "-c", "exit 7"]
+    process: Any = subprocess.Popen(words, stderr=theirs, env=python_environment())
+    assert b"attempt 2 in 60 s" in os.read(ours, 4096)
+    process.terminate()
+    assert process.wait(timeout=20) == 128 + signal.SIGTERM
+    assert os.read(ours, 4096).endswith(b"\r\033[K")
+    os.close(ours)
+    os.close(theirs)
