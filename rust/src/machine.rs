@@ -149,10 +149,9 @@ impl Machine {
     /// The same with random words of the host's, of which each jitter takes the one of its lane: `u32::MAX / 2` picks
     /// the middle.
     pub fn step_with(&mut self, now: Duration, report: Option<Report>, words: [u32; 4]) -> Step {
-        let before = self.see().granted;
         let next = self.poll(whole_millis(now), report, &words);
         let refused = match &mut self.draws_on {
-            DrawsOn::Store(drawn) => drawn.refuses(next.granted > before),
+            DrawsOn::Store(drawn) => drawn.refuses(next.granted),
             _ => None,
         };
         match refused {
@@ -228,9 +227,10 @@ impl Drawn {
         Self { store, granted: 0, failure: None, ended: None }
     }
 
-    /// How the retry ended, where it did: a store that is asked for one retry more may have no ticket, or fail.
-    fn refuses(&mut self, asks: bool) -> Option<Ended> {
-        if asks && self.ended.is_none() {
+    /// How the retry ended, where it did: the store is asked where the schedule went on to one retry more than were granted,
+    /// and may have no ticket, or fail.
+    fn refuses(&mut self, wanted: u64) -> Option<Ended> {
+        if wanted > self.granted && self.ended.is_none() {
             match self.store.draw() {
                 Ok(true) => self.granted += 1,
                 Ok(false) => self.ended = Some(Ended::BudgetRefused),

@@ -159,9 +159,8 @@ impl<Request, Response, E> RetryPolicy<Request, Response, E> {
 
 impl Under {
     fn begin<Request, Response, E>(settings: &Settings<Request, Response, E>) -> Option<Self> {
-        let mut words = Words::new();
-        let run = Run::begin(&settings.policy, &settings.source, now(), words.next()).ok()?;
-        Some(Self { run, words })
+        let run = Run::begin(&settings.policy, &settings.source, now()).ok()?;
+        Some(Self { run, words: Words::new() })
     }
 
     fn lost(&mut self, code: u64) -> Option<Duration> {
@@ -176,9 +175,8 @@ async fn wait_for<T>(next: T, under: Arc<Mutex<Under>>, wait: Duration) -> T {
         ::tokio::time::sleep(wait).await;
     }
     let mut under = under.lock().unwrap_or_else(PoisonError::into_inner);
-    let words = under.words.next();
     // Where it is refused, the request that tower makes all the same is the last one.
-    let _ = under.run.resume(now(), words);
+    let _ = under.run.resume(now());
     next
 }
 

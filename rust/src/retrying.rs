@@ -316,7 +316,7 @@ impl<E, F, H: Hooked<E>, K: FnMut() -> Instant, S, R: Random> Retrying<'_, E, F,
     pub(crate) fn begin(&mut self) -> Result<Run, BudgetError> {
         let now = (self.host.clock)();
         self.source.deposit(now);
-        Run::begin(self.policy, &self.source, now, self.host.words.draw())
+        Run::begin(self.policy, &self.source, now)
     }
 
     /// What follows a run that ended so.
@@ -345,7 +345,7 @@ impl<E, F, H: Hooked<E>, K: FnMut() -> Instant, S, R: Random> Retrying<'_, E, F,
 
     /// Begins the run that is due, for which it was waited.
     pub(crate) fn resume(&mut self, run: &mut Run) -> Result<(), Cause> {
-        run.resume((self.host.clock)(), self.host.words.draw())
+        run.resume((self.host.clock)())
     }
 }
 
@@ -487,23 +487,21 @@ pub(crate) struct Run {
     due: Duration,
 }
 
+/// The random words of a step at which the schedule is not asked.
+const NO_WORDS: [u32; 4] = [0; 4];
+
 impl Run {
     /// A retry whose first run is under way.
-    pub(crate) fn begin(
-        policy: &Policy,
-        source: &Source,
-        now: Instant,
-        words: [u32; 4],
-    ) -> Result<Self, BudgetError> {
+    pub(crate) fn begin(policy: &Policy, source: &Source, now: Instant) -> Result<Self, BudgetError> {
         let (machine, origin) = (Machine::on(policy, source)?, source.moment(now));
         let mut run = Self { machine, began: now, origin, latest: Duration::ZERO, due: Duration::ZERO };
-        run.resume(now, words).map_err(|_| BudgetError::NoMemory)?;
+        run.resume(now).map_err(|_| BudgetError::NoMemory)?;
         Ok(run)
     }
 
     /// The run under way succeeded.
     pub(crate) fn won(&mut self, now: Instant) {
-        let _ = self.step(now, Some(Report::Won(0)), [0; 4]);
+        let _ = self.step(now, Some(Report::Won(0)), NO_WORDS);
     }
 
     /// The run under way failed: how long it is to be waited from now on, or how the retry ended. The wait is the
@@ -521,9 +519,9 @@ impl Run {
 
     /// Begins the run that is due, unless that is refused. A clock that did not move while it was waited is taken to
     /// have moved.
-    pub(crate) fn resume(&mut self, now: Instant, words: [u32; 4]) -> Result<(), Cause> {
+    pub(crate) fn resume(&mut self, now: Instant) -> Result<(), Cause> {
         self.latest = self.latest.max(self.due);
-        match self.step(now, None, words) {
+        match self.step(now, None, NO_WORDS) {
             Step::Over(Ended::Broken(cause)) => Err(cause),
             _ => Ok(()),
         }
