@@ -71,8 +71,7 @@ extern "C" {
 /* The greatest share of a quota, in thousandths of a ticket a request: 1000 tickets. */
 #define HIKEBOX_MOST_SHARE UINT64_C(1000000)
 
-/* The most passes of a budget that are made by splits, the first one included; and the most events of a journal. */
-#define HIKEBOX_MOST_PASSES 65536
+/* The most events of a journal. */
 #define HIKEBOX_MOST_EVENTS 65536
 
 /* What a call answers. */
@@ -120,9 +119,9 @@ enum {
     HIKEBOX_LIMIT_TOO_LARGE = 30,
     /* The budget keeps its limit. */
     HIKEBOX_FIXED = 31,
-    /* The budget has no ticket for this pass, or the window of a quota has none now. */
+    /* The budget has no ticket left, or the window of a quota has none now. */
     HIKEBOX_NO_TICKET = 32,
-    /* HIKEBOX_MOST_PASSES passes were made of the budget; or the pass of a quota has no part to give. */
+    /* The pass of the budget or of the quota has one part, which it keeps. */
     HIKEBOX_TOO_MANY_PASSES = 33,
     /* Another pass of the budget or of the quota is held somewhere, or was freed. */
     HIKEBOX_PASSES_OUT = 34,
@@ -257,31 +256,31 @@ hikebox_status hikebox_driver_free(hikebox_driver *driver);
 /*
  * A budget is a number of tickets, from 0 on, of which each is drawn once; a retry needs one. A program holds
  * it by its passes: each thread draws with a pass of its own. The budget lives as long as a pass of it. A draw
- * takes no lock and no memory, and never waits.
+ * takes no lock and no memory, and never waits. The first pass has 2^62 parts; a split gives 2^20 of them where the
+ * pass has more, or else one, and a join gives them back: so passes are split and joined without end.
  */
 
 /* Makes a budget of `limit` tickets and puts its first pass into `pass`. HIKEBOX_FULL; _LIMIT_TOO_LARGE; _NO_MEMORY. */
 HIKEBOX_CHECKED hikebox_status hikebox_budget_fixed(uint64_t limit, hikebox_pass *pass);
 
-/*
- * The same with a limit that may be raised. Each pass that is refused a ticket uses a number up: when the limit is
- * raised, there is a ticket less for each of them.
- */
+/* The same with a limit that may be raised. A refused draw uses no ticket up: a limit that is raised by some gives as
+ * many tickets more. */
 HIKEBOX_CHECKED hikebox_status hikebox_budget_rising(uint64_t limit, hikebox_pass *pass);
 
 /*
  * Draws a ticket, and writes its number: one below the limit that no other draw of the budget got.
- * HIKEBOX_EMPTY; _WRONG_KIND; _NO_TICKET: a pass that was told so once is told so for good.
+ * HIKEBOX_EMPTY; _WRONG_KIND; _NO_TICKET: as many were drawn as the limit. Of a budget that keeps its limit a pass is
+ * told so for good; of a rising one it draws again once the limit is raised.
  */
 HIKEBOX_CHECKED hikebox_status hikebox_pass_draw(hikebox_pass *pass, uint64_t *ticket);
 
 /* Puts a new pass of the same budget, which has no ticket, into `part`. HIKEBOX_FULL; _EMPTY; _WRONG_KIND; _NO_MEMORY;
- * _TOO_MANY_PASSES. */
+ * _TOO_MANY_PASSES: the pass has one part. */
 HIKEBOX_CHECKED hikebox_status hikebox_pass_split(hikebox_pass *pass, hikebox_pass *part);
 
 /*
- * Joins `other`, which is of the same budget and is then empty, into `pass`, which has the tickets of both; where
- * either was refused a ticket, it is refused. Of `pass`, then of `other`, HIKEBOX_EMPTY and _WRONG_KIND.
+ * Joins `other`, which is of the same budget and is then empty, into `pass`, which has the tickets and parts of both.
+ * Of `pass`, then of `other`, HIKEBOX_EMPTY and _WRONG_KIND.
  */
 HIKEBOX_CHECKED hikebox_status hikebox_pass_join(hikebox_pass *pass, hikebox_pass *other);
 
@@ -293,7 +292,7 @@ HIKEBOX_CHECKED hikebox_status hikebox_pass_raise(hikebox_pass *pass, uint64_t t
 HIKEBOX_CHECKED hikebox_status hikebox_pass_count(hikebox_pass *pass, uint64_t *tickets);
 
 /*
- * Closes the budget, where this pass stands for all its passes: frees it and writes how many tickets were drawn
+ * Closes the budget, where this pass has all parts: frees it and writes how many tickets were drawn
  * of it. HIKEBOX_EMPTY; _WRONG_KIND; _PASSES_OUT; _NO_MEMORY, which comes only where another pass was freed: then
  * this one is freed, too.
  */
