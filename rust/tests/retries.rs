@@ -105,7 +105,12 @@ fn a_sleep_need_not_move_the_clock_and_is_not_asked_for_nothing() {
             assert!(!wait.is_zero());
             slept.set(slept.get() + wait);
         });
-    assert_eq!(retrying.call(|| Err::<(), _>(7)), Err(RetryError::ScheduleDone(7)));
+    let mut runs = 0;
+    let result = retrying.call(|| {
+        runs += 1;
+        if runs < 100 { Err(7) } else { Ok("a run that no one planned") }
+    });
+    assert_eq!((result, runs), (Err(RetryError::ScheduleDone(7)), 5));
     assert_eq!(slept.get(), Duration::from_secs(2 * 3600));
 }
 
