@@ -1,13 +1,16 @@
 #!/usr/bin/env bash
 # Tests the Rust crate with all its features, on the library of the folder HIKEBOX_LIB_DIR and the program HIKEBOX_ZSCHED,
-# those of dist/ where these name none. What the features and the tests want comes from Debian's packages. What cargo builds,
-# and the lock file for these packages, are kept in out/rust, where that can be written.
+# those of dist/ where these name none, and that it declares the library as the header does. What the features and the tests
+# want comes from Debian's packages. What cargo builds, and the lock file for these packages, are kept in out/rust, where that
+# can be written.
 set -euo pipefail
 top=$(cd "$(dirname "${BASH_SOURCE[0]}")/.." && pwd)
 export HIKEBOX_LIB_DIR=${HIKEBOX_LIB_DIR:-$top/dist}
 export HIKEBOX_ZSCHED=${HIKEBOX_ZSCHED:-$top/dist/zsched}
 work=$(mktemp -d)
 trap 'rm -rf "$work"' EXIT
+
+"$top/tests/bindings.py"
 
 # The crate as it is seen from out/rust, with the documents that its own name.
 room=$top/out/rust

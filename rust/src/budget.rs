@@ -1,12 +1,12 @@
 //! Budgets of retries.
 
-use crate::engine::{self, Handle, PassKind};
+use crate::engine::{Handle, PassKind, Status};
 use std::error::Error;
 use std::fmt;
 use std::sync::{Arc, Mutex, MutexGuard, PoisonError};
 
-/// A number of tickets that all threads of a program share: a retry needs one, and no ticket is drawn twice. It is cheap
-/// to clone; all clones are the same budget.
+/// A number of tickets that all threads of a program share: a retry needs one, and no ticket is drawn twice. It is
+/// cheap to clone; all clones are the same budget.
 ///
 /// ```
 /// use hikebox::Budget;
@@ -47,7 +47,7 @@ pub enum BudgetError {
     Fixed,
     /// The reserve is above 4,294,967,296 retries a window.
     ReserveTooLarge,
-    /// The share is below 0 or above 1000 retries a request, no number, or more than 0 and less than a thousandth.
+    /// The share is below 0 or above 10 retries a request, no number, or more than 0 and less than a thousandth.
     ShareOutOfRange,
     /// The window is shorter than a millisecond.
     PeriodTooShort,
@@ -62,12 +62,11 @@ pub enum BudgetError {
 impl Budget {
     /// A budget of `limit` tickets, at most 4,294,967,296.
     pub fn new(limit: u64) -> Result<Self, BudgetError> {
-        // SAFETY: `pass` is an empty handle.
-        Self::of(Handle::filled(|pass| unsafe { engine::hikebox_budget_fixed(limit, pass) }))
+        Self::of(Handle::fixed(limit))
     }
 
-    /// A budget of `limit` tickets that [`Budget::raise`] may raise. A draw that is refused uses no ticket up, so a limit
-    /// that is raised by some gives as many tickets more.
+    /// A budget of `limit` tickets that [`Budget::raise`] may raise. A draw that is refused uses no ticket up, so a
+    /// limit that is raised by some gives as many tickets more.
     ///
     /// ```
     /// use hikebox::Budget;
@@ -80,33 +79,23 @@ impl Budget {
     /// # Ok::<(), hikebox::BudgetError>(())
     /// ```
     pub fn rising(limit: u64) -> Result<Self, BudgetError> {
-        // SAFETY: `pass` is an empty handle.
-        Self::of(Handle::filled(|pass| unsafe { engine::hikebox_budget_rising(limit, pass) }))
+        Self::of(Handle::rising(limit))
     }
 
     /// Raises the limit to `to`, where it is below that, and answers the limit.
     pub fn raise(&self, to: u64) -> Result<u64, BudgetError> {
-        let mut limit = 0;
-        // SAFETY: the handle holds a pass.
-        match self.with(|root| unsafe { engine::hikebox_pass_raise(root, to, &mut limit) }) {
-            engine::OK => Ok(limit),
-            status => Err(BudgetError::of(status)),
-        }
+        self.lock().raise(to).map_err(BudgetError::of)
     }
 
     /// A pass of the budget, for a thread that draws by itself.
     pub fn pass(&self) -> Result<Pass, BudgetError> {
-        // SAFETY: the first handle holds a pass, and the second is empty.
-        let part = Handle::filled(|part| self.with(|root| unsafe { engine::hikebox_pass_split(root, part) }));
-        Ok(Pass { handle: Some(part.map_err(BudgetError::of)?), budget: self.clone(), tickets: 0 })
+        let part = self.lock().split().map_err(BudgetError::of)?;
+        Ok(Pass { handle: Some(part), budget: self.clone(), tickets: 0 })
     }
 
     /// How many tickets were granted to retries that have ended and to passes that were given back.
     pub fn granted(&self) -> u64 {
-        let mut tickets = 0;
-        // SAFETY: the handle holds a pass.
-        self.with(|root| unsafe { engine::hikebox_pass_count(root, &mut tickets) });
-        tickets
+        self.lock().count()
     }
 
     /// Closes the budget, where no other clone of it, no pass and no retry is alive, and answers how many tickets were
@@ -116,24 +105,19 @@ impl Budget {
             Ok(root) => root.into_inner().unwrap_or_else(PoisonError::into_inner),
             Err(root) => return Err(Self { root }),
         };
-        let mut tickets = 0;
-        // SAFETY: the handle holds a pass.
-        match unsafe { engine::hikebox_pass_close(root.raw(), &mut tickets) } {
-            engine::OK => Ok(tickets),
-            _ => Err(Self { root: Arc::new(Mutex::new(root)) }),
-        }
+        root.close().map_err(|_| Self { root: Arc::new(Mutex::new(root)) })
     }
 
     /// Lends the first pass to one call.
-    pub(crate) fn with<T>(&self, call: impl FnOnce(*mut engine::Raw) -> T) -> T {
-        call(self.lock().raw())
+    pub(crate) fn with<T>(&self, call: impl FnOnce(&mut Handle<PassKind>) -> T) -> T {
+        call(&mut self.lock())
     }
 
     fn lock(&self) -> MutexGuard<'_, Handle<PassKind>> {
         self.root.lock().unwrap_or_else(PoisonError::into_inner)
     }
 
-    fn of(root: Result<Handle<PassKind>, u32>) -> Result<Self, BudgetError> {
+    fn of(root: Result<Handle<PassKind>, Status>) -> Result<Self, BudgetError> {
         Ok(Self { root: Arc::new(Mutex::new(root.map_err(BudgetError::of)?)) })
     }
 }
@@ -143,15 +127,13 @@ impl Pass {
     /// that may rise until it is raised. A draw takes no lock and no memory, and never waits.
     pub fn draw(&mut self) -> Option<u64> {
         let pass = self.handle.as_mut().expect("a pass has its handle until it is dropped");
-        let mut ticket = 0;
-        // SAFETY: the handle holds a pass.
-        match unsafe { engine::hikebox_pass_draw(pass.raw(), &mut ticket) } {
-            engine::OK => {
+        match pass.draw() {
+            Ok(ticket) => {
                 self.tickets += 1;
                 Some(ticket)
             }
-            status => {
-                debug_assert_eq!(status, engine::NO_TICKET);
+            Err(status) => {
+                debug_assert_eq!(status, Status::NoTicket);
                 None
             }
         }
@@ -165,25 +147,24 @@ impl Pass {
 
 impl Drop for Pass {
     fn drop(&mut self) {
-        if let Some(mut handle) = self.handle.take() {
-            // SAFETY: both handles hold passes of one budget. The second is then empty.
-            self.budget.with(|root| unsafe { engine::hikebox_pass_join(root, handle.raw()) });
+        if let Some(handle) = self.handle.take() {
+            self.budget.lock().join(handle);
         }
     }
 }
 
 impl BudgetError {
-    pub(crate) fn of(status: u32) -> Self {
+    pub(crate) fn of(status: Status) -> Self {
         match status {
-            engine::LIMIT_TOO_LARGE => Self::LimitTooLarge,
-            engine::FIXED => Self::Fixed,
-            engine::RESERVE_TOO_LARGE => Self::ReserveTooLarge,
-            engine::SHARE_TOO_LARGE => Self::ShareOutOfRange,
-            engine::PERIOD_TOO_SHORT => Self::PeriodTooShort,
-            engine::TOO_LARGE => Self::PeriodTooLong,
-            engine::TOO_MANY_PASSES => Self::TooManyPasses,
-            engine::NO_MEMORY => Self::NoMemory,
-            status => unreachable!("the engine's status {status}"),
+            Status::LimitTooLarge => Self::LimitTooLarge,
+            Status::Fixed => Self::Fixed,
+            Status::ReserveTooLarge => Self::ReserveTooLarge,
+            Status::ShareTooLarge => Self::ShareOutOfRange,
+            Status::PeriodTooShort => Self::PeriodTooShort,
+            Status::TooLarge => Self::PeriodTooLong,
+            Status::TooManyPasses => Self::TooManyPasses,
+            Status::NoMemory => Self::NoMemory,
+            status => unreachable!("the engine's status {status:?}"),
         }
     }
 }
@@ -194,7 +175,9 @@ impl fmt::Display for BudgetError {
             Self::LimitTooLarge => "the limit is above 4294967296",
             Self::Fixed => "the budget keeps its limit",
             Self::ReserveTooLarge => "the reserve is above 4294967296 retries a window",
-            Self::ShareOutOfRange => "the share is not 0, nor from 0.001 to 1000 retries a request",
+            Self::ShareOutOfRange => {
+                "the share is not 0, nor from 0.001 to 10 retries a request (0.2 is one for every five)"
+            }
             Self::PeriodTooShort => "the window is shorter than a millisecond",
             Self::PeriodTooLong => "the window is longer than 2^62 - 1 milliseconds",
             Self::TooManyPasses => "more than 2^42 passes are alive",

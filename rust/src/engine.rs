@@ -1,4 +1,6 @@
-//! The engine's calls, as `include/hikebox.h` declares them, and handles that own what they hold.
+//! The engine's calls: as `include/hikebox.h` declares them, and as safe ones on handles that own what they hold. All
+//! `unsafe` of the crate stands here. tests/bindings.py of the repository compares the declarations with the header.
+#![allow(unsafe_code)]
 
 use std::ffi::c_void;
 use std::marker::PhantomData;
@@ -44,22 +46,23 @@ pub(crate) struct Used {
     pub(crate) left: u64,
 }
 
-pub(crate) const OK: u32 = 0;
-pub(crate) const NO_MEMORY: u32 = 4;
-pub(crate) const TOO_LARGE: u32 = 5;
-pub(crate) const NO_ROOM: u32 = 6;
-pub(crate) const NOT_JSON: u32 = 10;
-pub(crate) const NOT_A_POLICY: u32 = 11;
-pub(crate) const OUT_OF_RANGE: u32 = 12;
-pub(crate) const TOO_DEEP: u32 = 13;
-pub(crate) const TOO_MANY: u32 = 14;
-pub(crate) const LIMIT_TOO_LARGE: u32 = 30;
-pub(crate) const FIXED: u32 = 31;
-pub(crate) const NO_TICKET: u32 = 32;
-pub(crate) const TOO_MANY_PASSES: u32 = 33;
-pub(crate) const RESERVE_TOO_LARGE: u32 = 35;
-pub(crate) const SHARE_TOO_LARGE: u32 = 36;
-pub(crate) const PERIOD_TOO_SHORT: u32 = 37;
+const OK: u32 = 0;
+const NO_MEMORY: u32 = 4;
+const TOO_LARGE: u32 = 5;
+const NO_ROOM: u32 = 6;
+const NOT_JSON: u32 = 10;
+const NOT_A_POLICY: u32 = 11;
+const OUT_OF_RANGE: u32 = 12;
+const TOO_DEEP: u32 = 13;
+const TOO_MANY: u32 = 14;
+const JOURNAL_FULL: u32 = 21;
+const LIMIT_TOO_LARGE: u32 = 30;
+const FIXED: u32 = 31;
+const NO_TICKET: u32 = 32;
+const TOO_MANY_PASSES: u32 = 33;
+const RESERVE_TOO_LARGE: u32 = 35;
+const SHARE_TOO_LARGE: u32 = 36;
+const PERIOD_TOO_SHORT: u32 = 37;
 
 pub(crate) const NO_REPORT: u32 = 0;
 pub(crate) const WON: u32 = 1;
@@ -82,52 +85,52 @@ pub(crate) const FAR: u64 = (1 << 62) - 1;
 pub(crate) const MOST_TICKETS: u64 = 1 << 32;
 
 extern "C" {
-    pub(crate) fn hikebox_policy_read(json: *const u8, length: usize, policy: *mut Raw, place: *mut Place) -> u32;
-    pub(crate) fn hikebox_policy_fault(
+    fn hikebox_policy_read(json: *const u8, length: usize, policy: *mut Raw, place: *mut Place) -> u32;
+    fn hikebox_policy_fault(
         json: *const u8,
         json_length: usize,
         text: *mut u8,
         capacity: usize,
         length: *mut usize,
     ) -> u32;
-    pub(crate) fn hikebox_policy_size(policy: *mut Raw, nodes: *mut u64, depth: *mut u64) -> u32;
+    fn hikebox_policy_size(policy: *mut Raw, nodes: *mut u64, depth: *mut u64) -> u32;
     fn hikebox_policy_free(policy: *mut Raw) -> u32;
 
-    pub(crate) fn hikebox_driver_new(policy: *mut Raw, driver: *mut Raw) -> u32;
-    pub(crate) fn hikebox_driver_next(
+    fn hikebox_driver_new(policy: *mut Raw, driver: *mut Raw) -> u32;
+    fn hikebox_driver_next(
         driver: *mut Raw,
         now: u64,
         words: *const [u32; 4],
         input: u64,
         decision: *mut Decision,
     ) -> u32;
-    pub(crate) fn hikebox_driver_last_text(driver: *mut Raw, text: *mut u8, capacity: usize, length: *mut usize) -> u32;
+    fn hikebox_driver_last_text(driver: *mut Raw, text: *mut u8, capacity: usize, length: *mut usize) -> u32;
     fn hikebox_driver_free(driver: *mut Raw) -> u32;
 
-    pub(crate) fn hikebox_budget_fixed(limit: u64, pass: *mut Raw) -> u32;
-    pub(crate) fn hikebox_budget_rising(limit: u64, pass: *mut Raw) -> u32;
-    pub(crate) fn hikebox_pass_draw(pass: *mut Raw, ticket: *mut u64) -> u32;
-    pub(crate) fn hikebox_pass_split(pass: *mut Raw, part: *mut Raw) -> u32;
-    pub(crate) fn hikebox_pass_join(pass: *mut Raw, other: *mut Raw) -> u32;
-    pub(crate) fn hikebox_pass_raise(pass: *mut Raw, to: u64, limit: *mut u64) -> u32;
-    pub(crate) fn hikebox_pass_count(pass: *mut Raw, tickets: *mut u64) -> u32;
-    pub(crate) fn hikebox_pass_close(pass: *mut Raw, tickets: *mut u64) -> u32;
+    fn hikebox_budget_fixed(limit: u64, pass: *mut Raw) -> u32;
+    fn hikebox_budget_rising(limit: u64, pass: *mut Raw) -> u32;
+    fn hikebox_pass_draw(pass: *mut Raw, ticket: *mut u64) -> u32;
+    fn hikebox_pass_split(pass: *mut Raw, part: *mut Raw) -> u32;
+    fn hikebox_pass_join(pass: *mut Raw, other: *mut Raw) -> u32;
+    fn hikebox_pass_raise(pass: *mut Raw, to: u64, limit: *mut u64) -> u32;
+    fn hikebox_pass_count(pass: *mut Raw, tickets: *mut u64) -> u32;
+    fn hikebox_pass_close(pass: *mut Raw, tickets: *mut u64) -> u32;
     fn hikebox_pass_free(pass: *mut Raw) -> u32;
 
-    pub(crate) fn hikebox_quota_new(reserve: u64, share: u64, period: u64, quota: *mut Raw) -> u32;
-    pub(crate) fn hikebox_quota_deposit(quota: *mut Raw, now: u64) -> u32;
-    pub(crate) fn hikebox_quota_draw(quota: *mut Raw, now: u64, ticket: *mut u64) -> u32;
-    pub(crate) fn hikebox_quota_seen(quota: *mut Raw, now: u64, usage: *mut Used) -> u32;
-    pub(crate) fn hikebox_quota_split(quota: *mut Raw, part: *mut Raw) -> u32;
-    pub(crate) fn hikebox_quota_join(quota: *mut Raw, other: *mut Raw) -> u32;
-    pub(crate) fn hikebox_quota_count(quota: *mut Raw, tickets: *mut u64) -> u32;
-    pub(crate) fn hikebox_quota_close(quota: *mut Raw, tickets: *mut u64) -> u32;
+    fn hikebox_quota_new(reserve: u64, share: u64, period: u64, quota: *mut Raw) -> u32;
+    fn hikebox_quota_deposit(quota: *mut Raw, now: u64) -> u32;
+    fn hikebox_quota_draw(quota: *mut Raw, now: u64, ticket: *mut u64) -> u32;
+    fn hikebox_quota_seen(quota: *mut Raw, now: u64, usage: *mut Used) -> u32;
+    fn hikebox_quota_split(quota: *mut Raw, part: *mut Raw) -> u32;
+    fn hikebox_quota_join(quota: *mut Raw, other: *mut Raw) -> u32;
+    fn hikebox_quota_count(quota: *mut Raw, tickets: *mut u64) -> u32;
+    fn hikebox_quota_close(quota: *mut Raw, tickets: *mut u64) -> u32;
     fn hikebox_quota_free(quota: *mut Raw) -> u32;
 
-    pub(crate) fn hikebox_retry_new(policy: *mut Raw, pass: *mut Raw, retry: *mut Raw) -> u32;
-    pub(crate) fn hikebox_retry_on_quota(policy: *mut Raw, quota: *mut Raw, retry: *mut Raw) -> u32;
-    pub(crate) fn hikebox_retry_unlimited(policy: *mut Raw, retry: *mut Raw) -> u32;
-    pub(crate) fn hikebox_retry_poll(
+    fn hikebox_retry_new(policy: *mut Raw, pass: *mut Raw, retry: *mut Raw) -> u32;
+    fn hikebox_retry_on_quota(policy: *mut Raw, quota: *mut Raw, retry: *mut Raw) -> u32;
+    fn hikebox_retry_unlimited(policy: *mut Raw, retry: *mut Raw) -> u32;
+    fn hikebox_retry_poll(
         retry: *mut Raw,
         now: u64,
         words: *const [u32; 4],
@@ -135,25 +138,74 @@ extern "C" {
         code: u64,
         next: *mut Next,
     ) -> u32;
-    pub(crate) fn hikebox_retry_see(retry: *mut Raw, next: *mut Next) -> u32;
-    pub(crate) fn hikebox_retry_cancel(retry: *mut Raw) -> u32;
-    pub(crate) fn hikebox_retry_end(retry: *mut Raw, pass: *mut Raw) -> u32;
-    pub(crate) fn hikebox_retry_end_on_quota(retry: *mut Raw, quota: *mut Raw) -> u32;
+    fn hikebox_retry_see(retry: *mut Raw, next: *mut Next) -> u32;
+    fn hikebox_retry_cancel(retry: *mut Raw) -> u32;
+    fn hikebox_retry_end(retry: *mut Raw, pass: *mut Raw) -> u32;
+    fn hikebox_retry_end_on_quota(retry: *mut Raw, quota: *mut Raw) -> u32;
     fn hikebox_retry_free(retry: *mut Raw) -> u32;
 }
 
-/// The text that a call writes into the room that it is given, or the status with which it refused.
-pub(crate) fn text(call: impl Fn(*mut u8, usize, &mut usize) -> u32) -> Result<String, u32> {
+/// Why a call is refused.
+#[derive(Clone, Copy, Debug, PartialEq, Eq)]
+pub(crate) enum Status {
+    NoMemory,
+    TooLarge,
+    NoRoom,
+    NotJson,
+    NotAPolicy,
+    OutOfRange,
+    TooDeep,
+    TooMany,
+    JournalFull,
+    LimitTooLarge,
+    Fixed,
+    NoTicket,
+    TooManyPasses,
+    ReserveTooLarge,
+    ShareTooLarge,
+    PeriodTooShort,
+    /// What no call of this crate is answered, unless the caller is at fault.
+    Other(u32),
+}
+
+impl Status {
+    /// What a call answers.
+    fn of(status: u32) -> Result<(), Self> {
+        Err(match status {
+            OK => return Ok(()),
+            NO_MEMORY => Self::NoMemory,
+            TOO_LARGE => Self::TooLarge,
+            NO_ROOM => Self::NoRoom,
+            NOT_JSON => Self::NotJson,
+            NOT_A_POLICY => Self::NotAPolicy,
+            OUT_OF_RANGE => Self::OutOfRange,
+            TOO_DEEP => Self::TooDeep,
+            TOO_MANY => Self::TooMany,
+            JOURNAL_FULL => Self::JournalFull,
+            LIMIT_TOO_LARGE => Self::LimitTooLarge,
+            FIXED => Self::Fixed,
+            NO_TICKET => Self::NoTicket,
+            TOO_MANY_PASSES => Self::TooManyPasses,
+            RESERVE_TOO_LARGE => Self::ReserveTooLarge,
+            SHARE_TOO_LARGE => Self::ShareTooLarge,
+            PERIOD_TOO_SHORT => Self::PeriodTooShort,
+            other => Self::Other(other),
+        })
+    }
+}
+
+/// The text that a call writes into the room that it is given.
+fn text(mut call: impl FnMut(*mut u8, usize, &mut usize) -> u32) -> Result<String, Status> {
     let mut text = vec![0; 64];
     loop {
         let mut length = 0;
-        match call(text.as_mut_ptr(), text.len(), &mut length) {
-            OK => {
+        match Status::of(call(text.as_mut_ptr(), text.len(), &mut length)) {
+            Ok(()) => {
                 text.truncate(length);
                 return Ok(String::from_utf8_lossy(&text).into_owned());
             }
-            NO_ROOM => text.resize(length, 0),
-            status => return Err(status),
+            Err(Status::NoRoom) => text.resize(length, 0),
+            Err(status) => return Err(status),
         }
     }
 }
@@ -207,18 +259,198 @@ pub(crate) struct Handle<K: Kind> {
 unsafe impl<K: Kind> Send for Handle<K> {}
 
 impl<K: Kind> Handle<K> {
-    /// The handle that `call` fills, or the status with which it refused.
-    pub(crate) fn filled(call: impl FnOnce(*mut Raw) -> u32) -> Result<Self, u32> {
+    /// The handle that `call` fills.
+    fn filled(call: impl FnOnce(*mut Raw) -> u32) -> Result<Self, Status> {
         let mut handle = Self { raw: Raw { held: ptr::null_mut() }, kind: PhantomData };
-        match call(&mut handle.raw) {
-            OK => Ok(handle),
-            status => Err(status),
-        }
+        Status::of(call(&mut handle.raw))?;
+        Ok(handle)
     }
 
-    /// What a call of the engine takes.
-    pub(crate) fn raw(&mut self) -> *mut Raw {
+    /// What a call of the engine takes. It holds what its kind says, or nothing, which a call refuses.
+    fn raw(&mut self) -> *mut Raw {
         &mut self.raw
+    }
+}
+
+// SAFETY of all calls below: a pointer is to a handle of the kind that the call wants, or to an empty one that it
+// fills; a text or a room is valid for the length that is told; each result has a place of its own; and a handle that
+// is lent by `&mut` is used by no other thread. Passes that are joined, and a retry and the pass that it ends into, are
+// of one budget or quota: `Pass`, `QuotaPass` and `Machine` keep the one that theirs was split off.
+
+impl Handle<PolicyKind> {
+    /// The policy that the text spells, or its first fault, and where that is if the text is not JSON.
+    pub(crate) fn read(json: &str) -> Result<Self, (Status, Place)> {
+        let mut place = Place::default();
+        let read = Self::filled(|policy| unsafe {
+            hikebox_policy_read(json.as_ptr(), json.len(), policy, &mut place)
+        });
+        read.map_err(|status| (status, place))
+    }
+
+    /// How many nodes it has, and how deep it is.
+    pub(crate) fn size(&mut self) -> (u64, u64) {
+        let (mut nodes, mut depth) = (0, 0);
+        let status = unsafe { hikebox_policy_size(self.raw(), &mut nodes, &mut depth) };
+        debug_assert_eq!(status, OK);
+        (nodes, depth)
+    }
+}
+
+/// What is wrong with a text that is no policy, and where.
+pub(crate) fn fault(json: &str) -> Result<String, Status> {
+    text(|text, room, length| unsafe { hikebox_policy_fault(json.as_ptr(), json.len(), text, room, length) })
+}
+
+impl Handle<DriverKind> {
+    pub(crate) fn new(policy: &mut Handle<PolicyKind>) -> Result<Self, Status> {
+        Self::filled(|driver| unsafe { hikebox_driver_new(policy.raw(), driver) })
+    }
+
+    pub(crate) fn next(&mut self, now: u64, words: &[u32; 4], input: u64) -> Result<Decision, Status> {
+        let mut decision = Decision::default();
+        Status::of(unsafe { hikebox_driver_next(self.raw(), now, words, input, &mut decision) })?;
+        Ok(decision)
+    }
+
+    pub(crate) fn last_text(&mut self) -> Result<String, Status> {
+        let driver = self.raw();
+        text(|text, room, length| unsafe { hikebox_driver_last_text(driver, text, room, length) })
+    }
+}
+
+impl Handle<PassKind> {
+    pub(crate) fn fixed(limit: u64) -> Result<Self, Status> {
+        Self::filled(|pass| unsafe { hikebox_budget_fixed(limit, pass) })
+    }
+
+    pub(crate) fn rising(limit: u64) -> Result<Self, Status> {
+        Self::filled(|pass| unsafe { hikebox_budget_rising(limit, pass) })
+    }
+
+    pub(crate) fn draw(&mut self) -> Result<u64, Status> {
+        let mut ticket = 0;
+        Status::of(unsafe { hikebox_pass_draw(self.raw(), &mut ticket) })?;
+        Ok(ticket)
+    }
+
+    pub(crate) fn split(&mut self) -> Result<Self, Status> {
+        Self::filled(|part| unsafe { hikebox_pass_split(self.raw(), part) })
+    }
+
+    /// Takes the tickets and parts of another pass of the budget, which is then empty.
+    pub(crate) fn join(&mut self, mut other: Self) {
+        let status = unsafe { hikebox_pass_join(self.raw(), other.raw()) };
+        debug_assert_eq!(status, OK);
+    }
+
+    pub(crate) fn raise(&mut self, to: u64) -> Result<u64, Status> {
+        let mut limit = 0;
+        Status::of(unsafe { hikebox_pass_raise(self.raw(), to, &mut limit) })?;
+        Ok(limit)
+    }
+
+    pub(crate) fn count(&mut self) -> u64 {
+        let mut tickets = 0;
+        let status = unsafe { hikebox_pass_count(self.raw(), &mut tickets) };
+        debug_assert_eq!(status, OK);
+        tickets
+    }
+
+    pub(crate) fn close(&mut self) -> Result<u64, Status> {
+        let mut tickets = 0;
+        Status::of(unsafe { hikebox_pass_close(self.raw(), &mut tickets) })?;
+        Ok(tickets)
+    }
+}
+
+impl Handle<QuotaKind> {
+    pub(crate) fn new(reserve: u64, share: u64, period: u64) -> Result<Self, Status> {
+        Self::filled(|quota| unsafe { hikebox_quota_new(reserve, share, period, quota) })
+    }
+
+    pub(crate) fn deposit(&mut self, now: u64) {
+        let status = unsafe { hikebox_quota_deposit(self.raw(), now) };
+        debug_assert_eq!(status, OK);
+    }
+
+    pub(crate) fn draw(&mut self, now: u64) -> Result<u64, Status> {
+        let mut ticket = 0;
+        Status::of(unsafe { hikebox_quota_draw(self.raw(), now, &mut ticket) })?;
+        Ok(ticket)
+    }
+
+    pub(crate) fn seen(&mut self, now: u64) -> Used {
+        let mut used = Used::default();
+        let status = unsafe { hikebox_quota_seen(self.raw(), now, &mut used) };
+        debug_assert_eq!(status, OK);
+        used
+    }
+
+    pub(crate) fn split(&mut self) -> Result<Self, Status> {
+        Self::filled(|part| unsafe { hikebox_quota_split(self.raw(), part) })
+    }
+
+    /// Takes the tickets and parts of another pass of the quota, which is then empty.
+    pub(crate) fn join(&mut self, mut other: Self) {
+        let status = unsafe { hikebox_quota_join(self.raw(), other.raw()) };
+        debug_assert_eq!(status, OK);
+    }
+
+    pub(crate) fn count(&mut self) -> u64 {
+        let mut tickets = 0;
+        let status = unsafe { hikebox_quota_count(self.raw(), &mut tickets) };
+        debug_assert_eq!(status, OK);
+        tickets
+    }
+
+    pub(crate) fn close(&mut self) -> Result<u64, Status> {
+        let mut tickets = 0;
+        Status::of(unsafe { hikebox_quota_close(self.raw(), &mut tickets) })?;
+        Ok(tickets)
+    }
+}
+
+impl Handle<RetryKind> {
+    pub(crate) fn on_budget(policy: &mut Handle<PolicyKind>, pass: &mut Handle<PassKind>) -> Result<Self, Status> {
+        Self::filled(|retry| unsafe { hikebox_retry_new(policy.raw(), pass.raw(), retry) })
+    }
+
+    pub(crate) fn on_quota(policy: &mut Handle<PolicyKind>, quota: &mut Handle<QuotaKind>) -> Result<Self, Status> {
+        Self::filled(|retry| unsafe { hikebox_retry_on_quota(policy.raw(), quota.raw(), retry) })
+    }
+
+    pub(crate) fn unlimited(policy: &mut Handle<PolicyKind>) -> Result<Self, Status> {
+        Self::filled(|retry| unsafe { hikebox_retry_unlimited(policy.raw(), retry) })
+    }
+
+    pub(crate) fn poll(&mut self, now: u64, words: &[u32; 4], report: u32, code: u64) -> Result<Next, Status> {
+        let mut next = Next::default();
+        Status::of(unsafe { hikebox_retry_poll(self.raw(), now, words, report, code, &mut next) })?;
+        Ok(next)
+    }
+
+    pub(crate) fn see(&mut self) -> Next {
+        let mut next = Next::default();
+        let status = unsafe { hikebox_retry_see(self.raw(), &mut next) };
+        debug_assert_eq!(status, OK);
+        next
+    }
+
+    pub(crate) fn cancel(&mut self) {
+        let status = unsafe { hikebox_retry_cancel(self.raw()) };
+        debug_assert_eq!(status, OK);
+    }
+
+    /// Gives its pass back to the budget's.
+    pub(crate) fn end(mut self, pass: &mut Handle<PassKind>) {
+        let status = unsafe { hikebox_retry_end(self.raw(), pass.raw()) };
+        debug_assert_eq!(status, OK);
+    }
+
+    /// The same to the quota's.
+    pub(crate) fn end_on_quota(mut self, quota: &mut Handle<QuotaKind>) {
+        let status = unsafe { hikebox_retry_end_on_quota(self.raw(), quota.raw()) };
+        debug_assert_eq!(status, OK);
     }
 }
 
@@ -229,4 +461,29 @@ impl<K: Kind> Drop for Handle<K> {
             unsafe { K::FREE(&mut self.raw) };
         }
     }
+}
+
+/// Takes the file's lock, which goes when the file is closed, where no other process has it.
+#[cfg(feature = "leased")]
+pub(crate) fn try_lock(file: &std::fs::File) -> std::io::Result<()> {
+    use std::os::unix::io::AsRawFd;
+    // SAFETY: the descriptor is that of an open file.
+    match unsafe { libc::flock(file.as_raw_fd(), libc::LOCK_EX | libc::LOCK_NB) } {
+        0 => Ok(()),
+        _ => Err(std::io::Error::last_os_error()),
+    }
+}
+
+/// Milliseconds since the machine started, also those for which it slept. Nobody can set this clock.
+#[cfg(feature = "leased")]
+pub(crate) fn uptime() -> std::io::Result<u64> {
+    let mut time = std::mem::MaybeUninit::<libc::timespec>::uninit();
+    // SAFETY: the call writes the time to the place that it is handed, and it is read only where it answers 0.
+    let time = unsafe {
+        if libc::clock_gettime(libc::CLOCK_BOOTTIME, time.as_mut_ptr()) != 0 {
+            return Err(std::io::Error::last_os_error());
+        }
+        time.assume_init()
+    };
+    Ok(u64::try_from(time.tv_sec).unwrap_or(0) * 1000 + u64::try_from(time.tv_nsec).unwrap_or(0) / 1_000_000)
 }

@@ -2,10 +2,13 @@
 
 use crate::budget::Budget;
 use crate::quota::Quota;
+use std::error::Error;
+use std::fmt;
+use std::sync::Arc;
 use std::time::Instant;
 
-/// What retries draw their tickets on: a [`Budget`], a [`Quota`], or [`Unlimited`] for neither. Whatever retries takes
-/// any of them.
+/// What retries draw their tickets on: a [`Budget`], a [`Quota`], an `Arc` of [`Tickets`], or [`Unlimited`] for
+/// nothing. Whatever retries takes any of them.
 ///
 /// ```
 /// use hikebox::{retry, Budget, Grants, Policy, Quota, RetryError, Unlimited};
@@ -24,26 +27,119 @@ use std::time::Instant;
 /// # Ok::<(), Box<dyn std::error::Error>>(())
 /// ```
 ///
-/// It is sealed: the engine's retries draw on these alone.
+/// It is sealed. A store of one's own implements [`Tickets`].
 pub trait Grants: sealed::Sealed {}
 
 impl Grants for Budget {}
 impl Grants for Quota {}
 impl Grants for Unlimited {}
+impl<S: Tickets + 'static> Grants for Arc<S> {}
 
 /// No budget: each retry that the schedule goes on to is granted.
 #[derive(Clone, Copy, Debug, Default, PartialEq, Eq, Hash)]
 pub struct Unlimited;
 
+/// A store of tickets outside of the engine, as a table of a database or a file (with the feature `leased`, `Leased`
+/// and `LeasedQuota` are such). An `Arc` of it is given to whatever retries:
+///
+/// ```
+/// use hikebox::{retry, Policy, RetryError, Tickets};
+/// use std::error::Error;
+/// use std::sync::atomic::{AtomicI64, Ordering};
+/// use std::sync::Arc;
+///
+/// struct Counter(AtomicI64);
+///
+/// impl Tickets for Counter {
+///     fn draw(&self) -> Result<bool, Box<dyn Error + Send + Sync>> {
+///         Ok(self.0.fetch_sub(1, Ordering::SeqCst) > 0)
+///     }
+/// }
+///
+/// let policy: Policy = r#"{"recurs":5}"#.parse()?;
+/// let store = Arc::new(Counter(AtomicI64::new(2)));
+/// let mut runs = 0;
+/// let answer = retry(&policy, &store, || { runs += 1; Err::<(), _>("busy") });
+/// assert_eq!(answer, Err(RetryError::BudgetRefused("busy")));
+/// assert_eq!(runs, 3);
+/// # Ok::<(), hikebox::PolicyError>(())
+/// ```
+///
+/// That it gives out no more tickets than it should is its own affair. A retry of a future draws on the thread that
+/// polls it, so what a draw waits for, as a disk, that thread waits for.
+pub trait Tickets: Send + Sync {
+    /// Counts a request, before its first run. Unless it is said, nothing is counted.
+    fn deposit(&self) {}
+
+    /// Draws a ticket for one retry, and says whether there was one.
+    ///
+    /// # Errors
+    ///
+    /// What keeps it from knowing. The retry is not made then, and ends as
+    /// [`RetryError::StoreFailed`](crate::RetryError::StoreFailed).
+    fn draw(&self) -> Result<bool, Box<dyn Error + Send + Sync>>;
+}
+
+/// The error of a store of [`Tickets`]. Clones are the same failure, and equal.
+#[derive(Clone, Debug)]
+pub struct StoreFailure(Arc<dyn Error + Send + Sync>);
+
+impl StoreFailure {
+    pub(crate) fn new(error: Box<dyn Error + Send + Sync>) -> Self {
+        Self(error.into())
+    }
+
+    /// The error, as the store gave it.
+    pub fn get(&self) -> &(dyn Error + Send + Sync + 'static) {
+        &*self.0
+    }
+
+    fn address(&self) -> *const () {
+        Arc::as_ptr(&self.0).cast()
+    }
+}
+
+impl PartialEq for StoreFailure {
+    fn eq(&self, other: &Self) -> bool {
+        self.address() == other.address()
+    }
+}
+
+impl Eq for StoreFailure {}
+
+impl std::hash::Hash for StoreFailure {
+    fn hash<H: std::hash::Hasher>(&self, state: &mut H) {
+        self.address().hash(state);
+    }
+}
+
+impl fmt::Display for StoreFailure {
+    fn fmt(&self, f: &mut fmt::Formatter<'_>) -> fmt::Result {
+        self.0.fmt(f)
+    }
+}
+
 pub(crate) mod sealed {
-    use super::{Budget, Quota, Unlimited};
+    use super::{fmt, Arc, Budget, Quota, Tickets, Unlimited};
 
     /// What a retry holds of it.
-    #[derive(Clone, Debug)]
+    #[derive(Clone)]
     pub enum Source {
         Budget(Budget),
         Quota(Quota),
+        Store(Arc<dyn Tickets>),
         Unlimited,
+    }
+
+    impl fmt::Debug for Source {
+        fn fmt(&self, f: &mut fmt::Formatter<'_>) -> fmt::Result {
+            match self {
+                Self::Budget(budget) => budget.fmt(f),
+                Self::Quota(quota) => quota.fmt(f),
+                Self::Store(_) => f.write_str("a store of tickets"),
+                Self::Unlimited => Unlimited.fmt(f),
+            }
+        }
     }
 
     pub trait Sealed {
@@ -62,6 +158,12 @@ pub(crate) mod sealed {
         }
     }
 
+    impl<S: Tickets + 'static> Sealed for Arc<S> {
+        fn source(&self) -> Source {
+            Source::Store(self.clone())
+        }
+    }
+
     impl Sealed for Unlimited {
         fn source(&self) -> Source {
             Source::Unlimited
@@ -72,18 +174,20 @@ pub(crate) mod sealed {
 pub(crate) use sealed::Source;
 
 impl Source {
-    /// A request is made: a quota counts it.
+    /// A request is made: a quota, or a store, counts it.
     pub(crate) fn deposit(&self, now: Instant) {
-        if let Self::Quota(quota) = self {
-            quota.deposit_at(quota.moment(now));
+        match self {
+            Self::Quota(quota) => quota.deposit_at(quota.moment(now)),
+            Self::Store(store) => store.deposit(),
+            Self::Budget(_) | Self::Unlimited => (),
         }
     }
 
-    /// The moment of a retry that begins now: of a quota it is the quota's own.
+    /// The moment of a retry that begins now, in milliseconds: of a quota it is the quota's own.
     pub(crate) fn moment(&self, now: Instant) -> u64 {
         match self {
-            Self::Quota(quota) => quota.moment(now),
-            Self::Budget(_) | Self::Unlimited => 0,
+            Self::Quota(quota) => quota.millis_at(now),
+            Self::Budget(_) | Self::Store(_) | Self::Unlimited => 0,
         }
     }
 }

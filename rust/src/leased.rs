@@ -1,9 +1,11 @@
 //! Budgets and quotas that the processes of a machine share: tickets in ranges from a file that counts.
 
 use crate::budget::{Budget, BudgetError, Pass};
-use crate::engine::MOST_TICKETS;
+use crate::engine::{uptime, MOST_TICKETS};
+use crate::grants::Tickets;
 use crate::quota::{Terms, Usage};
-use crate::store::{uptime, CountFile, StoreError, Window};
+use crate::store::{CountFile, Counts, StoreError, Window};
+use std::error::Error;
 use std::path::Path;
 use std::sync::{Mutex, MutexGuard, PoisonError};
 use std::time::{Duration, Instant};
@@ -141,16 +143,9 @@ impl Leased {
     /// A new lease, or `None` where the limit is reached.
     fn take(&self) -> Result<Option<Lease>, StoreError> {
         let counts = self.file.lock()?;
-        let Some(period) = self.period else {
-            let key = format!("budget {}", self.name);
-            let [before] = counts.of(&key)?;
-            return match self.below_limit(before) {
-                0 => Ok(None),
-                tickets => {
-                    counts.set(key, None, &[before + tickets])?;
-                    Lease::of(before, tickets, None).map(Some)
-                }
-            };
+        let period = match self.period {
+            Some(period) => period,
+            None => return self.take_for_good(counts),
         };
         let millis = u64::try_from(period.as_millis()).unwrap_or(u64::MAX).max(1);
         let (key, window) = (format!("windows of {millis} ms of {}", self.name), Window::present(millis)?);
@@ -160,6 +155,19 @@ impl Leased {
             tickets => {
                 counts.set(key, Some(&window), &[before + tickets])?;
                 Lease::of(before, tickets, Some(window.until)).map(Some)
+            }
+        }
+    }
+
+    /// A new lease of a budget that has no windows.
+    fn take_for_good(&self, counts: Counts) -> Result<Option<Lease>, StoreError> {
+        let key = format!("budget {}", self.name);
+        let [before] = counts.of(&key)?;
+        match self.below_limit(before) {
+            0 => Ok(None),
+            tickets => {
+                counts.set(key, None, &[before + tickets])?;
+                Lease::of(before, tickets, None).map(Some)
             }
         }
     }
@@ -256,6 +264,24 @@ impl LeasedQuota {
     }
 }
 
+/// An `Arc` of it is given to whatever retries.
+impl Tickets for Leased {
+    fn draw(&self) -> Result<bool, Box<dyn Error + Send + Sync>> {
+        Ok(Self::draw(self)?.is_some())
+    }
+}
+
+/// An `Arc` of it is given to whatever retries. Each call that is retried counts as one request.
+impl Tickets for LeasedQuota {
+    fn deposit(&self) {
+        Self::deposit(self);
+    }
+
+    fn draw(&self) -> Result<bool, Box<dyn Error + Send + Sync>> {
+        Ok(Self::draw(self)?.is_some())
+    }
+}
+
 impl Requests {
     /// Comes to this window.
     fn reach(&mut self, window: u64) {
@@ -277,7 +303,7 @@ impl Lease {
     }
 
     fn draw(&mut self) -> Option<u64> {
-        if self.until.is_some_and(|until| Instant::now() >= until) {
+        if self.until.map_or(false, |until| Instant::now() >= until) {
             return None;
         }
         self.pass.draw().map(|ticket| self.first + ticket)

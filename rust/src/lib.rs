@@ -19,15 +19,24 @@
 //!
 //! - [`Retrying`] adds which errors are retried, the numbers by which the schedule knows them, and who hears of a
 //!   retry.
-//! - With the feature `tokio`, `retry_async` retries futures.
+//! - A call is retried by a method of its own, too: see [`BlockingRetryable`] and [`Retryable`].
+//! - [`repeat`] runs a call again after each success, [`poll_until`] until its answer is as wanted.
+//! - With the feature `tokio`, `retry_async` retries futures. [`Retrying::sleep`] takes the waits of any runtime.
 //! - With the feature `tower`, `RetryPolicy` is a `tower::retry::Policy`.
-//! - With the feature `leased`, `Leased` and `LeasedQuota` are shared by all processes of a machine, by a file.
+//! - With the feature `leased`, `Leased` and `LeasedQuota` are shared by all processes of a machine, by a file. A store
+//!   of
+//!   your own implements [`Tickets`].
+//! - With the feature `serde`, a policy is read and written as a part of a configuration.
 //! - [`Machine`] is a retry that a host with a clock of its own steps.
 //!
 //! What the engine does is proved; this crate, which calls it, is tested. `docs/RUST.md` of the repository is the
 //! guide.
 
+#![deny(unsafe_code)]
+
+mod asynchronous;
 mod budget;
+mod clock;
 mod engine;
 mod grants;
 #[cfg(feature = "leased")]
@@ -35,36 +44,47 @@ mod leased;
 mod machine;
 mod policy;
 mod quota;
+mod repeating;
+#[cfg(feature = "tower")]
+mod requests;
 mod retrying;
 mod schedule;
+#[cfg(feature = "serde")]
+mod serial;
 #[cfg(feature = "leased")]
 mod store;
-#[cfg(feature = "tokio")]
-mod tokio;
-#[cfg(feature = "tower")]
-mod tower;
 
+#[cfg(feature = "tokio")]
+pub use asynchronous::retry_async;
+#[cfg(all(feature = "tokio", hikebox_async_closures))]
+pub use asynchronous::retry_async_mut;
+pub use asynchronous::{Async, AsyncSleep, Retryable};
 pub use budget::{Budget, BudgetError, Pass};
-pub use grants::{Grants, Unlimited};
+pub use grants::{Grants, StoreFailure, Tickets, Unlimited};
 #[cfg(feature = "leased")]
 pub use leased::{Leased, LeasedQuota};
 pub use machine::{Cause, Ended, Machine, Report, Step};
 pub use policy::{Line, Policy, PolicyError, PolicyFault};
 pub use quota::{Quota, QuotaPass, Usage};
-pub use retrying::{retry, RetryError, Retrying};
+pub use repeating::{poll_until, repeat, RepeatError};
+#[cfg(feature = "tokio")]
+pub use repeating::{poll_until_async, repeat_async};
+#[cfg(feature = "tower")]
+pub use requests::RetryPolicy;
+pub use retrying::{
+    retry, Blocking, BlockingRetryable, Hooked, Hooks, Host, PlainHooks, Random, RetryError, Retrying, Sleep,
+    SystemHost, SystemSleep, SystemWords,
+};
 pub use schedule::{Fold, Schedule, Test};
 #[cfg(feature = "leased")]
 pub use store::StoreError;
-#[cfg(feature = "tokio")]
-pub use tokio::retry_async;
-#[cfg(feature = "tower")]
-pub use tower::RetryPolicy;
 
 #[cfg(doctest)]
 mod pages {
     #[doc = include_str!("../README.md")]
     struct Readme;
 
+    #[cfg(all(feature = "tokio", feature = "leased", hikebox_async_closures))]
     #[doc = include_str!("../../docs/RUST.md")]
     struct Guide;
 

@@ -1,12 +1,16 @@
 //! A retry as a machine that its host steps.
 
 use crate::budget::{Budget, BudgetError};
+use crate::clock::whole_millis;
 use crate::engine::{self, Handle, Next, RetryKind, FAR};
-use crate::grants::{Grants, Source};
+use crate::grants::{Grants, Source, StoreFailure, Tickets};
 use crate::policy::Policy;
 use crate::quota::Quota;
 use std::collections::hash_map::RandomState;
+use std::fmt;
 use std::hash::{BuildHasher, Hasher};
+use std::sync::Arc;
+use std::time::Duration;
 
 /// A retry that the host steps: it says when to run the call and when to wait, and is told how each run went.
 ///
@@ -15,19 +19,22 @@ use std::hash::{BuildHasher, Hasher};
 ///
 /// ```
 /// use hikebox::{Budget, Ended, Machine, Policy, Report, Step};
+/// use std::time::Duration;
 ///
+/// let at = Duration::from_millis;
 /// let policy: Policy = r#"{"meet":[{"recurs":1},{"spaced":100}]}"#.parse()?;
 /// let mut machine = Machine::new(&policy, &Budget::new(10)?)?;
-/// assert_eq!(machine.step(0, None), Step::Run);
-/// assert_eq!(machine.step(5, Some(Report::Lost(7))), Step::Wait(105));
-/// assert_eq!(machine.step(105, None), Step::Run);
-/// assert_eq!(machine.step(110, Some(Report::Lost(7))), Step::Over(Ended::ScheduleDone));
+/// assert_eq!(machine.step(at(0), None), Step::Run);
+/// assert_eq!(machine.step(at(5), Some(Report::Lost(7))), Step::Wait(at(105)));
+/// assert_eq!(machine.step(at(105), None), Step::Run);
+/// assert_eq!(machine.step(at(110), Some(Report::Lost(7))), Step::Over(Ended::ScheduleDone));
 /// assert_eq!(machine.granted(), 1);
 /// # Ok::<(), Box<dyn std::error::Error>>(())
 /// ```
 ///
-/// On a [`Quota`](crate::Quota) it draws at the moments that it is stepped at, so these are on one clock with all
-/// others of the quota, and the host deposits each request: `quota.deposit_at(now)`.
+/// A moment is the time since one that the host chooses, and counts in whole milliseconds, rounded down. On a
+/// [`Quota`](crate::Quota) it draws at the moments that it is stepped at, so these are on one clock with all others of
+/// the quota, and the host deposits each request: `quota.deposit_at(now)`.
 #[derive(Debug)]
 pub struct Machine {
     handle: Option<Handle<RetryKind>>,
@@ -36,18 +43,27 @@ pub struct Machine {
 }
 
 /// What a retry draws on.
-#[derive(Debug)]
 enum DrawsOn {
     /// The engine's retry has a pass of this budget.
     Budget(Budget),
     /// The engine's retry has a pass of this quota.
     Quota(Quota),
+    /// The engine's retry draws on nothing, and this store is asked for each retry to which it goes on.
+    Store(Drawn),
     /// Nothing.
     Nothing,
 }
 
+/// What was drawn of a store.
+struct Drawn {
+    store: Arc<dyn Tickets>,
+    granted: u64,
+    failure: Option<StoreFailure>,
+    ended: Option<Ended>,
+}
+
 /// How a run went, with a code up to 2^62 - 1 by which the schedule knows it; a greater one counts as that.
-#[derive(Clone, Copy, Debug, PartialEq, Eq)]
+#[derive(Clone, Copy, Debug, PartialEq, Eq, Hash)]
 pub enum Report {
     /// It succeeded.
     Won(u64),
@@ -56,18 +72,20 @@ pub enum Report {
 }
 
 /// What the host is to do.
-#[derive(Clone, Copy, Debug, PartialEq, Eq)]
+#[derive(Clone, Copy, Debug, PartialEq, Eq, Hash)]
+#[must_use]
 pub enum Step {
     /// Run the call, and report how it went at the next step.
     Run,
-    /// Wait until this moment, in milliseconds, and step with no report.
-    Wait(u64),
+    /// Wait until this moment, and step with no report.
+    Wait(Duration),
     /// Nothing: the retry is over.
     Over(Ended),
 }
 
 /// How a retry ended.
 #[derive(Clone, Copy, Debug, PartialEq, Eq, Hash)]
+#[non_exhaustive]
 pub enum Ended {
     /// The last run succeeded.
     Won,
@@ -83,6 +101,7 @@ pub enum Ended {
 
 /// Why a retry could not go on.
 #[derive(Clone, Copy, Debug, PartialEq, Eq, Hash)]
+#[non_exhaustive]
 pub enum Cause {
     /// Memory is wanting.
     NoMemory,
@@ -90,6 +109,8 @@ pub enum Cause {
     JournalFull,
     /// The clock went back.
     Backwards,
+    /// The store of tickets failed: [`Machine::store_failure`] says how.
+    StoreFailed,
 }
 
 impl Machine {
@@ -104,61 +125,59 @@ impl Machine {
 
     pub(crate) fn on(policy: &Policy, source: &Source) -> Result<Self, BudgetError> {
         let (handle, draws_on) = match source {
-            Source::Budget(budget) => (Self::on_budget(policy, budget)?, DrawsOn::Budget(budget.clone())),
-            Source::Quota(quota) => (Self::on_quota(policy, quota)?, DrawsOn::Quota(quota.clone())),
-            Source::Unlimited => (Self::unlimited(policy)?, DrawsOn::Nothing),
+            Source::Budget(budget) => (
+                policy.with(|policy| budget.with(|root| Handle::on_budget(policy, root))),
+                DrawsOn::Budget(budget.clone()),
+            ),
+            Source::Quota(quota) => (
+                policy.with(|policy| quota.with(|root| Handle::on_quota(policy, root))),
+                DrawsOn::Quota(quota.clone()),
+            ),
+            Source::Store(store) => (policy.with(Handle::unlimited), DrawsOn::Store(Drawn::new(store.clone()))),
+            Source::Unlimited => (policy.with(Handle::unlimited), DrawsOn::Nothing),
         };
-        Ok(Self { handle: Some(handle), draws_on, words: Words::new() })
+        Ok(Self { handle: Some(handle.map_err(BudgetError::of)?), draws_on, words: Words::new() })
     }
 
-    /// The engine's retry with a pass of the budget. The first pass has 2^62 parts, of which it takes 2^20 at most.
-    fn on_budget(policy: &Policy, budget: &Budget) -> Result<Handle<RetryKind>, BudgetError> {
-        let handle = Handle::filled(|retry| {
-            // SAFETY: the handles hold a policy and a pass, and `retry` is empty.
-            policy.with(|policy| budget.with(|root| unsafe { engine::hikebox_retry_new(policy, root, retry) }))
-        });
-        handle.map_err(BudgetError::of)
+    /// Steps it at the moment `now`, which is not before that of the step before, with random words of its own. A
+    /// report is of the run under way; where none is, it counts for nothing.
+    pub fn step(&mut self, now: Duration, report: Option<Report>) -> Step {
+        let words = self.words.next();
+        self.step_with(now, report, words)
     }
 
-    /// The same with a pass of the quota.
-    fn on_quota(policy: &Policy, quota: &Quota) -> Result<Handle<RetryKind>, BudgetError> {
-        let handle = Handle::filled(|retry| {
-            // SAFETY: the handles hold a policy and a pass, and `retry` is empty.
-            policy.with(|policy| quota.with(|root| unsafe { engine::hikebox_retry_on_quota(policy, root, retry) }))
-        });
-        handle.map_err(BudgetError::of)
+    /// The same with random words of the host's, of which each jitter takes the one of its lane: `u32::MAX / 2` picks
+    /// the middle.
+    pub fn step_with(&mut self, now: Duration, report: Option<Report>, words: [u32; 4]) -> Step {
+        let next = self.poll(whole_millis(now), report, &words);
+        let refused = match &mut self.draws_on {
+            DrawsOn::Store(drawn) => drawn.refuses(next.granted),
+            _ => None,
+        };
+        match refused {
+            Some(ended) => {
+                self.cancel();
+                Step::Over(ended)
+            }
+            None => step_of(next),
+        }
     }
 
-    fn unlimited(policy: &Policy) -> Result<Handle<RetryKind>, BudgetError> {
-        let handle = Handle::filled(|retry| {
-            // SAFETY: the handle holds a policy, and `retry` is empty.
-            policy.with(|policy| unsafe { engine::hikebox_retry_unlimited(policy, retry) })
-        });
-        handle.map_err(BudgetError::of)
-    }
-
-    /// Steps it at the moment `now`, in milliseconds, which is not before that of the step before. A report is of the
-    /// run under way; where none is, it counts for nothing.
-    pub fn step(&mut self, now: u64, report: Option<Report>) -> Step {
+    fn poll(&mut self, now: u64, report: Option<Report>, words: &[u32; 4]) -> Next {
         let (report, code) = match report {
             None => (engine::NO_REPORT, 0),
             Some(Report::Won(code)) => (engine::WON, code.min(FAR)),
             Some(Report::Lost(code)) => (engine::LOST, code.min(FAR)),
         };
-        let words = self.words.next();
-        let mut next = Next::default();
-        let raw = self.raw();
-        // SAFETY: the handle holds a retry.
-        let status = unsafe { engine::hikebox_retry_poll(raw, now.min(FAR), &words, report, code, &mut next) };
-        if status != engine::OK {
-            next = self.see();
-        }
-        step_of(next)
+        self.handle().poll(now, words, report, code).unwrap_or_else(|_| self.see())
     }
 
     /// How many retries it was granted.
     pub fn granted(&mut self) -> u64 {
-        self.see().granted
+        match &self.draws_on {
+            DrawsOn::Store(drawn) => drawn.granted,
+            _ => self.see().granted,
+        }
     }
 
     /// How many runs were reported.
@@ -166,46 +185,79 @@ impl Machine {
         self.see().runs
     }
 
+    /// Why the store of tickets failed, where it did.
+    pub fn store_failure(&self) -> Option<&StoreFailure> {
+        match &self.draws_on {
+            DrawsOn::Store(drawn) => drawn.failure.as_ref(),
+            _ => None,
+        }
+    }
+
     /// Ends it as cancelled, where it is not over.
     pub fn cancel(&mut self) {
-        // SAFETY: the handle holds a retry.
-        unsafe { engine::hikebox_retry_cancel(self.raw()) };
+        self.handle().cancel();
     }
 
     fn see(&mut self) -> Next {
-        let mut next = Next::default();
-        // SAFETY: the handle holds a retry.
-        unsafe { engine::hikebox_retry_see(self.raw(), &mut next) };
-        next
+        self.handle().see()
     }
 
-    fn raw(&mut self) -> *mut engine::Raw {
-        self.handle.as_mut().expect("a machine has its handle until it is dropped").raw()
+    fn handle(&mut self) -> &mut Handle<RetryKind> {
+        self.handle.as_mut().expect("a machine has its handle until it is dropped")
     }
 }
 
 impl Drop for Machine {
     /// Gives its tickets back to be counted.
     fn drop(&mut self) {
-        let Some(mut handle) = self.handle.take() else {
-            return;
+        let handle = match self.handle.take() {
+            Some(handle) => handle,
+            None => return,
         };
-        // SAFETY: the handles hold a retry and a pass of its budget, or of its quota.
         match &self.draws_on {
-            DrawsOn::Budget(budget) => {
-                budget.with(|root| unsafe { engine::hikebox_retry_end(handle.raw(), root) });
+            DrawsOn::Budget(budget) => budget.with(|root| handle.end(root)),
+            DrawsOn::Quota(quota) => quota.with(|root| handle.end_on_quota(root)),
+            DrawsOn::Store(_) | DrawsOn::Nothing => (),
+        }
+    }
+}
+
+impl Drawn {
+    fn new(store: Arc<dyn Tickets>) -> Self {
+        Self { store, granted: 0, failure: None, ended: None }
+    }
+
+    /// How the retry ended, where it did: the store is asked where the schedule went on to one retry more than were granted,
+    /// and may have no ticket, or fail.
+    fn refuses(&mut self, wanted: u64) -> Option<Ended> {
+        if wanted > self.granted && self.ended.is_none() {
+            match self.store.draw() {
+                Ok(true) => self.granted += 1,
+                Ok(false) => self.ended = Some(Ended::BudgetRefused),
+                Err(error) => {
+                    self.failure = Some(StoreFailure::new(error));
+                    self.ended = Some(Ended::Broken(Cause::StoreFailed));
+                }
             }
-            DrawsOn::Quota(quota) => {
-                quota.with(|root| unsafe { engine::hikebox_retry_end_on_quota(handle.raw(), root) });
-            }
-            DrawsOn::Nothing => (),
+        }
+        self.ended
+    }
+}
+
+impl fmt::Debug for DrawsOn {
+    fn fmt(&self, f: &mut fmt::Formatter<'_>) -> fmt::Result {
+        match self {
+            Self::Budget(budget) => budget.fmt(f),
+            Self::Quota(quota) => quota.fmt(f),
+            Self::Store(drawn) => f.debug_struct("Store").field("granted", &drawn.granted).finish_non_exhaustive(),
+            Self::Nothing => f.write_str("Nothing"),
         }
     }
 }
 
 fn step_of(next: Next) -> Step {
     match next.what {
-        engine::WAIT => Step::Wait(next.until),
+        engine::WAIT => Step::Wait(Duration::from_millis(next.until)),
         engine::OVER => Step::Over(ended_of(next.how)),
         _ => Step::Run,
     }
@@ -225,17 +277,17 @@ fn ended_of(how: u32) -> Ended {
 
 /// Random words by the hasher that std keys by the system's random bytes: each is the hash of its number.
 #[derive(Debug)]
-struct Words {
+pub(crate) struct Words {
     state: RandomState,
     drawn: u64,
 }
 
 impl Words {
-    fn new() -> Self {
+    pub(crate) fn new() -> Self {
         Self { state: RandomState::new(), drawn: 0 }
     }
 
-    fn next(&mut self) -> [u32; 4] {
+    pub(crate) fn next(&mut self) -> [u32; 4] {
         let mut half = || {
             let mut hasher = self.state.build_hasher();
             hasher.write_u64(self.drawn);

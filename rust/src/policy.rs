@@ -1,17 +1,17 @@
 //! Policies: schedules that were read and are right.
 
-use crate::engine::{self, DriverKind, Handle, Place, PolicyKind};
+use crate::engine::{self, DriverKind, Handle, Place, PolicyKind, Status};
 use crate::schedule::Schedule;
 use std::error::Error;
 use std::fmt;
 use std::str::FromStr;
-use std::sync::{Arc, Mutex};
+use std::sync::{Arc, Mutex, PoisonError};
 
 /// The most events that a driver keeps.
 const MOST_EVENTS: usize = 65_536;
 
-/// A schedule that the engine has read, of at most 256 nodes and depth at most 32. It is cheap to clone, and threads may
-/// share it.
+/// A schedule that the engine has read, of at most 256 nodes and depth at most 32. It is cheap to clone, and threads
+/// may share it.
 ///
 /// ```
 /// use hikebox::{Policy, Schedule};
@@ -67,12 +67,14 @@ pub enum PolicyFault {
     TooDeep,
     /// It has more than 256 nodes.
     TooMany,
+    /// It made 65,536 steps.
+    JournalFull,
     /// Memory is wanting.
     NoMemory,
 }
 
 /// One line of what a policy would do: see [`Policy::preview`].
-#[derive(Clone, Debug, PartialEq, Eq)]
+#[derive(Clone, Debug, PartialEq, Eq, Hash)]
 pub struct Line {
     /// The moment of the event, in milliseconds.
     pub moment: u64,
@@ -85,21 +87,20 @@ pub struct Line {
 impl Policy {
     /// The policy of a schedule, or its first fault.
     pub fn new(schedule: &Schedule) -> Result<Self, PolicyError> {
-        Self::from_json(schedule.as_json())
+        match schedule.fault() {
+            None => Self::from_json(schedule.as_json()),
+            Some(refused) => Err(PolicyError {
+                fault: PolicyFault::OutOfRange,
+                place: refused.call.clone(),
+                hint: refused.why.to_owned(),
+            }),
+        }
     }
 
     /// The policy that a JSON text spells, or the text's first fault.
     pub fn from_json(json: &str) -> Result<Self, PolicyError> {
-        let mut place = Place::default();
-        let mut handle = Handle::filled(|policy| {
-            // SAFETY: the text is valid for its length, and `policy` is an empty handle.
-            unsafe { engine::hikebox_policy_read(json.as_ptr(), json.len(), policy, &mut place) }
-        })
-        .map_err(|status| PolicyError::of_text(json, status, place))?;
-        let (mut nodes, mut depth) = (0, 0);
-        // SAFETY: the handle holds a policy.
-        let status = unsafe { engine::hikebox_policy_size(handle.raw(), &mut nodes, &mut depth) };
-        debug_assert_eq!(status, engine::OK);
+        let mut handle = Handle::read(json).map_err(|(status, place)| PolicyError::of_text(json, status, place))?;
+        let (nodes, depth) = handle.size();
         Ok(Self { json: json.into(), handle: Arc::new(Mutex::new(handle)), nodes, depth })
     }
 
@@ -118,9 +119,9 @@ impl Policy {
         self.depth
     }
 
-    /// What the policy would do, event by event, as `zsched plan` prints it: the first event is at 0, each further one at
-    /// the start planned before it, with the input 0 and random words that pick the middle of each jitter. It ends after
-    /// `steps` events (at most 65,536), or with the one at which the policy is done.
+    /// What the policy would do, event by event, as `zsched plan` prints it: the first event is at 0, each further one
+    /// at the start planned before it, with the input 0 and random words that pick the middle of each jitter. It ends
+    /// after `steps` events (at most 65,536), or with the one at which the policy is done.
     ///
     /// ```
     /// use hikebox::Policy;
@@ -143,47 +144,36 @@ impl Policy {
     }
 
     /// Lends the handle to one call.
-    pub(crate) fn with<T>(&self, call: impl FnOnce(*mut engine::Raw) -> T) -> T {
-        let mut handle = self.handle.lock().unwrap_or_else(|poisoned| poisoned.into_inner());
-        call(handle.raw())
+    pub(crate) fn with<T>(&self, call: impl FnOnce(&mut Handle<PolicyKind>) -> T) -> T {
+        call(&mut self.handle.lock().unwrap_or_else(PoisonError::into_inner))
     }
 }
 
 /// A policy that is stepped by hand.
-struct Driver {
+pub(crate) struct Driver {
     handle: Handle<DriverKind>,
 }
 
 impl Driver {
-    fn new(policy: &Policy) -> Result<Self, PolicyError> {
-        // SAFETY: the first handle holds a policy, and the second is empty.
-        let handle = Handle::filled(|driver| policy.with(|policy| unsafe { engine::hikebox_driver_new(policy, driver) }));
-        Ok(Self { handle: handle.map_err(PolicyError::of)? })
+    pub(crate) fn new(policy: &Policy) -> Result<Self, PolicyError> {
+        Ok(Self { handle: policy.with(Handle::<DriverKind>::new).map_err(PolicyError::of)? })
     }
 
-    /// One event.
+    /// One event, with its line.
     fn next(&mut self, now: u64, words: [u32; 4], input: u64) -> Result<Line, PolicyError> {
-        let mut decision = engine::Decision::default();
-        // SAFETY: the handle holds a driver.
-        let status = unsafe { engine::hikebox_driver_next(self.handle.raw(), now, &words, input, &mut decision) };
-        match status {
-            engine::OK => Ok(Line {
-                moment: now,
-                output: self.output()?,
-                next: decision.goes_on.then_some(decision.start),
-            }),
-            status => Err(PolicyError::of(status)),
-        }
+        let next = self.step(now, words, input)?;
+        Ok(Line { moment: now, output: self.output()?, next })
+    }
+
+    /// One event: the planned start, or `None` where the policy is done.
+    pub(crate) fn step(&mut self, now: u64, words: [u32; 4], input: u64) -> Result<Option<u64>, PolicyError> {
+        let decision = self.handle.next(now, &words, input).map_err(PolicyError::of)?;
+        Ok(decision.goes_on.then_some(decision.start))
     }
 
     /// The last output, as text.
     fn output(&mut self) -> Result<String, PolicyError> {
-        let driver = self.handle.raw();
-        // SAFETY: the handle holds a driver, and the text has room for as many bytes as are told.
-        let text = engine::text(|text, room, length| unsafe {
-            engine::hikebox_driver_last_text(driver, text, room, length)
-        });
-        text.map_err(PolicyError::of)
+        self.handle.last_text().map_err(PolicyError::of)
     }
 }
 
@@ -193,8 +183,8 @@ impl PolicyError {
         self.fault
     }
 
-    /// Where: the steps to the node, as `meet[1].cap[1]`, or `line 2, column 7` of a text that is not JSON. Empty where it
-    /// is the whole policy, or not known.
+    /// Where: the builder's call of a [`Schedule`], as `jittered(1.2..0.8)`; of a text the steps to the node, as
+    /// `meet[1].cap[1]`, or `line 2, column 7` where it is not JSON. Empty where it is the whole policy, or not known.
     pub fn place(&self) -> &str {
         &self.place
     }
@@ -205,12 +195,12 @@ impl PolicyError {
     }
 
     /// The error of a call on what is a policy.
-    fn of(status: u32) -> Self {
+    fn of(status: Status) -> Self {
         Self { fault: PolicyFault::of(status, Place::default()), place: String::new(), hint: String::new() }
     }
 
     /// The error of this text, which was refused with this status.
-    fn of_text(json: &str, status: u32, at: Place) -> Self {
+    fn of_text(json: &str, status: Status, at: Place) -> Self {
         let fault = PolicyFault::of(status, at);
         let (place, hint) = match fault {
             PolicyFault::NoMemory | PolicyFault::NotJson { line: 0, .. } => Default::default(),
@@ -223,26 +213,23 @@ impl PolicyError {
 
 /// The place of a text's first fault, and what is wanted there, as the engine says; nothing where memory is wanting.
 fn told(json: &str) -> (String, String) {
-    // SAFETY: both texts are valid for their lengths.
-    let told = engine::text(|text, room, length| unsafe {
-        engine::hikebox_policy_fault(json.as_ptr(), json.len(), text, room, length)
-    });
-    let told = told.unwrap_or_default();
+    let told = engine::fault(json).unwrap_or_default();
     let (place, hint) = told.split_once(": ").unwrap_or_default();
     let place = if place == "top" { "" } else { place };
     (place.into(), hint.into())
 }
 
 impl PolicyFault {
-    fn of(status: u32, place: Place) -> Self {
+    fn of(status: Status, place: Place) -> Self {
         match status {
-            engine::NOT_JSON => Self::NotJson { line: place.line, column: place.column },
-            engine::NOT_A_POLICY => Self::NotAPolicy,
-            engine::OUT_OF_RANGE => Self::OutOfRange,
-            engine::TOO_DEEP => Self::TooDeep,
-            engine::TOO_MANY => Self::TooMany,
-            engine::NO_MEMORY => Self::NoMemory,
-            status => unreachable!("the engine's status {status}"),
+            Status::NotJson => Self::NotJson { line: place.line, column: place.column },
+            Status::NotAPolicy => Self::NotAPolicy,
+            Status::OutOfRange => Self::OutOfRange,
+            Status::TooDeep => Self::TooDeep,
+            Status::TooMany => Self::TooMany,
+            Status::JournalFull => Self::JournalFull,
+            Status::NoMemory => Self::NoMemory,
+            status => unreachable!("the engine's status {status:?}"),
         }
     }
 }
@@ -255,6 +242,7 @@ impl fmt::Display for PolicyFault {
             Self::OutOfRange => "number out of range",
             Self::TooDeep => "too deep",
             Self::TooMany => "too many nodes",
+            Self::JournalFull => "the journal is full",
             Self::NoMemory => "no memory",
         })
     }
@@ -286,6 +274,13 @@ impl TryFrom<Schedule> for Policy {
 
     fn try_from(schedule: Schedule) -> Result<Self, PolicyError> {
         Self::new(&schedule)
+    }
+}
+
+/// As its text.
+impl std::hash::Hash for Policy {
+    fn hash<H: std::hash::Hasher>(&self, state: &mut H) {
+        self.json.hash(state);
     }
 }
 

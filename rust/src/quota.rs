@@ -1,7 +1,10 @@
 //! Quotas of retries, in windows of time.
 
 use crate::budget::BudgetError;
-use crate::engine::{self, Handle, QuotaKind, Used, FAR};
+use crate::clock::{now, whole_millis};
+#[cfg(feature = "leased")]
+use crate::engine::{FAR, MOST_TICKETS};
+use crate::engine::{Handle, QuotaKind, Status, Used};
 use std::sync::{Arc, Mutex, MutexGuard, PoisonError};
 use std::time::{Duration, Instant};
 
@@ -25,7 +28,8 @@ use std::time::{Duration, Instant};
 /// # Ok::<(), Box<dyn std::error::Error>>(())
 /// ```
 ///
-/// Windows are counted from the moment at which the quota was made, by the system's monotonic clock.
+/// Windows are counted from the moment at which the quota was made, by the system's monotonic clock; with the feature
+/// `tokio` by tokio's, which `tokio::time::pause` stops.
 #[derive(Clone, Debug)]
 pub struct Quota {
     shared: Arc<Shared>,
@@ -88,13 +92,14 @@ pub(crate) struct Terms {
 
 impl Quota {
     /// A quota of `reserve` retries in each window of this length (whole milliseconds), and `share` retries for each
-    /// request of the window: 0.2 is one for every five. The share is counted in thousandths.
+    /// request of the window: 0.2 is one for every five. The share is counted in thousandths, and is at most 10: a
+    /// number that was meant as per cent, as 20.0, is refused.
     ///
     /// # Errors
     ///
     /// [`BudgetError`] says which of them is out of its range.
     pub fn new(reserve: u64, share: f64, per: Duration) -> Result<Self, BudgetError> {
-        Self::new_at(Instant::now(), reserve, share, per)
+        Self::new_at(now(), reserve, share, per)
     }
 
     /// The same with windows that are counted from this moment, as that of a clock which a test has stopped. Before it,
@@ -105,10 +110,8 @@ impl Quota {
     /// [`BudgetError`] says which of them is out of its range.
     pub fn new_at(began: Instant, reserve: u64, share: f64, per: Duration) -> Result<Self, BudgetError> {
         let Terms { reserve, share, period } = Terms::new(reserve, share, per)?;
-        // SAFETY: `pass` is an empty handle.
-        let root = Handle::filled(|pass| unsafe { engine::hikebox_quota_new(reserve, share, period, pass) });
-        let root = Mutex::new(root.map_err(BudgetError::of)?);
-        Ok(Self { shared: Arc::new(Shared { root, began }) })
+        let root = Handle::<QuotaKind>::new(reserve, share, period).map_err(BudgetError::of)?;
+        Ok(Self { shared: Arc::new(Shared { root: Mutex::new(root), began }) })
     }
 
     /// A pass of the quota, for a thread that counts requests and draws by itself.
@@ -117,42 +120,43 @@ impl Quota {
     ///
     /// [`BudgetError::NoMemory`].
     pub fn pass(&self) -> Result<QuotaPass, BudgetError> {
-        // SAFETY: the first handle holds a pass, and the second is empty.
-        let part = Handle::filled(|part| self.with(|root| unsafe { engine::hikebox_quota_split(root, part) }));
-        Ok(QuotaPass { handle: Some(part.map_err(BudgetError::of)?), quota: self.clone(), tickets: 0 })
+        let part = self.lock().split().map_err(BudgetError::of)?;
+        Ok(QuotaPass { handle: Some(part), quota: self.clone(), tickets: 0 })
     }
 
     /// Counts a request. Calls that are retried under the quota do it by themselves.
     pub fn deposit(&self) {
-        self.deposit_at(self.moment(Instant::now()));
+        self.deposit_at(self.moment(now()));
     }
 
-    /// The same at a moment of a host that has a clock of its own, in milliseconds.
-    pub fn deposit_at(&self, now: u64) {
-        deposit(&mut self.lock(), now);
+    /// The same at a moment of a host that has a clock of its own: the time since one that it chooses.
+    pub fn deposit_at(&self, now: Duration) {
+        self.lock().deposit(whole_millis(now));
     }
 
     /// What was asked of the present window, what it has given, and what it has left.
     pub fn seen(&self) -> Usage {
-        self.seen_at(self.moment(Instant::now()))
+        self.seen_at(self.moment(now()))
     }
 
-    /// The same at a moment of a host that has a clock of its own, in milliseconds.
-    pub fn seen_at(&self, now: u64) -> Usage {
-        seen(&mut self.lock(), now)
+    /// The same at a moment of a host that has a clock of its own.
+    pub fn seen_at(&self, now: Duration) -> Usage {
+        usage(self.lock().seen(whole_millis(now)))
     }
 
     /// How many tickets were granted, in all windows, to retries that have ended and to passes that were given back.
     pub fn granted(&self) -> u64 {
-        let mut tickets = 0;
-        // SAFETY: the handle holds a pass.
-        self.with(|root| unsafe { engine::hikebox_quota_count(root, &mut tickets) });
-        tickets
+        self.lock().count()
     }
 
-    /// The quota's moment at this instant: milliseconds since it was made.
-    pub fn moment(&self, now: Instant) -> u64 {
-        u64::try_from(now.saturating_duration_since(self.shared.began).as_millis()).unwrap_or(u64::MAX)
+    /// The quota's moment at this instant: the time since it was made.
+    pub fn moment(&self, now: Instant) -> Duration {
+        now.saturating_duration_since(self.shared.began)
+    }
+
+    /// The same in whole milliseconds.
+    pub(crate) fn millis_at(&self, now: Instant) -> u64 {
+        whole_millis(self.moment(now))
     }
 
     /// Closes the quota, where no other clone of it, no pass and no retry is alive, and answers how many tickets were
@@ -167,17 +171,12 @@ impl Quota {
             Err(shared) => return Err(Self { shared }),
         };
         let mut root = root.into_inner().unwrap_or_else(PoisonError::into_inner);
-        let mut tickets = 0;
-        // SAFETY: the handle holds a pass.
-        match unsafe { engine::hikebox_quota_close(root.raw(), &mut tickets) } {
-            engine::OK => Ok(tickets),
-            _ => Err(Self { shared: Arc::new(Shared { root: Mutex::new(root), began }) }),
-        }
+        root.close().map_err(|_| Self { shared: Arc::new(Shared { root: Mutex::new(root), began }) })
     }
 
     /// Lends the first pass to one call.
-    pub(crate) fn with<T>(&self, call: impl FnOnce(*mut engine::Raw) -> T) -> T {
-        call(self.lock().raw())
+    pub(crate) fn with<T>(&self, call: impl FnOnce(&mut Handle<QuotaKind>) -> T) -> T {
+        call(&mut self.lock())
     }
 
     fn lock(&self) -> MutexGuard<'_, Handle<QuotaKind>> {
@@ -188,45 +187,43 @@ impl Quota {
 impl QuotaPass {
     /// Counts a request in the present window.
     pub fn deposit(&mut self) {
-        self.deposit_at(self.quota.moment(Instant::now()));
+        self.deposit_at(self.quota.moment(now()));
     }
 
     /// A ticket that no other draw got, or `None` where the present window has none left: a later one may, and so may
     /// this one after more requests. Ticket n of a window, from 0, has the number `window << 32 | n`.
     pub fn draw(&mut self) -> Option<u64> {
-        self.draw_at(self.quota.moment(Instant::now()))
+        self.draw_at(self.quota.moment(now()))
     }
 
     /// What was asked of the present window, what it has given, and what it has left.
     pub fn seen(&mut self) -> Usage {
-        self.seen_at(self.quota.moment(Instant::now()))
+        self.seen_at(self.quota.moment(now()))
     }
 
-    /// [`QuotaPass::deposit`] at a moment of a host that has a clock of its own, in milliseconds. A moment in an
-    /// earlier window than the latest counts as one of the latest.
-    pub fn deposit_at(&mut self, now: u64) {
-        deposit(self.handle(), now);
+    /// [`QuotaPass::deposit`] at a moment of a host that has a clock of its own. A moment in an earlier window than the
+    /// latest counts as one of the latest.
+    pub fn deposit_at(&mut self, now: Duration) {
+        self.handle().deposit(whole_millis(now));
     }
 
     /// [`QuotaPass::draw`] at such a moment.
-    pub fn draw_at(&mut self, now: u64) -> Option<u64> {
-        let mut ticket = 0;
-        // SAFETY: the handle holds a pass.
-        match unsafe { engine::hikebox_quota_draw(self.handle().raw(), now.min(FAR), &mut ticket) } {
-            engine::OK => {
+    pub fn draw_at(&mut self, now: Duration) -> Option<u64> {
+        match self.handle().draw(whole_millis(now)) {
+            Ok(ticket) => {
                 self.tickets += 1;
                 Some(ticket)
             }
-            status => {
-                debug_assert_eq!(status, engine::NO_TICKET);
+            Err(status) => {
+                debug_assert_eq!(status, Status::NoTicket);
                 None
             }
         }
     }
 
     /// [`QuotaPass::seen`] at such a moment.
-    pub fn seen_at(&mut self, now: u64) -> Usage {
-        seen(self.handle(), now)
+    pub fn seen_at(&mut self, now: Duration) -> Usage {
+        usage(self.handle().seen(whole_millis(now)))
     }
 
     /// How many tickets it drew.
@@ -241,28 +238,19 @@ impl QuotaPass {
 
 impl Drop for QuotaPass {
     fn drop(&mut self) {
-        if let Some(mut handle) = self.handle.take() {
-            // SAFETY: both handles hold passes of one quota. The second is then empty.
-            self.quota.with(|root| unsafe { engine::hikebox_quota_join(root, handle.raw()) });
+        if let Some(handle) = self.handle.take() {
+            self.quota.lock().join(handle);
         }
     }
 }
 
-fn deposit(pass: &mut Handle<QuotaKind>, now: u64) {
-    // SAFETY: the handle holds a pass.
-    unsafe { engine::hikebox_quota_deposit(pass.raw(), now.min(FAR)) };
-}
-
-fn seen(pass: &mut Handle<QuotaKind>, now: u64) -> Usage {
-    let mut used = Used::default();
-    // SAFETY: the handle holds a pass.
-    unsafe { engine::hikebox_quota_seen(pass.raw(), now.min(FAR), &mut used) };
+fn usage(used: Used) -> Usage {
     let Used { window, asked, given, left } = used;
     Usage { window, asked, given, left }
 }
 
-/// The greatest share, in thousandths of a ticket.
-const MOST_SHARE: f64 = 1_000_000.0;
+/// The greatest share, in thousandths of a ticket: 20.0 is 20 per cent by mistake.
+const MOST_SHARE: f64 = 10_000.0;
 
 impl Terms {
     /// The terms in the engine's units, where they have such; what else they have to keep to, the engine says.
@@ -282,7 +270,7 @@ impl Terms {
     pub(crate) fn checked(self) -> Result<Self, BudgetError> {
         let Self { reserve, period, .. } = self;
         match self {
-            _ if reserve > engine::MOST_TICKETS => Err(BudgetError::ReserveTooLarge),
+            _ if reserve > MOST_TICKETS => Err(BudgetError::ReserveTooLarge),
             _ if period == 0 => Err(BudgetError::PeriodTooShort),
             _ if period > FAR => Err(BudgetError::PeriodTooLong),
             terms => Ok(terms),
@@ -291,6 +279,6 @@ impl Terms {
 
     /// How many tickets a window of so many requests gives.
     pub(crate) fn allowed(self, asked: u64) -> u64 {
-        (self.reserve + self.share * asked.min(engine::MOST_TICKETS) / 1000).min(engine::MOST_TICKETS)
+        (self.reserve + self.share * asked.min(MOST_TICKETS) / 1000).min(MOST_TICKETS)
     }
 }

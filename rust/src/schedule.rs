@@ -1,7 +1,8 @@
 //! Schedules as expressions.
 
+use crate::engine::FAR;
 use std::fmt;
-use std::ops::{BitAnd, BitOr, Range, Shr};
+use std::ops::{BitAnd, BitOr, Range, RangeInclusive, Shr};
 use std::time::Duration;
 
 /// A recurrence schedule as an expression: when to call again, and when to stop.
@@ -10,7 +11,18 @@ use std::time::Duration;
 /// [`join`](Schedule::join) and [`feed`](Schedule::feed), as `&&`, `||` and `>>>` of ZIO's `Schedule`. A `Schedule` is
 /// text, and nothing is checked before it becomes a [`Policy`](crate::Policy).
 ///
-/// All times are whole milliseconds: a duration is rounded up.
+/// All times are whole milliseconds: a duration is rounded up. One that is not 0 and is below a millisecond is refused
+/// when the [`Policy`](crate::Policy) is made, and so is a ratio below a thousandth, and what else is out of its range:
+///
+/// ```
+/// use hikebox::{Policy, Schedule};
+/// use std::time::Duration;
+///
+/// let error = Policy::new(&Schedule::spaced(Duration::from_secs(1)).jittered(1.2..0.8)).unwrap_err();
+/// assert_eq!(error.to_string(), "number out of range: jittered(1.2..0.8): the range is empty");
+/// let error = Policy::new(&Schedule::spaced(Duration::from_micros(400))).unwrap_err();
+/// assert_eq!(error.to_string(), "number out of range: spaced(400µs): the duration is below a millisecond");
+/// ```
 ///
 /// ```
 /// use hikebox::Schedule;
@@ -24,8 +36,18 @@ use std::time::Duration;
 /// );
 /// ```
 #[derive(Clone, Debug, PartialEq, Eq, Hash)]
+#[must_use]
 pub struct Schedule {
     json: String,
+    /// The first builder that was called with what it does not take.
+    fault: Option<Refused>,
+}
+
+/// A call of a builder, as it is written, and what is wrong with it.
+#[derive(Clone, Debug, PartialEq, Eq, Hash)]
+pub(crate) struct Refused {
+    pub(crate) call: String,
+    pub(crate) why: &'static str,
 }
 
 /// What [`Schedule::while_input`] and its kin look for in a number. It is false of a value that is no number.
@@ -60,53 +82,71 @@ impl Schedule {
 
     /// Goes on at once, `times` times: so `times + 1` calls in all.
     pub fn recurs(times: u64) -> Self {
-        Self::node("recurs", times)
+        Self::node("recurs", times).checked(number(times), format_args!("recurs({times})"))
     }
 
     /// Goes on `delay` after each event, for ever.
     pub fn spaced(delay: Duration) -> Self {
-        Self::node("spaced", millis(delay))
+        Self::node("spaced", millis(delay)).checked(span(delay), format_args!("spaced({delay:?})"))
     }
 
     /// Goes on at fixed intervals from the first event on; where a call takes longer than one, at once.
     pub fn fixed(interval: Duration) -> Self {
-        Self::node("fixed", millis(interval))
+        Self::node("fixed", millis(interval)).checked(interval_of(interval), format_args!("fixed({interval:?})"))
     }
 
     /// Goes on at the next boundary of windows of this length, from the first event on.
     pub fn windowed(interval: Duration) -> Self {
-        Self::node("windowed", millis(interval))
+        Self::node("windowed", millis(interval)).checked(interval_of(interval), format_args!("windowed({interval:?})"))
     }
 
     /// Delays of `base`, twice `base`, three times `base` and so on.
     pub fn linear(base: Duration) -> Self {
-        Self::node("linear", millis(base))
+        Self::node("linear", millis(base)).checked(span(base), format_args!("linear({base:?})"))
     }
 
     /// Delays of `base`, each `factor` (1 to 1000) times the one before.
     pub fn exponential(base: Duration, factor: u64) -> Self {
-        Self::node("exponential", format_args!("[{},{factor}]", millis(base)))
+        Self::node("exponential", format_args!("[{},{factor}]", millis(base))).checked(
+            span(base).or(factor_of(factor, 1..=1000, FACTOR)),
+            format_args!("exponential({base:?}, {factor})"),
+        )
     }
 
-    /// Delays of `base`, each `thousandths` (1 to 1,000,000) thousandths of the one before: 1500 makes each half as long
-    /// again.
+    /// Delays of `base`, each `thousandths` (1 to 1,000,000) thousandths of the one before: 1500 makes each half as
+    /// long again.
     pub fn exponential_milli(base: Duration, thousandths: u64) -> Self {
-        Self::node("exponential_milli", format_args!("[{},{thousandths}]", millis(base)))
+        Self::node("exponential_milli", format_args!("[{},{thousandths}]", millis(base))).checked(
+            span(base).or(factor_of(thousandths, 1..=1_000_000, THOUSANDTHS)),
+            format_args!("exponential_milli({base:?}, {thousandths})"),
+        )
     }
 
     /// Delays of `first` times 1, 1, 2, 3, 5 and so on.
     pub fn fibonacci(first: Duration) -> Self {
-        Self::node("fibonacci", millis(first))
+        Self::node("fibonacci", millis(first)).checked(span(first), format_args!("fibonacci({first:?})"))
     }
 
     /// Random delays, each from `base` up to `factor` (1 to 1000) times the one before, and none longer than `longest`;
     /// `base` stands for the delay before the first. AWS calls it decorrelated jitter, and takes the factor 3.
     pub fn decorrelated(base: Duration, factor: u64, longest: Duration) -> Self {
-        Self::decorrelated_milli(0, base, factor.saturating_mul(1000), longest)
+        Self::delays(0, base, factor.saturating_mul(1000), longest).checked(
+            delays_of(base, longest).or(factor_of(factor, 1..=1000, FACTOR)),
+            format_args!("decorrelated({base:?}, {factor}, {longest:?})"),
+        )
     }
 
     /// The same with a factor of `thousandths` (1000 to 1,000,000), where the random word of the lane, 0 to 3, picks.
     pub fn decorrelated_milli(lane: u8, base: Duration, thousandths: u64, longest: Duration) -> Self {
+        Self::delays(lane, base, thousandths, longest).checked(
+            delays_of(base, longest)
+                .or(lane_of(lane))
+                .or(factor_of(thousandths, 1000..=1_000_000, "a factor is from 1000 to 1,000,000 thousandths")),
+            format_args!("decorrelated_milli({lane}, {base:?}, {thousandths}, {longest:?})"),
+        )
+    }
+
+    fn delays(lane: u8, base: Duration, thousandths: u64, longest: Duration) -> Self {
         Self::node("decorrelated", format_args!("[{lane},{},{thousandths},{}]", millis(base), millis(longest)))
     }
 
@@ -123,11 +163,12 @@ impl Schedule {
     /// Goes on at once; the output is `start`, and then `times * x + plus` of the output `x` before.
     pub fn unfold(start: u64, times: u64, plus: u64) -> Self {
         Self::node("unfold", format_args!("[{start},{times},{plus}]"))
+            .checked(number(start.max(times).max(plus)), format_args!("unfold({start}, {times}, {plus})"))
     }
 
     /// Goes on once, after `delay`.
     pub fn lone(delay: Duration) -> Self {
-        Self::node("lone", millis(delay))
+        Self::node("lone", millis(delay)).checked(span(delay), format_args!("lone({delay:?})"))
     }
 
     /// Goes on while both do, at the later start.
@@ -187,31 +228,31 @@ impl Schedule {
             Fold::Max => "max",
             Fold::List => "list",
         };
-        Self::node("gather", format_args!("[\"{kind}\",{}]", self.json))
+        self.over("gather", |json| format!("[\"{kind}\",{json}]"))
     }
 
     /// Each delay is longer by `delay`.
     #[must_use]
     pub fn delayed_by(self, delay: Duration) -> Self {
-        self.under("add", millis(delay))
+        self.under("add", "delayed_by", delay)
     }
 
     /// Each delay is `delay`.
     #[must_use]
     pub fn with_delay(self, delay: Duration) -> Self {
-        self.under("set", millis(delay))
+        self.under("set", "with_delay", delay)
     }
 
     /// No delay is longer than `longest`.
     #[must_use]
     pub fn cap(self, longest: Duration) -> Self {
-        self.under("cap", millis(longest))
+        self.under("cap", "cap", longest)
     }
 
     /// Each delay is longer by the output, in milliseconds.
     #[must_use]
     pub fn add_out(self) -> Self {
-        Self::node("add_out", self.json)
+        self.over("add_out", str::to_owned)
     }
 
     /// Each delay is multiplied by a random ratio out of `ratios`, in thousandths from 0 to 10: `0.8..1.2` is what
@@ -220,56 +261,58 @@ impl Schedule {
     /// A ratio that is not a number, or is negative or past 10, is refused when the [`Policy`](crate::Policy) is made.
     #[must_use]
     pub fn jittered(self, ratios: Range<f64>) -> Self {
-        self.jitter(0, thousandths(ratios.start), thousandths(ratios.end))
+        self.ratios(0, thousandths(ratios.start), thousandths(ratios.end))
+            .checked(range_of(&ratios), format_args!("jittered({:?})", ratios))
     }
 
-    /// Each delay is multiplied by a ratio from `least` to `most` thousandths (at most 10,000) that the random word of the
-    /// lane, 0 to 3, picks.
+    /// Each delay is multiplied by a ratio from `least` to `most` thousandths (at most 10,000) that the random word of
+    /// the lane, 0 to 3, picks.
     #[must_use]
     pub fn jitter(self, lane: u8, least: u64, most: u64) -> Self {
-        Self::node("jitter", format_args!("[{lane},{least},{most},{}]", self.json))
+        self.ratios(lane, least, most)
+            .checked(lane_of(lane).or(jitter_of(least, most)), format_args!("jitter({lane}, {least}, {most})"))
     }
 
     /// Done at the first event that is `time` or more after the first one.
     #[must_use]
     pub fn up_to(self, time: Duration) -> Self {
-        self.under("within", millis(time))
+        self.under("within", "up_to", time)
     }
 
     /// Done where it would go on later than `time` after the first event: no call begins later than that.
     #[must_use]
     pub fn ends_by(self, time: Duration) -> Self {
-        self.under("ends_by", millis(time))
+        self.under("ends_by", "ends_by", time)
     }
 
     /// Begins anew at the first event that comes `time` or more after the first one of the present round.
     #[must_use]
     pub fn renew(self, time: Duration) -> Self {
-        self.under("renew", millis(time))
+        self.under("renew", "renew", time)
     }
 
     /// Begins anew at each event that comes `time` or more after the one before it.
     #[must_use]
     pub fn renew_idle(self, time: Duration) -> Self {
-        self.under("renew_idle", millis(time))
+        self.under("renew_idle", "renew_idle", time)
     }
 
     /// The output is the first part of a pair.
     #[must_use]
     pub fn first(self) -> Self {
-        Self::node("first", self.json)
+        self.over("first", str::to_owned)
     }
 
     /// The output is the second part of a pair.
     #[must_use]
     pub fn second(self) -> Self {
-        Self::node("second", self.json)
+        self.over("second", str::to_owned)
     }
 
     /// The output is nothing.
     #[must_use]
     pub fn nothing(self) -> Self {
-        Self::node("nothing", self.json)
+        self.over("nothing", str::to_owned)
     }
 
     /// The schedule's JSON text, which `zsched plan` and all other ways into Hikebox read.
@@ -277,29 +320,107 @@ impl Schedule {
         &self.json
     }
 
+    /// The first builder that was called with what it does not take.
+    pub(crate) fn fault(&self) -> Option<&Refused> {
+        self.fault.as_ref()
+    }
+
     fn leaf(json: &str) -> Self {
-        Self { json: json.to_owned() }
+        Self { json: json.to_owned(), fault: None }
     }
 
     fn node(name: &str, value: impl fmt::Display) -> Self {
-        Self { json: format!("{{\"{name}\":{value}}}") }
+        Self { json: format!("{{\"{name}\":{value}}}"), fault: None }
+    }
+
+    /// A node over this schedule, which keeps its fault.
+    fn over(self, name: &str, value: impl FnOnce(&str) -> String) -> Self {
+        Self { fault: self.fault, ..Self::node(name, value(&self.json)) }
     }
 
     fn with(self, name: &str, other: Self) -> Self {
-        Self::node(name, format_args!("[{},{}]", self.json, other.json))
+        let fault = self.fault.or(other.fault);
+        Self { fault, ..Self::node(name, format_args!("[{},{}]", self.json, other.json)) }
     }
 
-    fn under(self, name: &str, number: u64) -> Self {
-        Self::node(name, format_args!("[{number},{}]", self.json))
+    fn under(self, name: &str, builder: &str, time: Duration) -> Self {
+        self.over(name, |json| format!("[{},{json}]", millis(time)))
+            .checked(span(time), format_args!("{builder}({time:?})"))
+    }
+
+    fn ratios(self, lane: u8, least: u64, most: u64) -> Self {
+        self.over("jitter", |json| format!("[{lane},{least},{most},{json}]"))
     }
 
     fn gate(self, side: &str, want: bool, test: Test) -> Self {
-        let (test, number) = match test {
+        let (name, than) = match test {
             Test::Below(number) => ("below", number),
             Test::AtLeast(number) => ("at_least", number),
             Test::Equal(number) => ("equal", number),
         };
-        Self::node("gate", format_args!("[\"{side}\",{want},\"{test}\",{number},{}]", self.json))
+        let builder = format!("{}_{side}", if want { "while" } else { "until" });
+        self.over("gate", |json| format!("[\"{side}\",{want},\"{name}\",{than},{json}]"))
+            .checked(number(than), format_args!("{builder}({test:?})"))
+    }
+
+    /// The same with what is wrong with the builder's call, unless something was before.
+    fn checked(mut self, why: Option<&'static str>, call: fmt::Arguments<'_>) -> Self {
+        if let (None, Some(why)) = (&self.fault, why) {
+            self.fault = Some(Refused { call: call.to_string(), why });
+        }
+        self
+    }
+}
+
+const FACTOR: &str = "a factor is from 1 to 1000";
+const THOUSANDTHS: &str = "a factor is from 1 to 1,000,000 thousandths";
+
+/// What is wrong with a duration, where something is.
+fn span(time: Duration) -> Option<&'static str> {
+    match millis(time) {
+        1 if time < Duration::from_millis(1) => Some("the duration is below a millisecond"),
+        millis if millis > FAR => Some("a duration is at most 2^62 - 1 milliseconds"),
+        _ => None,
+    }
+}
+
+/// The same with one that is not 0.
+fn interval_of(time: Duration) -> Option<&'static str> {
+    if time.is_zero() { Some("the interval is 0") } else { span(time) }
+}
+
+fn number(number: u64) -> Option<&'static str> {
+    if number > FAR { Some("a number is at most 2^62 - 1") } else { None }
+}
+
+fn factor_of(factor: u64, range: RangeInclusive<u64>, why: &'static str) -> Option<&'static str> {
+    if range.contains(&factor) { None } else { Some(why) }
+}
+
+fn delays_of(base: Duration, longest: Duration) -> Option<&'static str> {
+    span(base).or(span(longest)).or(if longest < base { Some("the longest delay is below the base") } else { None })
+}
+
+fn lane_of(lane: u8) -> Option<&'static str> {
+    if lane > 3 { Some("a lane is from 0 to 3") } else { None }
+}
+
+fn jitter_of(least: u64, most: u64) -> Option<&'static str> {
+    match () {
+        () if most > 10_000 => Some("a ratio is from 0 to 10,000 thousandths"),
+        () if least > most => Some("the range is empty"),
+        () => None,
+    }
+}
+
+/// What is wrong with ratios, where something is.
+fn range_of(ratios: &Range<f64>) -> Option<&'static str> {
+    let ends = [ratios.start, ratios.end];
+    match () {
+        () if !ends.iter().all(|ratio| (0.0..=10.0).contains(ratio)) => Some("a ratio is from 0 to 10"),
+        () if ratios.start > ratios.end => Some("the range is empty"),
+        () if ends.iter().any(|end| *end > 0.0 && thousandths(*end) == 0) => Some("a ratio is below a thousandth"),
+        () => None,
     }
 }
 
@@ -335,7 +456,7 @@ impl fmt::Display for Schedule {
 
 /// Whole milliseconds, rounded up.
 fn millis(duration: Duration) -> u64 {
-    u64::try_from(duration.as_nanos().div_ceil(1_000_000)).unwrap_or(u64::MAX)
+    u64::try_from((duration.as_nanos() + 999_999) / 1_000_000).unwrap_or(u64::MAX)
 }
 
 /// Thousandths of a ratio; what is no ratio is a number that no policy takes.

@@ -1,12 +1,12 @@
 //! Files that count the tickets that were leased, for the processes of a machine.
 
 use crate::budget::BudgetError;
+use crate::engine::{try_lock, uptime};
 use serde_json::{json, Map, Value};
 use std::error::Error;
 use std::fmt;
-use std::fs::{self, File, OpenOptions, TryLockError};
+use std::fs::{self, File, OpenOptions};
 use std::io;
-use std::mem::MaybeUninit;
 use std::os::unix::fs::FileExt;
 use std::path::{Path, PathBuf};
 use std::thread;
@@ -63,11 +63,11 @@ impl CountFile {
         let file = OpenOptions::new().read(true).write(true).create(true).truncate(false).open(&self.path)?;
         let began = Instant::now();
         loop {
-            match file.try_lock() {
+            match try_lock(&file) {
                 Ok(()) => return Counts::read(file),
-                Err(TryLockError::Error(error)) => return Err(error.into()),
-                Err(TryLockError::WouldBlock) if began.elapsed() > PATIENCE => return Err(StoreError::Locked),
-                Err(TryLockError::WouldBlock) => thread::sleep(Duration::from_millis(1)),
+                Err(error) if error.kind() != io::ErrorKind::WouldBlock => return Err(error.into()),
+                Err(_) if began.elapsed() > PATIENCE => return Err(StoreError::Locked),
+                Err(_) => thread::sleep(Duration::from_millis(1)),
             }
         }
     }
@@ -87,7 +87,9 @@ impl Window {
     /// Whether a window of this text is a later one of the same start.
     fn is_before(&self, text: &str) -> bool {
         match text.split_once(' ') {
-            Some((boot, number)) => boot == self.boot && number.parse::<u64>().is_ok_and(|number| number > self.number),
+            Some((boot, number)) => {
+                boot == self.boot && number.parse::<u64>().map_or(false, |number| number > self.number)
+            }
             None => false,
         }
     }
@@ -122,8 +124,9 @@ impl Counts {
     /// Those of this key's window, which are 0 where the file has an earlier one; [`StoreError::Lost`] where it has a
     /// later one.
     pub(crate) fn of_window<const N: usize>(&self, key: &str, window: &Window) -> Result<[u64; N], StoreError> {
-        let Some(stored) = self.by_key.get(key) else {
-            return Ok([0; N]);
+        let stored = match self.by_key.get(key) {
+            Some(stored) => stored,
+            None => return Ok([0; N]),
         };
         let name = stored.get(0).and_then(Value::as_str).ok_or(StoreError::Damaged)?;
         if window.is_before(name) {
@@ -162,19 +165,6 @@ fn parse(text: &[u8]) -> Option<Map<String, Value>> {
         return None;
     }
     serde_json::from_slice(body).ok()
-}
-
-/// Milliseconds since the machine started, also those for which it slept. Nobody can set this clock.
-pub(crate) fn uptime() -> io::Result<u64> {
-    let mut time = MaybeUninit::<libc::timespec>::uninit();
-    // SAFETY: the call writes the time to the place that it is handed, and it is read only where it answers 0.
-    let time = unsafe {
-        if libc::clock_gettime(libc::CLOCK_BOOTTIME, time.as_mut_ptr()) != 0 {
-            return Err(io::Error::last_os_error());
-        }
-        time.assume_init()
-    };
-    Ok(u64::try_from(time.tv_sec).unwrap_or(0) * 1000 + u64::try_from(time.tv_nsec).unwrap_or(0) / 1_000_000)
 }
 
 impl From<io::Error> for StoreError {

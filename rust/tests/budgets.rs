@@ -115,7 +115,7 @@ fn a_clone_keeps_a_budget_open() {
 fn sixteen_threads_draw_ten_million_tickets_each_once() {
     const TICKETS: u64 = 10_000_000;
     let budget = Budget::new(TICKETS).unwrap();
-    let drawn: Vec<AtomicU64> = (0..TICKETS.div_ceil(64)).map(|_| AtomicU64::new(0)).collect();
+    let drawn: Vec<AtomicU64> = (0..(TICKETS + 63) / 64).map(|_| AtomicU64::new(0)).collect();
     thread::scope(|scope| {
         for _ in 0..16 {
             let mut pass = budget.pass().unwrap();

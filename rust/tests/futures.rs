@@ -1,9 +1,17 @@
 //! Retries of futures and of tower's requests.
 #![cfg(all(feature = "tokio", feature = "tower"))]
 
-use hikebox::{retry_async, Budget, Policy, Quota, RetryError, RetryPolicy, Unlimited, Usage};
+use hikebox::{
+    retry_async, BlockingRetryable, Budget, Policy, Quota, RetryError, RetryPolicy, Retryable, Retrying, Unlimited,
+    Usage,
+};
+use std::cell::RefCell;
+use std::future::{ready, Future};
+use std::pin::Pin;
+use std::rc::Rc;
 use std::sync::atomic::{AtomicU32, Ordering};
 use std::sync::Arc;
+use std::task::{Context, Poll, Wake, Waker};
 use std::time::Duration;
 use tokio::time::{timeout, Instant};
 use tower::{retry::RetryLayer, service_fn, Service, ServiceBuilder, ServiceExt};
@@ -82,7 +90,7 @@ async fn a_future_draws_on_a_quota_by_tokios_clock() {
     let spaced = policy(r#"{"meet":[{"recurs":3},{"spaced":400}]}"#);
     // failures at 0, 400, 800 and 1,200: the first window has its reserve alone
     assert_eq!(retry_async(&spaced, &quota, fails).await, Err(RetryError::BudgetRefused("no")));
-    assert_eq!(quota.seen_at(800), Usage { window: 0, asked: 1, given: 2, left: 0 });
+    assert_eq!(quota.seen_at(Duration::from_millis(800)), Usage { window: 0, asked: 1, given: 2, left: 0 });
     assert_eq!(retry_async(&spaced, &quota, fails).await, Err(RetryError::ScheduleDone("no")));
     assert_eq!(quota.granted(), 5);
     assert_eq!(retry_async(&spaced, &Unlimited, fails).await, Err(RetryError::ScheduleDone("no")));
@@ -106,14 +114,151 @@ async fn a_service_is_retried_on_a_quota_and_each_request_counts() {
     for _ in 0..3 {
         assert_eq!(service.ready().await.unwrap().call(200).await, Ok(()));
     }
-    assert_eq!(quota.seen_at(0), Usage { window: 0, asked: 3, given: 0, left: 2 });
+    assert_eq!(quota.seen_at(Duration::from_millis(0)), Usage { window: 0, asked: 3, given: 0, left: 2 });
     // the fourth request gives the third ticket, and its retries are no requests
     assert_eq!(service.ready().await.unwrap().call(503).await, Err(503));
-    assert_eq!(quota.seen_at(0), Usage { window: 0, asked: 4, given: 3, left: 0 });
+    assert_eq!(quota.seen_at(Duration::from_millis(0)), Usage { window: 0, asked: 4, given: 3, left: 0 });
     let mut others = ServiceBuilder::new()
         .layer(RetryLayer::new(RetryPolicy::new(policy(r#"{"recurs":9}"#), Unlimited)))
         .service(service_fn(|code: u64| async move { Err::<(), _>(code) }));
     assert_eq!(others.ready().await.unwrap().call(7).await, Err(7));
     drop(service);
     assert_eq!(quota.granted(), 3);
+}
+
+/// The value of a future that is ready at each poll: no runtime is there.
+fn at_once<T>(future: impl Future<Output = T>) -> T {
+    struct Nobody;
+    impl Wake for Nobody {
+        fn wake(self: Arc<Self>) {}
+    }
+    let mut future: Pin<Box<dyn Future<Output = T> + '_>> = Box::pin(future);
+    match future.as_mut().poll(&mut Context::from_waker(&Waker::from(Arc::new(Nobody)))) {
+        Poll::Ready(value) => value,
+        Poll::Pending => panic!("it waits"),
+    }
+}
+
+#[test]
+fn a_wait_of_nothing_needs_no_timer_and_no_runtime() {
+    let mut left = 3;
+    let value = at_once(retry_async(&policy(r#"{"recurs":5}"#), &Unlimited, || {
+        left -= 1;
+        ready(if left == 0 { Ok("got") } else { Err(()) })
+    }));
+    assert_eq!(value, Ok("got"));
+
+    let spaced = policy(r#"{"meet":[{"recurs":2},{"spaced":100}]}"#);
+    let waits = RefCell::new(Vec::new());
+    let stopped = std::time::Instant::now();
+    let mut retrying = Retrying::new(&spaced, &Unlimited).clock(|| stopped).sleep(|wait: Duration| {
+        waits.borrow_mut().push(wait.as_millis());
+        ready(())
+    });
+    assert_eq!(at_once(retrying.call_async(|| ready(Err::<(), _>(4)))), Err(RetryError::ScheduleDone(4)));
+    assert_eq!(*waits.borrow(), [100, 100]);
+}
+
+#[test]
+fn towers_requests_need_no_timer_where_they_wait_for_nothing() {
+    let layer = RetryLayer::new(RetryPolicy::new(policy(r#"{"recurs":2}"#), Unlimited));
+    let mut service = ServiceBuilder::new().layer(layer).service(service_fn(|code: u64| ready(Err::<(), _>(code))));
+    assert_eq!(at_once(async { service.ready().await?.call(8).await }), Err(8));
+}
+
+#[tokio::test(start_paused = true)]
+async fn an_async_function_is_retried_by_a_method_of_its_own() {
+    async fn busy() -> Result<(), &'static str> {
+        Err("busy")
+    }
+    let (spaced, budget) = (policy(r#"{"meet":[{"recurs":2},{"spaced":100}]}"#), Budget::new(10).unwrap());
+    let began = Instant::now();
+    let heard = Rc::new(RefCell::new(Vec::new()));
+    let ears = heard.clone();
+    let result = busy
+        .retry(&spaced)
+        .budget(&budget)
+        .when(|error| error.len() == 4)
+        .notify(move |error, wait| ears.borrow_mut().push((error.len(), wait.as_millis())))
+        .run()
+        .await;
+    assert_eq!(result, Err(RetryError::ScheduleDone("busy")));
+    assert_eq!(*heard.borrow(), [(4, 100), (4, 100)]);
+    assert_eq!((began.elapsed().as_millis(), budget.granted()), (200, 2));
+    // the other trait's method is not taken for it
+    assert_eq!((|| Err::<(), _>("no")).retry(&policy(r#"{"recurs":0}"#)).run(), Err(RetryError::ScheduleDone("no")));
+}
+
+#[tokio::test(start_paused = true)]
+async fn a_retry_of_futures_is_sent_where_its_closures_are() {
+    fn sends<T: Send>(value: T) -> T {
+        value
+    }
+    let (spaced, counted) = (policy(r#"{"meet":[{"recurs":2},{"spaced":100}]}"#), Arc::new(AtomicU32::new(0)));
+    let counter = counted.clone();
+    let retry = sends(async move {
+        let mut retrying = Retrying::new(&spaced, &Unlimited).notify(|_: &u8, _| ());
+        retrying
+            .call_async(|| {
+                counter.fetch_add(1, Ordering::SeqCst);
+                async { Err::<(), u8>(3) }
+            })
+            .await
+    });
+    assert_eq!(retry.await, Err(RetryError::ScheduleDone(3)));
+    assert_eq!(counted.load(Ordering::SeqCst), 3);
+}
+
+#[tokio::test(start_paused = true)]
+async fn a_stopped_clock_moves_a_quotas_windows() {
+    let quota = Quota::new(1, 0.0, Duration::from_secs(60)).unwrap();
+    let mut pass = quota.pass().unwrap();
+    assert_eq!((pass.draw().is_some(), pass.draw().is_some()), (true, false));
+    tokio::time::advance(Duration::from_secs(60)).await;
+    quota.deposit();
+    assert_eq!(quota.seen(), Usage { window: 1, asked: 1, given: 0, left: 1 });
+    assert!(pass.draw().is_some());
+}
+
+/// A response with a status, and how long it asks to wait.
+#[derive(Debug, PartialEq)]
+struct Response(u64, Option<Duration>);
+
+/// A request that is no `Clone`.
+#[derive(Debug)]
+struct Once(u64);
+
+#[tokio::test(start_paused = true)]
+async fn a_response_is_a_failure_and_asks_for_a_wait() {
+    let limit = r#"{"gate":["input",true,"at_least",500,{"meet":[{"recurs":2},{"spaced":100}]}]}"#;
+    let by = RetryPolicy::copying(policy(limit), Budget::new(9).unwrap(), |request: &Once| Some(Once(request.0)))
+        .failed(|response: &Response| response.0 >= 400)
+        .response_code(|response| response.0)
+        .retry_after(|result: Result<&Response, &String>| result.ok()?.1)
+        .longest(Duration::from_secs(2));
+    let cases = [
+        (vec![(503, None), (503, Some(50)), (200, None)], 200, 200),
+        (vec![(503, Some(1500)), (503, Some(9_999_999)), (503, None)], 503, 3500),
+        (vec![(404, Some(70))], 404, 0),
+        (vec![(200, None)], 200, 0),
+    ];
+    for (answers, status, waited) in cases {
+        let (began, mut answers) = (Instant::now(), answers.into_iter());
+        let service = service_fn(move |_: Once| {
+            let (status, wait) = answers.next().unwrap();
+            ready(Ok::<_, String>(Response(status, wait.map(Duration::from_millis))))
+        });
+        let mut service = ServiceBuilder::new().layer(RetryLayer::new(by.clone())).service(service);
+        assert_eq!(service.ready().await.unwrap().call(Once(1)).await.unwrap().0, status);
+        assert_eq!(began.elapsed().as_millis(), waited);
+    }
+}
+
+#[tokio::test(start_paused = true)]
+async fn a_request_that_can_not_be_copied_is_made_once() {
+    let by = RetryPolicy::copying(policy(r#"{"recurs":9}"#), Unlimited, |_: &Once| None);
+    let calls = AtomicU32::new(0);
+    let service = service_fn(|_: Once| ready(Err::<(), _>(calls.fetch_add(1, Ordering::SeqCst) + 1)));
+    let mut service = ServiceBuilder::new().layer(RetryLayer::new(by)).service(service);
+    assert_eq!(service.ready().await.unwrap().call(Once(1)).await, Err(1));
 }

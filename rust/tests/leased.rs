@@ -1,12 +1,13 @@
 //! Budgets and quotas that processes share by a file.
 #![cfg(feature = "leased")]
 
-use hikebox::{BudgetError, Leased, LeasedQuota, StoreError, Usage};
+use hikebox::{retry, BudgetError, Leased, LeasedQuota, Policy, RetryError, StoreError, Usage};
 use std::collections::HashSet;
 use std::env;
 use std::fs;
 use std::path::{Path, PathBuf};
 use std::process::{Command, Stdio};
+use std::sync::Arc;
 use std::thread;
 use std::time::Duration;
 
@@ -33,8 +34,9 @@ impl Drop for Scratch {
 #[test]
 #[ignore = "run by eight_processes_draw_each_ticket_once"]
 fn drawing_process() {
-    let Ok(file) = env::var("HIKEBOX_TEST_FILE") else {
-        return;
+    let file = match env::var("HIKEBOX_TEST_FILE") {
+        Ok(file) => file,
+        Err(_) => return,
     };
     let budget = Leased::new(file, "shared", LIMIT);
     while let Some(ticket) = budget.draw().unwrap() {
@@ -46,8 +48,9 @@ fn drawing_process() {
 #[test]
 #[ignore = "run by eight_processes_draw_all_of_a_quota_each_ticket_once"]
 fn process_on_a_quota() {
-    let Ok(file) = env::var("HIKEBOX_TEST_FILE") else {
-        return;
+    let file = match env::var("HIKEBOX_TEST_FILE") {
+        Ok(file) => file,
+        Err(_) => return,
     };
     let quota = long_quota(&file, 20_000, 0.5).lease(200);
     (0..2500).for_each(|_| quota.deposit());
@@ -270,4 +273,24 @@ fn a_quota_of_a_bad_file_grants_nothing() {
     fs::write(&file.0, "something else").unwrap();
     assert!(matches!(long_quota(&file.0, 9, 1.0).draw(), Err(StoreError::Damaged)));
     assert!(matches!(long_quota("/no/such/folder/counts", 9, 1.0).seen(), Err(StoreError::Io(_))));
+}
+
+#[test]
+fn retries_draw_on_what_processes_share() {
+    let scratch = Scratch::new("retried");
+    let policy: Policy = r#"{"recurs":2}"#.parse().unwrap();
+    let budget = Arc::new(Leased::new(&scratch.0, "b", 3).lease(2));
+    assert_eq!(retry(&policy, &budget, || Err::<(), _>("no")), Err(RetryError::ScheduleDone("no")));
+    assert_eq!(retry(&policy, &budget, || Err::<(), _>("no")), Err(RetryError::BudgetRefused("no")));
+    assert_eq!(budget.draw().unwrap(), None);
+
+    // no reserve, and half a retry for each of the two requests
+    let quota = Arc::new(long_quota(&scratch.0, 0, 0.5));
+    assert_eq!(retry(&policy, &quota, || Err::<(), _>("no")), Err(RetryError::BudgetRefused("no")));
+    assert_eq!(retry(&policy, &quota, || Err::<(), _>("no")), Err(RetryError::BudgetRefused("no")));
+    assert_eq!((quota.seen().unwrap().asked, quota.seen().unwrap().given), (2, 1));
+
+    let nowhere = Arc::new(Leased::new("/no/such/folder/file", "b", 3));
+    let broken = retry(&policy, &nowhere, || Err::<(), _>("no")).unwrap_err();
+    assert!(matches!(broken, RetryError::StoreFailed(failure, "no") if failure.get().is::<StoreError>()));
 }

@@ -14,6 +14,10 @@ fn policy(json: &str) -> Policy {
     json.parse().unwrap()
 }
 
+fn at(millis: u64) -> Duration {
+    Duration::from_millis(millis)
+}
+
 fn quota(reserve: u64, share: f64, millis: u64) -> Quota {
     Quota::new(reserve, share, Duration::from_millis(millis)).unwrap()
 }
@@ -27,26 +31,26 @@ fn worked_windows() {
     let quota = quota(2, 0.4, 10);
     let mut first = quota.pass().unwrap();
     let mut second = quota.pass().unwrap();
-    assert_eq!(first.draw_at(30), Some(3 * WINDOW));
-    assert_eq!(second.draw_at(31), Some(3 * WINDOW + 1));
-    assert_eq!(first.draw_at(32), None);
+    assert_eq!(first.draw_at(at(30)), Some(3 * WINDOW));
+    assert_eq!(second.draw_at(at(31)), Some(3 * WINDOW + 1));
+    assert_eq!(first.draw_at(at(32)), None);
     for _ in 0..4 {
-        second.deposit_at(33);
+        second.deposit_at(at(33));
     }
     // 2 and 0.4 for each of four requests: 3.6
-    assert_eq!(first.seen_at(34), usage(3, 4, 2, 1));
-    assert_eq!(first.draw_at(34), Some(3 * WINDOW + 2));
-    assert_eq!(first.draw_at(34), None);
-    quota.deposit_at(35);
-    assert_eq!(second.draw_at(39), Some(3 * WINDOW + 3));
-    assert_eq!(second.draw_at(39), None);
-    assert_eq!(quota.seen_at(40), usage(4, 0, 0, 2));
-    assert_eq!(first.draw_at(40), Some(4 * WINDOW));
+    assert_eq!(first.seen_at(at(34)), usage(3, 4, 2, 1));
+    assert_eq!(first.draw_at(at(34)), Some(3 * WINDOW + 2));
+    assert_eq!(first.draw_at(at(34)), None);
+    quota.deposit_at(at(35));
+    assert_eq!(second.draw_at(at(39)), Some(3 * WINDOW + 3));
+    assert_eq!(second.draw_at(at(39)), None);
+    assert_eq!(quota.seen_at(at(40)), usage(4, 0, 0, 2));
+    assert_eq!(first.draw_at(at(40)), Some(4 * WINDOW));
     // a clock that is behind is served in the latest window
-    assert_eq!(second.draw_at(5), Some(4 * WINDOW + 1));
-    assert_eq!(second.draw_at(5), None);
+    assert_eq!(second.draw_at(at(5)), Some(4 * WINDOW + 1));
+    assert_eq!(second.draw_at(at(5)), None);
     // and one that is ahead opens it 3,600 windows on at most
-    assert_eq!(first.draw_at(u64::MAX), Some(3604 * WINDOW));
+    assert_eq!(first.draw_at(Duration::MAX), Some(3604 * WINDOW));
     assert_eq!((first.count(), second.count()), (4, 3));
     assert_eq!(quota.granted(), 0);
     drop(first);
@@ -66,9 +70,9 @@ fn windows_go_by_the_systems_clock() {
     pass.deposit();
     assert_eq!(pass.draw(), Some(WINDOW));
     assert_eq!(pass.seen(), usage(1, 2, 1, 2));
-    assert_eq!(quota.moment(began), 0);
-    assert_eq!(quota.moment(began + Duration::from_millis(1500)), 1500);
-    assert_eq!(quota.moment(began - Duration::from_millis(1500)), 0);
+    assert_eq!(quota.moment(began), at(0));
+    assert_eq!(quota.moment(began + Duration::from_millis(1500)), at(1500));
+    assert_eq!(quota.moment(began - Duration::from_millis(1500)), at(0));
 }
 
 #[test]
@@ -76,7 +80,7 @@ fn terms_out_of_their_ranges_are_refused() {
     let refused = |reserve, share, per| Quota::new(reserve, share, per).unwrap_err();
     let second = Duration::from_secs(1);
     assert_eq!(refused(4_294_967_297, 0.0, second), BudgetError::ReserveTooLarge);
-    for share in [-0.1, 1000.1, f64::NAN, f64::INFINITY, f64::NEG_INFINITY, 0.0004, -0.0001] {
+    for share in [-0.1, 10.1, 20.0, f64::NAN, f64::INFINITY, f64::NEG_INFINITY, 0.0004, -0.0001] {
         assert_eq!(refused(0, share, second), BudgetError::ShareOutOfRange, "{share}");
     }
     assert_eq!(refused(0, 0.0, Duration::ZERO), BudgetError::PeriodTooShort);
@@ -84,7 +88,7 @@ fn terms_out_of_their_ranges_are_refused() {
     assert_eq!(refused(0, 0.0, Duration::from_millis(1 << 62)), BudgetError::PeriodTooLong);
     assert_eq!(refused(0, 0.0, Duration::MAX), BudgetError::PeriodTooLong);
     assert_eq!(BudgetError::PeriodTooShort.to_string(), "the window is shorter than a millisecond");
-    assert!(Quota::new(4_294_967_296, 1000.0, Duration::from_millis((1 << 62) - 1)).is_ok());
+    assert!(Quota::new(4_294_967_296, 10.0, Duration::from_millis((1 << 62) - 1)).is_ok());
     assert!(Quota::new(0, 0.001, Duration::from_millis(1)).is_ok());
 }
 
@@ -93,12 +97,12 @@ fn all_lost(json: &str, budget: &impl Grants, start: u64) -> (Ended, Vec<u64>, u
     let mut machine = Machine::new(&policy(json), budget).unwrap();
     let (mut now, mut report, mut runs) = (start, None, Vec::new());
     loop {
-        match machine.step(now, report.take()) {
+        match machine.step(at(now), report.take()) {
             Step::Run => {
                 runs.push(now);
                 report = Some(Report::Lost(0));
             }
-            Step::Wait(until) => now = until,
+            Step::Wait(until) => now = until.as_millis() as u64,
             Step::Over(ended) => return (ended, runs, machine.granted()),
         }
     }
@@ -110,7 +114,7 @@ fn a_retry_draws_at_the_moment_of_the_failure() {
     // failures at 5,500, 5,900, 6,700 and 8,300
     let json = r#"{"meet":[{"recurs":3},{"exponential":[400,2]}]}"#;
     assert_eq!(all_lost(json, &quota, 5500), (Ended::ScheduleDone, vec![5500, 5900, 6700, 8300], 3));
-    assert_eq!(quota.seen_at(6999), usage(6, 0, 1, 1));
+    assert_eq!(quota.seen_at(at(6999)), usage(6, 0, 1, 1));
     assert_eq!(all_lost("\"forever\"", &quota, 6900), (Ended::BudgetRefused, vec![6900, 6900], 1));
     assert_eq!(all_lost("\"forever\"", &quota, 8300), (Ended::BudgetRefused, vec![8300; 3], 2));
     assert_eq!(quota.close().unwrap(), 6);
@@ -188,12 +192,12 @@ fn sixteen_threads_draw_all_of_a_window_each_ticket_once() {
                 let mut pass = quota.pass().unwrap();
                 let ready = &ready;
                 scope.spawn(move || {
-                    (0..10_000).for_each(|_| pass.deposit_at(0));
+                    (0..10_000).for_each(|_| pass.deposit_at(at(0)));
                     ready.wait();
                     let mut drawn = Vec::new();
                     // where a draw lost 64 races there are tickets left
-                    while pass.seen_at(0).left > 0 {
-                        drawn.extend(pass.draw_at(0));
+                    while pass.seen_at(at(0)).left > 0 {
+                        drawn.extend(pass.draw_at(at(0)));
                     }
                     assert_eq!(pass.count(), drawn.len() as u64);
                     drawn
@@ -205,7 +209,7 @@ fn sixteen_threads_draw_all_of_a_window_each_ticket_once() {
     // 16 * 10,000 requests give 40,000 tickets, beside the ten
     tickets.sort_unstable();
     assert_eq!(tickets, (0..40_010).collect::<Vec<_>>());
-    assert_eq!(quota.seen_at(0), usage(0, 160_000, 40_010, 0));
+    assert_eq!(quota.seen_at(at(0)), usage(0, 160_000, 40_010, 0));
     assert_eq!(quota.close().unwrap(), 40_010);
 }
 

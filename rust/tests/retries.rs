@@ -1,9 +1,16 @@
 //! Retries: how they end, what they are granted, and what threads share.
 
-use hikebox::{retry, Budget, Cause, Ended, Machine, Policy, Report, RetryError, Retrying, Step};
-use std::cell::RefCell;
+use hikebox::{
+    retry, BlockingRetryable, Budget, Cause, Ended, Machine, Policy, Report, RetryError, Retrying, Step, Tickets,
+    Unlimited,
+};
+use std::cell::{Cell, RefCell};
 use std::error::Error;
+use std::fmt;
 use std::io;
+use std::rc::Rc;
+use std::sync::atomic::{AtomicI64, AtomicU64, Ordering};
+use std::sync::Arc;
 use std::thread;
 use std::time::{Duration, Instant};
 
@@ -15,7 +22,7 @@ fn policy(json: &str) -> Policy {
 fn scripted(json: &str, limit: u64, script: &[Report]) -> (Ended, u64, u64) {
     let mut machine = Machine::new(&policy(json), &Budget::new(limit).unwrap()).unwrap();
     let mut runs = script.iter().copied().chain(std::iter::repeat(script[script.len() - 1]));
-    let (mut now, mut report) = (0, None);
+    let (mut now, mut report) = (Duration::ZERO, None);
     loop {
         match machine.step(now, report.take()) {
             Step::Run => report = runs.next(),
@@ -60,26 +67,262 @@ fn waits_are_as_long_as_planned() {
         .call(|| Err::<(), _>(()));
     assert_eq!(result, Err(RetryError::ScheduleDone(())));
     assert!(began.elapsed() >= Duration::from_millis(40));
-    assert_eq!(waits.len(), 2);
-    assert!(waits.iter().all(|wait| *wait <= Duration::from_millis(20) && *wait > Duration::from_millis(10)));
+    assert_eq!(waits, [Duration::from_millis(20); 2]);
+}
+
+#[test]
+fn a_wait_is_whole_whatever_part_of_a_millisecond_the_call_took() {
+    // by hand: the runs end 0.84 ms and 3.68 ms after the retry began, and each wait is 2 ms from there on
+    let (now, began) = (Cell::new(Instant::now()), Instant::now());
+    let origin = now.get();
+    let mut waits = Vec::new();
+    let mut starts = Vec::new();
+    let result = Retrying::new(&policy(r#"{"meet":[{"recurs":2},{"spaced":2}]}"#), &Unlimited)
+        .clock(|| now.get())
+        .sleep(|wait| {
+            waits.push(wait);
+            now.set(now.get() + wait);
+        })
+        .call(|| {
+            starts.push(now.get() - origin);
+            now.set(now.get() + Duration::from_micros(840));
+            Err::<(), _>("no")
+        });
+    assert_eq!(result, Err(RetryError::ScheduleDone("no")));
+    assert_eq!(waits, [Duration::from_millis(2); 2]);
+    assert_eq!(starts, [0, 2840, 5680].map(Duration::from_micros));
+    assert!(began.elapsed() < Duration::from_secs(2));
+}
+
+#[test]
+fn a_sleep_need_not_move_the_clock_and_is_not_asked_for_nothing() {
+    let stopped = Instant::now();
+    let slept = Cell::new(Duration::ZERO);
+    let policy = policy(r#"{"follow":[{"recurs":2},{"meet":[{"recurs":2},{"spaced":3600000}]}]}"#);
+    let mut retrying = Retrying::new(&policy, &Unlimited)
+        .clock(|| stopped)
+        .sleep(|wait: Duration| {
+            assert!(!wait.is_zero());
+            slept.set(slept.get() + wait);
+        });
+    let mut runs = 0;
+    let result = retrying.call(|| {
+        runs += 1;
+        if runs < 100 { Err(7) } else { Ok("a run that no one planned") }
+    });
+    assert_eq!((result, runs), (Err(RetryError::ScheduleDone(7)), 5));
+    assert_eq!(slept.get(), Duration::from_secs(2 * 3600));
+}
+
+#[test]
+fn an_error_asks_for_a_longer_wait_up_to_the_longest() {
+    let json = r#"{"meet":[{"recurs":4},{"spaced":1000}]}"#;
+    let waits = |longest: Option<u64>| {
+        let mut asked = [None, Some(400), Some(5000), Some(999_999_999_999_000)].into_iter();
+        let (policy, waits, slept) = (policy(json), RefCell::new(Vec::new()), RefCell::new(Vec::new()));
+        let retrying = Retrying::new(&policy, &Unlimited)
+            .retry_after(|wait: &Option<u64>| wait.map(Duration::from_millis))
+            .notify(|_, wait| waits.borrow_mut().push(wait.as_millis()))
+            .sleep(|wait: Duration| slept.borrow_mut().push(wait));
+        let mut retrying = match longest {
+            Some(millis) => retrying.longest(Duration::from_millis(millis)),
+            None => retrying,
+        };
+        let result = retrying.call(|| match asked.next() {
+            Some(wait) => Err(wait),
+            None => Ok(()),
+        });
+        assert_eq!(result, Ok(()));
+        drop(retrying);
+        assert_eq!(slept.borrow().len(), 4);
+        waits.into_inner()
+    };
+    assert_eq!(waits(None), [1000, 1000, 5000, 6 * 3_600_000]);
+    assert_eq!(waits(Some(3000)), [1000, 1000, 3000, 3000]);
+}
+
+#[test]
+fn words_pick_the_delays() {
+    let json = r#"{"meet":[{"recurs":3},{"jitter":[2,0,1000,{"spaced":1000}]}]}"#;
+    let mut waits = Vec::new();
+    for (word, wait) in [(0, 0), (1 << 31, 500)] {
+        waits.clear();
+        let _ = Retrying::new(&policy(json), &Unlimited)
+            .words(|| [9, 9, word, 9])
+            .sleep(|_: Duration| ())
+            .notify(|_, wait| waits.push(wait.as_millis()))
+            .call(|| Err::<(), _>(()));
+        assert_eq!(waits, [wait; 3]);
+    }
+}
+
+#[test]
+fn settings_are_cloned_shown_and_called_as_often_as_one_likes() {
+    let (policy, budget) = (policy(r#"{"recurs":1}"#), Budget::new(100).unwrap());
+    let heard = Rc::new(Cell::new(0));
+    let counter = heard.clone();
+    // an `Rc` is not `Send`, and nothing is sent
+    let mut retrying = Retrying::new(&policy, &budget)
+        .when(|error: &&str| *error != "fatal")
+        .notify(move |_, _| counter.set(counter.get() + 1));
+    let mut other = retrying.clone();
+    for _ in 0..3 {
+        assert_eq!(retrying.call(|| Err::<(), _>("busy")), Err(RetryError::ScheduleDone("busy")));
+        assert_eq!(other.call(|| Err::<u8, _>("fatal")), Err(RetryError::NotRetried("fatal")));
+    }
+    assert_eq!((heard.get(), budget.granted()), (3, 3));
+    assert!(format!("{retrying:?}").starts_with("Retrying { policy: Policy"));
+}
+
+#[test]
+fn a_call_is_retried_by_a_method_of_its_own() {
+    let (policy, budget) = (policy(r#"{"recurs":5}"#), Budget::new(3).unwrap());
+    let mut tries = 0;
+    let kinds = [io::ErrorKind::TimedOut, io::ErrorKind::TimedOut, io::ErrorKind::NotFound];
+    let mut call = || {
+        tries += 1;
+        Err::<(), _>(io::Error::from(kinds[tries - 1]))
+    };
+    // no type is named in `when`
+    let result = (&mut call).retry(&policy).budget(&budget).when(|error| error.kind() == io::ErrorKind::TimedOut).run();
+    assert!(matches!(result, Err(RetryError::NotRetried(error)) if error.kind() == io::ErrorKind::NotFound));
+    assert_eq!((tries, budget.granted()), (3, 2));
+
+    fn answer() -> Result<u8, &'static str> {
+        Ok(7)
+    }
+    assert_eq!(answer.retry(&policy).run(), Ok(7));
+}
+
+/// An error as `anyhow::Error` is: it takes any error on by `?`, and is none itself; `{:#}` shows its causes.
+#[derive(Debug)]
+struct Taken(Box<dyn Error + Send + Sync>);
+
+impl<E: Error + Send + Sync + 'static> From<E> for Taken {
+    fn from(error: E) -> Self {
+        Self(error.into())
+    }
+}
+
+impl fmt::Display for Taken {
+    fn fmt(&self, f: &mut fmt::Formatter<'_>) -> fmt::Result {
+        write!(f, "{}", self.0)?;
+        let mut cause = self.0.source().filter(|_| f.alternate());
+        while let Some(error) = cause {
+            write!(f, ": {error}")?;
+            cause = error.source();
+        }
+        Ok(())
+    }
+}
+
+#[test]
+fn errors_of_all_kinds_go_on_by_a_question_mark_and_are_told_once() {
+    let never = policy(r#"{"recurs":0}"#);
+    let of_text = || -> Result<(), Taken> { Ok(retry(&never, &Unlimited, || Err::<(), _>("busy"))?) };
+    let of_taken = || -> Result<(), Taken> {
+        Ok(retry(&never, &Unlimited, || Err::<(), _>(Taken::from(io::Error::new(io::ErrorKind::Other, "away"))))?)
+    };
+    let of_box = || -> Result<(), Box<dyn Error>> {
+        Ok(retry(&never, &Unlimited, || Err::<(), Box<dyn Error>>("gone".into()))?)
+    };
+    let of_io = || -> Result<(), Taken> {
+        Ok(retry(&never, &Unlimited, || Err::<(), _>(io::Error::new(io::ErrorKind::Other, "away")))?)
+    };
+    assert_eq!(format!("{:#}", of_text().unwrap_err()), "busy (the schedule was done)");
+    assert_eq!(format!("{:#}", of_taken().unwrap_err()), "away (the schedule was done)");
+    assert_eq!(of_box().unwrap_err().to_string(), "gone (the schedule was done)");
+    assert_eq!(format!("{:#}", of_io().unwrap_err()), "away (the schedule was done)");
+}
+
+/// A store with so many tickets, which counts requests, and fails where it has none and is told to.
+struct Store {
+    left: AtomicI64,
+    asked: AtomicU64,
+    fails: bool,
+}
+
+impl Store {
+    fn of(tickets: i64, fails: bool) -> Arc<Self> {
+        Arc::new(Self { left: AtomicI64::new(tickets), asked: AtomicU64::new(0), fails })
+    }
+}
+
+impl Tickets for Store {
+    fn deposit(&self) {
+        self.asked.fetch_add(1, Ordering::SeqCst);
+    }
+
+    fn draw(&self) -> Result<bool, Box<dyn Error + Send + Sync>> {
+        match self.left.fetch_sub(1, Ordering::SeqCst) {
+            left if left > 0 => Ok(true),
+            _ if self.fails => Err("the table is locked".into()),
+            _ => Ok(false),
+        }
+    }
+}
+
+#[test]
+fn a_store_of_ones_own_grants_each_retry() {
+    let (two, store) = (policy(r#"{"recurs":2}"#), Store::of(3, false));
+    assert_eq!(retry(&two, &store, || Err::<(), _>("no")), Err(RetryError::ScheduleDone("no")));
+    assert_eq!(retry(&two, &store, || Err::<(), _>("no")), Err(RetryError::BudgetRefused("no")));
+    assert_eq!(retry(&two, &store, || Ok::<_, ()>(5)), Ok(5));
+    assert_eq!((store.asked.load(Ordering::SeqCst), store.left.load(Ordering::SeqCst)), (3, -1));
+
+    let broken = retry(&two, &Store::of(0, true), || Err::<(), _>("no")).unwrap_err();
+    assert!(matches!(&broken, RetryError::StoreFailed(failure, "no") if failure.to_string() == "the table is locked"));
+    assert_eq!(broken.to_string(), "no (the store of retry tickets failed: the table is locked)");
+}
+
+#[test]
+fn a_machine_counts_the_tickets_of_a_store_and_not_the_retries_that_were_refused() {
+    let mut machine = Machine::new(&policy(r#"{"spaced":10}"#), &Store::of(2, false)).unwrap();
+    let at = Duration::from_millis;
+    assert_eq!(machine.step(at(0), None), Step::Run);
+    assert_eq!(machine.step(at(0), Some(Report::Lost(1))), Step::Wait(at(10)));
+    // a second report, where no run is under way, draws nothing
+    assert_eq!(machine.step(at(1), Some(Report::Lost(1))), Step::Wait(at(10)));
+    assert_eq!(machine.step(at(10), None), Step::Run);
+    assert_eq!(machine.step(at(10), Some(Report::Lost(1))), Step::Wait(at(20)));
+    assert_eq!(machine.step(at(20), None), Step::Run);
+    for _ in 0..2 {
+        assert_eq!(machine.step(at(20), Some(Report::Lost(1))), Step::Over(Ended::BudgetRefused));
+        assert_eq!((machine.granted(), machine.runs()), (2, 3));
+    }
+    assert!(machine.store_failure().is_none());
+}
+
+#[test]
+fn a_machine_takes_its_random_words() {
+    let jitter = policy(r#"{"jitter":[1,0,2000,{"spaced":1000}]}"#);
+    let at = Duration::from_millis;
+    let wait = |word: u32| {
+        let mut machine = Machine::new(&jitter, &Unlimited).unwrap();
+        assert_eq!(machine.step_with(at(0), None, [0; 4]), Step::Run);
+        machine.step_with(at(0), Some(Report::Lost(0)), [5, word, 6, 7])
+    };
+    assert_eq!(wait(0), Step::Run);
+    assert_eq!(wait(1 << 31), Step::Wait(at(1000)));
 }
 
 #[test]
 fn the_last_error_is_kept() {
     let budget = Budget::new(0).unwrap();
-    let error = retry(&policy(r#"{"recurs":5}"#), &budget, || Err::<(), _>(io::Error::other("away"))).unwrap_err();
+    let away = || Err::<(), _>(io::Error::new(io::ErrorKind::Other, "away"));
+    let error = retry(&policy(r#"{"recurs":5}"#), &budget, away).unwrap_err();
     assert_eq!(error.to_string(), "away (the retry budget had no ticket)");
-    assert_eq!(error.source().unwrap().to_string(), "away");
+    assert!(error.source().is_none());
     assert_eq!(error.into_last().unwrap().kind(), io::ErrorKind::Other);
 }
 
 #[test]
 fn a_clock_that_goes_back_breaks_a_retry() {
     let mut machine = Machine::new(&policy("\"forever\""), &Budget::new(9).unwrap()).unwrap();
-    assert_eq!(machine.step(10, None), Step::Run);
-    machine.step(10, Some(Report::Lost(1)));
-    machine.step(10, None);
-    assert_eq!(machine.step(9, Some(Report::Lost(1))), Step::Over(Ended::Broken(Cause::Backwards)));
+    let at = Duration::from_millis;
+    assert_eq!(machine.step(at(10), None), Step::Run);
+    assert_eq!(machine.step(at(10), Some(Report::Lost(1))), Step::Run);
+    assert_eq!(machine.step(at(9), Some(Report::Lost(1))), Step::Over(Ended::Broken(Cause::Backwards)));
 }
 
 #[test]

@@ -1,0 +1,238 @@
+//! Retries of futures, on any runtime.
+
+#[cfg(feature = "tokio")]
+use crate::grants::Grants;
+use crate::policy::Policy;
+#[cfg(feature = "tokio")]
+use crate::retrying::SystemSleep;
+use crate::retrying::{Hooked, Host, Random, RetryError, Retrying, Then};
+use std::future::Future;
+use std::time::{Duration, Instant};
+
+/// A way to wait for some time without blocking: any function of a [`Duration`] that makes a future.
+pub trait AsyncSleep {
+    /// What is waited for.
+    type Sleeping: Future<Output = ()>;
+
+    /// A future that is ready after so long, or later.
+    fn sleep(&mut self, wait: Duration) -> Self::Sleeping;
+}
+
+#[cfg(feature = "tokio")]
+impl AsyncSleep for SystemSleep {
+    type Sleeping = ::tokio::time::Sleep;
+
+    fn sleep(&mut self, wait: Duration) -> Self::Sleeping {
+        ::tokio::time::sleep(wait)
+    }
+}
+
+impl<F: FnMut(Duration) -> S, S: Future<Output = ()>> AsyncSleep for F {
+    type Sleeping = S;
+
+    fn sleep(&mut self, wait: Duration) -> S {
+        self(wait)
+    }
+}
+
+/// A call whose runs are futures.
+#[derive(Clone, Copy)]
+pub struct Async<F>(F);
+
+/// Runs the call until it succeeds, in an async function: `FnMut` and `AsyncFnMut` have no bound in common that keeps
+/// such a future `Send`.
+macro_rules! until_it_succeeds {
+    ($retrying:ident, $call:ident) => {{
+        let mut run = $retrying.begin().map_err(RetryError::NotBegun)?;
+        loop {
+            let ran = $call().await;
+            let (wait, error) = match $retrying.after(&mut run, ran) {
+                Then::Again { wait, error } => (wait, error),
+                Then::End(result) => return result,
+            };
+            if !wait.is_zero() {
+                $retrying.host.sleep.sleep(wait).await;
+            }
+            $retrying.resume(&mut run).map_err(|cause| RetryError::Broken(cause, error))?;
+        }
+    }};
+}
+
+/// [`retry`](crate::retry()) for futures: `call` makes one for each run, and between runs the task waits by tokio's
+/// timer. An async function will do, and an async closure that changes nothing which it captures; one that does is
+/// retried by [`Retrying::call_async_mut`].
+///
+/// A retry whose future is dropped is cancelled: its tickets stay counted, and it draws no more. A wait of nothing does
+/// not touch the timer.
+///
+/// ```
+/// use hikebox::{retry_async, Budget, Policy};
+///
+/// # tokio::runtime::Builder::new_current_thread().enable_time().build().unwrap().block_on(async {
+/// let policy: Policy = r#"{"meet":[{"recurs":3},{"spaced":1}]}"#.parse()?;
+/// let budget = Budget::new(100)?;
+/// let mut calls = 0;
+/// let value = retry_async(&policy, &budget, || {
+///     calls += 1;
+///     let calls = calls;
+///     async move { if calls < 3 { Err("not yet") } else { Ok(calls) } }
+/// })
+/// .await;
+/// assert_eq!(value.ok(), Some(3));
+/// # Ok::<(), Box<dyn std::error::Error>>(())
+/// # }).unwrap();
+/// ```
+///
+/// # Errors
+///
+/// [`RetryError`] keeps the last error of the call.
+#[cfg(feature = "tokio")]
+pub async fn retry_async<T, E, F>(
+    policy: &Policy,
+    budget: &impl Grants,
+    call: impl FnMut() -> F,
+) -> Result<T, RetryError<E>>
+where
+    F: Future<Output = Result<T, E>>,
+{
+    Retrying::new(policy, budget).call_async(call).await
+}
+
+/// [`retry_async`] for an async closure that changes what it captures: see [`Retrying::call_async_mut`].
+///
+/// # Errors
+///
+/// [`RetryError`] keeps the last error of the call.
+#[cfg(all(feature = "tokio", hikebox_async_closures))]
+pub async fn retry_async_mut<T, E>(
+    policy: &Policy,
+    budget: &impl Grants,
+    call: impl AsyncFnMut() -> Result<T, E>,
+) -> Result<T, RetryError<E>> {
+    Retrying::new(policy, budget).call_async_mut(call).await
+}
+
+/// The trait, over what a compiler takes for a call of futures.
+macro_rules! retryable {
+    ($call:ident: [$($makes:tt)*] [$($and:tt)*] [$($where:tt)*]) => {
+        /// Calls of futures, which can be retried: async functions and closures, and functions that make futures of a
+        /// `Result`.
+        ///
+        /// ```
+        /// use hikebox::{Budget, Policy, Retryable};
+        ///
+        /// async fn fetch() -> Result<String, std::io::Error> {
+        ///     Ok("fetched".to_owned())
+        /// }
+        ///
+        /// # #[cfg(feature = "tokio")]
+        /// # tokio::runtime::Builder::new_current_thread().enable_time().build().unwrap().block_on(async {
+        /// let policy: Policy = r#"{"meet":[{"recurs":3},{"spaced":1}]}"#.parse()?;
+        /// let budget = Budget::new(10)?;
+        /// let text = fetch.retry(&policy).budget(&budget).when(|error| error.raw_os_error().is_none()).run().await?;
+        /// assert_eq!(text, "fetched");
+        /// # Ok::<(), Box<dyn std::error::Error>>(())
+        /// # }).unwrap();
+        /// ```
+        pub trait Retryable<T, E $($and)*>: Sized
+        where
+            Self: $($makes)*,
+            $($where)*
+        {
+            /// The call, to be retried by the policy; on no budget, unless [`Retrying::budget`] gives one.
+            fn retry(self, policy: &Policy) -> Retrying<'_, E, Async<Self>> {
+                Retrying::of(policy, Async(self))
+            }
+        }
+
+        impl<T, E, $call $($and)*> Retryable<T, E $($and)*> for $call
+        where
+            $call: $($makes)*,
+            $($where)*
+        {
+        }
+    };
+}
+
+#[cfg(hikebox_async_closures)]
+retryable!(F: [AsyncFnMut() -> Result<T, E>] [] []);
+
+#[cfg(not(hikebox_async_closures))]
+retryable!(F: [FnMut() -> P] [, P] [P: Future<Output = Result<T, E>>]);
+
+impl<E, H: Hooked<E>, K: FnMut() -> Instant, S: AsyncSleep, R: Random> Retrying<'_, E, (), H, Host<K, S, R>> {
+    /// [`Retrying::call`] for futures. Without the feature `tokio` it wants a [`Retrying::sleep`] of the runtime.
+    ///
+    /// # Errors
+    ///
+    /// [`RetryError`] keeps the last error of the call.
+    pub async fn call_async<T, P>(&mut self, mut call: impl FnMut() -> P) -> Result<T, RetryError<E>>
+    where
+        P: Future<Output = Result<T, E>>,
+    {
+        until_it_succeeds!(self, call)
+    }
+
+    /// The same for an async closure that changes what it captures. From Rust 1.85 on. Its future is not `Send` where
+    /// the closure borrows: a task that is spawned takes [`Retrying::call_async`], or a closure that owns what it
+    /// changes.
+    ///
+    /// ```
+    /// # #[cfg(feature = "tokio")]
+    /// # tokio::runtime::Builder::new_current_thread().enable_time().build().unwrap().block_on(async {
+    /// use hikebox::{Policy, Retrying, Unlimited};
+    ///
+    /// let policy: Policy = r#"{"recurs":3}"#.parse()?;
+    /// let mut log = Vec::new();
+    /// let value = Retrying::new(&policy, &Unlimited)
+    ///     .call_async_mut(async || {
+    ///         log.push("called");
+    ///         if log.len() < 3 { Err("not yet") } else { Ok(log.len()) }
+    ///     })
+    ///     .await;
+    /// assert_eq!(value, Ok(3));
+    /// # Ok::<(), hikebox::PolicyError>(())
+    /// # }).unwrap();
+    /// ```
+    ///
+    /// # Errors
+    ///
+    /// [`RetryError`] keeps the last error of the call.
+    #[cfg(hikebox_async_closures)]
+    pub async fn call_async_mut<T>(
+        &mut self,
+        mut call: impl AsyncFnMut() -> Result<T, E>,
+    ) -> Result<T, RetryError<E>> {
+        until_it_succeeds!(self, call)
+    }
+}
+
+impl<E, F, H: Hooked<E>, K: FnMut() -> Instant, S: AsyncSleep, R: Random> Retrying<'_, E, Async<F>, H, Host<K, S, R>> {
+    /// Runs the call until it succeeds. Between runs the task waits.
+    ///
+    /// # Errors
+    ///
+    /// [`RetryError`] keeps the last error of the call.
+    pub async fn run<T, P>(self) -> Result<T, RetryError<E>>
+    where
+        F: FnMut() -> P,
+        P: Future<Output = Result<T, E>>,
+    {
+        let (mut retrying, Async(call)) = self.parted();
+        retrying.call_async(call).await
+    }
+
+    /// The same for an async closure that changes what it captures: see [`Retrying::call_async_mut`].
+    ///
+    /// # Errors
+    ///
+    /// [`RetryError`] keeps the last error of the call.
+    #[cfg(hikebox_async_closures)]
+    pub async fn run_mut<T>(self) -> Result<T, RetryError<E>>
+    where
+        F: AsyncFnMut() -> Result<T, E>,
+    {
+        let (mut retrying, Async(call)) = self.parted();
+        retrying.call_async_mut(call).await
+    }
+}

@@ -1,0 +1,104 @@
+#!/usr/bin/env python3
+"""Compares what rust/src/engine.rs declares of the C library with include/hikebox.h.
+
+Each function of its `extern` block has the header's parameters, by type and in order, and the header's result; each
+of its constants has the header's number, and each struct that crosses the border the header's fields. What Rust would
+have to say is made from the header, and printed where it differs.
+"""
+
+import pathlib
+import re
+import sys
+
+TOP = pathlib.Path(__file__).resolve().parent.parent
+NUMBERS = {"uint64_t": "u64", "uint32_t": "u32", "uint8_t": "u8", "size_t": "usize", "bool": "bool",
+           "hikebox_status": "u32"}
+#: The structs of the header, and what Rust calls them.
+STRUCTS = {"place": "Place", "decision": "Decision", "next": "Next", "usage": "Used"}
+#: Constants of Rust that are not named as the header's.
+NAMES = {"FAR": "HIKEBOX_FAR", "MOST_TICKETS": "HIKEBOX_MOST_TICKETS"}
+
+
+def without_comments(text):
+    """The text with no comment of C or of Rust."""
+    return re.sub(r"/\*.*?\*/|//[^\n]*", "", text, flags=re.S)
+
+
+def rust_type(declared):
+    """The type in Rust of a parameter or a field that C declares so."""
+    array = re.fullmatch(r"const (\w+) \w+\[(\d+)\]", declared)
+    if array:
+        return f"*const [{NUMBERS[array[1]]}; {array[2]}]"
+    const, name, stars = re.fullmatch(r"(const )?(\w+) (\**)\w+", declared).groups()
+    named = NUMBERS.get(name) or STRUCTS.get(name.removeprefix("hikebox_"), "Raw")
+    return f"*{'const' if const else 'mut'} {named}" if stars else named
+
+
+def functions_of_header(header):
+    """The parameters' types in Rust, by function."""
+    found = re.findall(r"hikebox_status (hikebox_\w+)\(([^)]*)\);", header)
+    return {name: [rust_type(" ".join(one.split())) for one in parameters.split(",")] for name, parameters in found}
+
+
+def constants_of_header(header):
+    """The numbers of the enums and of the limits."""
+    enums = re.findall(r"\b(HIKEBOX_\w+) = (\d+)", header)
+    limits = re.findall(r"#define (HIKEBOX_\w+) (?:UINT64_C\()?(\d+)", header)
+    return {name: int(number) for name, number in enums + limits}
+
+
+def structs_of_header(header):
+    """The fields of each struct that crosses the border: names, and types in Rust."""
+    fields = {}
+    for body, name in re.findall(r"typedef struct \{([^}]*)\} hikebox_(\w+);", header):
+        declared = [" ".join(one.split()) for one in body.split(";") if one.strip()]
+        if name in STRUCTS:
+            fields[STRUCTS[name]] = [(one.split()[-1], rust_type(one)) for one in declared]
+    return fields
+
+
+def functions_of_rust(source):
+    """The parameters' types, by function of the `extern` block; what is no status as its result is named."""
+    block = re.search(r'extern "C" \{(.*?)\n\}', source, flags=re.S)[1]
+    found = re.findall(r"fn (\w+)\(([^)]*)\) -> ([^;]*);", block)
+    wrong = [name for name, _, result in found if result != "u32"]
+    if wrong or len(found) != block.count("fn "):
+        sys.exit(f"rust/src/engine.rs: no function that answers a status: {wrong}")
+    return {name: [one.split(":", 1)[1].strip() for one in parameters.split(",") if one.strip()]
+            for name, parameters, _ in found}
+
+
+def constants_of_rust(source):
+    """The constants, by the names of the header."""
+    found = re.findall(r"const (\w+): u(?:32|64) = ([^;]+);", source)
+    numbers = {"(1 << 62) - 1": (1 << 62) - 1, "1 << 32": 1 << 32}
+    return {NAMES.get(name, f"HIKEBOX_{name}"): numbers.get(value) or int(value) for name, value in found}
+
+
+def structs_of_rust(source):
+    """The fields of each struct."""
+    found = re.findall(r"#\[repr\(C\)\]\n(?:#\[[^\n]*\]\n)*pub\(crate\) struct (\w+) \{([^}]*)\}", source)
+    return {name: re.findall(r"(\w+): (\w+),", body) for name, body in found if name != "Raw"}
+
+
+def main():
+    header = without_comments((TOP / "include/hikebox.h").read_text())
+    source = without_comments((TOP / "rust/src/engine.rs").read_text())
+    differences, compared = [], 0
+    for what, wanted, found in [
+        ("function", functions_of_header(header), functions_of_rust(source)),
+        ("constant", constants_of_header(header), constants_of_rust(source)),
+        ("struct", structs_of_header(header), structs_of_rust(source)),
+    ]:
+        if not found:
+            differences.append(f"no {what} was found")
+        compared += len(found)
+        differences += [f"{what} {name}: the header has {wanted.get(name)}, Rust {found[name]}"
+                        for name in found if found[name] != wanted.get(name)]
+    if differences:
+        sys.exit("rust/src/engine.rs: " + "\nrust/src/engine.rs: ".join(differences))
+    print(f"tests/bindings.py: {compared} declarations of Rust are the header's")
+
+
+if __name__ == "__main__":
+    main()
