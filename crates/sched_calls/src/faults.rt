@@ -2,8 +2,8 @@
 ghost use Rattle.sched_calls.specs.Drivers.{TellsText};
 ghost use Rattle.sched_calls.specs.Faults.{SaysFault, TellsFault};
 
-use sched_plan_hint::plan_fault;
 use sched_handle::{Status, put_text};
+use sched_plan_hint::plan_fault;
 use std::alloc::Global;
 
 /// Writes what is wrong with a text that `policy_read` refuses, in the words of `zsched check`, or nothing.
