@@ -60,7 +60,7 @@ macro_rules! until_it_succeeds {
 
 /// [`retry`](crate::retry()) for futures: `call` makes one for each run, and between runs the task waits by tokio's
 /// timer. An async function will do, and an async closure that changes nothing which it captures; one that does is
-/// retried by [`Retrying::call_async_mut`].
+/// retried by `Retrying::call_async_mut`, with Rust 1.85 or later.
 ///
 /// A retry whose future is dropped is cancelled: its tickets stay counted, and it draws no more. A wait of nothing does
 /// not touch the timer.
