@@ -424,7 +424,10 @@ def test_a_function_stops_a_retry() -> None:
 
 @pytest.mark.parametrize("kind", [threading.Event, multiprocessing.Event])
 def test_an_event_ends_a_wait(kind: Any) -> None:
-    event = kind()
+    try:
+        event = kind()
+    except OSError:
+        pytest.skip("processes can share no memory on this machine")
     timer = threading.Timer(0.05, event.set)
     timer.start()
     began = time.monotonic()
