@@ -54,6 +54,11 @@ def store_of(how: Any) -> Any:
     return store
 
 
+def uptime() -> int:
+    """The machine's uptime in milliseconds."""
+    return int(time.clock_gettime(time.CLOCK_BOOTTIME) * 1000)
+
+
 def main() -> None:
     how = json.loads(sys.argv[1])
     output = os.open(sys.argv[2], os.O_WRONLY | os.O_CREAT | os.O_APPEND)
@@ -71,14 +76,14 @@ def main() -> None:
     def work() -> None:
         mine = 0
         while time.monotonic() < until and not os.path.exists(stop):
+            before = uptime()
             ticket = leased.draw()
             if ticket is None:
                 if how.get("patient"):
                     time.sleep(0.002)
                     continue
                 return
-            now = int(time.clock_gettime(time.CLOCK_BOOTTIME) * 1000)
-            os.write(output, f"{ticket} {now}\n".encode())
+            os.write(output, f"{ticket} {before} {uptime()}\n".encode())
             mine += 1
             if mine == most:
                 os.kill(os.getpid(), signal.SIGKILL)

@@ -56,13 +56,13 @@ class Workers:
             assert time.monotonic() < until
             time.sleep(0.02)
 
-    def drawn(self) -> List[Tuple[int, int]]:
-        """Each ticket with the moment after its draw, by the machine's uptime in milliseconds."""
+    def drawn(self) -> List[Tuple[int, int, int]]:
+        """Each ticket with the moments before and after its draw, by the machine's uptime in milliseconds."""
         lines = [line for number in range(len(self.processes)) for line in self.lines(number) if " " in line]
-        return [(int(ticket), int(moment)) for ticket, moment in map(str.split, lines)]
+        return [(int(ticket), int(before), int(after)) for ticket, before, after in map(str.split, lines)]
 
     def tickets(self) -> List[int]:
-        return sorted(ticket for ticket, _ in self.drawn())
+        return sorted(ticket for ticket, _, _ in self.drawn())
 
 
 @pytest.fixture
@@ -375,16 +375,16 @@ def test_processes_killed_at_any_moment(workers: Workers, tmp_path: Path) -> Non
     assert len(tickets) >= 30_000 - killed * (20 + 2)
 
 
-def in_windows(drawn: List[Tuple[int, int]], limit: int, period: int) -> None:
-    """No window has a ticket twice, or more than the limit."""
+def in_windows(drawn: List[Tuple[int, int, int]], limit: int, period: int) -> None:
+    """No window has more tickets than the limit of those that were drawn in it for sure."""
     by_window: Any = {}
-    for ticket, moment in drawn:
-        by_window.setdefault(moment // period, []).append(ticket)
+    for ticket, before, after in drawn:
+        by_window.setdefault(after // period, []).append(before // period == after // period)
     whole = sorted(by_window)[1:-1]
     assert len(whole) >= 2
-    for tickets in by_window.values():
-        # a ticket may be noted just past the end of its window
-        assert len(tickets) <= limit + 2
+    for draws in by_window.values():
+        # the clocks of the test and of the store may differ by a millisecond
+        assert sum(draws) <= limit + 2
     assert sum(len(by_window[window]) for window in whole) >= 0.9 * limit * len(whole)
 
 
@@ -506,7 +506,7 @@ def test_windows_of_redis_one_process_with_a_clock_an_hour_off(workers: Workers,
         workers.start({**how, "patient": True, "seconds": 2.5})
     workers.wait()
     offset = int(time.time() * 1000) - int(time.clock_gettime(time.CLOCK_BOOTTIME) * 1000)
-    in_windows([(ticket, moment + offset) for ticket, moment in workers.drawn()], 50, 500)
+    in_windows([(ticket, before + offset, after + offset) for ticket, before, after in workers.drawn()], 50, 500)
     keys = server.client().keys("hikebox:{a}:*")
     assert all(0 < server.client().pttl(key) <= 1000 for key in keys)
     time.sleep(1.1)
