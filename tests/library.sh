@@ -31,16 +31,14 @@ for pair in libhikebox.so=14 zsched=34; do
   [ "$latest" = "${pair#*=}" ] || wrong "${pair%=*} asks for glibc 2.$latest"
 done
 
-# The example, with no warning, and by the lines of README.md and docs/C.md: two runs fail, and the third succeeds.
+# The example, with no warning, and by the line of docs/C.md: two runs fail, and the third succeeds.
 printf 'run 1: 503\nrun 2: 503\nrun 3: 200\nwon after 3 runs, 2 retries granted\n2 tickets drawn of the budget\n' >"$work/want"
 "$work/retry" >"$work/out" && cmp -s "$work/out" "$work/want" || wrong "examples/c/retry.c: $(cat "$work/out")"
 mkdir "$work/page"
 ln -s "$top/examples" "$work/page/examples"
 ln -s "$(realpath "$dist")" "$work/page/dist"
-for page in README.md docs/C.md; do
-  line=$(grep '^cc examples/c/retry.c ' "$top/$page") || wrong "$page has no line that builds the example"
-  (cd "$work/page" && sh -c "$line") >"$work/out" && cmp -s "$work/out" "$work/want" || wrong "$page: $line: $(cat "$work/out")"
-done
+line=$(grep '^cc examples/c/retry.c ' "$top/docs/C.md") || wrong "docs/C.md has no line that builds the example"
+(cd "$work/page" && sh -c "$line") >"$work/out" && cmp -s "$work/out" "$work/want" || wrong "docs/C.md: $line: $(cat "$work/out")"
 
 # The block of docs/C.md, in a function that has what it names.
 {

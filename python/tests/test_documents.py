@@ -71,21 +71,19 @@ def test_each_block_does_what_the_page_says(page: str, tmp_path: Path, monkeypat
     assert ran
 
 
-def test_the_first_lines_of_the_readme_work(tmp_path: Path) -> None:
+def test_the_first_lines_of_the_readme_work(tmp_path: Path, monkeypatch: Any) -> None:
+    monkeypatch.chdir(TOP)
     (python,) = [text for kind, text, _ in blocks("README.md") if kind == "python"]
-    names: Dict[str, Any] = {}
-    exec(compile(python, "README.md", "exec"), names)
-    assert names["read"](TOP / "README.md").startswith("# Hikebox\n")
+    output = io.StringIO()
+    with contextlib.redirect_stdout(output):
+        exec(compile(python, "README.md", "exec"), {})
+    assert output.getvalue() == "# Hikebox\n\n"
 
-    curl = tmp_path / "curl"  # fails twice
-    curl.write_text(f'#!/bin/sh\necho "$*" >>{tmp_path}/runs\n[ $(wc -l <{tmp_path}/runs) = 3 ]\n')
-    curl.chmod(0o755)
-    shell = "".join(text for kind, text, _ in blocks("README.md") if kind == "sh")
-    lines = [line for line in shell.splitlines() if line.startswith("hikebox ")]
-    assert run_shell("\n".join(["set -e", *lines]), tmp_path) == (
-        "0: (0, 100) next 100\n100: (1, 200) next 300\n300: (2, 400) next 700\n700: (3, 800) next 1500\n"
+    (shell,) = [text for kind, text, _ in blocks("README.md") if kind == "sh" and "hikebox run" in text]
+    assert run_shell("set -e\n" + shell.replace("/tmp/", f"{tmp_path}/"), tmp_path) == (
+        "0: (0, 100) next 100\n100: (1, 200) next 300\n300: (2, 400) next 700\n700: (3, 800) next 1500\nhere at last\n"
     )
-    assert (tmp_path / "runs").read_text() == "-sf http://localhost:8080/health\n" * 3
+    assert "quota of 60000 ms" in (tmp_path / "retries").read_text()
 
 
 def test_every_public_name_is_on_a_page() -> None:
