@@ -26,18 +26,18 @@ BAD_COMMAND_LINE, BAD_INPUT, BAD_STREAM, NO_MEMORY = 2, 3, 4, 5
 MOST_BYTES = 1 << 20
 
 _RUN = f"""\
-Runs the command until it succeeds, and ends with its status, or the last one. A command that can't be run ends it with
-127 or 126, a timeout counts as status 124, and death by signal N as 128 + N. SIGINT, SIGTERM, SIGHUP and SIGQUIT go to
-the command, and no attempt follows; between two attempts they end the run.
+Runs the command until it succeeds or no retry is left, and exits with the status of its last run. A command that can't
+be run ends it with 127 or 126; a timeout counts as status 124, and death by signal N as 128 + N. SIGINT, SIGTERM, SIGHUP
+and SIGQUIT go to the command, and no further attempt is made; between two attempts they end hikebox.
 
-A policy is the name of a JSON file, JSON, or an expression. Without one it is
+A policy is the name of a JSON file, JSON, or an expression. By default it is
   {DEFAULT}
 
 examples:
   hikebox run -- curl --fail https://example.org
   hikebox run --policy 'recurs(9) & spaced(2)' --on 1-3 --timeout 30 -- ./job
-  hikebox run --budget 100@/run/lock/nightly -- ./job   # at most 100 retries over all runs with that file
-  hikebox run --quota 10/20%/1h@/run/lock/jobs -- ./job   # in each hour 10 over all runs, and one for every five runs
+  hikebox run --budget 100@/run/lock/nightly -- ./job   # at most 100 retries over all runs that name the file
+  hikebox run --quota 10/20%/1h@/run/lock/jobs -- ./job   # each hour 10 over all runs, and one for every five runs
 """
 
 
@@ -62,7 +62,7 @@ def _fails(line: str, status: int) -> int:
 
 
 def _parser() -> argparse.ArgumentParser:
-    parser = argparse.ArgumentParser(prog="hikebox", description="Retries by policies, under budgets.")
+    parser = argparse.ArgumentParser(prog="hikebox", description="Retries commands by policies, within limits.")
     parser.add_argument("--version", action="version", version=f"hikebox {VERSION}")
     commands = parser.add_subparsers(required=True, metavar="COMMAND")
 
@@ -75,18 +75,18 @@ def _parser() -> argparse.ArgumentParser:
     )
     run.add_argument("--policy", metavar="POLICY", default=DEFAULT, help="when to run it again")
     bounds = run.add_mutually_exclusive_group()
-    bounds.add_argument("--budget", metavar="N[@FILE]", help="at most N retries; with FILE over all runs that name it")
-    quota = "in each window of PERIOD, as 60s, RESERVE retries over all runs that name FILE, and SHARE for each run"
+    bounds.add_argument("--budget", metavar="N[@FILE]", help="at most N retries; with FILE, over all runs that name it")
+    quota = "RESERVE retries in each PERIOD (60s, 1h) over all runs that name FILE, and SHARE of a retry for each run"
     bounds.add_argument("--quota", metavar="RESERVE/SHARE%/PERIOD@FILE", help=quota.replace("%", "%%"))
-    run.add_argument("--on", metavar="CODES", type=_words.statuses, help="retry these statuses alone, as 1,3-5")
+    run.add_argument("--on", metavar="CODES", type=_words.statuses, help="retry only these statuses, such as 1,3-5")
     run.add_argument("--timeout", metavar="SECONDS", type=_words.duration, help="how long an attempt may take")
-    grace = "SIGKILL so long after SIGTERM (5)"
+    grace = "how long after SIGTERM a SIGKILL follows (5)"
     run.add_argument("--kill-after", metavar="SECONDS", type=_words.duration, default=5.0, help=grace)
     run.add_argument("--replay-input", action="store_true", help="give each attempt the whole standard input")
-    run.add_argument("--last-output", action="store_true", help="let out the last attempt's standard output alone")
+    run.add_argument("--last-output", action="store_true", help="print the standard output of the last attempt only")
     tells = run.add_mutually_exclusive_group()
-    tells.add_argument("--verbose", "-v", action="store_true", help="say on standard error what is done")
-    tells.add_argument("--quiet", "-q", action="store_true", help="show no line on a terminal while it waits")
+    tells.add_argument("--verbose", "-v", action="store_true", help="tell on standard error what happens")
+    tells.add_argument("--quiet", "-q", action="store_true", help="on a terminal, show no line while it waits")
     run.add_argument("command", nargs=argparse.REMAINDER, metavar="COMMAND")
     run.set_defaults(does=_run)
 
@@ -97,7 +97,7 @@ def _parser() -> argparse.ArgumentParser:
     plan.add_argument("--took", type=_words.number(FAR), default=0, metavar="M", help="how long each further call takes (0)")
     codes = plan.add_mutually_exclusive_group()
     codes.add_argument("--input", type=_words.number(FAR), default=0, metavar="N", help="the code of each failure (0)")
-    in_turn = "the codes of the failures, in turn; the last one is that of all later ones"
+    in_turn = "the codes of the failures, in turn; the last one repeats"
     codes.add_argument("--inputs", type=_words.inputs(FAR), metavar="A,B,..", help=in_turn)
     words = plan.add_mutually_exclusive_group()
     words.add_argument("--word", type=_words.number(2**32 - 1), default=2**31, metavar="W", help="each random word (middle)")
