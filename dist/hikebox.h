@@ -33,7 +33,7 @@
  * Where several apply, the first one in the order of the call's own list is the answer; a status that no list
  * names does not come from that call.
  *
- * WHAT THE PROGRAM OWES. Nothing checks these:
+ * WHAT THE PROGRAM OWES. The library does not check these:
  *  - Every pointer is to valid memory of its type, and not NULL, also where a length is 0; no two of a call's
  *    pointers overlap; a length is at most that of the memory. `words` points to four numbers.
  *  - A handle is HIKEBOX_INIT, or as a call of this library left it. It may be moved, but of two copies of one
@@ -82,20 +82,20 @@ enum {
 
     /* The handle holds nothing: nothing was put into it, or it was freed, or what it held was taken away. */
     HIKEBOX_EMPTY = 1,
-    /* The handle holds something of another kind. It still does. */
+    /* The handle holds something of another kind, and still does. */
     HIKEBOX_WRONG_KIND = 2,
-    /* The handle that was to be filled holds something already. It still does. */
+    /* The handle to fill holds something already, and still does. */
     HIKEBOX_FULL = 3,
-    /* A growth was refused. */
+    /* The system gave no memory. */
     HIKEBOX_NO_MEMORY = 4,
     /* A moment, an input, a code or a period is above HIKEBOX_FAR. */
     HIKEBOX_TOO_LARGE = 5,
-    /* The bytes are more than the room for them. */
+    /* There are more bytes than room for them. */
     HIKEBOX_NO_ROOM = 6,
 
     /* The text is not JSON, or not UTF-8. */
     HIKEBOX_NOT_JSON = 10,
-    /* The JSON value, or a part of it that should be a policy, has not the form of one. */
+    /* The JSON value, or a part of it that should be a policy, does not have the form of one. */
     HIKEBOX_NOT_A_POLICY = 11,
     /* A parameter of a policy is outside its range. */
     HIKEBOX_OUT_OF_RANGE = 12,
@@ -408,7 +408,7 @@ enum {
     HIKEBOX_ENDED_REFUSED = 3,
     /* It was cancelled. */
     HIKEBOX_ENDED_CANCELLED = 4,
-    /* It could not go on: a growth was refused, the journal is full, or the clock went back. */
+    /* It could not go on: there was no memory, the journal is full, or the clock went back. */
     HIKEBOX_ENDED_NO_MEMORY = 5,
     HIKEBOX_ENDED_JOURNAL_FULL = 6,
     HIKEBOX_ENDED_BACKWARDS = 7
@@ -448,19 +448,19 @@ HIKEBOX_CHECKED hikebox_status hikebox_retry_on_quota(hikebox_policy *policy, hi
 HIKEBOX_CHECKED hikebox_status hikebox_retry_unlimited(hikebox_policy *policy, hikebox_retry *retry);
 
 /*
- * Steps the retry at the moment `now`, with these random words, and writes what is to be done. With HIKEBOX_WON
+ * Steps the retry at the moment `now`, with these random words, and writes what to do next. With HIKEBOX_WON
  * or HIKEBOX_LOST the run under way ends so, with this code; it succeeded and the retry is over, or it failed,
  * and the policy is stepped with the code as its input; where that goes on a ticket is drawn, and with one the
- * retry waits for the start planned, or runs at once where that is now. With HIKEBOX_NO_REPORT the code counts
- * for nothing, and a run begins where none is under way and `now` is not before the moment waited for. On a
+ * retry waits for the start planned, or runs at once where that is now. With HIKEBOX_NO_REPORT the code is
+ * ignored, and a run begins where none is under way and `now` is not before the moment waited for. On a
  * retry that is over nothing changes. HIKEBOX_TOO_LARGE, of the moment; _NO_SUCH_REPORT; _TOO_LARGE, of the code;
- * _EMPTY; _WRONG_KIND; _NO_RUN. Where memory is wanting or the clock went back the answer is HIKEBOX_OK, and the
+ * _EMPTY; _WRONG_KIND; _NO_RUN. Where there is no memory or the clock went back the answer is HIKEBOX_OK, and the
  * retry is over.
  */
 HIKEBOX_CHECKED hikebox_status hikebox_retry_poll(hikebox_retry *retry, uint64_t now, const uint32_t words[4],
                                                   uint32_t report, uint64_t code, hikebox_next *next);
 
-/* What is to be done, without a step. HIKEBOX_EMPTY; _WRONG_KIND. */
+/* What to do next, without a step. HIKEBOX_EMPTY; _WRONG_KIND. */
 HIKEBOX_CHECKED hikebox_status hikebox_retry_see(hikebox_retry *retry, hikebox_next *next);
 
 /*
