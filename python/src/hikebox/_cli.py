@@ -10,6 +10,7 @@ from itertools import repeat
 from typing import Any, Iterator, List, NoReturn, Optional, Set, Union
 
 from . import _words
+from ._plan_picture import plan_picture
 from ._run import RunOptions, run_command
 from ._seeded import seeded
 from ._time import FAR, milliseconds
@@ -102,6 +103,8 @@ def _parser() -> argparse.ArgumentParser:
     words = plan.add_mutually_exclusive_group()
     words.add_argument("--word", type=_words.number(2**32 - 1), default=2**31, metavar="W", help="each random word (middle)")
     words.add_argument("--words", type=_words.number(2**64 - 1), metavar="SEED", help="other random words, by a seed")
+    plan.add_argument("--svg", metavar="FILE", help="write the picture into this file; - is standard output")
+    plan.add_argument("--width", metavar="N", type=_words.number(4000), default=760, help="how wide the picture is (760)")
     plan.set_defaults(does=_plan)
 
     check = commands.add_parser("check", help="say what a policy is, or where it is wrong")
@@ -149,14 +152,27 @@ def _run(given: Any) -> int:
 def _plan(given: Any) -> int:
     policy = _policy(given.file)
     words: Iterator[int] = repeat(given.word) if given.words is None else seeded(given.words)
-    steps = policy.preview(
-        given.steps,
-        start=milliseconds(given.start),
-        took=milliseconds(given.took),
-        input=given.input if given.inputs is None else given.inputs,
-        random=lambda: next(words) / 2**32,
-    )
-    return _prints("".join(f"{step}\n" for step in steps))
+    how: Any = {
+        "start": milliseconds(given.start),
+        "took": milliseconds(given.took),
+        "input": given.input if given.inputs is None else given.inputs,
+        "random": lambda: next(words) / 2**32,
+    }
+    if given.svg is not None:
+        return _writes(given.svg, plan_picture(policy, given.steps, width=given.width, **how))
+    return _prints("".join(f"{step}\n" for step in policy.preview(given.steps, **how)))
+
+
+def _writes(name: str, text: str) -> int:
+    """Writes a picture into a file, or onto standard output."""
+    if name == "-":
+        return _prints(text)
+    try:
+        with open(name, "w", encoding="utf-8") as file:
+            file.write(text)
+        return 0
+    except OSError as error:
+        return _fails(f"write failed: {name}: {error.strerror}", BAD_STREAM)
 
 
 def _check(given: Any) -> int:

@@ -1,0 +1,113 @@
+//! `counted CASE FAILURES COUNT` makes so many calls, each of which fails so often and then succeeds, by the crate that the
+//! case names, for bench/crates.sh, which counts the instructions. No run waits.
+
+use hikebox::{Budget, Policy, Quota, RetryPolicy};
+use std::convert::Infallible;
+use std::future::{ready, Future, Ready};
+use std::hint::black_box;
+use std::sync::Arc;
+use std::time::Duration;
+use tower::retry::{budget, Retry};
+use tower::{service_fn, Service, ServiceExt};
+
+const WINDOW: Duration = Duration::from_secs(10);
+
+fn main() {
+    let words: Vec<String> = std::env::args().collect();
+    let numbers: Vec<u32> = words[2..].iter().map(|word| word.parse().expect("a number")).collect();
+    let (failures, count) = (numbers[0], numbers[1]);
+    match words[1].as_str() {
+        "hikebox" => hikebox_calls(failures, count),
+        "backoff" => backoff_calls(failures, count),
+        "tower" => {
+            let budget = Arc::new(budget::Budget::new(WINDOW, 1_000_000, 1.0));
+            tower_calls(Attempts { left: 20, budget }, failures, count);
+        }
+        "hikebox-in-tower" => {
+            let quota = Quota::new(10_000_000, 1.0, WINDOW).expect("a quota");
+            tower_calls(RetryPolicy::new(policy(), quota), failures, count);
+        }
+        other => panic!("there is no case {other}"),
+    }
+}
+
+fn policy() -> Policy {
+    r#"{"recurs":20}"#.parse().expect("a policy")
+}
+
+/// A call that fails so many times and then succeeds, again and again.
+fn call(failures: u32) -> impl FnMut() -> Result<u32, u32> {
+    let mut left = failures;
+    move || match left {
+        0 => {
+            left = failures;
+            Ok(black_box(1))
+        }
+        _ => {
+            left -= 1;
+            Err(black_box(2))
+        }
+    }
+}
+
+fn hikebox_calls(failures: u32, count: u32) {
+    let (policy, budget, mut call) = (policy(), Budget::new(1 << 32).expect("a budget"), call(failures));
+    for _ in 0..count {
+        black_box(hikebox::retry(&policy, &budget, &mut call).expect("a success"));
+    }
+}
+
+fn backoff_calls(failures: u32, count: u32) {
+    let mut call = call(failures);
+    for _ in 0..count {
+        let waits = backoff::backoff::Zero {};
+        black_box(backoff::retry(waits, || call().map_err(backoff::Error::transient)).expect("a success"));
+    }
+}
+
+/// A policy of tower's own, which counts its attempts.
+#[derive(Clone)]
+struct Attempts {
+    left: u32,
+    budget: Arc<budget::Budget>,
+}
+
+impl tower::retry::Policy<u32, u32, u32> for Attempts {
+    type Future = Ready<Self>;
+
+    fn retry(&self, _: &u32, result: Result<&u32, &u32>) -> Option<Self::Future> {
+        if result.is_ok() {
+            self.budget.deposit();
+            return None;
+        }
+        if self.left == 0 || self.budget.withdraw().is_err() {
+            return None;
+        }
+        Some(ready(Self { left: self.left - 1, budget: self.budget.clone() }))
+    }
+
+    fn clone_request(&self, request: &u32) -> Option<u32> {
+        Some(*request)
+    }
+}
+
+fn tower_calls<P>(policy: P, failures: u32, count: u32)
+where
+    P: tower::retry::Policy<u32, u32, u32> + Clone,
+{
+    let state = Arc::new(std::sync::Mutex::new(call(failures)));
+    let service = service_fn(move |_: u32| ready((state.lock().expect("no panic"))()));
+    let mut service = Retry::new(policy, service);
+    run(async {
+        for request in 0..count {
+            let service = service.ready().await.expect("it is ready");
+            black_box(service.call(request).await.expect("a success"));
+        }
+        Ok::<_, Infallible>(())
+    });
+}
+
+fn run<T>(calls: impl Future<Output = Result<T, Infallible>>) {
+    let runtime = tokio::runtime::Builder::new_current_thread().enable_time().build().expect("a runtime");
+    let _ = runtime.block_on(calls);
+}

@@ -1,0 +1,308 @@
+#!/usr/bin/env python3
+"""Looks at `zsched storm`: storms that were worked out by hand, the numbers of docs/STORMS.md, and 500 random storms, each
+byte for byte as tests/storms.py plays it by the rules alone.
+
+    tests/check_storms.py [COUNT [SEED]]
+
+HIKEBOX_ZSCHED names the program, that of dist/ where it does not. Where the program knows no storms, tests/storms.py is
+looked at alone.
+"""
+
+from __future__ import annotations
+
+import json
+import os
+import random
+import subprocess
+import sys
+import tempfile
+from multiprocessing import Pool
+from pathlib import Path
+from typing import Any, Dict, List, NamedTuple, Optional, Tuple
+
+import storms
+
+TOP = Path(__file__).resolve().parent.parent
+ZSCHED = os.environ.get("HIKEBOX_ZSCHED", str(TOP / "dist" / "zsched"))
+SLOWLY = [sys.executable, str(TOP / "tests" / "storms.py")]
+NONE = "0..0"
+
+
+class Case(NamedTuple):
+    name: str
+    plan: Any
+    options: Dict[str, Any]
+    #: What the program prints with --json: its windows, and of its totals those that are named.
+    windows: List[List[int]]
+    totals: Dict[str, Any]
+
+
+# The peer does a call a millisecond where nothing else is said.
+WORKED = [
+    Case(
+        "one request",
+        {"recurs": 3},
+        {"rate": 1, "seconds": 1, "outage": NONE},
+        [[0, 1, 1, 0, 1, 0, 0, 0, 0]],
+        {"requests": 1, "won": 1, "lost": 0, "denied": 0, "open": 0, "calls": 1, "hundredths": 100, "most_calls": 1}
+        | {"most_from": 0, "tickets": 0, "p50": 1, "p99": 1, "slowest": 1, "recovered": 0, "cut": False},
+    ),
+    Case(
+        "two at one moment: the second waits for the first",
+        {"recurs": 3},
+        {"rate": 2, "together": 2, "seconds": 1, "outage": NONE},
+        [[0, 2, 2, 0, 2, 0, 0, 0, 0]],
+        {"calls": 2, "p50": 1, "p99": 2, "slowest": 2, "recovered": 0},
+    ),
+    Case(
+        "a queue of one: the call in service counts, and a retry at once finds it there still",
+        {"recurs": 1},
+        {"rate": 3, "together": 3, "seconds": 1, "queue": 1, "outage": NONE},
+        [[0, 3, 1, 2, 1, 0, 4, 0, 0]],
+        {"won": 1, "lost": 2, "calls": 5, "hundredths": 167, "p50": 1, "p99": 1, "recovered": None},
+    ),
+    Case(
+        "a queue of none: taken where nothing is ahead",
+        {"recurs": 0},
+        {"rate": 2, "together": 2, "seconds": 1, "queue": 0, "outage": NONE},
+        [[0, 2, 1, 0, 1, 0, 1, 0, 0]],
+        {"won": 1, "lost": 1},
+    ),
+    Case(
+        "a call that ends the very millisecond its client gives up succeeds, a millisecond later it is late",
+        {"recurs": 0},
+        {"rate": 3, "together": 3, "seconds": 1, "patience": 2, "outage": NONE},
+        [[0, 3, 2, 0, 2, 0, 0, 1, 0]],
+        {"won": 2, "lost": 1, "p50": 1, "p99": 2, "slowest": 2, "recovered": None},
+    ),
+    Case(
+        "what its client gave up is done all the same: the retry waits behind it, and is late too",
+        {"recurs": 1},
+        {"rate": 1, "seconds": 1, "capacity": 10, "patience": 60, "window": 60, "outage": NONE},
+        # Taken at 0 and at 60, each is 100 ms of work, done by 100 and by 200; at the windows' ends less than a call is left.
+        [[0, 1, 0, 0, 0, 0, 0, 0, 0], [60, 0, 0, 1, 0, 0, 0, 1, 0], [120, 0, 0, 0, 0, 0, 0, 1, 0]],
+        {"lost": 1, "calls": 2, "hundredths": 200, "most_calls": 1, "most_from": 0, "p50": None, "recovered": None},
+    ),
+    Case(
+        "an outage of no length refuses nothing, and has its end",
+        {"recurs": 0},
+        {"rate": 2, "seconds": 1, "window": 500, "outage": "500..500"},
+        [[0, 1, 1, 0, 1, 0, 0, 0, 0], [500, 1, 1, 0, 1, 0, 0, 0, 0]],
+        {"recovered": 500},
+    ),
+    Case(
+        "an outage of a millisecond refuses what comes in it",
+        {"meet": [{"recurs": 1}, {"spaced": 1}]},
+        {"rate": 2, "seconds": 1, "window": 500, "outage": "500..501"},
+        [[0, 1, 1, 0, 1, 0, 0, 0, 0], [500, 1, 1, 1, 1, 1, 0, 0, 0]],
+        {"won": 2, "calls": 3, "hundredths": 150, "most_calls": 2, "most_from": 500, "p50": 1, "p99": 2, "recovered": None},
+    ),
+    Case(
+        "a brown-out that begins in the midst of a call",
+        {"recurs": 0},
+        {"rate": 2, "together": 2, "seconds": 1, "capacity": 10, "window": 100, "outage": NONE, "slow": "50..200@50"},
+        # 1,000 units a millisecond until 50, then 500: 75,000 by 100, 100,000 by 150, 125,000 by 200; then 1,000 again.
+        [[0, 2, 2, 0, 0, 0, 0, 0, 1], [100, 0, 0, 0, 1, 0, 0, 0, 0], [200, 0, 0, 0, 1, 0, 0, 0, 0]],
+        {"p50": 150, "p99": 275, "slowest": 275, "recovered": None},
+    ),
+    Case(
+        "a quota's window border: a ticket at 0, none more until 10, one at 10",
+        {"meet": [{"recurs": 2}, {"spaced": 10}]},
+        {"rate": 2, "together": 2, "seconds": 1, "outage": "0..11", "quota": "1/0/10"},
+        [[0, 2, 1, 2, 1, 3, 0, 0, 0]],
+        {"won": 1, "denied": 1, "calls": 4, "hundredths": 200, "tickets": 2, "p50": 21},
+    ),
+    Case(
+        "a quota's share: the first request fails before the second is counted",
+        {"meet": [{"recurs": 1}, {"spaced": 10}]},
+        {"rate": 2, "together": 2, "seconds": 1, "outage": "0..10", "quota": "0/500/10"},
+        [[0, 2, 1, 1, 1, 2, 0, 0, 0]],
+        {"won": 1, "denied": 1, "tickets": 1, "p50": 11},
+    ),
+    Case(
+        "a budget of one",
+        {"recurs": 2},
+        {"rate": 2, "together": 2, "seconds": 1, "outage": "0..1", "budget": 1},
+        [[0, 2, 0, 1, 0, 3, 0, 0, 0]],
+        {"lost": 0, "denied": 2, "tickets": 1, "calls": 3, "p50": None, "p99": None, "slowest": None},
+    ),
+    Case(
+        "a plan that is done at once",
+        {"recurs": 0},
+        {"rate": 1, "seconds": 1, "outage": "0..1"},
+        [[0, 1, 0, 0, 0, 1, 0, 0, 0]],
+        {"lost": 1, "p50": None, "recovered": None},
+    ),
+    Case(
+        "until in the midst: the third request is none of the storm's, and tickets of retries that come too late stay given",
+        {"spaced": 1000},
+        {"rate": 1, "seconds": 3, "until": 1500, "outage": "0..2000", "budget": 10},
+        [[0, 1, 0, 0, 0, 1, 0, 0, 0], [1000, 1, 0, 1, 0, 2, 0, 0, 0]],
+        {"requests": 2, "open": 2, "calls": 3, "hundredths": 150, "most_calls": 2, "most_from": 1000, "tickets": 3},
+    ),
+    Case(
+        "a cut: the first request makes five calls at one moment, and the second had not begun",
+        "forever",
+        {"rate": 2, "together": 2, "seconds": 1, "calls": 5, "outage": "0..10"},
+        [[0, 1, 0, 4, 0, 5, 0, 0, 0]],
+        {"requests": 1, "open": 1, "calls": 5, "hundredths": 500, "cut": True},
+    ),
+    Case(
+        "no cut: the call that would be too many lies after until",
+        {"spaced": 10},
+        {"rate": 1, "seconds": 1, "calls": 2, "until": 15, "outage": "0..100"},
+        [[0, 1, 0, 1, 0, 2, 0, 0, 0]],
+        {"open": 1, "calls": 2, "cut": False},
+    ),
+    Case(
+        "each failure has its input: shed is 2",
+        {"gate": ["input", True, "equal", 2, {"meet": [{"recurs": 1}, {"spaced": 5}]}]},
+        {"rate": 2, "together": 2, "seconds": 1, "queue": 0, "outage": NONE},
+        [[0, 2, 2, 1, 2, 0, 1, 0, 0]],
+        {"p50": 1, "p99": 6},
+    ),
+    Case(
+        "words: the first failure takes the first four of the seed 7, the second the next four",
+        # 408,380,677 and 257,245,457 of 2^32: 1,000 x (800 + 400 x 0.09508) / 1,000 = 838, and 823.
+        {"jitter": [0, 800, 1200, {"meet": [{"recurs": 1}, {"spaced": 1000}]}]},
+        {"rate": 2, "together": 2, "seconds": 1, "outage": "0..1", "words": 7},
+        [[0, 2, 2, 2, 2, 2, 0, 0, 0]],
+        {"p50": 824, "p99": 839},
+    ),
+]
+
+BACK_OFF = {"cap": [10_000, {"exponential": [100, 2]}]}
+NO_RETRY, THREE = {"recurs": 0}, {"recurs": 3}
+EIGHT = {"meet": [{"recurs": 8}, BACK_OFF]}
+FULL = {"meet": [{"recurs": 8}, {"jitter": [0, 0, 1000, BACK_OFF]}]}
+HALF = {"meet": [{"recurs": 8}, {"jitter": [0, 500, 1000, BACK_OFF]}]}
+TENTH = {"quota": "10/100/1000"}
+HERD = {"rate": 10_000, "together": 10_000, "seconds": 1, "capacity": 1000, "patience": 1000, "queue": 500, "outage": NONE}
+BROWN_OUT = {"outage": NONE, "slow": "10000..20000@50"}
+
+#: The numbers that another program by the same rules gave.
+KNOWN: List[Tuple[Any, Dict[str, Any], Dict[str, Any]]] = [
+    (NO_RETRY, {}, {"hundredths": 100, "recovered": 20_000}),
+    (THREE, {}, {"hundredths": 150, "recovered": 20_000}),
+    (EIGHT, {}, {"hundredths": 760, "recovered": None}),
+    (FULL, {}, {"hundredths": 762, "recovered": None}),
+    (FULL, TENTH, {"hundredths": 102, "recovered": 20_000}),
+    (EIGHT, {"queue": 500}, {"hundredths": 412, "won": 48_000}),
+    (EIGHT, HERD, {"won": 3700}),
+    (FULL, HERD, {"won": 9885}),
+    (HALF, HERD, {"won": 10_000}),
+    (THREE, BROWN_OUT, {"recovered": None}),
+]
+#: Where no number is known: that it comes back.
+COMES_BACK = [(NO_RETRY, BROWN_OUT), (THREE, {**BROWN_OUT, **TENTH})]
+
+
+def played(program: List[str], plan: Any, options: Dict[str, Any], form: str = "--json") -> Tuple[int, str, str]:
+    """The status, the output and the errors of a program that plays this storm."""
+    words = [word for name, value in options.items() for word in (f"--{name}", str(value))]
+    with tempfile.NamedTemporaryFile("w", suffix=".json") as file:
+        json.dump(plan, file)
+        file.flush()
+        done = subprocess.run([*program, *words, form, file.name], capture_output=True, text=True)
+    return done.returncode, done.stdout, done.stderr
+
+
+def told(program: List[str], plan: Any, options: Dict[str, Any]) -> Any:
+    status, output, errors = played(program, plan, options)
+    if status not in (0, 6):
+        raise SystemExit(f"tests/check_storms.py: {program[-1]}: status {status}: {errors}")
+    return json.loads(output)
+
+
+def looks_at(program: List[str]) -> List[str]:
+    """What is wrong with the storms that are known."""
+    wrong = []
+    for name, plan, options, windows, totals in WORKED:
+        got = told(program, plan, options)
+        if got["windows"] != windows:
+            wrong.append(f"{name}: windows {got['windows']}, wanted {windows}")
+        wrong += [f"{name}: {key} {got['totals'][key]}, wanted {value}" for key, value in totals.items() if got["totals"][key] != value]
+    return wrong
+
+
+def looks_at_numbers(program: List[str]) -> List[str]:
+    wrong = []
+    with Pool() as pool:
+        given = pool.starmap(told, [(program, plan, options) for plan, options, _ in KNOWN])
+        back = pool.starmap(told, [(program, plan, options) for plan, options in COMES_BACK])
+    for (plan, options, totals), got in zip(KNOWN, given):
+        wrong += [f"{plan} {options}: {key} {got['totals'][key]}, wanted {value}" for key, value in totals.items() if got["totals"][key] != value]
+    wrong += [f"{case}: it doesn't come back" for case, got in zip(COMES_BACK, back) if got["totals"]["recovered"] is None]
+    within = given[8]["totals"]["slowest"]
+    if within > 12_000:
+        wrong.append(f"the herd with half to whole of the delay: the last is won after {within} ms")
+    return wrong
+
+
+def some_storm(rng: random.Random) -> Tuple[Any, Dict[str, Any]]:
+    """A random policy with the options of a storm. One that looks back far, which the definitions play slowly, is cut early."""
+    if rng.random() < 0.6:
+        delay = rng.choice([{"spaced": rng.randrange(1, 400)}, {"exponential": [rng.randrange(1, 100), 2]}, BACK_OFF, {"linear": 30}])
+        delay = rng.choice([delay, {"jitter": [rng.randrange(4), 0, 1000, delay]}, {"decorrelated": [0, 20, 3000, 2000]}])
+        plan: Any = {"meet": [{"recurs": rng.randrange(9)}, delay]}
+        calls = rng.choice([1500, 1500, 4000])
+    else:
+        plan, calls = storms.reference.some_plan(rng, rng.randrange(1, 7)), rng.choice([1, 7, 40])
+    together = rng.choice([1, 1, 1, 2, 7, 50])
+    seconds = rng.choice([1, 2, 5])
+    rate = rng.choice([1, 3, 40, 90, 150, 333, 800])
+    capacity = max(1, rate * rng.choice([30, 80, 100, 125, 300]) // 100)
+    options: Dict[str, Any] = {"rate": rate, "together": together, "seconds": seconds, "capacity": capacity, "calls": calls}
+    options["patience"] = rng.choice([1, 5, 60, 500, 3000])
+    options["queue"] = rng.choice([0, 1, 2, 30, 5000])
+    options["outage"] = _span(rng, seconds)
+    options["window"] = rng.choice([1, 97, 250, 1000, 60_000])
+    if rng.random() < 0.5:
+        options["slow"] = f"{_span(rng, seconds)}@{rng.choice([1, 10, 50, 99, 100])}"
+    if rng.random() < 0.5 or options["window"] == 1:
+        options["until"] = rng.choice([0, 1, 400, 1000 * seconds, 5000])
+    if rng.random() < 0.7:
+        options["words"] = rng.choice([0, 1, rng.randrange(2**64)])
+    limit = rng.choice(["budget", "quota", None])
+    if limit == "budget":
+        options[limit] = rng.choice([0, 1, 30, 2**32])
+    if limit == "quota":
+        options[limit] = f"{rng.choice([0, 1, 10])}/{rng.choice([0, 1, 100, 1500])}/{rng.choice([1, 100, 1000])}"
+    return plan, options
+
+
+def _span(rng: random.Random, seconds: int) -> str:
+    begins = rng.choice([0, 0, 1, rng.randrange(1000 * seconds)])
+    return f"{begins}..{begins + rng.choice([0, 1, 50, 700, 2000])}"
+
+
+def differs(seed: str) -> Optional[str]:
+    """How the two programs differ on the storm of this seed."""
+    plan, options = some_storm(random.Random(seed))
+    for form in ("--json", "--csv"):
+        wanted, got = (played(program, plan, options, form) for program in (SLOWLY, [ZSCHED, "storm"]))
+        if wanted != got:
+            return f"storm {seed}: {json.dumps(plan)} {options} {form}: {got}, wanted {wanted}"
+    return None
+
+
+def main() -> int:
+    count = int(sys.argv[1]) if len(sys.argv) > 1 else 500
+    seed = sys.argv[2] if len(sys.argv) > 2 else "7"
+    knows = subprocess.run([ZSCHED, "storm", "--help"], capture_output=True).returncode == 0
+    programs = [SLOWLY, [ZSCHED, "storm"]] if knows else [SLOWLY]
+    wrong = [line for program in programs for line in looks_at(program)]
+    wrong += looks_at_numbers(programs[-1])
+    if knows:
+        with Pool() as pool:
+            wrong += filter(None, pool.imap_unordered(differs, [f"{seed}.{number}" for number in range(count)]))
+    for line in wrong[:20]:
+        print(f"tests/check_storms.py: {line[:2000]}", file=sys.stderr)
+    if not wrong:
+        compared = f"{count} random storms are played alike" if knows else "zsched knows no storms, and was not looked at"
+        print(f"tests/check_storms.py: {len(WORKED)} storms by hand and {len(KNOWN) + len(COMES_BACK)} that are known are right, {compared}")
+    return 1 if wrong else 0
+
+
+if __name__ == "__main__":
+    sys.exit(main())

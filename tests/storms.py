@@ -1,0 +1,353 @@
+#!/usr/bin/env python3
+"""Plays a storm by its rules alone, slowly: `tests/storms.py [OPTION..] FILE` prints what `zsched storm` does with the same
+words, with `--json` or `--csv` byte for byte.
+
+It shares nothing with the engine: policies are asked by the definitions of python/tests/reference.py, a function of the
+whole list of a request's failures, and the random words come from the generator of the Python package.
+"""
+
+from __future__ import annotations
+
+import argparse
+import heapq
+import json
+import runpy
+import sys
+from dataclasses import dataclass, field
+from pathlib import Path
+from typing import Any, Dict, Iterator, List, NamedTuple, Optional, Tuple
+
+TOP = Path(__file__).resolve().parent.parent
+sys.path.insert(0, str(TOP / "python" / "tests"))
+
+import reference  # noqa: E402
+
+seeded = runpy.run_path(str(TOP / "python" / "src" / "hikebox" / "_seeded.py"))["seeded"]
+
+#: The units of work of a call.
+CALL = 100_000
+REFUSED, SHED, LATE, SUCCEEDED = 1, 2, 3, 0
+MOST_TICKETS = 2**32
+
+
+@dataclass
+class Storm:
+    """The parameters of a storm."""
+
+    plan: Any
+    rate: int = 800
+    together: int = 1
+    seconds: int = 60
+    capacity: int = 1000
+    patience: int = 500
+    queue: int = 5000
+    outage: Tuple[int, int] = (10_000, 20_000)
+    slow: Optional[Tuple[int, int, int]] = None
+    window: int = 1000
+    until: Optional[int] = None
+    calls: int = 16_777_216
+    words: int = 0
+    budget: Optional[int] = None
+    quota: Optional[Tuple[int, int, int]] = None
+
+    @property
+    def last(self) -> int:
+        """The last moment that is played."""
+        return self.seconds * 1000 + 60_000 if self.until is None else self.until
+
+    def comes_at(self, request: int) -> int:
+        """The moment at which a request begins."""
+        return request // self.together * self.together * 1000 // self.rate
+
+    def can_be_done(self, moment: int) -> int:
+        """The units of work that the peer can have done by a moment."""
+        begins, ends, percent = self.slow or (0, 0, 100)
+        slowly = max(0, min(moment, ends) - begins)
+        return self.capacity * 100 * (moment - slowly) + self.capacity * percent * slowly
+
+
+class Peer:
+    """One queue, first come first served."""
+
+    def __init__(self, storm: Storm) -> None:
+        self.storm = storm
+        #: The unit at which the work taken so far is done.
+        self.busy = 0
+
+    def ahead(self, moment: int) -> int:
+        """The units of work that stand there."""
+        return max(0, self.busy - self.storm.can_be_done(moment))
+
+    def call(self, moment: int) -> Tuple[int, int]:
+        """When a call that comes at this moment ends, and how."""
+        storm = self.storm
+        begins, ends = storm.outage
+        if begins <= moment < ends:
+            return moment, REFUSED
+        ahead = self.ahead(moment)
+        if ahead > 0 if storm.queue == 0 else ahead >= storm.queue * CALL:
+            return moment, SHED
+        self.busy = max(self.busy, storm.can_be_done(moment)) + CALL
+        gives_up = moment + storm.patience
+        if storm.can_be_done(gives_up) < self.busy:
+            return gives_up, LATE
+        return self._done_at(moment, gives_up), SUCCEEDED
+
+    def _done_at(self, early: int, late: int) -> int:
+        """The least moment at which the work is done, known to lie between two."""
+        while early < late:
+            middle = (early + late) // 2
+            if self.storm.can_be_done(middle) >= self.busy:
+                late = middle
+            else:
+                early = middle + 1
+        return late
+
+
+class Tickets:
+    """What retries draw on: nothing, a budget or a quota."""
+
+    def __init__(self, storm: Storm) -> None:
+        self.budget = storm.budget
+        self.quota = storm.quota
+        self.given = 0
+        self.window = -1
+        self.asked_here = 0
+        self.given_here = 0
+
+    def _turn_to(self, moment: int) -> None:
+        if self.quota is not None and moment // self.quota[2] != self.window:
+            self.window = moment // self.quota[2]
+            self.asked_here = self.given_here = 0
+
+    def count(self, moment: int) -> None:
+        """Counts a request."""
+        self._turn_to(moment)
+        self.asked_here += 1
+
+    def draw(self, moment: int) -> bool:
+        """Whether a retry may be made."""
+        self._turn_to(moment)
+        if self.budget is not None:
+            has = self.given < self.budget
+        elif self.quota is not None:
+            reserve, share, _ = self.quota
+            has = self.given_here < min(reserve + share * self.asked_here // 1000, MOST_TICKETS)
+        else:
+            return True
+        self.given += has
+        self.given_here += has
+        return has
+
+
+@dataclass
+class Request:
+    began: int
+    failures: List[reference.Event] = field(default_factory=list)
+    #: How it ended, or "open".
+    ending: str = "open"
+    #: From its first call's beginning to its success.
+    took: int = 0
+
+
+class Call(NamedTuple):
+    at: int
+    is_retry: bool
+
+
+class Course:
+    """The events of a storm, one after another."""
+
+    def __init__(self, storm: Storm) -> None:
+        self.storm = storm
+        self.peer = Peer(storm)
+        self.tickets = Tickets(storm)
+        self.words: Iterator[int] = seeded(storm.words)
+        self.requests: Dict[int, Request] = {}
+        self.calls: List[Call] = []
+        #: The calls that ended: when, and how.
+        self.ended: List[Tuple[int, int]] = []
+        #: After each call that was taken: its moment, and the peer's `busy`.
+        self.taken: List[Tuple[int, int]] = []
+        self.last_moment = 0
+        self.is_cut = False
+        #: What is pending, by moment and request: a beginning (None), or how a call ends.
+        self.pending: List[Tuple[int, int, Optional[int]]] = []
+
+    def play(self) -> None:
+        for request in range(self.storm.rate * self.storm.seconds):
+            self._put(self.storm.comes_at(request), request, None)
+        while self.pending:
+            moment, request, what = heapq.heappop(self.pending)
+            if what is None and len(self.calls) == self.storm.calls:
+                self.is_cut = True
+                return
+            self.last_moment = moment
+            if what is None:
+                self._begin(moment, request)
+            else:
+                self._end(moment, request, what)
+
+    def _put(self, moment: int, request: int, what: Optional[int]) -> None:
+        if moment <= self.storm.last:
+            heapq.heappush(self.pending, (moment, request, what))
+
+    def _begin(self, moment: int, request: int) -> None:
+        is_retry = request in self.requests
+        if not is_retry:
+            self.requests[request] = Request(moment)
+            self.tickets.count(moment)
+        self.calls.append(Call(moment, is_retry))
+        before = self.peer.busy
+        ends, how = self.peer.call(moment)
+        if self.peer.busy != before:
+            self.taken.append((moment, self.peer.busy))
+        self._put(ends, request, how)
+
+    def _end(self, moment: int, number: int, how: int) -> None:
+        self.ended.append((moment, how))
+        request = self.requests[number]
+        if how == SUCCEEDED:
+            request.ending, request.took = "won", moment - request.began
+            return
+        a, b, c, d = (next(self.words) for _ in range(4))
+        request.failures.append(reference.Event(moment, (a, b, c, d), how))
+        start = reference.answer(self.storm.plan, request.failures).start
+        if start is None:
+            request.ending = "lost"
+        elif not self.tickets.draw(moment):
+            request.ending = "denied"
+        else:
+            self._put(start, number, None)
+
+
+ROW = ("from", "requests", "won", "retries", "succeeded", "refused", "shed", "late", "waiting")
+_COLUMNS = {SUCCEEDED: "succeeded", REFUSED: "refused", SHED: "shed", LATE: "late"}
+
+
+def rows_of(course: Course) -> List[Dict[str, int]]:
+    """The lines of the report, from the whole course."""
+    window = course.storm.window
+    rows = [dict.fromkeys(ROW, 0) for _ in range(course.last_moment // window + 1)]
+    for request in course.requests.values():
+        rows[request.began // window]["requests"] += 1
+        rows[request.began // window]["won"] += request.ending == "won"
+    for call in course.calls:
+        rows[call.at // window]["retries"] += call.is_retry
+    for moment, how in course.ended:
+        rows[moment // window][_COLUMNS[how]] += 1
+    busy = 0
+    taken = iter([*course.taken, (2**63, 0)])
+    at, units = next(taken)
+    for index, row in enumerate(rows):
+        row["from"] = index * window
+        end = row["from"] + window
+        while at < end:
+            busy = units
+            at, units = next(taken)
+        row["waiting"] = max(0, busy - course.storm.can_be_done(end)) // CALL
+    return rows
+
+
+def totals_of(course: Course, rows: List[Dict[str, int]]) -> Dict[str, Any]:
+    endings = [request.ending for request in course.requests.values()]
+    requests, calls = len(endings), len(course.calls)
+    begun = [row["requests"] + row["retries"] for row in rows]
+    took = sorted(request.took for request in course.requests.values() if request.ending == "won")
+
+    def at_percent(percent: int) -> Optional[int]:
+        return took[-(-len(took) * percent // 100) - 1] if took else None
+
+    return {
+        "requests": requests,
+        **{ending: endings.count(ending) for ending in ("won", "lost", "denied", "open")},
+        "calls": calls,
+        "hundredths": (2 * 100 * calls + requests) // (2 * requests),
+        "most_calls": max(begun),
+        "most_from": rows[begun.index(max(begun))]["from"],
+        "tickets": course.tickets.given,
+        "p50": at_percent(50),
+        "p99": at_percent(99),
+        "slowest": at_percent(100),
+        "recovered": recovered(course.storm, rows),
+        "cut": course.is_cut,
+    }
+
+
+def recovered(storm: Storm, rows: List[Dict[str, int]]) -> Optional[int]:
+    """The first moment of the window from which on at least 99 in 100 of the requests of each window were won."""
+    end = max(storm.outage[1], storm.slow[1] if storm.slow else 0)
+    for index, row in enumerate(rows):
+        later = rows[index:]
+        if row["from"] < end or not any(each["requests"] for each in later):
+            continue
+        if all(each["won"] * 100 >= each["requests"] * 99 for each in later):
+            return row["from"]
+    return None
+
+
+def report(storm: Storm) -> Tuple[List[Dict[str, int]], Dict[str, Any]]:
+    """The rows and the totals of a storm."""
+    course = Course(storm)
+    course.play()
+    rows = rows_of(course)
+    return rows, totals_of(course, rows)
+
+
+def json_text(rows: List[Dict[str, int]], totals: Dict[str, Any]) -> str:
+    value = {"windows": [[row[name] for name in ROW] for row in rows], "totals": totals}
+    return json.dumps(value, separators=(",", ":")) + "\n"
+
+
+def csv_text(rows: List[Dict[str, int]]) -> str:
+    lines = [",".join(ROW), *(",".join(str(row[name]) for name in ROW) for row in rows)]
+    return "\n".join(lines) + "\n"
+
+
+def _span(text: str) -> Tuple[int, int]:
+    begins, ends = text.split("..")
+    return int(begins), int(ends)
+
+
+def _slow(text: str) -> Tuple[int, int, int]:
+    span, percent = text.split("@")
+    return (*_span(span), int(percent))
+
+
+def _quota(text: str) -> Tuple[int, int, int]:
+    reserve, share, period = text.split("/")
+    return int(reserve), int(share), int(period)
+
+
+NUMBERS = ("rate", "together", "seconds", "capacity", "patience", "queue", "window", "until", "calls", "words", "budget")
+READERS = {"outage": _span, "slow": _slow, "quota": _quota}
+
+
+def main() -> int:
+    parser = argparse.ArgumentParser(description="Plays a storm by its rules alone; the ranges are not looked at.")
+    for name in NUMBERS:
+        parser.add_argument(f"--{name}", type=int)
+    for name, reader in READERS.items():
+        parser.add_argument(f"--{name}", type=reader)
+    parser.add_argument("--csv", action="store_true")
+    parser.add_argument("--json", action="store_true")
+    parser.add_argument("file")
+    given = parser.parse_args()
+    plan = json.loads(sys.stdin.read() if given.file == "-" else Path(given.file).read_text())
+    named = {name: getattr(given, name) for name in (*NUMBERS, *READERS)}
+    rows, totals = report(Storm(plan, **{name: value for name, value in named.items() if value is not None}))
+    if given.csv:
+        sys.stdout.write(csv_text(rows))
+    elif given.json:
+        sys.stdout.write(json_text(rows, totals))
+    else:
+        for name, value in totals.items():
+            print(f"{name} {value}")
+    if totals["cut"]:
+        print("zsched: not finished", file=sys.stderr)
+        return 6
+    return 0
+
+
+if __name__ == "__main__":
+    sys.exit(main())
