@@ -1,6 +1,6 @@
 #!/usr/bin/env bash
-# The instructions that a call takes which succeeds at once, and a retry that is granted, by the Rust crate, by backoff, by
-# tower with a policy of its own and by tower with this crate's. Started by hand at the top of the repository:
+# The instructions that a call takes which succeeds at once, what its first failure takes more, and a retry that is granted
+# after others, by the Rust crate, by backoff, by tower with a policy of its own and by tower with this crate's. Started by hand at the top of the repository:
 # bench/crates.sh. It needs cargo, valgrind, what tests/rust.sh installs, and librust-retry-dev of Debian. Instructions don't
 # depend on what else the machine does. HIKEBOX_LIB_DIR names the library's folder, dist/ where it does not.
 set -euo pipefail
@@ -18,8 +18,9 @@ of() {
 
 machine
 for case in hikebox backoff tower hikebox-in-tower; do
-  success=$(of "$case" 0)
-  failing=$(of "$case" 10)
-  awk -v c="$case" -v s="$success" -v f="$failing" \
-    'BEGIN { printf "%s: a success %.0f instructions, a granted retry %.0f\n", c, s, (f - s) / 10 }'
+  awk -v c="$case" -v none="$(of "$case" 0)" -v one="$(of "$case" 1)" -v ten="$(of "$case" 10)" -v twenty="$(of "$case" 20)" '
+    BEGIN {
+      printf "%s: a success %.0f instructions, the first failure %.0f, a granted retry after ten others %.0f\n",
+        c, none, one - none, (twenty - ten) / 10
+    }'
 done

@@ -24,7 +24,7 @@ static void read_plan(const char *name, hikebox_policy *policy) {
     const char *json = "{\"spaced\":1}";
     if (strcmp(name, "pair") == 0) json = "{\"meet\":[{\"recurs\":4611686018427387903},{\"spaced\":1}]}";
     hikebox_place place;
-    check(hikebox_policy_read((const uint8_t *)json, strlen(json), policy, &place));
+    check(hikebox_policy_read(json, strlen(json), policy, &place));
 }
 
 static uint64_t draw(uint64_t draws) {

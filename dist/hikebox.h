@@ -62,6 +62,9 @@ extern "C" {
 #define HIKEBOX_CHECKED
 #endif
 
+/* The version of this header, and, of the library that is linked or loaded, hikebox_version(). */
+#define HIKEBOX_VERSION "1.0.0"
+
 /* The last moment, the longest duration and the greatest code: 2^62 - 1. */
 #define HIKEBOX_FAR UINT64_C(4611686018427387903)
 
@@ -141,6 +144,13 @@ enum {
     HIKEBOX_DRAWS_ELSEWHERE = 42
 };
 
+/* What a status says, in a few words, as "there is no ticket"; of a number that is no status "no such status". The text ends
+ * in a zero byte and is there as long as the library is. */
+const char *hikebox_status_text(hikebox_status status);
+
+/* The version of the library that was linked or loaded, as HIKEBOX_VERSION has that of this header. */
+const char *hikebox_version(void);
+
 /* The handles. */
 typedef struct { void *held; } hikebox_policy;
 typedef struct { void *held; } hikebox_driver;
@@ -165,7 +175,7 @@ typedef struct {
  * it is 0, 0. HIKEBOX_FULL; HIKEBOX_NOT_JSON; of the value HIKEBOX_NOT_A_POLICY, _OUT_OF_RANGE, _TOO_DEEP,
  * _TOO_MANY, the first fault as `zsched plan` finds it; HIKEBOX_NO_MEMORY, at any point.
  */
-HIKEBOX_CHECKED hikebox_status hikebox_policy_read(const uint8_t *json, size_t length, hikebox_policy *policy,
+HIKEBOX_CHECKED hikebox_status hikebox_policy_read(const char *json, size_t length, hikebox_policy *policy,
                                                    hikebox_place *place);
 
 /*
@@ -176,16 +186,19 @@ HIKEBOX_CHECKED hikebox_status hikebox_policy_read(const uint8_t *json, size_t l
  * after them, are written to `text`, which has room for `capacity`, and their number to `length`. HIKEBOX_NO_MEMORY;
  * _NO_ROOM, and then `length` is the room that is needed.
  */
-HIKEBOX_CHECKED hikebox_status hikebox_policy_fault(const uint8_t *json, size_t json_length, uint8_t *text,
+HIKEBOX_CHECKED hikebox_status hikebox_policy_fault(const char *json, size_t json_length, char *text,
                                                     size_t capacity, size_t *length);
 
-/* Puts an equal policy into `copy`. HIKEBOX_FULL; _EMPTY; _WRONG_KIND; _NO_MEMORY. */
-HIKEBOX_CHECKED hikebox_status hikebox_policy_copy(hikebox_policy *policy, hikebox_policy *copy);
+/*
+ * Puts the same policy into `other`, as for another thread: both handles have it, and it is not copied. A policy never
+ * changes. It lives as long as a handle, a driver or a retry that has it. HIKEBOX_FULL; _EMPTY; _WRONG_KIND; _NO_MEMORY.
+ */
+HIKEBOX_CHECKED hikebox_status hikebox_policy_share(hikebox_policy *policy, hikebox_policy *other);
 
 /* How many nodes the policy has, at most 256, and how deep it is, at most 32. HIKEBOX_EMPTY; _WRONG_KIND. */
 HIKEBOX_CHECKED hikebox_status hikebox_policy_size(hikebox_policy *policy, uint64_t *nodes, uint64_t *depth);
 
-/* Frees the policy. HIKEBOX_EMPTY; _WRONG_KIND. */
+/* Frees the handle's share of the policy. HIKEBOX_EMPTY; _WRONG_KIND. */
 hikebox_status hikebox_policy_free(hikebox_policy *policy);
 
 /* ---- Drivers ----------------------------------------------------------------------------------------------------- */
@@ -198,8 +211,8 @@ typedef struct {
     bool goes_on;
 } hikebox_decision;
 
-/* Puts a driver of the policy, before its first event, into `driver`; the policy stays. HIKEBOX_FULL; _EMPTY;
- * _WRONG_KIND; _NO_MEMORY. */
+/* Puts a driver of the policy, before its first event, into `driver`; the policy stays, and is not copied. HIKEBOX_FULL;
+ * _EMPTY; _WRONG_KIND; _NO_MEMORY. */
 HIKEBOX_CHECKED hikebox_status hikebox_driver_new(hikebox_policy *policy, hikebox_driver *driver);
 
 /*
@@ -223,7 +236,7 @@ HIKEBOX_CHECKED hikebox_status hikebox_driver_last_number(hikebox_driver *driver
  * number to `length`. HIKEBOX_EMPTY; _WRONG_KIND; _NO_OUTPUT; _NO_MEMORY; _NO_ROOM, and then `length` is the
  * room that is needed.
  */
-HIKEBOX_CHECKED hikebox_status hikebox_driver_last_text(hikebox_driver *driver, uint8_t *text, size_t capacity,
+HIKEBOX_CHECKED hikebox_status hikebox_driver_last_text(hikebox_driver *driver, char *text, size_t capacity,
                                                         size_t *length);
 
 /* How many events came since the driver was made, or since it was reset. HIKEBOX_EMPTY; _WRONG_KIND. */
@@ -310,9 +323,10 @@ hikebox_status hikebox_pass_free(hikebox_pass *pass);
  * never more than HIKEBOX_MOST_TICKETS. What a window has left is lost with it. The program counts each request once,
  * before its first run, by hikebox_quota_deposit. It holds the quota by its passes, as it does a budget.
  *
- * A deposit, a draw and a look open the window of their moment for all passes, at most 3600 past the latest one. From
- * then on it is the latest: a call with an earlier moment is of the latest window. The last window is the one with the
- * number 2999999999, and does not end.
+ * A deposit, a draw and a look open the window of their moment for all passes, at most 3600 past the latest one; but
+ * wherever it is, as long as no request was counted and no window opened but the first. From then on it is the latest:
+ * a call with an earlier moment is of the latest window. The last window is the one with the number 2999999999, and
+ * each later moment is in it.
  */
 
 /* What is known of a window of a quota. */
@@ -341,8 +355,8 @@ HIKEBOX_CHECKED hikebox_status hikebox_quota_deposit(hikebox_quota *quota, uint6
 /*
  * Draws a ticket of the window of `now`, or of the latest one where that is later, and writes its number, which no
  * other draw of the quota got; the number divided by 2^32 is that of the window. HIKEBOX_TOO_LARGE; _EMPTY;
- * _WRONG_KIND; _NO_TICKET: the window has given out as many as its requests allow, or 64 other draws came first. The
- * pass may draw again: with more requests and in later windows there are more tickets.
+ * _WRONG_KIND; _NO_TICKET: the window has given out as many as its requests allow, or 64 other draws came first in this
+ * call. The pass may draw again: with more requests and in later windows there are more tickets.
  */
 HIKEBOX_CHECKED hikebox_status hikebox_quota_draw(hikebox_quota *quota, uint64_t now, uint64_t *ticket);
 
@@ -408,9 +422,8 @@ enum {
     HIKEBOX_ENDED_REFUSED = 3,
     /* It was cancelled. */
     HIKEBOX_ENDED_CANCELLED = 4,
-    /* It could not go on: there was no memory, the journal is full, or the clock went back. */
+    /* It could not go on: there was no memory, or the clock went back. */
     HIKEBOX_ENDED_NO_MEMORY = 5,
-    HIKEBOX_ENDED_JOURNAL_FULL = 6,
     HIKEBOX_ENDED_BACKWARDS = 7
 };
 
@@ -425,14 +438,15 @@ typedef struct {
     /* How many retries it was granted: tickets drawn of the budget or of the quota, or counted where it draws on
      * nothing. */
     uint64_t granted;
-    /* How many runs were reported. */
+    /* How many runs were reported; UINT64_MAX where there were more. */
     uint64_t runs;
 } hikebox_next;
 
 /*
- * Puts a retry into `retry`, which has not begun. It has a copy of the policy, and a pass of its own, which is split
- * off `pass`; both handles stay as they are. HIKEBOX_FULL; _EMPTY, of either; _WRONG_KIND, of the policy; _NO_MEMORY;
- * _WRONG_KIND, of the pass; _TOO_MANY_PASSES.
+ * Puts a retry into `retry`, which has not begun. It has the policy, which is not copied, and a pass of its own, which is
+ * split off `pass`; both handles stay as they are. It keeps none of its runs: there may be any number of failures, and it
+ * takes no more memory for them (save where an output of the policy grows, as that of `gather`). HIKEBOX_FULL; _EMPTY, of
+ * either; _WRONG_KIND, of the policy; _NO_MEMORY; _WRONG_KIND, of the pass; _TOO_MANY_PASSES.
  */
 HIKEBOX_CHECKED hikebox_status hikebox_retry_new(hikebox_policy *policy, hikebox_pass *pass, hikebox_retry *retry);
 
@@ -462,15 +476,6 @@ HIKEBOX_CHECKED hikebox_status hikebox_retry_poll(hikebox_retry *retry, uint64_t
 
 /* What to do next, without a step. HIKEBOX_EMPTY; _WRONG_KIND. */
 HIKEBOX_CHECKED hikebox_status hikebox_retry_see(hikebox_retry *retry, hikebox_next *next);
-
-/*
- * How many events the journal of the retry has: one for each failure with which its policy was stepped, with the moment,
- * the words and the code of that poll. HIKEBOX_EMPTY; _WRONG_KIND.
- */
-HIKEBOX_CHECKED hikebox_status hikebox_retry_events(hikebox_retry *retry, uint64_t *events);
-
-/* The event of this number, counted from 0, of those. HIKEBOX_EMPTY; _WRONG_KIND; _NO_EVENT; _NOT_A_NUMBER, as above. */
-HIKEBOX_CHECKED hikebox_status hikebox_retry_event(hikebox_retry *retry, uint64_t index, hikebox_event *event);
 
 /* Ends a retry that is not over as HIKEBOX_ENDED_CANCELLED, whatever run is under way. HIKEBOX_EMPTY; _WRONG_KIND. */
 hikebox_status hikebox_retry_cancel(hikebox_retry *retry);

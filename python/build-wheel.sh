@@ -29,7 +29,7 @@ HIKEBOX_PLATFORM=manylinux_2_$(least_glibc)_x86_64
 export HIKEBOX_PLATFORM
 
 mkdir "$work/python" "$work/out"
-cp "$here/pyproject.toml" "$here/setup.cfg" "$here/setup.py" "$here/README.md" "$work/python/"
+cp "$here/pyproject.toml" "$here/setup.cfg" "$here/setup.py" "$here/README.md" "$here/LICENSE" "$work/python/"
 (cd "$here" && find src -name '*.py' -o -name py.typed) | while IFS= read -r file; do
   install -D -m 644 "$here/$file" "$work/python/$file"
 done

@@ -1,9 +1,6 @@
 #!/usr/bin/env python3
-"""Compares what rust/src/engine.rs declares of the C library with include/hikebox.h.
-
-Each function of its `extern` block has the header's parameters, by type and in order, and the header's result; each
-of its constants has the header's number, and each struct that crosses the border the header's fields. What Rust would
-have to say is made from the header, and printed where it differs.
+"""Compares the constants and structs of rust/src/engine.rs with include/hikebox.h: each constant has the header's number,
+and each struct that crosses the border the header's fields. Its functions are made from the header by bin/bindings.
 """
 
 import pathlib
@@ -11,7 +8,7 @@ import re
 import sys
 
 TOP = pathlib.Path(__file__).resolve().parent.parent
-NUMBERS = {"uint64_t": "u64", "uint32_t": "u32", "uint8_t": "u8", "size_t": "usize", "bool": "bool",
+NUMBERS = {"uint64_t": "u64", "uint32_t": "u32", "uint8_t": "u8", "char": "u8", "size_t": "usize", "bool": "bool",
            "hikebox_status": "u32"}
 #: The structs of the header, and what Rust calls them.
 STRUCTS = {"place": "Place", "decision": "Decision", "next": "Next", "usage": "Used"}
@@ -34,12 +31,6 @@ def rust_type(declared):
     return f"*{'const' if const else 'mut'} {named}" if stars else named
 
 
-def functions_of_header(header):
-    """The parameters' types in Rust, by function."""
-    found = re.findall(r"hikebox_status (hikebox_\w+)\(([^)]*)\);", header)
-    return {name: [rust_type(" ".join(one.split())) for one in parameters.split(",")] for name, parameters in found}
-
-
 def constants_of_header(header):
     """The numbers of the enums and of the limits."""
     enums = re.findall(r"\b(HIKEBOX_\w+) = (\d+)", header)
@@ -55,17 +46,6 @@ def structs_of_header(header):
         if name in STRUCTS:
             fields[STRUCTS[name]] = [(one.split()[-1], rust_type(one)) for one in declared]
     return fields
-
-
-def functions_of_rust(source):
-    """The parameters' types, by function of the `extern` block; what is no status as its result is named."""
-    block = re.search(r'extern "C" \{(.*?)\n\}', source, flags=re.S)[1]
-    found = re.findall(r"fn (\w+)\(([^)]*)\) -> ([^;]*);", block)
-    wrong = [name for name, _, result in found if result != "u32"]
-    if wrong or len(found) != block.count("fn "):
-        sys.exit(f"rust/src/engine.rs: no function that answers a status: {wrong}")
-    return {name: [one.split(":", 1)[1].strip() for one in parameters.split(",") if one.strip()]
-            for name, parameters, _ in found}
 
 
 def constants_of_rust(source):
@@ -86,7 +66,6 @@ def main():
     source = without_comments((TOP / "rust/src/engine.rs").read_text())
     differences, compared = [], 0
     for what, wanted, found in [
-        ("function", functions_of_header(header), functions_of_rust(source)),
         ("constant", constants_of_header(header), constants_of_rust(source)),
         ("struct", structs_of_header(header), structs_of_rust(source)),
     ]:

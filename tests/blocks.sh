@@ -1,7 +1,7 @@
 #!/usr/bin/env bash
 # Looks up each block of Rust and of antt in README.md and docs/ in the crates: its lines have to stand, one below the
 # other and whatever their indentation, in one file of a crate that crates.txt lists, so that the gate proves them, or in
-# rust/README.md, whose block tests/rust.sh runs, as it does those of docs/RUST.md and docs/FROM-TOWER.md.
+# rust/README.md, whose block tests/rust.sh runs, as it does those of docs/RUST.md, docs/FROM-TOWER.md and docs/FROM-BACKOFF.md.
 set -euo pipefail
 top=$(cd "$(dirname "${BASH_SOURCE[0]}")/.." && pwd)
 cd "$top"
@@ -12,7 +12,7 @@ for crate in $crates; do
 done
 pages=()
 for page in docs/*.md; do
-  case $page in docs/RUST.md | docs/FROM-TOWER.md) ;; *) pages+=("$page") ;; esac
+  case $page in docs/RUST.md | docs/FROM-TOWER.md | docs/FROM-BACKOFF.md) ;; *) pages+=("$page") ;; esac
 done
 awk '
   function bare(line) { sub(/^[ \t]+/, "", line); sub(/[ \t]+$/, "", line); return line "\n" }

@@ -15,8 +15,8 @@ tried=0
 # The copy, whose dist/ is of its sources.
 copy() {
   mkdir "$tree"
-  (cd "$top" && tar -cf - --exclude=out --exclude=__pycache__ bin crates crates.txt HANDLES docs include python plans tests \
-    rust/Cargo.toml rust/README.md README.md) | tar -xf - -C "$tree"
+  (cd "$top" && tar -cf - --exclude=out --exclude=__pycache__ bin c crates crates.txt HANDLES docs include python plans tests \
+    rust/Cargo.toml rust/README.md rust/src/engine.rs README.md LICENSE VERSION) | tar -xf - -C "$tree"
   mkdir "$tree/dist"
   cp "${zsched:-$top/dist/zsched}" "$tree/dist/zsched"
   : >"$tree/dist/libhikebox.so"
@@ -55,6 +55,24 @@ append() { sed -i '$a\
 // more' "$1"; }
 replace() { sed -i "$1" "$2"; }
 
+# What bin/bindings makes of a header in which a parameter is another one, and of a text that is.
+bindings() {
+  local changed=$work/bindings
+  wants 0 "bin/bindings: $(grep -c "^HIKEBOX_CHECKED hikebox_status \|^hikebox_status hikebox_" include/hikebox.h) calls of the header" '' bin/bindings --check
+  cp -a "$tree" "$changed"
+  sed -i 's/hikebox_pass_raise(hikebox_pass \*pass, uint64_t to,/hikebox_pass_raise(hikebox_pass *pass, uint32_t to,/' "$changed/include/hikebox.h"
+  sed -i 's/there is no ticket/no ticket is left/' "$changed"/crates/*/src/status.rt
+  wants 1 '' 'bin/bindings: rust/src/engine.rs is not what the header says: run bin/bindings
+bin/bindings: python/src/hikebox/_engine.py is not what the header says: run bin/bindings
+bin/bindings: c/texts.c is not what the header says: run bin/bindings' "$changed/bin/bindings" --check
+  "$changed/bin/bindings" >/dev/null
+  wants 0 "bin/bindings: $(grep -c "^HIKEBOX_CHECKED hikebox_status \|^hikebox_status hikebox_" include/hikebox.h) calls of the header" '' "$changed/bin/bindings" --check
+  wants 0 '    fn hikebox_pass_raise(pass: *mut Raw, to: u32, limit: *mut u64) -> u32;' '' \
+    grep 'fn hikebox_pass_raise' "$changed/rust/src/engine.rs"
+  wants 0 '    "hikebox_pass_raise": (_HANDLE, c_uint32, _NUMBER),' '' grep '"hikebox_pass_raise":' "$changed/python/src/hikebox/_engine.py"
+  rm -rf "$changed"
+}
+
 # Which files of dist/ a change makes old.
 changes() {
   local library=$'libhikebox.a\nlibhikebox.so\nhikebox.whl'
@@ -62,6 +80,7 @@ changes() {
   makes_old 'hikebox.whl' append python/src/hikebox/retrying.py
   makes_old 'hikebox.whl' append python/setup.cfg
   makes_old 'hikebox.h' append include/hikebox.h
+  makes_old "$library" append c/texts.c
   makes_old 'zsched' append crates/sched_cli/src/lib.rt
   makes_old 'zsched' rm crates/sched_cli/src/lib.rt
   makes_old "$library" append crates/hikebox_c/src/lib.rt
@@ -251,6 +270,7 @@ runs_tests() {
 
 copy
 changes
+bindings
 runs_zsched
 builds_zsched
 costs_little

@@ -8,8 +8,8 @@ import sys
 TOP = pathlib.Path(__file__).resolve().parent.parent
 RATTLE = {
     "&mut Handle": ["handle *"],
-    "&[u8]": ["const uint8_t *", "size_t"],
-    "&mut [u8]": ["uint8_t *", "size_t"],
+    "&[u8]": ["const char *", "size_t"],
+    "&mut [u8]": ["char *", "size_t"],
     "&[u32; 4]": ["const uint32_t *"],
     "&mut u64": ["uint64_t *"],
     "&mut usize": ["size_t *"],

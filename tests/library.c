@@ -7,7 +7,9 @@
 //   quotas                            quotas: windows, their borders and passes, and retries on a quota and on nothing
 //   fault                             says what is wrong with the policy on standard input, as `zsched check` does
 //   faults                            texts that are no policy, each with its fault, its place and what is wanted there
-//   journals                          the events of a driver and of a retry
+//   journals                          the events of a driver
+//   lasting                           a retry past 65,536 failures, a journal that is full, and handles of one policy
+//   shares                            threads retry by one policy, each with a share of it, and free it
 //   draw THREADS TICKETS              threads draw all tickets of a budget, and each is drawn once
 //   calls                             each call at least once; one that is refused for want of memory is made again
 #include <hikebox.h>
@@ -15,6 +17,7 @@
 #include <stdio.h>
 #include <stdlib.h>
 #include <string.h>
+#include <sys/resource.h>
 
 static int wrong;
 static char input[1 << 20];
@@ -37,11 +40,11 @@ static void holds_at(int line, bool holds) {
 
 static hikebox_status read_policy(const char *json, hikebox_policy *policy) {
     hikebox_place place;
-    return hikebox_policy_read((const uint8_t *)json, strlen(json), policy, &place);
+    return hikebox_policy_read(json, strlen(json), policy, &place);
 }
 
-static hikebox_status say_fault(const char *json, uint8_t *text, size_t capacity, size_t *length) {
-    return hikebox_policy_fault((const uint8_t *)json, strlen(json), text, capacity, length);
+static hikebox_status say_fault(const char *json, char *text, size_t capacity, size_t *length) {
+    return hikebox_policy_fault(json, strlen(json), text, capacity, length);
 }
 
 static bool is_event(const hikebox_event *event, uint64_t now, uint64_t input, uint32_t word) {
@@ -59,7 +62,7 @@ static uint64_t plus(uint64_t moment, uint64_t delay) {
 }
 
 static int plan(char **words) {
-    static uint8_t text[1 << 20];
+    static char text[1 << 20];
     uint64_t steps = strtoull(words[0], 0, 10), now = strtoull(words[1], 0, 10), took = strtoull(words[2], 0, 10);
     uint64_t given = strtoull(words[3], 0, 10);
     uint32_t word = (uint32_t)strtoull(words[4], 0, 10), lanes[4] = {word, word, word, word};
@@ -74,7 +77,7 @@ static int plan(char **words) {
     for (uint64_t step = 0; step < steps && decision.goes_on; step++) {
         wants(hikebox_driver_next(&driver, now, lanes, given, &decision), HIKEBOX_OK);
         wants(hikebox_driver_last_text(&driver, text, sizeof text, &length), HIKEBOX_OK);
-        printf("%llu: %.*s", (unsigned long long)now, (int)length, (char *)text);
+        printf("%llu: %.*s", (unsigned long long)now, (int)length, text);
         if (decision.goes_on) printf(" next %llu\n", (unsigned long long)decision.start);
         else printf(" done\n");
         now = plus(decision.start, took);
@@ -120,11 +123,11 @@ static int retry(char **words, int count) {
 }
 
 static int fault(void) {
-    static uint8_t text[1 << 20];
+    static char text[1 << 20];
     size_t length;
     read_input();
     wants(say_fault(input, text, sizeof text, &length), HIKEBOX_OK);
-    printf("%.*s\n", (int)length, (char *)text);
+    printf("%.*s\n", (int)length, text);
     return wrong;
 }
 
@@ -132,7 +135,7 @@ static int fault(void) {
 static int faults(void) {
     static const char *const table[][2] = {
         {"{\"recurs\":3}", ""},
-        {"", "not JSON: line 1, column 0"},
+        {"", "not JSON: line 1, column 1"},
         {"[\n{\"plan\":]", "not JSON: line 2, column 9"},
         {"[]", "top: a plan is a string or an object of one member"},
         {"{\"fixed\":0}", "top: \"fixed\" is spelt {\"fixed\":D}, D from 1 to 4611686018427387903"},
@@ -141,7 +144,7 @@ static int faults(void) {
         {"{\"first\":{\"join\":[{\"lone\":-1},7]}}",
          "first.join[0]: \"lone\" is spelt {\"lone\":D}, D from 0 to 4611686018427387903"},
     };
-    uint8_t text[128];
+    char text[128];
     size_t length;
     for (size_t at = 0; at < sizeof table / sizeof *table; at++) {
         size_t wanted = strlen(table[at][1]);
@@ -159,12 +162,8 @@ static int faults(void) {
 static int journals(void) {
     hikebox_policy policy = HIKEBOX_INIT;
     hikebox_driver driver = HIKEBOX_INIT;
-    hikebox_pass pass = HIKEBOX_INIT;
-    hikebox_retry machine = HIKEBOX_INIT;
     hikebox_decision decision;
-    hikebox_next next;
     hikebox_event event = {1, 2, {3, 4, 5, 6}};
-    uint64_t count;
     static const uint32_t first[4] = {10, 11, 12, 13}, second[4] = {20, 21, 22, 23}, third[4] = {30, 31, 32, 33};
     wants(read_policy("{\"meet\":[{\"recurs\":2},{\"spaced\":100}]}", &policy), HIKEBOX_OK);
     wants(hikebox_driver_new(&policy, &driver), HIKEBOX_OK);
@@ -181,31 +180,103 @@ static int journals(void) {
     holds(is_event(&event, 5, HIKEBOX_FAR, 20));
     wants(hikebox_driver_reset(&driver), HIKEBOX_OK);
     wants(hikebox_driver_event(&driver, 0, &event), HIKEBOX_NO_EVENT);
-    // Two failures step the policy of a retry; the success that follows does not, nor does a poll without a report.
-    wants(hikebox_budget_fixed(9, &pass), HIKEBOX_OK);
-    wants(hikebox_retry_new(&policy, &pass, &machine), HIKEBOX_OK);
-    wants(hikebox_retry_events(&machine, &count), HIKEBOX_OK);
-    holds(count == 0);
-    wants(hikebox_retry_poll(&machine, 0, no_words, HIKEBOX_NO_REPORT, 0, &next), HIKEBOX_OK);
-    wants(hikebox_retry_event(&machine, 0, &event), HIKEBOX_NO_EVENT);
-    wants(hikebox_retry_poll(&machine, 10, first, HIKEBOX_LOST, 503, &next), HIKEBOX_OK);
-    wants(hikebox_retry_poll(&machine, 110, no_words, HIKEBOX_NO_REPORT, 0, &next), HIKEBOX_OK);
-    wants(hikebox_retry_poll(&machine, 115, second, HIKEBOX_LOST, 504, &next), HIKEBOX_OK);
-    wants(hikebox_retry_poll(&machine, 215, no_words, HIKEBOX_NO_REPORT, 0, &next), HIKEBOX_OK);
-    wants(hikebox_retry_poll(&machine, 216, third, HIKEBOX_WON, 200, &next), HIKEBOX_OK);
-    holds(next.what == HIKEBOX_OVER && next.runs == 3);
-    wants(hikebox_retry_events(&machine, &count), HIKEBOX_OK);
-    holds(count == 2);
-    wants(hikebox_retry_event(&machine, 0, &event), HIKEBOX_OK);
-    holds(is_event(&event, 10, 503, 10));
-    wants(hikebox_retry_event(&machine, 1, &event), HIKEBOX_OK);
-    holds(is_event(&event, 115, 504, 20));
-    wants(hikebox_retry_event(&machine, 2, &event), HIKEBOX_NO_EVENT);
-    holds(is_event(&event, 115, 504, 20));
-    wants(hikebox_retry_free(&machine), HIKEBOX_OK);
-    wants(hikebox_pass_free(&pass), HIKEBOX_OK);
     wants(hikebox_driver_free(&driver), HIKEBOX_OK);
     wants(hikebox_policy_free(&policy), HIKEBOX_OK);
+    return wrong;
+}
+
+// The greatest size that the program had in memory, in bytes.
+static uint64_t most_memory(void) {
+    struct rusage used;
+    getrusage(RUSAGE_SELF, &used);
+    return (uint64_t)used.ru_maxrss * 1024;
+}
+
+// A retry keeps none of its failures, and has no last one.
+static void past_the_journal(void) {
+    hikebox_policy policy = HIKEBOX_INIT;
+    hikebox_pass pass = HIKEBOX_INIT;
+    hikebox_retry machine = HIKEBOX_INIT, other = HIKEBOX_INIT;
+    hikebox_next next;
+    uint64_t number, before = 0;
+    wants(read_policy("\"forever\"", &policy), HIKEBOX_OK);
+    wants(hikebox_budget_fixed(100000, &pass), HIKEBOX_OK);
+    wants(hikebox_retry_new(&policy, &pass, &machine), HIKEBOX_OK);
+    wants(hikebox_retry_unlimited(&policy, &other), HIKEBOX_OK);
+    wants(hikebox_policy_free(&policy), HIKEBOX_OK);
+    wants(hikebox_retry_poll(&machine, 0, no_words, HIKEBOX_NO_REPORT, 0, &next), HIKEBOX_OK);
+    wants(hikebox_retry_poll(&other, 0, no_words, HIKEBOX_NO_REPORT, 0, &next), HIKEBOX_OK);
+    for (uint64_t failure = 1; failure <= 70000; failure++) {
+        if (failure == 1000) before = most_memory();
+        wants(hikebox_retry_poll(&other, failure, no_words, HIKEBOX_LOST, 7, &next), HIKEBOX_OK);
+        holds(next.what == HIKEBOX_RUN && next.granted == failure && next.runs == failure);
+        wants(hikebox_retry_poll(&machine, failure, no_words, HIKEBOX_LOST, 7, &next), HIKEBOX_OK);
+        holds(next.what == HIKEBOX_RUN && next.granted == failure && next.runs == failure);
+    }
+    holds(most_memory() - before < 1 << 20);
+    wants(hikebox_retry_poll(&machine, 70000, no_words, HIKEBOX_WON, 200, &next), HIKEBOX_OK);
+    holds(next.what == HIKEBOX_OVER && next.how == HIKEBOX_ENDED_WON && next.runs == 70001 && next.granted == 70000);
+    wants(hikebox_retry_end(&machine, &pass), HIKEBOX_OK);
+    wants(hikebox_pass_close(&pass, &number), HIKEBOX_OK);
+    holds(number == 70000);
+    wants(hikebox_retry_free(&other), HIKEBOX_OK);
+}
+
+// A driver keeps its events, and says where it has no room.
+static void full_journal(void) {
+    hikebox_policy policy = HIKEBOX_INIT;
+    hikebox_driver driver = HIKEBOX_INIT;
+    hikebox_decision decision;
+    uint64_t number;
+    wants(read_policy("\"forever\"", &policy), HIKEBOX_OK);
+    wants(hikebox_driver_new(&policy, &driver), HIKEBOX_OK);
+    for (uint64_t now = 0; now < HIKEBOX_MOST_EVENTS; now++)
+        wants(hikebox_driver_next(&driver, now, no_words, 7, &decision), HIKEBOX_OK);
+    wants(hikebox_driver_next(&driver, HIKEBOX_MOST_EVENTS, no_words, 7, &decision), HIKEBOX_JOURNAL_FULL);
+    wants(hikebox_driver_events(&driver, &number), HIKEBOX_OK);
+    holds(number == 65536);
+    wants(hikebox_driver_free(&driver), HIKEBOX_OK);
+    wants(hikebox_policy_free(&policy), HIKEBOX_OK);
+}
+
+// 10,000 handles have one policy of 256 nodes: it is copied for none of them, and lives as long as one.
+static void one_policy(void) {
+    enum { HANDLES = 10000 };
+    static hikebox_policy shares[HANDLES];
+    static char text[8192];
+    hikebox_policy policy = HIKEBOX_INIT;
+    hikebox_driver driver = HIKEBOX_INIT;
+    hikebox_decision decision;
+    uint64_t nodes, depth, before;
+    // 128 leaves that meet by pairs, seven levels deep, with 127 meets and one `first` over all.
+    strcpy(text, "{\"recurs\":2}");
+    for (int level = 0; level < 7; level++) {
+        static char half[8192];
+        strcpy(half, text);
+        snprintf(text, sizeof text, "{\"meet\":[%.4000s,%.4000s]}", half, half);
+    }
+    memmove(text + 9, text, strlen(text) + 1);
+    memcpy(text, "{\"first\":", 9);
+    strcat(text, "}");
+    wants(read_policy(text, &policy), HIKEBOX_OK);
+    before = most_memory();
+    for (int at = 0; at < HANDLES; at++) wants(hikebox_policy_share(&policy, &shares[at]), HIKEBOX_OK);
+    holds(most_memory() - before < 16 << 20);
+    wants(hikebox_policy_free(&policy), HIKEBOX_OK);
+    for (int at = 0; at + 1 < HANDLES; at++) wants(hikebox_policy_free(&shares[at]), HIKEBOX_OK);
+    wants(hikebox_policy_size(&shares[HANDLES - 1], &nodes, &depth), HIKEBOX_OK);
+    holds(nodes == 256 && depth == 9);
+    wants(hikebox_driver_new(&shares[HANDLES - 1], &driver), HIKEBOX_OK);
+    wants(hikebox_policy_free(&shares[HANDLES - 1]), HIKEBOX_OK);
+    wants(hikebox_driver_next(&driver, 5, no_words, 0, &decision), HIKEBOX_OK);
+    holds(decision.goes_on && decision.start == 5);
+    wants(hikebox_driver_free(&driver), HIKEBOX_OK);
+}
+
+static int lasting(void) {
+    one_policy();
+    past_the_journal();
+    full_journal();
     return wrong;
 }
 
@@ -223,12 +294,12 @@ static int handles(void) {
     hikebox_event event = {1, 2, {3, 4, 5, 6}};
     uint64_t number = 77, other = 78;
     size_t length = 79;
-    uint8_t text[8] = "unread";
+    char text[8] = "unread";
     wants(read_policy("{\"recurs\":2}", &policy), HIKEBOX_OK);
     wants(hikebox_driver_new(&policy, &driver), HIKEBOX_OK);
     wants(hikebox_budget_rising(3, &pass), HIKEBOX_OK);
     wants(hikebox_retry_new(&policy, &pass, &machine), HIKEBOX_OK);
-    wants(hikebox_policy_copy(&policy, &other_policy), HIKEBOX_OK);
+    wants(hikebox_policy_share(&policy, &other_policy), HIKEBOX_OK);
     wants(hikebox_pass_split(&pass, &other_pass), HIKEBOX_OK);
     wants(hikebox_retry_new(&policy, &other_pass, &other_machine), HIKEBOX_OK);
     wants(hikebox_quota_new(1, 0, 10, &quota), HIKEBOX_OK);
@@ -241,7 +312,7 @@ static int handles(void) {
         hikebox_status refused = kind == NOTHING ? HIKEBOX_EMPTY : HIKEBOX_WRONG_KIND;
         hikebox_policy spare = HIKEBOX_INIT;
         if (kind != POLICY) {
-            wants(hikebox_policy_copy(handle, &spare), refused);
+            wants(hikebox_policy_share(handle, &spare), refused);
             wants(hikebox_policy_size(handle, &number, &other), refused);
             wants(hikebox_driver_new(handle, (hikebox_driver *)&spare), refused);
             wants(hikebox_retry_new(handle, &other_pass, (hikebox_retry *)&spare), refused);
@@ -287,8 +358,6 @@ static int handles(void) {
         if (kind != RETRY) {
             wants(hikebox_retry_poll(handle, 0, no_words, HIKEBOX_NO_REPORT, 0, &next), refused);
             wants(hikebox_retry_see(handle, &next), refused);
-            wants(hikebox_retry_events(handle, &number), refused);
-            wants(hikebox_retry_event(handle, 0, &event), refused);
             wants(hikebox_retry_cancel(handle), refused);
             wants(hikebox_retry_end(handle, &other_pass), refused);
             wants(hikebox_retry_end_on_quota(handle, &other_quota), refused);
@@ -297,8 +366,8 @@ static int handles(void) {
         holds(spare.held == NULL);
         if (kind == NOTHING) continue;
         // A handle that holds something, of whatever kind, is not filled.
-        wants(hikebox_policy_read((const uint8_t *)"[", 1, handle, &place), HIKEBOX_FULL);
-        wants(hikebox_policy_copy(&other_policy, handle), HIKEBOX_FULL);
+        wants(hikebox_policy_read("[", 1, handle, &place), HIKEBOX_FULL);
+        wants(hikebox_policy_share(&other_policy, handle), HIKEBOX_FULL);
         wants(hikebox_driver_new(&other_policy, handle), HIKEBOX_FULL);
         wants(hikebox_budget_fixed(1, handle), HIKEBOX_FULL);
         wants(hikebox_budget_rising(1, handle), HIKEBOX_FULL);
@@ -317,7 +386,7 @@ static int handles(void) {
     wants(hikebox_policy_free(&other_policy), HIKEBOX_OK);
     // Nothing was lost and no result was written.
     holds(number == 77 && other == 78 && length == 79 && decision.start == 5 && next.what == 9 && next.granted == 9);
-    holds(strcmp((char *)text, "unread") == 0 && usage.window == 6 && usage.left == 6);
+    holds(strcmp(text, "unread") == 0 && usage.window == 6 && usage.left == 6);
     holds(is_event(&event, 1, 2, 3));
     wants(hikebox_quota_close(&quota, &number), HIKEBOX_OK);
     holds(number == 0);
@@ -355,9 +424,9 @@ static int handles(void) {
     wants(hikebox_driver_last_number(&driver, &number), HIKEBOX_OK);
     holds(number == 0 && decision.goes_on && decision.start == 5);
     wants(hikebox_driver_last_text(&driver, text, 0, &length), HIKEBOX_NO_ROOM);
-    holds(length == 1 && strcmp((char *)text, "unread") == 0);
+    holds(length == 1 && strcmp(text, "unread") == 0);
     wants(hikebox_driver_last_text(&driver, text, 1, &length), HIKEBOX_OK);
-    holds(length == 1 && strcmp((char *)text, "0nread") == 0);
+    holds(length == 1 && strcmp(text, "0nread") == 0);
     wants(hikebox_driver_reset(&driver), HIKEBOX_OK);
     wants(hikebox_driver_next_start(&driver, &decision), HIKEBOX_OK);
     holds(!decision.goes_on && decision.start == 0);
@@ -395,9 +464,17 @@ static int handles(void) {
     wants(hikebox_policy_free(&policy), HIKEBOX_OK);
     wants(hikebox_policy_free(&policy), HIKEBOX_EMPTY);
     // What is no policy, and where it stops being JSON.
-    wants(hikebox_policy_read((const uint8_t *)"{\n \"recurs\" 2}", 14, &copy, &place), HIKEBOX_NOT_JSON);
+    wants(hikebox_policy_read("", 0, &copy, &place), HIKEBOX_NOT_JSON);
+    holds(place.line == 1 && place.column == 1);
+    wants(hikebox_policy_read("{\n", 2, &copy, &place), HIKEBOX_NOT_JSON);
+    holds(place.line == 2 && place.column == 1);
+    holds(strcmp(hikebox_version(), HIKEBOX_VERSION) == 0);
+    holds(strcmp(hikebox_status_text(HIKEBOX_NO_TICKET), "there is no ticket") == 0);
+    holds(strcmp(hikebox_status_text(HIKEBOX_OK), "done") == 0);
+    holds(strcmp(hikebox_status_text(7), "no such status") == 0);
+    wants(hikebox_policy_read("{\n \"recurs\" 2}", 14, &copy, &place), HIKEBOX_NOT_JSON);
     holds(place.line == 2 && place.column > 0);
-    wants(hikebox_policy_read((const uint8_t *)"\"\xff\"", 3, &copy, &place), HIKEBOX_NOT_JSON);
+    wants(hikebox_policy_read("\"\xff\"", 3, &copy, &place), HIKEBOX_NOT_JSON);
     wants(read_policy("{\"recurs\":true}", &copy), HIKEBOX_NOT_A_POLICY);
     wants(read_policy("{\"fixed\":0}", &copy), HIKEBOX_OUT_OF_RANGE);
     holds(copy.held == NULL);
@@ -667,6 +744,53 @@ static int quotas(void) {
     return wrong;
 }
 
+// What a thread has: a share of the policy, and a pass of the budget.
+struct worker {
+    hikebox_policy policy;
+    hikebox_pass pass;
+};
+
+// A hundred retries with two failures each, and as many more shares of the policy; then its own share is freed.
+static void *retry_by_share(void *given) {
+    struct worker *worker = given;
+    for (int times = 0; times < 100; times++) {
+        hikebox_policy second = HIKEBOX_INIT;
+        hikebox_retry machine = HIKEBOX_INIT;
+        hikebox_next next;
+        uint32_t report = HIKEBOX_NO_REPORT;
+        wants(hikebox_policy_share(&worker->policy, &second), HIKEBOX_OK);
+        wants(hikebox_retry_new(&second, &worker->pass, &machine), HIKEBOX_OK);
+        wants(hikebox_policy_free(&second), HIKEBOX_OK);
+        do {
+            wants(hikebox_retry_poll(&machine, 0, no_words, report, 7, &next), HIKEBOX_OK);
+            report = next.runs < 2 ? HIKEBOX_LOST : HIKEBOX_WON;
+        } while (next.what == HIKEBOX_RUN);
+        holds(next.what == HIKEBOX_OVER && next.how == HIKEBOX_ENDED_WON && next.runs == 3 && next.granted == 2);
+        wants(hikebox_retry_end(&machine, &worker->pass), HIKEBOX_OK);
+    }
+    wants(hikebox_policy_free(&worker->policy), HIKEBOX_OK);
+    return NULL;
+}
+
+static int shares(void) {
+    enum { THREADS = 8 };
+    static struct worker workers[THREADS];
+    pthread_t threads[THREADS];
+    uint64_t tickets = 0;
+    wants(read_policy("{\"recurs\":5}", &workers[0].policy), HIKEBOX_OK);
+    wants(hikebox_budget_fixed(100000, &workers[0].pass), HIKEBOX_OK);
+    for (int at = 1; at < THREADS; at++) {
+        wants(hikebox_policy_share(&workers[0].policy, &workers[at].policy), HIKEBOX_OK);
+        wants(hikebox_pass_split(&workers[0].pass, &workers[at].pass), HIKEBOX_OK);
+    }
+    for (int at = 0; at < THREADS; at++) pthread_create(&threads[at], NULL, retry_by_share, &workers[at]);
+    for (int at = 0; at < THREADS; at++) pthread_join(threads[at], NULL);
+    for (int at = 1; at < THREADS; at++) wants(hikebox_pass_join(&workers[0].pass, &workers[at].pass), HIKEBOX_OK);
+    wants(hikebox_pass_close(&workers[0].pass, &tickets), HIKEBOX_OK);
+    holds(tickets == 1600);
+    return wrong;
+}
+
 static uint8_t *drawn;
 
 static void *draw_all(void *handle) {
@@ -703,7 +827,7 @@ static int draw(char **words) {
         wants(status_, HIKEBOX_OK);                                                    \
     } while (0)
 
-// One retry to its end. It is over where there is no memory to note a run.
+// One retry to its end. It is over where there is no memory for a step.
 static void run_once(hikebox_policy *policy, hikebox_pass *pass) {
     hikebox_retry machine = HIKEBOX_INIT;
     hikebox_next next;
@@ -722,7 +846,7 @@ static void run_once(hikebox_policy *policy, hikebox_pass *pass) {
 }
 
 static int calls(void) {
-    hikebox_policy policy = HIKEBOX_INIT, copy = HIKEBOX_INIT;
+    hikebox_policy policy = HIKEBOX_INIT, second = HIKEBOX_INIT;
     hikebox_driver driver = HIKEBOX_INIT;
     hikebox_pass pass = HIKEBOX_INIT, part = HIKEBOX_INIT, sole = HIKEBOX_INIT;
     hikebox_quota quota = HIKEBOX_INIT, quota_part = HIKEBOX_INIT;
@@ -732,7 +856,7 @@ static int calls(void) {
     hikebox_next next;
     hikebox_event event;
     uint64_t number, other;
-    uint8_t text[128];
+    char text[128];
     size_t length;
     static const char json[] = "{\"gather\":[\"list\",{\"meet\":[{\"recurs\":2},{\"spaced\":10}]}]}";
     again(say_fault("{\"first\":{\"recurs\":-1}}", text, sizeof text, &length));
@@ -740,10 +864,10 @@ static int calls(void) {
     again(say_fault(json, text, sizeof text, &length));
     holds(length == 0);
     again(read_policy(json, &policy));
-    again(hikebox_policy_copy(&policy, &copy));
-    again(hikebox_policy_size(&copy, &number, &other));
+    again(hikebox_policy_share(&policy, &second));
+    again(hikebox_policy_size(&second, &number, &other));
     holds(number == 4 && other == 3);
-    again(hikebox_driver_new(&copy, &driver));
+    again(hikebox_driver_new(&second, &driver));
     for (uint64_t now = 0; now < 30; now += 10) again(hikebox_driver_next(&driver, now, no_words, 0, &decision));
     again(hikebox_driver_next_start(&driver, &decision));
     holds(!decision.goes_on);
@@ -762,11 +886,9 @@ static int calls(void) {
     holds(number == 9);
     again(hikebox_pass_join(&pass, &part));
     run_once(&policy, &pass);
-    run_once(&copy, &pass);
+    run_once(&second, &pass);
     again(hikebox_retry_new(&policy, &pass, &machine));
     again(hikebox_retry_see(&machine, &next));
-    again(hikebox_retry_events(&machine, &number));
-    holds(number == 0);
     again(hikebox_retry_cancel(&machine));
     again(hikebox_retry_see(&machine, &next));
     holds(next.what == HIKEBOX_OVER && next.how == HIKEBOX_ENDED_CANCELLED);
@@ -797,7 +919,7 @@ static int calls(void) {
     again(hikebox_retry_free(&machine));
     again(hikebox_pass_free(&sole));
     again(hikebox_driver_free(&driver));
-    again(hikebox_policy_free(&copy));
+    again(hikebox_policy_free(&second));
     again(hikebox_policy_free(&policy));
     printf("done\n");
     return wrong;
@@ -813,6 +935,8 @@ int main(int count, char **words) {
     if (!strcmp(what, "fault")) return fault();
     if (!strcmp(what, "faults")) return faults();
     if (!strcmp(what, "journals")) return journals();
+    if (!strcmp(what, "lasting")) return lasting();
+    if (!strcmp(what, "shares")) return shares();
     if (!strcmp(what, "draw") && count == 4) return draw(words + 2);
     if (!strcmp(what, "calls")) return calls();
     return 100;

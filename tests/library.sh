@@ -14,15 +14,22 @@ wrong() {
   failed=1
 }
 
+# block NUMBER: prints this one of the blocks of C in docs/C.md
+block() {
+  awk -v wanted="$1" '/^```c$/ { found++; inside = found == wanted; next } /^```$/ { inside = 0 } inside' "$top/docs/C.md"
+}
+
 dist=${HIKEBOX_LIB_DIR:-$top/dist}
 zsched=$dist/zsched
 python3 "$top/tests/exports.py" || failed=1
+"$top/bin/bindings" --check || failed=1
 flags=(-std=gnu11 -Wall -Wextra -Werror -O1 "-I$dist" -pthread)
 cc "${flags[@]}" -o "$work/linked" "$top/tests/library.c" "$dist/libhikebox.a"
-cc "${flags[@]}" -o "$work/loaded" "$top/tests/library.c" "-L$dist" "-Wl,-rpath,$dist" -lhikebox
+"$top/bin/install" --prefix "$work/home/.local" >"$work/out"
+cc "${flags[@]}" -o "$work/loaded" "$top/tests/library.c" "-L$dist" "-Wl,-rpath,$work/home/.local/lib" -lhikebox
 cc "${flags[@]}" -o "$work/retry" "$top/examples/c/retry.c" "$dist/libhikebox.a"
 exported=$(nm -D --defined-only "$dist/libhikebox.so" | awk '{ print $NF }' | LC_ALL=C sort)
-declared=$(sed -n 's/.*hikebox_status \(hikebox_[a-z_]*\)(.*/\1/p' "$top/include/hikebox.h" | LC_ALL=C sort)
+declared=$(sed -nE 's/^(.* )?(hikebox_status |const char \*)(hikebox_[a-z_]*)\(.*/\3/p' "$top/include/hikebox.h" | LC_ALL=C sort)
 [ "$exported" = "$declared" ] || wrong "libhikebox.so has other calls than hikebox.h"
 
 # The versions of glibc that README.md names.
@@ -31,22 +38,47 @@ for pair in libhikebox.so=14 zsched=34; do
   [ "$latest" = "${pair#*=}" ] || wrong "${pair%=*} asks for glibc 2.$latest"
 done
 
-# The example, with no warning, and by the line of docs/C.md: two runs fail, and the third succeeds.
+# The example, with no warning, and by the lines of docs/C.md: two runs fail, and the third succeeds.
 printf 'run 1: 503\nrun 2: 503\nrun 3: 200\nwon after 3 runs, 2 retries granted\n2 tickets drawn of the budget\n' >"$work/want"
 "$work/retry" >"$work/out" && cmp -s "$work/out" "$work/want" || wrong "examples/c/retry.c: $(cat "$work/out")"
 mkdir "$work/page"
 ln -s "$top/examples" "$work/page/examples"
 ln -s "$(realpath "$dist")" "$work/page/dist"
-line=$(grep '^cc examples/c/retry.c ' "$top/docs/C.md") || wrong "docs/C.md has no line that builds the example"
-(cd "$work/page" && sh -c "$line") >"$work/out" && cmp -s "$work/out" "$work/want" || wrong "docs/C.md: $line: $(cat "$work/out")"
+grep '^cc examples/c/retry.c ' "$top/docs/C.md" >"$work/lines" || wrong "docs/C.md has no line that builds the example"
+while IFS= read -r line; do
+  (cd "$work/page" && HOME=$work/home sh -c "$line") >"$work/out" && cmp -s "$work/out" "$work/want" || wrong "docs/C.md: $line: $(cat "$work/out")"
+done <"$work/lines"
 
-# The block of docs/C.md, in a function that has what it names.
+# The second block of docs/C.md, in a function that has what it names. The first stands in examples/c/poll.c.
 {
   printf '#include <hikebox.h>\nuint64_t now(void);\nint program(hikebox_policy policy);\nint program(hikebox_policy policy) {\n'
-  sed -n '/^```c$/,/^```$/p' "$top/docs/C.md" | grep -v '^```'
+  block 2
   printf 'return 0;\n}\n'
 } >"$work/page.c"
 cc "${flags[@]}" -c -o "$work/page.o" "$work/page.c" || wrong "docs/C.md: its block is not compiled"
+
+python3 - "$top/examples/c/poll.c" "$(block 1)" <<'EOF' || wrong "docs/C.md: its block is not that of examples/c/poll.c"
+import sys
+sys.exit(not sys.argv[2].strip() or sys.argv[2] not in open(sys.argv[1]).read())
+EOF
+
+# A loop of poll(): it hears a line while it waits, and connects once something listens; with nothing there it tells the fault.
+cc "${flags[@]}" -o "$work/poll" "$top/examples/c/poll.c" "$dist/libhikebox.a"
+printf 'heard a line\nconnected after retries\n' >"$work/want"
+coproc listener { exec python3 -c 'import socket, time
+listener = socket.socket()
+listener.bind(("127.0.0.1", 0))
+print(listener.getsockname()[1], flush=True)
+time.sleep(0.2)
+listener.listen()
+listener.accept()'; }
+server=$listener_PID
+read -r port <&"${listener[0]}"
+printf 'a line\n' | "$work/poll" "$port" >"$work/out" && cmp -s "$work/out" "$work/want" || wrong "examples/c/poll.c: $(cat "$work/out")"
+wait "$server" || true
+status=0
+"$work/poll" "$port" </dev/null >"$work/out" || status=$?
+[ "$status" = 1 ] && [ "$(cat "$work/out")" = 'Connection refused after retries' ] || wrong "examples/c/poll.c: $status, $(cat "$work/out")"
 
 # Policies, step by step.
 python3 "$top/tests/random_policies.py" 300 18 >"$work/policies"
@@ -87,11 +119,11 @@ ends 5 '{"recurs":0}' '[{"won":1}]' won:1
 ends 5 '"forever"' '[{"lost":1},{"lost":2},{"lost":3},{"won":4}]' lost:1 lost:2 lost:3 won:4
 
 for program in linked loaded; do
-  for words in handles budgets quotas faults journals; do
+  for words in handles budgets quotas faults journals lasting shares; do
     "$work/$program" "$words" || wrong "$program $words"
   done
   "$work/$program" draw 16 10000000 || wrong "$program draw"
-  for words in handles budgets quotas faults journals calls 'draw 4 20000'; do
+  for words in handles budgets quotas faults journals shares calls 'draw 4 20000'; do
     # shellcheck disable=SC2086
     valgrind --quiet --leak-check=full --show-leak-kinds=all --error-exitcode=9 "$work/$program" $words >"$work/out" ||
       wrong "valgrind $program $words"

@@ -79,7 +79,7 @@ helps --help
 helps plan --help
 helps pool --help
 helps check --help
-wants 0 'zsched 1.0.0\n' '' --version
+wants 0 "zsched $(cat "$top/VERSION")\n" '' --version
 
 # Each event has an input of its own, and words of its own: of the generator xoshiro128++ that is seeded with 7 the words
 # of the first three events begin with 408380677, 257245457 and 1962261138.
@@ -109,6 +109,7 @@ for word in plan pool; do
   wants 2 '' 'zsched: bad command line\n' $word - -
 done
 wants 2 '' 'zsched: bad command line\n'
+wants 0 "$("$zsched" --version)\n" '' -V
 wants 2 '' 'zsched: bad command line\n' plan --steps 4097
 wants 2 '' 'zsched: bad command line\n' plan --none
 wants 2 '' 'zsched: bad command line\n' pool --workers 0
@@ -200,7 +201,15 @@ wants 0 "${share}granted 4 in 1 windows\n" '' pool --quota 2/500/1000
 wants 0 "${all_done}granted 12 in 1 windows\n" '' pool --quota=4294967296/1000000/4611686018427387903 --workers 1
 wants 0 "${all_refused}granted 0 in 0 windows\n" '' pool --quota 0/249/1
 wants 6 "${not_over}granted 0 in 0 windows\n" 'zsched: not finished\n' pool --quota 2/500/1000 --turns 0
+# The same quotas with their units: a share of 50 % is 500 thousandths, of 24.9 % 249.
+wants 0 "${share}granted 4 in 1 windows\n" '' pool --quota 2/50%/1s
+wants 0 "${all_refused}granted 0 in 0 windows\n" '' pool --quota 0/24.9%/1ms
+wants 0 "${share}granted 4 in 1 windows\n" '' pool --quota 2/50%/1d
+input '[{"plan":{"spaced":59999},"runs":[{"lost":7},{"lost":7},{"won":1}]}]'
+wants 0 'job 0: budget refused, failure 7, granted 1\ngranted 1 in 1 windows\n' '' pool --quota 1/0%/1m
+wants 0 'job 0: won 1, granted 2\ngranted 2 in 2 windows\n' '' pool --quota 1/0%/59s
 input '[{"plan":{"spaced":100},"runs":[{"lost":7},{"lost":7},{"lost":7},{"won":1}]}]'
+wants 0 'job 0: won 1, granted 3\ngranted 3 in 3 windows\n' '' pool --quota 1/0%/100ms
 wants 0 'job 0: won 1, granted 3\ngranted 3 in 3 windows\n' '' pool --quota 1/0/100
 wants 0 'job 0: budget refused, failure 7, granted 1\ngranted 1 in 1 windows\n' '' pool --quota 1/0/101
 wants 0 'job 0: budget refused, failure 7, granted 1\ngranted 1 in 1 windows\n' '' pool --quota 0/1000000/100
@@ -209,7 +218,8 @@ wants 0 'job 0: budget refused, failure 7, granted 1000\ngranted 1000 in 1 windo
 input '[]'
 wants 0 'granted 0 in 0 windows\n' '' pool --quota 5/1000/100
 for terms in '' 1 1/2 1/2/3/4 1/2/ /2/3 a/2/3 1/b/3 1/2/c -1/2/3 1.5/2/3 ' 1/2/3' 4294967297/2/3 1/1000001/3 1/2/0 \
-  1/2/4611686018427387904 18446744073709551616/2/3; do
+  1/2/4611686018427387904 18446744073709551616/2/3 1/2%/3 1/2/3s 1/2.55%/3s 1/2.%/3s 1/%/3s 1/2%/s 1/2%/1.5s 1/2%/3w \
+  1/2%/0s 1/100000.1%/3s 1/2%/18446744073709551615d; do
   wants 2 '' 'zsched: bad command line\n' pool --quota "$terms"
 done
 wants 2 '' 'zsched: bad command line\n' pool --quota
@@ -285,6 +295,13 @@ input '7'
 wants 3 'top: a plan is a string or an object of one member\n' 'zsched: not a plan\n' check
 input '{"meet":[{"recurs":1},{"cap":[1,{"exponental":[100,2]}]}]}'
 wants 3 'meet[1].cap[1]: no node is called "exponental"; did you mean "exponential"?\n' 'zsched: not a plan\n' check
+for words in and:meet or:join andThen:follow retry:recurs times:recurs constant:spaced upTo:within; do
+  input "{\"${words%:*}\":1}"
+  wants 3 "top: no node is called \"${words%:*}\"; did you mean \"${words#*:}\"?\n" 'zsched: not a plan\n' check
+done
+input '{"exponential":[100,1.5]}'
+{ "$zsched" check <"$work/in" 2>/dev/null || true; } | grep -q '; a factor of 1.5 is 1500 in "exponential_milli"$' ||
+  { echo "tests/program.sh: zsched check: a factor that is a fraction has no hint" >&2; failed=1; }
 input '{"first":{"fixed":0}}'
 wants 3 "first: \"fixed\" is spelt {\"fixed\":D}, D from 1 to $((past_far - 1))\n" 'zsched: number out of range\n' check
 printf '{"first":%s}' "$deep" >"$work/in"

@@ -10,6 +10,7 @@ export HIKEBOX_ZSCHED=${HIKEBOX_ZSCHED:-$top/dist/zsched}
 work=$(mktemp -d)
 trap 'rm -rf "$work"' EXIT
 
+"$top/bin/bindings" --check
 "$top/tests/bindings.py"
 
 # The crate as it is seen from out/rust, with the documents that its own name.

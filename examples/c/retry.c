@@ -15,7 +15,7 @@ static const char policy_json[] = "{\"meet\":[{\"recurs\":5},{\"jitter\":[0,500,
 
 static void check(hikebox_status status, const char *call) {
     if (status == HIKEBOX_OK) return;
-    fprintf(stderr, "%s: status %u\n", call, status);
+    fprintf(stderr, "%s: %s\n", call, hikebox_status_text(status));
     exit(1);
 }
 
@@ -58,8 +58,7 @@ int main(void) {
     hikebox_pass pass = HIKEBOX_INIT;
     hikebox_retry retry = HIKEBOX_INIT;
     hikebox_place place;
-    check(hikebox_policy_read((const uint8_t *)policy_json, strlen(policy_json), &policy, &place),
-          "hikebox_policy_read");
+    check(hikebox_policy_read(policy_json, strlen(policy_json), &policy, &place), "hikebox_policy_read");
     check(hikebox_budget_fixed(1000, &pass), "hikebox_budget_fixed");
     check(hikebox_retry_new(&policy, &pass, &retry), "hikebox_retry_new");
 

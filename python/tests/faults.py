@@ -168,8 +168,16 @@ def _spelt(value: Any, place: str) -> Tuple[str, List[Any]]:
     if not isinstance(items, list) or len(items) != len(kinds):
         raise _named(name, place)
     if not all(_has_kind(kind, item) for kind, item in zip(kinds, items)):
-        raise _named(name, place)
+        wrong = _named(name, place)
+        if name == "exponential" and _is_number(items[1]) and not _has_kind("number", items[1]):
+            found = wrong.found
+            wrong = Wrong(found.fault, place, f'{found.hint}; a factor of 1.5 is 1500 in "exponential_milli"')
+        raise wrong
     return name, items
+
+
+def _is_number(item: Any) -> bool:
+    return isinstance(item, (int, float)) and not isinstance(item, bool)
 
 
 def _has_kind(kind: str, item: Any) -> bool:
@@ -181,10 +189,23 @@ def _has_kind(kind: str, item: Any) -> bool:
     return words is None or (isinstance(item, str) and item in words)
 
 
+#: Words of other libraries.
+_FOREIGN = {
+    **dict.fromkeys(("and", "both", "intersect"), "meet"),
+    **dict.fromkeys(("or", "either", "union"), "join"),
+    **dict.fromkeys(("andThen", "and_then", "then"), "follow"),
+    **dict.fromkeys(("retry", "times", "attempts", "max_retries"), "recurs"),
+    **dict.fromkeys(("constant", "delay", "wait"), "spaced"),
+    **{"backoff": "exponential", "always": "forever", "upTo": "within", "max_delay": "cap"},
+}
+
+
 def _named(name: str, place: str) -> Wrong:
     """The fault of a node of this name that has not its form, or that there is not."""
     if name in NAMES or name in FORMS:
         return Wrong(Fault.NOT_A_PLAN, place, _spelling(name))
+    if name in _FOREIGN:
+        return Wrong(Fault.NOT_A_PLAN, place, f'no node is called "{name}"; did you mean "{_FOREIGN[name]}"?')
     near = [(distance, known) for known in _ALL for distance in [_edits(name, known)] if distance <= 2]
     hint = f'no node is called "{name}"'
     if near:

@@ -4,7 +4,7 @@ from __future__ import annotations
 
 import socket
 from http.server import BaseHTTPRequestHandler, ThreadingHTTPServer
-from typing import Any, Dict, List, Tuple
+from typing import Any, Callable, Dict, List, Tuple
 
 #: What the server answers: a status and headers; status 0 is a connection that is broken with no answer.
 Answer = Tuple[int, Dict[str, str]]
@@ -17,6 +17,8 @@ class Server(ThreadingHTTPServer):
         super().__init__(("127.0.0.1", 0), Handler)
         self.answers: List[Answer] = []
         self.requests: List[Tuple[str, str, bytes]] = []
+        #: What is called at each request.
+        self.took: Callable[[], None] = _nothing
 
     @property
     def url(self) -> str:
@@ -27,6 +29,11 @@ class Server(ThreadingHTTPServer):
         for answer in answers:
             self.answers.append((answer, {}) if isinstance(answer, int) else answer)
         self.requests = []
+        self.took = _nothing
+
+
+def _nothing() -> None:
+    pass
 
 
 class Handler(BaseHTTPRequestHandler):
@@ -36,6 +43,7 @@ class Handler(BaseHTTPRequestHandler):
     def answer(self) -> None:
         body = self.rfile.read(int(self.headers.get("Content-Length", 0)))
         self.server.requests.append((self.command, self.path, body))
+        self.server.took()
         answers = self.server.answers
         status, headers = answers.pop(0) if len(answers) > 1 else answers[0]
         if status == 0:

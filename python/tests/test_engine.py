@@ -13,13 +13,14 @@ from conftest import TOP
 from hikebox import _engine
 from hikebox._engine import Handle, Pass, PolicyHandle, QuotaPass
 from hikebox._machine import Machine
+from hikebox._plan import Plan
 from hikebox.errors import EngineError
 
 HEADER = TOP / "include" / "hikebox.h"
 
 TYPES: Dict[str, Any] = {
-    "const uint8_t *": (ctypes.c_char_p,),
-    "uint8_t *": (ctypes.POINTER(c_uint8),),
+    "const char *": (ctypes.c_char_p,),
+    "char *": (ctypes.POINTER(c_uint8),),
     "size_t": (c_size_t,),
     "size_t *": (ctypes.POINTER(c_size_t),),
     "uint64_t": (c_uint64,),
@@ -95,7 +96,6 @@ def test_the_numbers_are_those_of_the_header() -> None:
         endings["ENDED_REFUSED"]: Ending.BUDGET_REFUSED,
         endings["ENDED_CANCELLED"]: Ending.CANCELLED,
         endings["ENDED_NO_MEMORY"]: Ending.NO_MEMORY,
-        endings["ENDED_JOURNAL_FULL"]: Ending.JOURNAL_FULL,
         endings["ENDED_BACKWARDS"]: Ending.CLOCK_WENT_BACK,
     }
 
@@ -104,6 +104,25 @@ def read(text: bytes) -> PolicyHandle:
     handle = PolicyHandle()
     assert handle.read(text) is None
     return handle
+
+
+def test_handles_of_one_policy() -> None:
+    policy = read(b'{"meet":[{"recurs":2},{"spaced":100}]}')
+    second = policy.share()
+    third = second.share()
+    del policy, second
+    assert third.size() == (3, 2)
+    with pytest.raises(EngineError):
+        PolicyHandle().share()
+
+
+def test_a_policy_is_read_once(monkeypatch: pytest.MonkeyPatch) -> None:
+    plan = Plan.of_text(b'{"recurs":2}')
+    monkeypatch.setattr("hikebox._plan._read", None)
+    lent = [plan.lend() for _ in range(1000)]
+    assert [handle.size() for handle in lent] == [(1, 1)] * 1000
+    for handle in lent:
+        plan.give_back(handle)
 
 
 def test_wrong_handles_are_refused_and_nothing_is_lost() -> None:

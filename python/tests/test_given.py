@@ -9,6 +9,7 @@ import inspect
 import logging
 import multiprocessing
 import pickle
+import subprocess
 import sys
 import threading
 import time
@@ -17,6 +18,7 @@ from typing import Any, Callable, Dict, Iterator, List
 
 import pytest
 
+from conftest import python_environment
 from hikebox import (
     AsyncRetrying,
     Budget,
@@ -648,6 +650,42 @@ def test_the_machines_of_many_retries_at_once_are_given_up() -> None:
 
     assert asyncio.run(main()) == 4000
     assert len(_machine._machines) <= 64
+
+
+HEAP_OF_MANY = """
+import asyncio, gc
+from hikebox import AsyncRetrying, recurs, spaced
+
+def heap():
+    of_heap, pages = False, 0
+    for line in open("/proc/self/smaps"):
+        if line[0] in "0123456789abcdef":
+            of_heap = line.rstrip().endswith("[heap]")
+        elif of_heap and line.startswith("Rss:"):
+            pages += int(line.split()[1])
+    return pages
+
+async def main(count):
+    async def ask():
+        raise KeyError
+
+    retrying = AsyncRetrying(recurs(1) & spaced(0.3), fallback=lambda state: None)
+    await asyncio.gather(*(retrying(ask) for _ in range(count)))
+    gc.collect()
+
+asyncio.run(main(10))
+before = heap()
+asyncio.run(main(20_000))
+print(heap() - before)
+"""
+
+
+def test_the_memory_of_many_retries_at_once_is_given_back() -> None:
+    ran = subprocess.run(
+        [sys.executable, "-c", HEAP_OF_MANY], env=python_environment(), capture_output=True, text=True, check=True
+    )
+    # a kilobyte of each is the engine's
+    assert int(ran.stdout) < 12_000
 
 
 def test_nothing_is_kept_of_a_retry_that_was_stopped_in_its_wait() -> None:

@@ -205,6 +205,24 @@ def test_requests_that_are_over_are_counted(server: Server, clock: VirtualClock)
     assert budget.granted == 3
 
 
+def test_a_deadline_counts_from_the_requests_beginning(server: Server, clock: VirtualClock) -> None:
+    with Budget(100) as budget:
+        for deadline, attempts in ((None, 3), (2.5, 3), (2.4, 2)):
+            made = session(clock, recurs(2) & spaced(1), budget=budget, deadline=deadline)
+            for _ in range(2):
+                server.says(503)
+                server.took = lambda: clock.advance(0.25)
+                # answers at 0.25, 1.5 and 2.75
+                assert made.get(server.url).status_code == 503
+                assert len(server.requests) == attempts
+    assert budget.granted == 2 * (2 + 2 + 1)
+    # by urllib3 alone it counts from the first answer, a quarter of a second later
+    server.says(503)
+    server.took = lambda: clock.advance(0.25)
+    assert pool(clock, spaced(1), deadline=2.4).request("GET", server.url).status == 503
+    assert len(server.requests) == 3
+
+
 def test_a_session_is_copied_and_pickled(server: Server) -> None:
     one = requests.Session()
     one.trust_env = False

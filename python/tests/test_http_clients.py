@@ -101,6 +101,17 @@ def test_retry_after_is_a_lower_bound(kind: str, server: Server, clock: VirtualC
 
 
 @KINDS
+def test_a_response_that_asks_for_too_much_time_is_given_at_once(kind: str, server: Server, clock: VirtualClock) -> None:
+    server.says((503, {"Retry-After": "2"}), (503, {"Retry-After": "2"}), 200)
+    client = Client(kind, clock, recurs(9), deadline=3.5)
+    # after a wait of 2 s, 2 more would be too late
+    answer = client.request("GET", server.url)
+    assert (answer.status, answer.text) == (503, "answer 2")
+    assert clock.slept == pytest.approx([2])
+    assert client.retrying.statistics.schedule_done == 1
+
+
+@KINDS
 def test_the_policy_is_given_the_status(kind: str, server: Server, clock: VirtualClock) -> None:
     server.says(503, 503, 502, 503)
     assert Client(kind, clock, recurs(9).while_input(equal=503)).request("GET", server.url).status == 502

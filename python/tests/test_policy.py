@@ -149,9 +149,13 @@ def test_random_policies_are_written_and_read_as_they_are() -> None:
         policy = Policy.from_dict(tree)
         assert json.loads(policy.to_json()) == tree == policy.to_dict()
         assert eval(repr(policy), NAMESPACE) == policy
-        assert Policy.parse(repr(policy)) == policy
+        built = Policy.parse(repr(policy))
+        assert built == policy and (built.nodes, built.depth) == (policy.nodes, policy.depth)
         assert pickle.loads(pickle.dumps(policy)) == policy
         nodes = list(hikebox._nodes.walk(tree))
+        picks = {own[0] for name, own in nodes if name in ("jitter", "decorrelated")}
+        codes = any(name == "identity" or (name == "gate" and own[0] == "input") for name, own in nodes)
+        assert policy.plan.reads == (sorted(picks), codes)
         assert policy.nodes == len(nodes)
 
 
@@ -255,7 +259,7 @@ def test_the_files_of_plans_are_policies() -> None:
 
 REFUSED = [
     ('{"recurs":3', Fault.NOT_JSON, "line 1, column 11"),
-    ("", Fault.NOT_JSON, "line 1, column 0"),
+    ("", Fault.NOT_JSON, "line 1, column 1"),
     ('[\n{"plan":]', Fault.NOT_JSON, "line 2, column 9"),
     ('{"recurs":-1}', Fault.NOT_A_PLAN, ""),
     ('{"recurs":1.0}', Fault.NOT_A_PLAN, ""),
@@ -359,6 +363,33 @@ def test_the_limits_of_depth_and_nodes() -> None:
     assert caught.value.fault is Fault.TOO_MANY
 
 
+AT_THEIR_LIMITS: List[Policy] = [
+    *(build(milliseconds(FAR)) for build in (spaced, fixed, windowed, linear, fibonacci, lone)),
+    *(build(milliseconds(1)) for build in (fixed, windowed)),
+    recurs(FAR),
+    exponential(milliseconds(FAR), 1000),
+    exponential(0, 0.001),
+    exponential_milli(milliseconds(FAR), 1_000_000),
+    exponential_milli(0, 1),
+    decorrelated(0, 0, 1, lane=3),
+    decorrelated(milliseconds(FAR), milliseconds(FAR), 1000),
+    unfold(FAR, FAR, FAR),
+    *(getattr(forever(), name)(milliseconds(FAR)) for name in ("cap", "add_delay", "set_delay", "up_to", "ends_by")),
+    *(getattr(forever(), name)(milliseconds(length)) for name in ("renew", "renew_idle") for length in (1, FAR)),
+    forever().jittered(0, 10, lane=3),
+    *(getattr(forever(), f"{when}_{side}")(equal=FAR) for when in ("while", "until") for side in ("input", "output")),
+    *(forever().gather(fold) for fold in ("sum", "count", "max", "list")),
+    elapsed() >> identity().first() | forever().second().nothing().then(forever().add_output()),
+]
+
+
+@pytest.mark.parametrize("policy", AT_THEIR_LIMITS, ids=repr)
+def test_what_a_builder_accepts_the_engine_reads(policy: Policy) -> None:
+    read = Policy.from_json(policy.to_json())
+    assert (policy.nodes, policy.depth, repr(policy)) == (read.nodes, read.depth, repr(read))
+    assert [str(step) for step in policy.preview(2)] == [str(step) for step in read.preview(2)]
+
+
 def test_the_faults_of_the_engine_are_those_of_a_second_finder() -> None:
     rng = random.Random(7)
     refused = 0
@@ -424,6 +455,9 @@ BELOW_THE_GRAIN: List[Tuple[Callable[[], Policy], str]] = [
     (lambda: spaced(1).cap(timedelta(microseconds=700)), "cap: 0:00:00.000700 is less than a millisecond"),
     (lambda: exponential(0.1, 1.0005), "exponential: the factor 1.0005 is less than a thousandth from 1"),
     (lambda: exponential(0.1, 0.9996), "exponential: the factor 0.9996 is less than a thousandth from 1"),
+    (lambda: decorrelated(1, 9, 1.0004), "decorrelated: the factor 1.0004 is less than a thousandth from 1"),
+    (lambda: fixed(0.0004), "fixed: 0.0004 s is less than a millisecond"),
+    (lambda: spaced(1).renew_idle(0.0004), "renew_idle: 0.0004 s is less than a millisecond"),
     (lambda: spaced(1).jittered(0.0001, 0.0004), "jittered: a ratio of 0.0001 is less than a thousandth"),
     (lambda: spaced(1).jittered(0.9998, 1.0002), "jittered(0.9998, 1.0002): the range is less than a thousandth"),
 ]

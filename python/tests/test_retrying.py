@@ -302,12 +302,10 @@ def test_real_time(kind: str) -> None:
     assert result == "won" and 0.058 <= took < 1
 
 
-def test_a_retry_of_more_than_65536_failures_ends(clock: VirtualClock) -> None:
-    call = Scripted(7)
-    with pytest.raises(OSError) as caught:
-        Retrying(forever(), clock=clock, sleep=clock.sleep)(call)
-    state = state_of(caught.value)
-    assert state is not None and state.ending is Ending.JOURNAL_FULL and call.runs == 65537
+def test_a_retry_goes_on_after_65536_failures(clock: VirtualClock) -> None:
+    call = Scripted(*[7] * 70000, "won")
+    retrying = Retrying(forever(), clock=clock, sleep=clock.sleep)
+    assert retrying(call) == "won" and call.runs == 70001 and retrying.statistics.retries == 70000
 
 
 def test_a_decorated_function() -> None:

@@ -1,11 +1,14 @@
 //! Retries of futures, on any runtime.
 
+use crate::error::RetryError;
 #[cfg(feature = "tokio")]
 use crate::grants::Grants;
-use crate::policy::Policy;
+use crate::hooks::Hooked;
 #[cfg(feature = "tokio")]
-use crate::retrying::SystemSleep;
-use crate::retrying::{Hooked, Host, Random, RetryError, Retrying, Then};
+use crate::host::SystemSleep;
+use crate::host::{Host, Random};
+use crate::policy::Policy;
+use crate::retrying::{Attempt, Retrying, Then};
 use std::future::Future;
 use std::time::{Duration, Instant};
 
@@ -42,18 +45,19 @@ pub struct Async<F>(F);
 /// Runs the call until it succeeds, in an async function: `FnMut` and `AsyncFnMut` have no bound in common that keeps
 /// such a future `Send`.
 macro_rules! until_it_succeeds {
-    ($retrying:ident, $call:ident) => {{
-        let mut run = $retrying.begin().map_err(RetryError::NotBegun)?;
+    ($retrying:ident, $attempt:ident => $call:expr) => {{
+        let mut course = $retrying.begin();
+        let mut $attempt = $retrying.first();
         loop {
-            let ran = $call().await;
-            let (wait, error) = match $retrying.after(&mut run, ran) {
+            let ran = $call.await;
+            let (wait, error) = match $retrying.after(&mut course, ran) {
                 Then::Again { wait, error } => (wait, error),
                 Then::End(result) => return result,
             };
             if !wait.is_zero() {
                 $retrying.host.sleep.sleep(wait).await;
             }
-            $retrying.resume(&mut run).map_err(|cause| RetryError::Broken(cause, error))?;
+            $attempt = $retrying.next(&mut course, $attempt).map_err(|cause| RetryError::Broken(cause, error))?;
         }
     }};
 }
@@ -170,7 +174,42 @@ impl<E, H: Hooked<E>, K: FnMut() -> Instant, S: AsyncSleep, R: Random> Retrying<
     where
         P: Future<Output = Result<T, E>>,
     {
-        until_it_succeeds!(self, call)
+        self.call_async_with(|_| call()).await
+    }
+
+    /// The same of a call that is told which run it is, and how long it has left up to the [`Retrying::deadline`], which
+    /// may be the time that the run is given:
+    ///
+    /// ```
+    /// # #[cfg(feature = "tokio")]
+    /// # tokio::runtime::Builder::new_current_thread().enable_time().start_paused(true).build().unwrap().block_on(async {
+    /// use hikebox::{Policy, RetryError, Retrying, Unlimited};
+    /// use std::{future::pending, time::Duration};
+    /// use tokio::time::{timeout, Instant};
+    ///
+    /// let (policy, began): (Policy, _) = (r#"{"spaced":100}"#.parse()?, Instant::now());
+    /// let mut retrying = Retrying::new(&policy, &Unlimited).deadline(Duration::from_secs(2));
+    /// let answer = retrying
+    ///     .call_async_with(|attempt| async move {
+    ///         let left = attempt.left().unwrap_or(Duration::MAX);
+    ///         timeout(left.min(Duration::from_millis(1500)), pending::<()>()).await
+    ///     })
+    ///     .await;
+    /// assert!(matches!(answer, Err(RetryError::ScheduleDone(_))));
+    /// // a run of 1500 ms, a wait of 100 and a run of 400
+    /// assert_eq!(began.elapsed(), Duration::from_secs(2));
+    /// # Ok::<(), hikebox::PolicyError>(())
+    /// # }).unwrap();
+    /// ```
+    ///
+    /// # Errors
+    ///
+    /// [`RetryError`] keeps the last error of the call.
+    pub async fn call_async_with<T, P>(&mut self, mut call: impl FnMut(Attempt) -> P) -> Result<T, RetryError<E>>
+    where
+        P: Future<Output = Result<T, E>>,
+    {
+        until_it_succeeds!(self, attempt => call(attempt))
     }
 
     /// The same for an async closure that changes what it captures. From Rust 1.85 on. Its future is not `Send` where
@@ -203,7 +242,7 @@ impl<E, H: Hooked<E>, K: FnMut() -> Instant, S: AsyncSleep, R: Random> Retrying<
         &mut self,
         mut call: impl AsyncFnMut() -> Result<T, E>,
     ) -> Result<T, RetryError<E>> {
-        until_it_succeeds!(self, call)
+        until_it_succeeds!(self, _attempt => call())
     }
 }
 

@@ -22,7 +22,7 @@ use std::sync::{Arc, Mutex, MutexGuard, PoisonError};
 /// ```
 ///
 /// It makes as many passes and retries as are wanted: a pass that is given back gives its part of the budget back.
-#[derive(Clone, Debug)]
+#[derive(Clone)]
 pub struct Budget {
     /// The first pass, which others are split off and joined into.
     root: Arc<Mutex<Handle<PassKind>>>,
@@ -119,6 +119,12 @@ impl Budget {
 
     fn of(root: Result<Handle<PassKind>, Status>) -> Result<Self, BudgetError> {
         Ok(Self { root: Arc::new(Mutex::new(root.map_err(BudgetError::of)?)) })
+    }
+}
+
+impl fmt::Debug for Budget {
+    fn fmt(&self, f: &mut fmt::Formatter<'_>) -> fmt::Result {
+        f.debug_struct("Budget").field("granted", &self.granted()).finish_non_exhaustive()
     }
 }
 

@@ -17,5 +17,6 @@ pub(crate) fn now() -> Instant {
 
 /// Whole milliseconds of a moment, rounded down; past the engine's last moment it is that.
 pub(crate) fn whole_millis(moment: Duration) -> u64 {
-    u64::try_from(moment.as_millis()).map_or(FAR, |millis| millis.min(FAR))
+    let millis = moment.as_secs().saturating_mul(1000).saturating_add(u64::from(moment.subsec_millis()));
+    millis.min(FAR)
 }

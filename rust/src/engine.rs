@@ -76,7 +76,6 @@ pub(crate) const ENDED_DONE: u32 = 2;
 pub(crate) const ENDED_REFUSED: u32 = 3;
 pub(crate) const ENDED_CANCELLED: u32 = 4;
 pub(crate) const ENDED_NO_MEMORY: u32 = 5;
-pub(crate) const ENDED_JOURNAL_FULL: u32 = 6;
 
 /// The greatest moment, length of a window, and code.
 pub(crate) const FAR: u64 = (1 << 62) - 1;

@@ -1,6 +1,8 @@
 //! What retries draw on.
 
 use crate::budget::Budget;
+#[cfg(feature = "tower")]
+use crate::clock::now;
 use crate::quota::Quota;
 use std::error::Error;
 use std::fmt;
@@ -28,7 +30,7 @@ use std::time::Instant;
 /// ```
 ///
 /// It is sealed. A store of one's own implements [`Tickets`].
-pub trait Grants: sealed::Sealed {}
+pub trait Grants: DrawnOn {}
 
 impl Grants for Budget {}
 impl Grants for Quota {}
@@ -119,75 +121,103 @@ impl fmt::Display for StoreFailure {
     }
 }
 
-pub(crate) mod sealed {
-    use super::{fmt, Arc, Budget, Quota, Tickets, Unlimited};
+mod sealed {
+    use super::{Instant, Source};
 
-    /// What a retry holds of it.
-    #[derive(Clone)]
-    pub enum Source {
-        Budget(Budget),
-        Quota(Quota),
-        Store(Arc<dyn Tickets>),
-        Unlimited,
-    }
-
-    impl fmt::Debug for Source {
-        fn fmt(&self, f: &mut fmt::Formatter<'_>) -> fmt::Result {
-            match self {
-                Self::Budget(budget) => budget.fmt(f),
-                Self::Quota(quota) => quota.fmt(f),
-                Self::Store(_) => f.write_str("a store of tickets"),
-                Self::Unlimited => Unlimited.fmt(f),
-            }
-        }
-    }
-
-    pub trait Sealed {
+    /// What a retry draws on, and by which clock.
+    pub trait DrawnOn: Send + Sync + 'static {
+        /// What a retry that has begun holds of it.
         fn source(&self) -> Source;
-    }
 
-    impl Sealed for Budget {
-        fn source(&self) -> Source {
-            Source::Budget(self.clone())
-        }
-    }
+        /// A request is made at this moment: a quota, or a store, counts it.
+        fn count_request(&self, _now: Instant) {}
 
-    impl Sealed for Quota {
-        fn source(&self) -> Source {
-            Source::Quota(self.clone())
-        }
-    }
-
-    impl<S: Tickets + 'static> Sealed for Arc<S> {
-        fn source(&self) -> Source {
-            Source::Store(self.clone())
-        }
-    }
-
-    impl Sealed for Unlimited {
-        fn source(&self) -> Source {
-            Source::Unlimited
+        /// Moment 0 of a retry that began then, in milliseconds: of a quota it is the one on the quota's clock.
+        fn origin(&self, _began: Instant) -> u64 {
+            0
         }
     }
 }
 
-pub(crate) use sealed::Source;
+pub(crate) use sealed::DrawnOn;
 
+/// What a retry that has begun holds of what it draws on.
+#[derive(Clone)]
+pub enum Source {
+    Budget(Budget),
+    Quota(Quota),
+    Store(Arc<dyn Tickets>),
+    Unlimited,
+}
+
+#[cfg(feature = "tower")]
 impl Source {
-    /// A request is made: a quota, or a store, counts it.
-    pub(crate) fn deposit(&self, now: Instant) {
+    /// A request is made now. The clock is looked at only where that matters.
+    pub(crate) fn count_request_now(&self) {
         match self {
-            Self::Quota(quota) => quota.deposit_at(quota.moment(now)),
+            Self::Quota(quota) => quota.deposit_by_clock(now()),
             Self::Store(store) => store.deposit(),
             Self::Budget(_) | Self::Unlimited => (),
         }
     }
+}
 
-    /// The moment of a retry that begins now, in milliseconds: of a quota it is the quota's own.
-    pub(crate) fn moment(&self, now: Instant) -> u64 {
+impl DrawnOn for Source {
+    fn source(&self) -> Source {
+        self.clone()
+    }
+
+    fn origin(&self, began: Instant) -> u64 {
         match self {
-            Self::Quota(quota) => quota.millis_at(now),
+            Self::Quota(quota) => quota.origin(began),
             Self::Budget(_) | Self::Store(_) | Self::Unlimited => 0,
+        }
+    }
+}
+
+impl DrawnOn for Budget {
+    fn source(&self) -> Source {
+        Source::Budget(self.clone())
+    }
+}
+
+impl DrawnOn for Quota {
+    fn source(&self) -> Source {
+        Source::Quota(self.clone())
+    }
+
+    fn count_request(&self, now: Instant) {
+        self.deposit_by_clock(now);
+    }
+
+    fn origin(&self, began: Instant) -> u64 {
+        self.millis_at(began)
+    }
+}
+
+impl<S: Tickets + 'static> DrawnOn for Arc<S> {
+    fn source(&self) -> Source {
+        Source::Store(self.clone())
+    }
+
+    fn count_request(&self, _now: Instant) {
+        self.deposit();
+    }
+}
+
+impl DrawnOn for Unlimited {
+    fn source(&self) -> Source {
+        Source::Unlimited
+    }
+}
+
+impl fmt::Debug for Source {
+    fn fmt(&self, f: &mut fmt::Formatter<'_>) -> fmt::Result {
+        match self {
+            Self::Budget(budget) => budget.fmt(f),
+            Self::Quota(quota) => quota.fmt(f),
+            Self::Store(_) => f.write_str("a store of tickets"),
+            Self::Unlimited => Unlimited.fmt(f),
         }
     }
 }

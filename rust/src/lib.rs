@@ -17,10 +17,11 @@
 //! # Ok::<(), Box<dyn std::error::Error>>(())
 //! ```
 //!
-//! - [`Retrying`] adds which errors are retried, the numbers by which the schedule knows them, and who hears of a
-//!   retry.
+//! - [`Retrying`] adds which errors are retried, the numbers by which the schedule knows them, the time that a call may
+//!   take in all, and who hears of a retry.
 //! - A call is retried by a method of its own, too: see [`BlockingRetryable`] and [`Retryable`].
-//! - [`repeat`] runs a call again after each success, [`poll_until`] until its answer is as wanted.
+//! - [`repeat`] runs a call again after each success, [`poll_until`] until its answer is as wanted; [`Repeating`] adds
+//!   the time that it may take in all, a clock and a sleep of your own.
 //! - With the feature `tokio`, `retry_async` retries futures. [`Retrying::sleep`] takes the waits of any runtime.
 //! - With the feature `tower`, `RetryPolicy` is a `tower::retry::Policy`.
 //! - With the feature `leased`, `Leased` and `LeasedQuota` are shared by all processes of a machine, by a file. A store
@@ -37,8 +38,13 @@
 mod asynchronous;
 mod budget;
 mod clock;
+mod counters;
+mod course;
 mod engine;
+mod error;
 mod grants;
+mod hooks;
+mod host;
 #[cfg(feature = "leased")]
 mod leased;
 mod machine;
@@ -53,6 +59,7 @@ mod schedule;
 mod serial;
 #[cfg(feature = "leased")]
 mod store;
+mod words;
 
 #[cfg(feature = "tokio")]
 pub use asynchronous::retry_async;
@@ -60,21 +67,21 @@ pub use asynchronous::retry_async;
 pub use asynchronous::retry_async_mut;
 pub use asynchronous::{Async, AsyncSleep, Retryable};
 pub use budget::{Budget, BudgetError, Pass};
+pub use error::RetryError;
 pub use grants::{Grants, StoreFailure, Tickets, Unlimited};
+pub use hooks::{Hooked, Hooks, PlainHooks};
+pub use host::{Host, Random, Sleep, SystemHost, SystemSleep, SystemWords};
 #[cfg(feature = "leased")]
 pub use leased::{Leased, LeasedQuota};
 pub use machine::{Cause, Ended, Machine, Report, Step};
 pub use policy::{Line, Policy, PolicyError, PolicyFault};
 pub use quota::{Quota, QuotaPass, Usage};
-pub use repeating::{poll_until, repeat, RepeatError};
+pub use repeating::{poll_until, repeat, RepeatError, Repeating};
 #[cfg(feature = "tokio")]
 pub use repeating::{poll_until_async, repeat_async};
 #[cfg(feature = "tower")]
-pub use requests::RetryPolicy;
-pub use retrying::{
-    retry, Blocking, BlockingRetryable, Hooked, Hooks, Host, PlainHooks, Random, RetryError, Retrying, Sleep,
-    SystemHost, SystemSleep, SystemWords,
-};
+pub use requests::{Noted, RetryPolicy, RetryWait, Since, Whenever};
+pub use retrying::{retry, Attempt, Blocking, BlockingRetryable, Retrying};
 pub use schedule::{Fold, Schedule, Test};
 #[cfg(feature = "leased")]
 pub use store::StoreError;
@@ -91,4 +98,7 @@ mod pages {
     #[cfg(feature = "tower")]
     #[doc = include_str!("../../docs/FROM-TOWER.md")]
     struct FromTower;
+
+    #[doc = include_str!("../../docs/FROM-BACKOFF.md")]
+    struct FromBackoff;
 }

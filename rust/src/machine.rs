@@ -6,9 +6,8 @@ use crate::engine::{self, Handle, Next, RetryKind, FAR};
 use crate::grants::{Grants, Source, StoreFailure, Tickets};
 use crate::policy::Policy;
 use crate::quota::Quota;
-use std::collections::hash_map::RandomState;
+use crate::words;
 use std::fmt;
-use std::hash::{BuildHasher, Hasher};
 use std::sync::Arc;
 use std::time::Duration;
 
@@ -39,7 +38,6 @@ use std::time::Duration;
 pub struct Machine {
     handle: Option<Handle<RetryKind>>,
     draws_on: DrawsOn,
-    words: Words,
 }
 
 /// What a retry draws on.
@@ -105,12 +103,12 @@ pub enum Ended {
 pub enum Cause {
     /// Memory is wanting.
     NoMemory,
-    /// The schedule made 65,536 steps.
-    JournalFull,
     /// The clock went back.
     Backwards,
     /// The store of tickets failed: [`Machine::store_failure`] says how.
     StoreFailed,
+    /// The retry has a deadline, which takes a node more, and its policy has 256 or is 32 deep.
+    PolicyTooLarge,
 }
 
 impl Machine {
@@ -120,46 +118,47 @@ impl Machine {
     ///
     /// [`BudgetError::NoMemory`].
     pub fn new(policy: &Policy, budget: &impl Grants) -> Result<Self, BudgetError> {
-        Self::on(policy, &budget.source())
+        Self::on(policy, budget.source())
     }
 
-    pub(crate) fn on(policy: &Policy, source: &Source) -> Result<Self, BudgetError> {
-        let (handle, draws_on) = match source {
-            Source::Budget(budget) => (
-                policy.with(|policy| budget.with(|root| Handle::on_budget(policy, root))),
-                DrawsOn::Budget(budget.clone()),
-            ),
-            Source::Quota(quota) => (
-                policy.with(|policy| quota.with(|root| Handle::on_quota(policy, root))),
-                DrawsOn::Quota(quota.clone()),
-            ),
-            Source::Store(store) => (policy.with(Handle::unlimited), DrawsOn::Store(Drawn::new(store.clone()))),
-            Source::Unlimited => (policy.with(Handle::unlimited), DrawsOn::Nothing),
-        };
-        Ok(Self { handle: Some(handle.map_err(BudgetError::of)?), draws_on, words: Words::new() })
+    pub(crate) fn on(policy: &Policy, source: Source) -> Result<Self, BudgetError> {
+        let handle = policy.with(|policy| match &source {
+            Source::Budget(budget) => budget.with(|root| Handle::on_budget(policy, root)),
+            Source::Quota(quota) => quota.with(|root| Handle::on_quota(policy, root)),
+            Source::Store(_) | Source::Unlimited => Handle::unlimited(policy),
+        });
+        Ok(Self { handle: Some(handle.map_err(BudgetError::of)?), draws_on: DrawsOn::of(source) })
     }
 
     /// Steps it at the moment `now`, which is not before that of the step before, with random words of its own. A
     /// report is of the run under way; where none is, it counts for nothing.
     pub fn step(&mut self, now: Duration, report: Option<Report>) -> Step {
-        let words = self.words.next();
-        self.step_with(now, report, words)
+        self.step_with(now, report, words::next())
     }
 
     /// The same with random words of the host's, of which each jitter takes the one of its lane: `u32::MAX / 2` picks
     /// the middle.
     pub fn step_with(&mut self, now: Duration, report: Option<Report>, words: [u32; 4]) -> Step {
-        let next = self.poll(whole_millis(now), report, &words);
-        let refused = match &mut self.draws_on {
-            DrawsOn::Store(drawn) => drawn.refuses(next.granted),
-            _ => None,
-        };
-        match refused {
-            Some(ended) => {
+        match self.step_at(whole_millis(now), report, &words) {
+            Ok(None) => Step::Run,
+            Ok(Some(until)) => Step::Wait(Duration::from_millis(until)),
+            Err(ended) => Step::Over(ended),
+        }
+    }
+
+    /// The same at a moment in milliseconds: the one to wait for, or `None` where a run is under way.
+    pub(crate) fn step_at(&mut self, now: u64, report: Option<Report>, words: &[u32; 4]) -> Result<Option<u64>, Ended> {
+        let next = self.poll(now, report, words);
+        if let DrawsOn::Store(drawn) = &mut self.draws_on {
+            if let Some(ended) = drawn.refuses(next.granted) {
                 self.cancel();
-                Step::Over(ended)
+                return Err(ended);
             }
-            None => step_of(next),
+        }
+        match next.what {
+            engine::WAIT => Ok(Some(next.until)),
+            engine::OVER => Err(ended_of(next.how)),
+            _ => Ok(None),
         }
     }
 
@@ -222,6 +221,17 @@ impl Drop for Machine {
     }
 }
 
+impl DrawsOn {
+    fn of(source: Source) -> Self {
+        match source {
+            Source::Budget(budget) => Self::Budget(budget),
+            Source::Quota(quota) => Self::Quota(quota),
+            Source::Store(store) => Self::Store(Drawn::new(store)),
+            Source::Unlimited => Self::Nothing,
+        }
+    }
+}
+
 impl Drawn {
     fn new(store: Arc<dyn Tickets>) -> Self {
         Self { store, granted: 0, failure: None, ended: None }
@@ -255,14 +265,6 @@ impl fmt::Debug for DrawsOn {
     }
 }
 
-fn step_of(next: Next) -> Step {
-    match next.what {
-        engine::WAIT => Step::Wait(Duration::from_millis(next.until)),
-        engine::OVER => Step::Over(ended_of(next.how)),
-        _ => Step::Run,
-    }
-}
-
 fn ended_of(how: u32) -> Ended {
     match how {
         engine::ENDED_WON => Ended::Won,
@@ -270,31 +272,6 @@ fn ended_of(how: u32) -> Ended {
         engine::ENDED_REFUSED => Ended::BudgetRefused,
         engine::ENDED_CANCELLED => Ended::Cancelled,
         engine::ENDED_NO_MEMORY => Ended::Broken(Cause::NoMemory),
-        engine::ENDED_JOURNAL_FULL => Ended::Broken(Cause::JournalFull),
         _ => Ended::Broken(Cause::Backwards),
-    }
-}
-
-/// Random words by the hasher that std keys by the system's random bytes: each is the hash of its number.
-#[derive(Debug)]
-pub(crate) struct Words {
-    state: RandomState,
-    drawn: u64,
-}
-
-impl Words {
-    pub(crate) fn new() -> Self {
-        Self { state: RandomState::new(), drawn: 0 }
-    }
-
-    pub(crate) fn next(&mut self) -> [u32; 4] {
-        let mut half = || {
-            let mut hasher = self.state.build_hasher();
-            hasher.write_u64(self.drawn);
-            self.drawn += 1;
-            hasher.finish()
-        };
-        let (first, second) = (half(), half());
-        [first as u32, (first >> 32) as u32, second as u32, (second >> 32) as u32]
     }
 }

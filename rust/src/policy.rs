@@ -1,11 +1,13 @@
 //! Policies: schedules that were read and are right.
 
+use crate::clock::whole_millis;
 use crate::engine::{self, DriverKind, Handle, Place, PolicyKind, Status};
 use crate::schedule::Schedule;
 use std::error::Error;
 use std::fmt;
 use std::str::FromStr;
 use std::sync::{Arc, Mutex, PoisonError};
+use std::time::Duration;
 
 /// The most events that a driver keeps.
 const MOST_EVENTS: usize = 65_536;
@@ -23,7 +25,7 @@ const MOST_EVENTS: usize = 65_536;
 /// assert_eq!(policy.nodes(), 3);
 /// # Ok::<(), hikebox::PolicyError>(())
 /// ```
-#[derive(Clone, Debug)]
+#[derive(Clone)]
 pub struct Policy {
     json: Arc<str>,
     handle: Arc<Mutex<Handle<PolicyKind>>>,
@@ -141,6 +143,16 @@ impl Policy {
             lines.push(line);
         }
         Ok(lines)
+    }
+
+    /// The policy of calls that end by a deadline, of which the first event comes after so long: that event is the
+    /// schedule's first, so what is left of the time is what it has. `None` where nothing is.
+    pub(crate) fn until(&self, deadline: Duration, passed: Duration) -> Result<Option<Self>, PolicyError> {
+        let rounded_up = passed.saturating_add(Duration::from_nanos(999_999));
+        match whole_millis(deadline).checked_sub(whole_millis(rounded_up)) {
+            Some(left) => Self::from_json(&format!(r#"{{"ends_by":[{left},{}]}}"#, self.json)).map(Some),
+            None => Ok(None),
+        }
     }
 
     /// Lends the handle to one call.
@@ -292,6 +304,12 @@ impl PartialEq for Policy {
 }
 
 impl Eq for Policy {}
+
+impl fmt::Debug for Policy {
+    fn fmt(&self, f: &mut fmt::Formatter<'_>) -> fmt::Result {
+        write!(f, "Policy({})", self.json)
+    }
+}
 
 impl fmt::Display for Policy {
     fn fmt(&self, f: &mut fmt::Formatter<'_>) -> fmt::Result {

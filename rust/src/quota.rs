@@ -2,9 +2,11 @@
 
 use crate::budget::BudgetError;
 use crate::clock::{now, whole_millis};
+use crate::counters::{Counter, Counters, Window};
 #[cfg(feature = "leased")]
 use crate::engine::{FAR, MOST_TICKETS};
 use crate::engine::{Handle, QuotaKind, Status, Used};
+use std::fmt;
 use std::sync::{Arc, Mutex, MutexGuard, PoisonError};
 use std::time::{Duration, Instant};
 
@@ -30,17 +32,20 @@ use std::time::{Duration, Instant};
 ///
 /// Windows are counted from the moment at which the quota was made, by the system's monotonic clock; with the feature
 /// `tokio` by tokio's, which `tokio::time::pause` stops.
-#[derive(Clone, Debug)]
+#[derive(Clone)]
 pub struct Quota {
     shared: Arc<Shared>,
 }
 
-#[derive(Debug)]
 struct Shared {
     /// The first pass, which others are split off.
     root: Mutex<Handle<QuotaKind>>,
+    /// Those by which threads count their requests.
+    counters: Counters,
     /// Moment 0.
     began: Instant,
+    /// How many milliseconds a window is long.
+    period: u64,
 }
 
 /// The right to count requests and to draw tickets of a [`Quota`], for one thread at a time: no call of it takes a lock
@@ -111,7 +116,12 @@ impl Quota {
     pub fn new_at(began: Instant, reserve: u64, share: f64, per: Duration) -> Result<Self, BudgetError> {
         let Terms { reserve, share, period } = Terms::new(reserve, share, per)?;
         let root = Handle::<QuotaKind>::new(reserve, share, period).map_err(BudgetError::of)?;
-        Ok(Self { shared: Arc::new(Shared { root: Mutex::new(root), began }) })
+        Ok(Self::of(root, began, period))
+    }
+
+    fn of(root: Handle<QuotaKind>, began: Instant, period: u64) -> Self {
+        let (root, counters) = (Mutex::new(root), Counters::default());
+        Self { shared: Arc::new(Shared { root, counters, began, period }) }
     }
 
     /// A pass of the quota, for a thread that counts requests and draws by itself.
@@ -126,12 +136,42 @@ impl Quota {
 
     /// Counts a request. Calls that are retried under the quota do it by themselves.
     pub fn deposit(&self) {
-        self.deposit_at(self.moment(now()));
+        self.deposit_by_clock(now());
     }
 
     /// The same at a moment of a host that has a clock of its own: the time since one that it chooses.
     pub fn deposit_at(&self, now: Duration) {
         self.lock().deposit(whole_millis(now));
+    }
+
+    /// The same at this instant.
+    #[inline]
+    pub(crate) fn deposit_by_clock(&self, now: Instant) {
+        let counter = &mut *self.shared.counters.own();
+        match (counter.latest, &mut counter.pass) {
+            (Some(window), Some(pass)) if window.begins <= now && now < window.ends => pass.deposit(window.first),
+            _ => self.open(counter, now),
+        }
+    }
+
+    /// Counts a request where the counter has no pass yet, or another window than that of this instant.
+    #[cold]
+    fn open(&self, counter: &mut Counter, now: Instant) {
+        let Shared { began, period, .. } = *self.shared;
+        let moment = self.millis_at(now);
+        let first = moment / period * period;
+        let after = |millis| began.checked_add(Duration::from_millis(millis));
+        counter.latest = match (after(first), after(first.saturating_add(period))) {
+            (Some(begins), Some(ends)) => Some(Window { first, begins, ends }),
+            _ => None,
+        };
+        if counter.pass.is_none() {
+            counter.pass = self.lock().split().ok();
+        }
+        match &mut counter.pass {
+            Some(pass) => pass.deposit(moment),
+            None => self.lock().deposit(moment),
+        }
     }
 
     /// What was asked of the present window, what it has given, and what it has left.
@@ -166,12 +206,13 @@ impl Quota {
     ///
     /// The quota itself.
     pub fn close(self) -> Result<u64, Self> {
-        let Shared { root, began } = match Arc::try_unwrap(self.shared) {
+        let Shared { root, counters, began, period } = match Arc::try_unwrap(self.shared) {
             Ok(shared) => shared,
             Err(shared) => return Err(Self { shared }),
         };
         let mut root = root.into_inner().unwrap_or_else(PoisonError::into_inner);
-        root.close().map_err(|_| Self { shared: Arc::new(Shared { root: Mutex::new(root), began }) })
+        counters.into_passes().for_each(|pass| root.join(pass));
+        root.close().map_err(|_| Self::of(root, began, period))
     }
 
     /// Lends the first pass to one call.
@@ -181,6 +222,12 @@ impl Quota {
 
     fn lock(&self) -> MutexGuard<'_, Handle<QuotaKind>> {
         self.shared.root.lock().unwrap_or_else(PoisonError::into_inner)
+    }
+}
+
+impl fmt::Debug for Quota {
+    fn fmt(&self, f: &mut fmt::Formatter<'_>) -> fmt::Result {
+        f.debug_struct("Quota").field("granted", &self.granted()).finish_non_exhaustive()
     }
 }
 

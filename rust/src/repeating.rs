@@ -1,11 +1,14 @@
 //! Repeats of calls that succeed, and polls until an answer is there.
 
-use crate::clock;
-use crate::machine::Words;
+use crate::asynchronous::AsyncSleep;
+use crate::clock::whole_millis;
+use crate::engine::FAR;
+use crate::host::{Host, Random, Sleep, SystemHost};
 use crate::policy::{Driver, Policy, PolicyError};
 use std::error::Error;
 use std::fmt;
-use std::thread;
+use std::future::Future;
+use std::marker::PhantomData;
 use std::time::{Duration, Instant};
 
 /// Why a repeat or a poll ended without what was wanted.
@@ -40,10 +43,7 @@ pub enum RepeatError<T, E> {
 ///
 /// [`RepeatError::Failed`] at the first failure.
 pub fn repeat<T, E>(policy: &Policy, call: impl FnMut() -> Result<T, E>) -> Result<T, RepeatError<T, E>> {
-    match poll_until(policy, |_| false, call) {
-        Err(RepeatError::ScheduleDone(value)) => Ok(value),
-        ended => ended,
-    }
+    Repeating::new(policy).call(call)
 }
 
 /// Runs the call until its value is as wanted, again as the policy says after each one that is not.
@@ -64,16 +64,9 @@ pub fn repeat<T, E>(policy: &Policy, call: impl FnMut() -> Result<T, E>) -> Resu
 pub fn poll_until<T, E>(
     policy: &Policy,
     wanted: impl FnMut(&T) -> bool,
-    mut call: impl FnMut() -> Result<T, E>,
+    call: impl FnMut() -> Result<T, E>,
 ) -> Result<T, RepeatError<T, E>> {
-    let mut poll = Poll::begin(policy, wanted)?;
-    loop {
-        match poll.after(call().map_err(RepeatError::Failed)?)? {
-            Next::Done(value) => return Ok(value),
-            Next::Again(wait) if wait.is_zero() => (),
-            Next::Again(wait) => thread::sleep(wait),
-        }
-    }
+    Repeating::new(policy).until(wanted, call)
 }
 
 /// [`repeat`] for futures, by tokio's timer.
@@ -84,12 +77,9 @@ pub fn poll_until<T, E>(
 #[cfg(feature = "tokio")]
 pub async fn repeat_async<T, E, F>(policy: &Policy, call: impl FnMut() -> F) -> Result<T, RepeatError<T, E>>
 where
-    F: std::future::Future<Output = Result<T, E>>,
+    F: Future<Output = Result<T, E>>,
 {
-    match poll_until_async(policy, |_| false, call).await {
-        Err(RepeatError::ScheduleDone(value)) => Ok(value),
-        ended => ended,
-    }
+    Repeating::new(policy).call_async(call).await
 }
 
 /// [`poll_until`] for futures, by tokio's timer.
@@ -101,58 +91,226 @@ where
 pub async fn poll_until_async<T, E, F>(
     policy: &Policy,
     wanted: impl FnMut(&T) -> bool,
-    mut call: impl FnMut() -> F,
+    call: impl FnMut() -> F,
 ) -> Result<T, RepeatError<T, E>>
 where
-    F: std::future::Future<Output = Result<T, E>>,
+    F: Future<Output = Result<T, E>>,
 {
-    let mut poll = Poll::begin(policy, wanted)?;
-    loop {
-        match poll.after(call().await.map_err(RepeatError::Failed)?)? {
-            Next::Done(value) => return Ok(value),
-            Next::Again(wait) if wait.is_zero() => (),
-            Next::Again(wait) => ::tokio::time::sleep(wait).await,
+    Repeating::new(policy).until_async(wanted, call).await
+}
+
+/// How to repeat, or to poll: by which numbers the schedule knows the values, how long it may take in all, and by which
+/// clock. [`repeat`] and [`poll_until`] are this with nothing said.
+///
+/// ```
+/// use hikebox::{Policy, Repeating, Schedule, Test};
+/// use std::time::Duration;
+///
+/// // each second while the status is 202, and at most a minute
+/// let schedule = Schedule::spaced(Duration::from_secs(1)).while_input(Test::Equal(202));
+/// let policy = Policy::new(&schedule)?;
+/// let mut statuses = [202, 202, 200].into_iter();
+/// let mut slept = Duration::ZERO;
+/// let status = Repeating::new(&policy)
+///     .code(|status| *status)
+///     .deadline(Duration::from_secs(60))
+///     .sleep(|wait| slept += wait)
+///     .call(|| statuses.next().ok_or("no answer"))?;
+/// assert_eq!(status, 200);
+/// assert_eq!(slept, Duration::from_secs(2));
+/// # Ok::<(), Box<dyn std::error::Error>>(())
+/// ```
+#[must_use = "nothing is called before `call` or `until`"]
+pub struct Repeating<'a, T, C = fn(&T) -> u64, M = SystemHost> {
+    policy: &'a Policy,
+    deadline: Option<Duration>,
+    code: C,
+    host: M,
+    value: PhantomData<fn(&T)>,
+}
+
+impl<'a, T> Repeating<'a, T> {
+    /// Each value has the code 0.
+    pub fn new(policy: &'a Policy) -> Self {
+        Self { policy, deadline: None, code: |_| 0, host: Host::system(), value: PhantomData }
+    }
+}
+
+impl<'a, T, C, M> Repeating<'a, T, C, M> {
+    /// No run is planned to begin later than this (whole milliseconds) after the first one began: where it would be, the
+    /// schedule is done. It takes a node of the policy: one of 256 nodes, or 32 deep, has no room for it.
+    pub fn deadline(mut self, deadline: Duration) -> Self {
+        self.deadline = Some(deadline);
+        self
+    }
+
+    /// The number by which the schedule knows a value, up to 2^62 - 1: its input.
+    pub fn code<X: FnMut(&T) -> u64>(self, code: X) -> Repeating<'a, T, X, M> {
+        let Self { policy, deadline, host, value, .. } = self;
+        Repeating { policy, deadline, code, host, value }
+    }
+
+    fn with<O>(self, host: impl FnOnce(M) -> O) -> Repeating<'a, T, C, O> {
+        Repeating {
+            policy: self.policy,
+            deadline: self.deadline,
+            code: self.code,
+            host: host(self.host),
+            value: PhantomData,
         }
     }
 }
 
-/// What follows a run that succeeded.
-enum Next<T> {
-    Done(T),
-    Again(Duration),
-}
-
-/// A poll under way. Its first event, the end of the first run, is at the moment that has passed since it began.
-struct Poll<W> {
-    driver: Driver,
-    words: Words,
-    began: Instant,
-    latest: u64,
-    wanted: W,
-}
-
-impl<W> Poll<W> {
-    fn begin<T, E>(policy: &Policy, wanted: W) -> Result<Self, RepeatError<T, E>> {
-        let driver = Driver::new(policy).map_err(RepeatError::Broken)?;
-        Ok(Self { driver, words: Words::new(), began: clock::now(), latest: 0, wanted })
+impl<'a, T, C, K, S, R> Repeating<'a, T, C, Host<K, S, R>> {
+    /// The clock, in the place of the system's.
+    pub fn clock<X: FnMut() -> Instant>(self, clock: X) -> Repeating<'a, T, C, Host<X, S, R>> {
+        self.with(|Host { sleep, words, .. }| Host { clock, sleep, words })
     }
 
-    fn after<T, E>(&mut self, value: T) -> Result<Next<T>, RepeatError<T, E>>
-    where
-        W: FnMut(&T) -> bool,
-    {
-        if (self.wanted)(&value) {
-            return Ok(Next::Done(value));
-        }
-        let passed = clock::whole_millis(clock::now().saturating_duration_since(self.began));
-        let now = passed.max(self.latest);
-        match self.driver.step(now, self.words.next(), 0).map_err(RepeatError::Broken)? {
-            Some(start) => {
-                self.latest = start.max(now);
-                Ok(Next::Again(Duration::from_millis(start.saturating_sub(now))))
+    /// How to wait, as [`Retrying::sleep`](crate::Retrying::sleep): a function that blocks, or one that makes a future of
+    /// any runtime.
+    pub fn sleep<X>(self, sleep: X) -> Repeating<'a, T, C, Host<K, X, R>> {
+        self.with(|Host { clock, words, .. }| Host { clock, sleep, words })
+    }
+
+    /// Random words, in the place of the system's: four for each value, of which a jitter takes the one of its lane.
+    pub fn words<X: FnMut() -> [u32; 4]>(self, words: X) -> Repeating<'a, T, C, Host<K, S, X>> {
+        self.with(|Host { clock, sleep, .. }| Host { clock, sleep, words })
+    }
+}
+
+impl<T, C: FnMut(&T) -> u64, K: FnMut() -> Instant, S: Sleep, R: Random> Repeating<'_, T, C, Host<K, S, R>> {
+    /// Runs the call again after each success, and gives the last value. Between runs the thread sleeps.
+    ///
+    /// # Errors
+    ///
+    /// [`RepeatError::Failed`] at the first failure.
+    pub fn call<E>(&mut self, call: impl FnMut() -> Result<T, E>) -> Result<T, RepeatError<T, E>> {
+        last(self.until(|_| false, call))
+    }
+
+    /// Runs the call until its value is as wanted. Between runs the thread sleeps.
+    ///
+    /// # Errors
+    ///
+    /// [`RepeatError::Failed`] at the first failure, and [`RepeatError::ScheduleDone`] with the last value.
+    pub fn until<E>(
+        &mut self,
+        mut wanted: impl FnMut(&T) -> bool,
+        mut call: impl FnMut() -> Result<T, E>,
+    ) -> Result<T, RepeatError<T, E>> {
+        let mut rounds = self.begin();
+        loop {
+            let value = call().map_err(RepeatError::Failed)?;
+            if wanted(&value) {
+                return Ok(value);
             }
-            None => Err(RepeatError::ScheduleDone(value)),
+            match self.after(&mut rounds, &value)? {
+                Some(wait) if wait.is_zero() => (),
+                Some(wait) => self.host.sleep.sleep(wait),
+                None => return Err(RepeatError::ScheduleDone(value)),
+            }
         }
+    }
+}
+
+impl<T, C: FnMut(&T) -> u64, K: FnMut() -> Instant, S: AsyncSleep, R: Random> Repeating<'_, T, C, Host<K, S, R>> {
+    /// [`Repeating::call`] for futures. Without the feature `tokio` it wants a [`Repeating::sleep`] of the runtime.
+    ///
+    /// # Errors
+    ///
+    /// [`RepeatError::Failed`] at the first failure.
+    pub async fn call_async<E, F>(&mut self, call: impl FnMut() -> F) -> Result<T, RepeatError<T, E>>
+    where
+        F: Future<Output = Result<T, E>>,
+    {
+        last(self.until_async(|_| false, call).await)
+    }
+
+    /// [`Repeating::until`] for futures.
+    ///
+    /// # Errors
+    ///
+    /// [`RepeatError::Failed`] at the first failure, and [`RepeatError::ScheduleDone`] with the last value.
+    pub async fn until_async<E, F>(
+        &mut self,
+        mut wanted: impl FnMut(&T) -> bool,
+        mut call: impl FnMut() -> F,
+    ) -> Result<T, RepeatError<T, E>>
+    where
+        F: Future<Output = Result<T, E>>,
+    {
+        let mut rounds = self.begin();
+        loop {
+            let value = call().await.map_err(RepeatError::Failed)?;
+            if wanted(&value) {
+                return Ok(value);
+            }
+            match self.after(&mut rounds, &value)? {
+                Some(wait) if wait.is_zero() => (),
+                Some(wait) => self.host.sleep.sleep(wait).await,
+                None => return Err(RepeatError::ScheduleDone(value)),
+            }
+        }
+    }
+}
+
+impl<T, C: FnMut(&T) -> u64, K: FnMut() -> Instant, S, R: Random> Repeating<'_, T, C, Host<K, S, R>> {
+    fn begin(&mut self) -> Rounds {
+        Rounds { began: (self.host.clock)(), driver: None, latest: 0 }
+    }
+
+    /// How long it is waited after a run that gave this value now, or `None` where the schedule is done.
+    fn after<E>(&mut self, rounds: &mut Rounds, value: &T) -> Result<Option<Duration>, RepeatError<T, E>> {
+        let passed = (self.host.clock)().saturating_duration_since(rounds.began);
+        let driver = match &mut rounds.driver {
+            Some(driver) => driver,
+            None => match begun(self.policy, self.deadline, passed).map_err(RepeatError::Broken)? {
+                Some(driver) => rounds.driver.insert(driver),
+                None => return Ok(None),
+            },
+        };
+        let now = whole_millis(passed).max(rounds.latest);
+        let code = (self.code)(value).min(FAR);
+        let start = driver.step(now, self.host.words.draw(), code).map_err(RepeatError::Broken)?;
+        rounds.latest = start.unwrap_or(now);
+        Ok(start.map(|start| Duration::from_millis(start.saturating_sub(now))))
+    }
+}
+
+/// A repetition under way. The schedule is begun by the end of the first run, whose value was not wanted.
+struct Rounds {
+    began: Instant,
+    driver: Option<Driver>,
+    /// The moment of the latest event, or the start that was planned at it: a clock that did not move is taken to have.
+    latest: u64,
+}
+
+/// The schedule, of which the first run ended after so long; `None` where the deadline is past.
+fn begun(policy: &Policy, deadline: Option<Duration>, passed: Duration) -> Result<Option<Driver>, PolicyError> {
+    match deadline {
+        None => Driver::new(policy).map(Some),
+        Some(deadline) => match policy.until(deadline, passed)? {
+            Some(policy) => Driver::new(&policy).map(Some),
+            None => Ok(None),
+        },
+    }
+}
+
+/// The last value of a repetition, which ends with its schedule.
+fn last<T, E>(ended: Result<T, RepeatError<T, E>>) -> Result<T, RepeatError<T, E>> {
+    match ended {
+        Err(RepeatError::ScheduleDone(value)) => Ok(value),
+        ended => ended,
+    }
+}
+
+impl<T, C, M> fmt::Debug for Repeating<'_, T, C, M> {
+    fn fmt(&self, f: &mut fmt::Formatter<'_>) -> fmt::Result {
+        f.debug_struct("Repeating")
+            .field("policy", self.policy)
+            .field("deadline", &self.deadline)
+            .finish_non_exhaustive()
     }
 }
 

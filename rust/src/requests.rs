@@ -1,15 +1,18 @@
 //! A `tower` retry policy by a schedule and a budget.
 
 use crate::clock::now;
+use crate::course::{Course, Lost, Terms};
 use crate::grants::{Grants, Source};
-use crate::machine::Words;
 use crate::policy::Policy;
-use crate::retrying::{at_least, Run, LONGEST};
+use crate::retrying::LONGEST;
+use crate::words;
 use std::fmt;
 use std::future::Future;
 use std::pin::Pin;
-use std::sync::{Arc, Mutex, PoisonError};
-use std::time::Duration;
+use std::sync::{Arc, Mutex, MutexGuard, PoisonError};
+use std::task::{Context, Poll};
+use std::time::{Duration, Instant};
+use ::tokio::time::{sleep, Sleep};
 
 /// A [`tower::retry::Policy`](::tower::retry::Policy) that retries a request as a schedule says, with a ticket of a
 /// [`Budget`](crate::Budget) or a [`Quota`](crate::Quota) for each retry, in the place of `tower::retry::budget`. Each
@@ -37,31 +40,74 @@ use std::time::Duration;
 /// # }).unwrap();
 /// ```
 #[must_use]
-pub struct RetryPolicy<Request, Response, E> {
+pub struct RetryPolicy<Request, Response, E, B = Whenever> {
     settings: Arc<Settings<Request, Response, E>>,
-    run: Option<Arc<Mutex<Under>>>,
+    /// The retry under way, of a run after the first.
+    course: Option<Arc<Mutex<Course>>>,
+    began: B,
 }
 
-type Asked<T, A> = Arc<dyn Fn(&T) -> A + Send + Sync>;
-type Outcome<A, Response, E> = Arc<dyn Fn(Result<&Response, &E>) -> A + Send + Sync>;
+/// Of a request it is not noted when it began: it has no deadline.
+#[derive(Clone, Copy, Debug)]
+pub struct Whenever;
+
+/// When a request began, from which its deadline counts.
+#[derive(Clone, Copy, Debug)]
+pub struct Since(Instant);
+
+/// Whether a [`RetryPolicy`] notes when its request began: [`Since`] when, with a deadline, or [`Whenever`]. It is sealed.
+pub trait Noted: sealed::Begins {}
+
+impl Noted for Whenever {}
+impl Noted for Since {}
+
+mod sealed {
+    use super::{now, Instant, Since, Whenever};
+
+    pub trait Begins: Copy + Send + Sync + Unpin + 'static {
+        /// That of a request that begins now.
+        fn begins() -> Self;
+        /// When it began, of one that has failed now.
+        fn began(&self, now: Instant) -> Instant;
+    }
+
+    impl Begins for Whenever {
+        fn begins() -> Self {
+            Self
+        }
+
+        fn began(&self, now: Instant) -> Instant {
+            now
+        }
+    }
+
+    impl Begins for Since {
+        fn begins() -> Self {
+            Self(now())
+        }
+
+        fn began(&self, _: Instant) -> Instant {
+            self.0
+        }
+    }
+}
+
+type Copying<Request> = Arc<dyn Fn(&Request) -> Option<Request> + Send + Sync>;
+type Asked<T, A> = Option<Arc<dyn Fn(&T) -> A + Send + Sync>>;
+type Outcome<A, Response, E> = Option<Arc<dyn Fn(Result<&Response, &E>) -> A + Send + Sync>>;
 
 /// What all requests of a layer have in common.
 struct Settings<Request, Response, E> {
     policy: Policy,
     source: Source,
-    copy: Asked<Request, Option<Request>>,
+    deadline: Option<Duration>,
+    copy: Copying<Request>,
     when: Asked<E, bool>,
     failed: Asked<Response, bool>,
     code: Asked<E, u64>,
     response_code: Asked<Response, u64>,
     retry_after: Outcome<Option<Duration>, Response, E>,
     longest: Duration,
-}
-
-/// A retry under way, and its random words.
-struct Under {
-    run: Run,
-    words: Words,
 }
 
 impl<Request: Clone, Response, E> RetryPolicy<Request, Response, E> {
@@ -82,39 +128,42 @@ impl<Request, Response, E> RetryPolicy<Request, Response, E> {
         let settings = Settings {
             policy,
             source: budget.source(),
+            deadline: None,
             copy: Arc::new(copy),
-            when: Arc::new(|_| true),
-            failed: Arc::new(|_| false),
-            code: Arc::new(|_| 0),
-            response_code: Arc::new(|_| 0),
-            retry_after: Arc::new(|_| None),
+            when: None,
+            failed: None,
+            code: None,
+            response_code: None,
+            retry_after: None,
             longest: LONGEST,
         };
-        Self { settings: Arc::new(settings), run: None }
+        Self { settings: Arc::new(settings), course: None, began: Whenever }
     }
+}
 
+impl<Request, Response, E, B: Noted> RetryPolicy<Request, Response, E, B> {
     /// Retries only errors of which this is true.
     pub fn when(mut self, when: impl Fn(&E) -> bool + Send + Sync + 'static) -> Self {
-        self.set().when = Arc::new(when);
+        self.set().when = Some(Arc::new(when));
         self
     }
 
     /// A response of which this is true is a failure too, as one with the status 503. Where it is not retried it is the
     /// answer.
     pub fn failed(mut self, failed: impl Fn(&Response) -> bool + Send + Sync + 'static) -> Self {
-        self.set().failed = Arc::new(failed);
+        self.set().failed = Some(Arc::new(failed));
         self
     }
 
     /// The number by which the schedule knows an error, up to 2^62 - 1: its input.
     pub fn code(mut self, code: impl Fn(&E) -> u64 + Send + Sync + 'static) -> Self {
-        self.set().code = Arc::new(code);
+        self.set().code = Some(Arc::new(code));
         self
     }
 
     /// The number by which the schedule knows a response that is a failure.
     pub fn response_code(mut self, code: impl Fn(&Response) -> u64 + Send + Sync + 'static) -> Self {
-        self.set().response_code = Arc::new(code);
+        self.set().response_code = Some(Arc::new(code));
         self
     }
 
@@ -124,7 +173,7 @@ impl<Request, Response, E> RetryPolicy<Request, Response, E> {
         mut self,
         retry_after: impl Fn(Result<&Response, &E>) -> Option<Duration> + Send + Sync + 'static,
     ) -> Self {
-        self.set().retry_after = Arc::new(retry_after);
+        self.set().retry_after = Some(Arc::new(retry_after));
         self
     }
 
@@ -134,79 +183,120 @@ impl<Request, Response, E> RetryPolicy<Request, Response, E> {
         self
     }
 
+    /// No retry is planned to begin later than this (whole milliseconds) after the request was made, as of
+    /// [`Retrying::deadline`](crate::Retrying::deadline). A layer of `tower::timeout` ends a run that is under way.
+    pub fn deadline(mut self, deadline: Duration) -> RetryPolicy<Request, Response, E, Since> {
+        self.set().deadline = Some(deadline);
+        RetryPolicy { settings: self.settings, course: None, began: Since(now()) }
+    }
+
     /// The settings, which other copies of the policy keep as they are.
     fn set(&mut self) -> &mut Settings<Request, Response, E> {
         Arc::make_mut(&mut self.settings)
     }
 
-    /// How long it is waited before a request that ended so is made again, or `None` where it is not.
-    fn again(&self, result: Result<&Response, &E>) -> Option<(Self, Duration)> {
-        let settings = &*self.settings;
-        let code = match result {
-            Ok(response) if (settings.failed)(response) => (settings.response_code)(response),
-            Err(error) if (settings.when)(error) => (settings.code)(error),
-            _ => return None,
+    /// The wait before a request that failed so is made again, or `None` where it is not.
+    #[inline(never)]
+    fn again(&self, code: u64, result: Result<&Response, &E>) -> Option<RetryWait<Request, Response, E, B>> {
+        let (settings, now) = (&*self.settings, now());
+        let course = match &self.course {
+            Some(course) => course.clone(),
+            None => Arc::new(Mutex::new(Course::new(self.began.began(now)))),
         };
-        let under = match &self.run {
-            Some(under) => under.clone(),
-            None => Arc::new(Mutex::new(Under::begin(settings)?)),
-        };
-        let planned = under.lock().unwrap_or_else(PoisonError::into_inner).lost(code)?;
-        let wait = at_least(planned, (settings.retry_after)(result), settings.longest);
-        Some((Self { settings: self.settings.clone(), run: Some(under) }, wait))
+        let asked = settings.retry_after.as_ref().and_then(|retry_after| retry_after(result));
+        let asked = asked.map(|asked| asked.min(settings.longest));
+        let wait = lock(&course).lost(settings.terms(), Lost { now, code, words: words::next(), asked }).ok()?;
+        let next = Self { settings: self.settings.clone(), course: Some(course), began: self.began };
+        Some(RetryWait { next: Some(next), sleep: if wait.is_zero() { None } else { Some(sleeping(wait)) } })
     }
 }
 
-impl Under {
-    fn begin<Request, Response, E>(settings: &Settings<Request, Response, E>) -> Option<Self> {
-        let run = Run::begin(&settings.policy, &settings.source, now()).ok()?;
-        Some(Self { run, words: Words::new() })
+fn sleeping(wait: Duration) -> Pin<Box<Sleep>> {
+    Box::pin(sleep(wait))
+}
+
+fn lock(course: &Mutex<Course>) -> MutexGuard<'_, Course> {
+    course.lock().unwrap_or_else(PoisonError::into_inner)
+}
+
+impl<Request, Response, E> Settings<Request, Response, E> {
+    fn terms(&self) -> Terms<'_> {
+        Terms { policy: &self.policy, budget: &self.source, deadline: self.deadline }
     }
 
-    fn lost(&mut self, code: u64) -> Option<Duration> {
-        let words = self.words.next();
-        self.run.lost(code, now(), words).ok()
+    /// The number by which the schedule knows what is a failure.
+    #[inline]
+    fn code_of_failure(&self, result: Result<&Response, &E>) -> Option<u64> {
+        match result {
+            Ok(response) => {
+                let is_failure = self.failed.as_ref().map_or(false, |failed| failed(response));
+                is_failure.then(|| self.response_code.as_ref().map_or(0, |code| code(response)))
+            }
+            Err(error) => {
+                let is_retried = self.when.as_ref().map_or(true, |when| when(error));
+                is_retried.then(|| self.code.as_ref().map_or(0, |code| code(error)))
+            }
+        }
     }
 }
 
-/// Waits, and not for nothing: a timer's tick is a millisecond.
-async fn wait_for<T>(next: T, under: Arc<Mutex<Under>>, wait: Duration) -> T {
-    if !wait.is_zero() {
-        ::tokio::time::sleep(wait).await;
-    }
-    let mut under = under.lock().unwrap_or_else(PoisonError::into_inner);
-    // Where it is refused, the request that tower makes all the same is the last one.
-    let _ = under.run.resume(now());
-    next
+/// The wait for the next run of a request, which gives its [`RetryPolicy`]. It has a timer only where there is a time to
+/// wait: a timer's tick is a millisecond.
+#[must_use = "futures do nothing unless they are polled"]
+pub struct RetryWait<Request, Response, E, B = Whenever> {
+    next: Option<RetryPolicy<Request, Response, E, B>>,
+    sleep: Option<Pin<Box<Sleep>>>,
 }
 
-impl<Request, Response, E> ::tower::retry::Policy<Request, Response, E> for RetryPolicy<Request, Response, E>
+impl<Request, Response, E, B: Noted> Future for RetryWait<Request, Response, E, B> {
+    type Output = RetryPolicy<Request, Response, E, B>;
+
+    fn poll(self: Pin<&mut Self>, cx: &mut Context<'_>) -> Poll<Self::Output> {
+        let this = self.get_mut();
+        if let Some(sleep) = &mut this.sleep {
+            if sleep.as_mut().poll(cx).is_pending() {
+                return Poll::Pending;
+            }
+        }
+        let next = this.next.take().expect("it is not polled after its end");
+        if let (Some(_), Some(course)) = (&this.sleep, &next.course) {
+            // Where the engine refuses it, the run that tower makes all the same is the last one.
+            let _ = lock(course).resume(now);
+        }
+        Poll::Ready(next)
+    }
+}
+
+impl<Request, Response, E, B> ::tower::retry::Policy<Request, Response, E> for RetryPolicy<Request, Response, E, B>
 where
     Request: 'static,
     Response: 'static,
     E: 'static,
+    B: Noted,
 {
-    type Future = Pin<Box<dyn Future<Output = Self> + Send>>;
+    type Future = RetryWait<Request, Response, E, B>;
 
+    #[inline]
     fn retry(&self, _: &Request, result: Result<&Response, &E>) -> Option<Self::Future> {
-        let (next, wait) = self.again(result)?;
-        let under = next.run.clone()?;
-        Some(Box::pin(wait_for(next, under, wait)))
+        let code = self.settings.code_of_failure(result)?;
+        self.again(code, result)
     }
 
     // It is asked for a copy before each run, and of a policy with no request under way before the first one.
+    #[inline]
     fn clone_request(&self, request: &Request) -> Option<Request> {
-        if self.run.is_none() {
-            self.settings.source.deposit(now());
+        if self.course.is_none() {
+            self.settings.source.count_request_now();
         }
         (self.settings.copy)(request)
     }
 }
 
-/// A clone has no request under way.
-impl<Request, Response, E> Clone for RetryPolicy<Request, Response, E> {
+/// A clone is for a request that begins with it.
+impl<Request, Response, E, B: Noted> Clone for RetryPolicy<Request, Response, E, B> {
+    #[inline]
     fn clone(&self) -> Self {
-        Self { settings: self.settings.clone(), run: None }
+        Self { settings: self.settings.clone(), course: None, began: B::begins() }
     }
 }
 
@@ -215,6 +305,7 @@ impl<Request, Response, E> Clone for Settings<Request, Response, E> {
         Self {
             policy: self.policy.clone(),
             source: self.source.clone(),
+            deadline: self.deadline,
             copy: self.copy.clone(),
             when: self.when.clone(),
             failed: self.failed.clone(),
@@ -226,11 +317,18 @@ impl<Request, Response, E> Clone for Settings<Request, Response, E> {
     }
 }
 
-impl<Request, Response, E> fmt::Debug for RetryPolicy<Request, Response, E> {
+impl<Request, Response, E, B> fmt::Debug for RetryPolicy<Request, Response, E, B> {
     fn fmt(&self, f: &mut fmt::Formatter<'_>) -> fmt::Result {
         f.debug_struct("RetryPolicy")
             .field("policy", &self.settings.policy)
             .field("budget", &self.settings.source)
+            .field("deadline", &self.settings.deadline)
             .finish_non_exhaustive()
+    }
+}
+
+impl<Request, Response, E, B> fmt::Debug for RetryWait<Request, Response, E, B> {
+    fn fmt(&self, f: &mut fmt::Formatter<'_>) -> fmt::Result {
+        f.debug_struct("RetryWait").field("next", &self.next).finish_non_exhaustive()
     }
 }

@@ -1,14 +1,14 @@
 //! Retries of calls: settings, and the loop that blocks its thread.
 
-use crate::budget::BudgetError;
-use crate::clock;
-use crate::grants::{Grants, Source, StoreFailure};
-use crate::machine::{Cause, Ended, Machine, Report, Step, Words};
+use crate::course::{later, Course, Lost, Terms};
+use crate::error::RetryError;
+use crate::grants::{Grants, Unlimited};
+use crate::hooks::{Hooked, Hooks, PlainHooks};
+use crate::host::{Host, Random, Sleep, SystemHost};
+use crate::machine::Cause;
 use crate::policy::Policy;
-use std::error::Error;
 use std::fmt;
 use std::marker::PhantomData;
-use std::thread;
 use std::time::{Duration, Instant};
 
 /// Runs the call until it succeeds, again after each failure as the policy says, with a ticket of the budget for each
@@ -45,8 +45,8 @@ pub fn retry<T, E>(
     Retrying::new(policy, budget).call(call)
 }
 
-/// How to retry: which errors, by which numbers the schedule knows them, how long an error asks to wait, who hears of
-/// each retry, and by which clock. It is made by [`Retrying::new`], or of a call itself by
+/// How to retry: which errors, by which numbers the schedule knows them, how long an error asks to wait, how long it may
+/// take in all, who hears of each retry, and by which clock. It is made by [`Retrying::new`], or of a call itself by
 /// [`BlockingRetryable`] or [`Retryable`](crate::Retryable), and called as often as one likes.
 ///
 /// ```
@@ -65,11 +65,11 @@ pub fn retry<T, E>(
 /// # Ok::<(), Box<dyn std::error::Error>>(())
 /// ```
 ///
-/// A clone has the same settings and draws on the same budget; it is `Send` where its closures are.
+/// A clone has the same settings and draws on the same budget; it is `Send` where its closures are. A call that succeeds
+/// at once takes no memory and no lock; on a quota it is counted, by a pass that its thread shares with few others.
 #[must_use = "nothing is called before `call` or `run`"]
 pub struct Retrying<'a, E, F = (), H = PlainHooks<E>, M = SystemHost> {
-    policy: &'a Policy,
-    source: Source,
+    terms: Terms<'a>,
     pub(crate) call: F,
     hooks: H,
     pub(crate) host: M,
@@ -77,64 +77,23 @@ pub struct Retrying<'a, E, F = (), H = PlainHooks<E>, M = SystemHost> {
     error: PhantomData<fn(&E)>,
 }
 
-/// What is asked and told at each failure.
-#[derive(Clone, Copy)]
-pub struct Hooks<W, C, A, N> {
-    when: W,
-    code: C,
-    retry_after: A,
-    notify: N,
+/// A run of a call, as [`Retrying::call_with`] tells it.
+#[derive(Clone, Copy, Debug, PartialEq, Eq, Hash)]
+pub struct Attempt {
+    number: u64,
+    left: Option<Duration>,
 }
 
-/// Hooks that retry every error, by the code 0.
-pub type PlainHooks<E> = Hooks<fn(&E) -> bool, fn(&E) -> u64, fn(&E) -> Option<Duration>, fn(&E, Duration)>;
-
-/// Where a retry has its clock, its waits and its random words from.
-#[derive(Clone, Copy)]
-pub struct Host<K, S, R> {
-    clock: K,
-    pub(crate) sleep: S,
-    words: R,
-}
-
-/// The system's clock, waits and random words; with the feature `tokio` tokio's clock, and its waits in futures.
-pub type SystemHost = Host<fn() -> Instant, SystemSleep, SystemWords>;
-
-/// Waits of the thread, or with the feature `tokio` of the task.
-#[derive(Clone, Copy, Debug, Default)]
-pub struct SystemSleep;
-
-/// Random words by the system's random bytes.
-#[derive(Debug, Default)]
-pub struct SystemWords(Option<Words>);
-
-/// A clone has words of its own.
-impl Clone for SystemWords {
-    fn clone(&self) -> Self {
-        Self(None)
+impl Attempt {
+    /// Which run it is, from 1 on.
+    pub fn number(&self) -> u64 {
+        self.number
     }
-}
 
-/// Why a retry gave no value. Each way but the last keeps the last error of the call.
-///
-/// Its text has that of the last error, so it has no [`source`](Error::source): [`RetryError::last`] leads to the error
-/// and its causes. It is an [`Error`] for every `E` that can be shown, `&str`, `Box<dyn Error>` and `anyhow::Error`
-/// too, so `?` takes it on.
-#[derive(Clone, Debug, PartialEq, Eq, Hash)]
-#[non_exhaustive]
-pub enum RetryError<E> {
-    /// The call failed, and the schedule does not go on.
-    ScheduleDone(E),
-    /// The call failed, the schedule goes on, and the budget or the quota has no ticket.
-    BudgetRefused(E),
-    /// The call failed with an error that is not to be retried.
-    NotRetried(E),
-    /// The call failed, the schedule goes on, and the store of tickets failed.
-    StoreFailed(StoreFailure, E),
-    /// The retry could not go on after this error.
-    Broken(Cause, E),
-    /// The retry could not begin: no call was made.
-    NotBegun(BudgetError),
+    /// How long it is from the run's beginning to the deadline, or `None` where there is none.
+    pub fn left(&self) -> Option<Duration> {
+        self.left
+    }
 }
 
 /// Calls that block, which can be retried: all that give a `Result`.
@@ -168,7 +127,7 @@ pub struct Blocking<F>(F);
 
 impl<'a, E> Retrying<'a, E> {
     /// Retries every error, by the code 0.
-    pub fn new(policy: &'a Policy, budget: &impl Grants) -> Self {
+    pub fn new(policy: &'a Policy, budget: &'a impl Grants) -> Self {
         Self::of(policy, ()).budget(budget)
     }
 }
@@ -176,11 +135,10 @@ impl<'a, E> Retrying<'a, E> {
 impl<'a, E, F> Retrying<'a, E, F> {
     pub(crate) fn of(policy: &'a Policy, call: F) -> Self {
         Self {
-            policy,
-            source: Source::Unlimited,
+            terms: Terms { policy, budget: &Unlimited, deadline: None },
             call,
-            hooks: Hooks { when: |_| true, code: |_| 0, retry_after: |_| None, notify: |_, _| () },
-            host: Host { clock: clock::now, sleep: SystemSleep, words: SystemWords(None) },
+            hooks: Hooks::plain(),
+            host: Host::system(),
             longest: LONGEST,
             error: PhantomData,
         }
@@ -192,8 +150,8 @@ pub(crate) const LONGEST: Duration = Duration::from_secs(6 * 3600);
 
 impl<'a, E, F, H, M> Retrying<'a, E, F, H, M> {
     /// Each retry draws a ticket on this.
-    pub fn budget(mut self, budget: &impl Grants) -> Self {
-        self.source = budget.source();
+    pub fn budget(mut self, budget: &'a impl Grants) -> Self {
+        self.terms.budget = budget;
         self
     }
 
@@ -203,16 +161,47 @@ impl<'a, E, F, H, M> Retrying<'a, E, F, H, M> {
         self
     }
 
+    /// No run is planned to begin later than this (whole milliseconds) after the first one began: where the policy, or
+    /// an error, would wait longer, it ends as [`RetryError::ScheduleDone`], and draws no ticket for that. A run that
+    /// is under way is not ended: [`Retrying::call_with`] tells it how long it has left.
+    ///
+    /// ```
+    /// use hikebox::{Policy, RetryError, Retrying, Unlimited};
+    /// use std::time::Duration;
+    ///
+    /// let policy: Policy = r#"{"spaced":20}"#.parse()?;
+    /// let mut runs = 0;
+    /// let value = Retrying::new(&policy, &Unlimited).deadline(Duration::from_millis(50)).call(|| {
+    ///     runs += 1;
+    ///     Err::<(), _>("busy")
+    /// });
+    /// assert_eq!(value, Err(RetryError::ScheduleDone("busy")));
+    /// assert!(runs <= 3); // at 0, 20 and 40 ms
+    /// # Ok::<(), hikebox::PolicyError>(())
+    /// ```
+    ///
+    /// The deadline takes a node of the policy: one of 256 nodes, or 32 deep, has no room for it, and a retry by it ends
+    /// at its first failure as [`Cause::PolicyTooLarge`].
+    pub fn deadline(mut self, deadline: Duration) -> Self {
+        self.terms.deadline = Some(deadline);
+        self
+    }
+
     fn with<I, O>(self, hooks: impl FnOnce(H) -> I, host: impl FnOnce(M) -> O) -> Retrying<'a, E, F, I, O> {
         Retrying {
-            policy: self.policy,
-            source: self.source,
+            terms: self.terms,
             call: self.call,
             hooks: hooks(self.hooks),
             host: host(self.host),
             longest: self.longest,
             error: PhantomData,
         }
+    }
+
+    /// The settings, and the call.
+    pub(crate) fn parted(self) -> (Retrying<'a, E, (), H, M>, F) {
+        let Self { terms, call, hooks, host, longest, error } = self;
+        (Retrying { terms, call: (), hooks, host, longest, error }, call)
     }
 }
 
@@ -267,8 +256,42 @@ impl<E, H: Hooked<E>, K: FnMut() -> Instant, S: Sleep, R: Random> Retrying<'_, E
     /// # Errors
     ///
     /// [`RetryError`] keeps the last error of the call.
-    pub fn call<T>(&mut self, call: impl FnMut() -> Result<T, E>) -> Result<T, RetryError<E>> {
-        self.block(call)
+    pub fn call<T>(&mut self, mut call: impl FnMut() -> Result<T, E>) -> Result<T, RetryError<E>> {
+        self.call_with(|_| call())
+    }
+
+    /// The same of a call that is told which run it is, and how long it has left up to the [`Retrying::deadline`].
+    ///
+    /// ```
+    /// use hikebox::{Policy, Retrying, Unlimited};
+    /// use std::time::Duration;
+    ///
+    /// let policy: Policy = r#"{"recurs":3}"#.parse()?;
+    /// let mut retrying = Retrying::new(&policy, &Unlimited).deadline(Duration::from_secs(2));
+    /// let answer = retrying.call_with(|attempt| {
+    ///     let timeout = attempt.left().unwrap_or(Duration::MAX);
+    ///     if attempt.number() < 3 { Err(timeout) } else { Ok(attempt.number()) }
+    /// });
+    /// assert_eq!(answer, Ok(3));
+    /// # Ok::<(), hikebox::PolicyError>(())
+    /// ```
+    ///
+    /// # Errors
+    ///
+    /// [`RetryError`] keeps the last error of the call.
+    pub fn call_with<T>(&mut self, mut call: impl FnMut(Attempt) -> Result<T, E>) -> Result<T, RetryError<E>> {
+        let mut course = self.begin();
+        let mut attempt = self.first();
+        loop {
+            let (wait, error) = match self.after(&mut course, call(attempt)) {
+                Then::Again { wait, error } => (wait, error),
+                Then::End(result) => return result,
+            };
+            if !wait.is_zero() {
+                self.host.sleep.sleep(wait);
+            }
+            attempt = self.next(&mut course, attempt).map_err(|cause| RetryError::Broken(cause, error))?;
+        }
     }
 }
 
@@ -283,89 +306,58 @@ impl<E, F, H: Hooked<E>, K: FnMut() -> Instant, S: Sleep, R: Random> Retrying<'_
         F: FnMut() -> Result<T, E>,
     {
         let (mut retrying, Blocking(call)) = self.parted();
-        retrying.block(call)
+        retrying.call(call)
     }
 }
 
-impl<'a, E, F, H, M> Retrying<'a, E, F, H, M> {
-    /// The settings, and the call.
-    pub(crate) fn parted(self) -> (Retrying<'a, E, (), H, M>, F) {
-        let Self { policy, source, call, hooks, host, longest, error } = self;
-        (Retrying { policy, source, call: (), hooks, host, longest, error }, call)
-    }
-}
-
-impl<E, F, H: Hooked<E>, K: FnMut() -> Instant, S: Sleep, R: Random> Retrying<'_, E, F, H, Host<K, S, R>> {
-    fn block<T>(&mut self, mut call: impl FnMut() -> Result<T, E>) -> Result<T, RetryError<E>> {
-        let mut run = self.begin().map_err(RetryError::NotBegun)?;
-        loop {
-            let (wait, error) = match self.after(&mut run, call()) {
-                Then::Again { wait, error } => (wait, error),
-                Then::End(result) => return result,
-            };
-            if !wait.is_zero() {
-                self.host.sleep.sleep(wait);
-            }
-            self.resume(&mut run).map_err(|cause| RetryError::Broken(cause, error))?;
-        }
-    }
-}
-
-impl<E, F, H: Hooked<E>, K: FnMut() -> Instant, S, R: Random> Retrying<'_, E, F, H, Host<K, S, R>> {
-    /// A request, and its retry, whose first run is under way.
-    pub(crate) fn begin(&mut self) -> Result<Run, BudgetError> {
+impl<E, H: Hooked<E>, K: FnMut() -> Instant, S, R: Random> Retrying<'_, E, (), H, Host<K, S, R>> {
+    /// A request, and its retry, whose first run begins.
+    pub(crate) fn begin(&mut self) -> Course {
         let now = (self.host.clock)();
-        self.source.deposit(now);
-        Run::begin(self.policy, &self.source, now)
+        self.terms.budget.count_request(now);
+        Course::new(now)
+    }
+
+    /// The first run, which begins with the retry.
+    pub(crate) fn first(&self) -> Attempt {
+        Attempt { number: 1, left: self.terms.deadline }
     }
 
     /// What follows a run that ended so.
-    pub(crate) fn after<T>(&mut self, run: &mut Run, ran: Result<T, E>) -> Then<T, E> {
-        let now = (self.host.clock)();
+    pub(crate) fn after<T>(&mut self, course: &mut Course, ran: Result<T, E>) -> Then<T, E> {
         let error = match ran {
-            Ok(value) => {
-                run.won(now);
-                return Then::End(Ok(value));
-            }
+            Ok(value) => return Then::End(Ok(value)),
             Err(error) => error,
         };
+        let now = (self.host.clock)();
         if !self.hooks.when(&error) {
-            run.cancel();
             return Then::End(Err(RetryError::NotRetried(error)));
         }
-        let planned = match run.lost(self.hooks.code(&error), now, self.host.words.draw()) {
+        let asked = self.hooks.retry_after(&error).map(|asked| asked.min(self.longest));
+        let lost = Lost { now, code: self.hooks.code(&error), words: self.host.words.draw(), asked };
+        let wait = match course.lost(self.terms, lost) {
             Ok(wait) => wait,
-            Err(ended) => return Then::End(Err(run.error(ended, error))),
+            Err(ended) => return Then::End(Err(course.error(ended, error))),
         };
-        let wait = at_least(planned, self.hooks.retry_after(&error), self.longest);
         self.hooks.notify(&error, wait);
-        let start = later(now, wait);
-        Then::Again { wait: start.saturating_duration_since((self.host.clock)()), error }
+        if wait.is_zero() {
+            return Then::Again { wait, error };
+        }
+        Then::Again { wait: later(now, wait).saturating_duration_since((self.host.clock)()), error }
     }
 
-    /// Begins the run that is due, for which it was waited.
-    pub(crate) fn resume(&mut self, run: &mut Run) -> Result<(), Cause> {
-        run.resume((self.host.clock)())
+    /// The next run, which begins after the wait for it.
+    pub(crate) fn next(&mut self, course: &mut Course, last: Attempt) -> Result<Attempt, Cause> {
+        course.resume(&mut self.host.clock)?;
+        let left = self.terms.deadline.map(|deadline| deadline.saturating_sub(course.passed((self.host.clock)())));
+        Ok(Attempt { number: last.number + 1, left })
     }
 }
-
-/// A wait as planned, or as an error asks, up to the longest.
-pub(crate) fn at_least(planned: Duration, asked: Option<Duration>, longest: Duration) -> Duration {
-    asked.map_or(planned, |asked| planned.max(asked.min(longest)))
-}
-
-/// The moment after so long, or after a century where the system's clock can't tell it.
-pub(crate) fn later(now: Instant, wait: Duration) -> Instant {
-    now.checked_add(wait).unwrap_or_else(|| now + A_CENTURY)
-}
-
-const A_CENTURY: Duration = Duration::from_secs(100 * 365 * 86_400);
 
 impl<E, F: Clone, H: Clone, M: Clone> Clone for Retrying<'_, E, F, H, M> {
     fn clone(&self) -> Self {
         Self {
-            policy: self.policy,
-            source: self.source.clone(),
+            terms: self.terms,
             call: self.call.clone(),
             hooks: self.hooks.clone(),
             host: self.host.clone(),
@@ -378,9 +370,10 @@ impl<E, F: Clone, H: Clone, M: Clone> Clone for Retrying<'_, E, F, H, M> {
 impl<E, F, H, M> fmt::Debug for Retrying<'_, E, F, H, M> {
     fn fmt(&self, f: &mut fmt::Formatter<'_>) -> fmt::Result {
         f.debug_struct("Retrying")
-            .field("policy", &self.policy)
-            .field("budget", &self.source)
+            .field("policy", self.terms.policy)
+            .field("budget", &self.terms.budget.source())
             .field("longest", &self.longest)
+            .field("deadline", &self.terms.deadline)
             .finish_non_exhaustive()
     }
 }
@@ -396,212 +389,4 @@ pub(crate) enum Then<T, E> {
     },
     /// The end.
     End(Result<T, RetryError<E>>),
-}
-
-/// Hooks for errors of this type.
-pub trait Hooked<E>: sealed::Hooks {
-    #[doc(hidden)]
-    fn when(&mut self, error: &E) -> bool;
-    #[doc(hidden)]
-    fn code(&mut self, error: &E) -> u64;
-    #[doc(hidden)]
-    fn retry_after(&mut self, error: &E) -> Option<Duration>;
-    #[doc(hidden)]
-    fn notify(&mut self, error: &E, wait: Duration);
-}
-
-impl<E, W, C, A, N> Hooked<E> for Hooks<W, C, A, N>
-where
-    W: FnMut(&E) -> bool,
-    C: FnMut(&E) -> u64,
-    A: FnMut(&E) -> Option<Duration>,
-    N: FnMut(&E, Duration),
-{
-    fn when(&mut self, error: &E) -> bool {
-        (self.when)(error)
-    }
-
-    fn code(&mut self, error: &E) -> u64 {
-        (self.code)(error)
-    }
-
-    fn retry_after(&mut self, error: &E) -> Option<Duration> {
-        (self.retry_after)(error)
-    }
-
-    fn notify(&mut self, error: &E, wait: Duration) {
-        (self.notify)(error, wait);
-    }
-}
-
-/// A way to block for some time: any function of a [`Duration`].
-pub trait Sleep {
-    /// Blocks for so long, or longer.
-    fn sleep(&mut self, wait: Duration);
-}
-
-impl Sleep for SystemSleep {
-    fn sleep(&mut self, wait: Duration) {
-        thread::sleep(wait);
-    }
-}
-
-impl<F: FnMut(Duration)> Sleep for F {
-    fn sleep(&mut self, wait: Duration) {
-        self(wait);
-    }
-}
-
-/// Random words: any function that makes four.
-pub trait Random {
-    /// The next four.
-    fn draw(&mut self) -> [u32; 4];
-}
-
-impl Random for SystemWords {
-    fn draw(&mut self) -> [u32; 4] {
-        self.0.get_or_insert_with(Words::new).next()
-    }
-}
-
-impl<F: FnMut() -> [u32; 4]> Random for F {
-    fn draw(&mut self) -> [u32; 4] {
-        self()
-    }
-}
-
-mod sealed {
-    pub trait Hooks {}
-    impl<W, C, A, N> Hooks for super::Hooks<W, C, A, N> {}
-}
-
-/// A retry under way, and when it began: by the system's clock, and by the machine's.
-#[derive(Debug)]
-pub(crate) struct Run {
-    machine: Machine,
-    began: Instant,
-    origin: u64,
-    /// The machine's latest moment.
-    latest: Duration,
-    /// When the next run is due.
-    due: Duration,
-}
-
-/// The random words of a step at which the schedule is not asked.
-const NO_WORDS: [u32; 4] = [0; 4];
-
-impl Run {
-    /// A retry whose first run is under way.
-    pub(crate) fn begin(policy: &Policy, source: &Source, now: Instant) -> Result<Self, BudgetError> {
-        let (machine, origin) = (Machine::on(policy, source)?, source.moment(now));
-        let mut run = Self { machine, began: now, origin, latest: Duration::ZERO, due: Duration::ZERO };
-        run.resume(now).map_err(|_| BudgetError::NoMemory)?;
-        Ok(run)
-    }
-
-    /// The run under way succeeded.
-    pub(crate) fn won(&mut self, now: Instant) {
-        let _ = self.step(now, Some(Report::Won(0)), NO_WORDS);
-    }
-
-    /// The run under way failed: how long it is to be waited from now on, or how the retry ended. The wait is the
-    /// planned one in full, whatever part of a millisecond the run ended at.
-    pub(crate) fn lost(&mut self, code: u64, now: Instant, words: [u32; 4]) -> Result<Duration, Ended> {
-        match self.step(now, Some(Report::Lost(code)), words) {
-            Step::Run => Ok(Duration::ZERO),
-            Step::Wait(until) => {
-                self.due = until;
-                Ok(until - self.latest)
-            }
-            Step::Over(ended) => Err(ended),
-        }
-    }
-
-    /// Begins the run that is due, unless that is refused. A clock that did not move while it was waited is taken to
-    /// have moved.
-    pub(crate) fn resume(&mut self, now: Instant) -> Result<(), Cause> {
-        self.latest = self.latest.max(self.due);
-        match self.step(now, None, NO_WORDS) {
-            Step::Over(Ended::Broken(cause)) => Err(cause),
-            _ => Ok(()),
-        }
-    }
-
-    /// Ends it as cancelled.
-    pub(crate) fn cancel(&mut self) {
-        self.machine.cancel();
-    }
-
-    /// The error of a retry that ended so.
-    fn error<E>(&self, ended: Ended, error: E) -> RetryError<E> {
-        match ended {
-            Ended::BudgetRefused => RetryError::BudgetRefused(error),
-            Ended::Broken(cause) => match self.machine.store_failure() {
-                Some(failure) => RetryError::StoreFailed(failure.clone(), error),
-                None => RetryError::Broken(cause, error),
-            },
-            Ended::ScheduleDone => RetryError::ScheduleDone(error),
-            Ended::Won | Ended::Cancelled => RetryError::NotRetried(error),
-        }
-    }
-
-    /// A step at the machine's moment: whole milliseconds since it began, after the one at which it did.
-    fn step(&mut self, now: Instant, report: Option<Report>, words: [u32; 4]) -> Step {
-        let passed = u64::try_from(now.saturating_duration_since(self.began).as_millis()).unwrap_or(u64::MAX);
-        self.latest = self.latest.max(Duration::from_millis(self.origin.saturating_add(passed)));
-        self.machine.step_with(self.latest, report, words)
-    }
-}
-
-impl<E> RetryError<E> {
-    /// The last error of the call, or `None` where no call was made.
-    pub fn last(&self) -> Option<&E> {
-        match self {
-            Self::ScheduleDone(error)
-            | Self::BudgetRefused(error)
-            | Self::NotRetried(error)
-            | Self::StoreFailed(_, error)
-            | Self::Broken(_, error) => Some(error),
-            Self::NotBegun(_) => None,
-        }
-    }
-
-    /// The same, by value.
-    pub fn into_last(self) -> Option<E> {
-        match self {
-            Self::ScheduleDone(error)
-            | Self::BudgetRefused(error)
-            | Self::NotRetried(error)
-            | Self::StoreFailed(_, error)
-            | Self::Broken(_, error) => Some(error),
-            Self::NotBegun(_) => None,
-        }
-    }
-}
-
-impl<E: fmt::Display> fmt::Display for RetryError<E> {
-    // `{:#}` of an `anyhow::Error` has its causes; of most errors it is their text.
-    fn fmt(&self, f: &mut fmt::Formatter<'_>) -> fmt::Result {
-        match self {
-            Self::ScheduleDone(error) => write!(f, "{error:#} (the schedule was done)"),
-            Self::BudgetRefused(error) => write!(f, "{error:#} (the retry budget had no ticket)"),
-            Self::NotRetried(error) => write!(f, "{error:#} (not an error to be retried)"),
-            Self::StoreFailed(store, error) => write!(f, "{error:#} (the store of retry tickets failed: {store})"),
-            Self::Broken(cause, error) => write!(f, "{error:#} (the retry could not go on: {cause})"),
-            Self::NotBegun(error) => write!(f, "the retry could not begin: {error}"),
-        }
-    }
-}
-
-impl<E: fmt::Debug + fmt::Display> Error for RetryError<E> {}
-
-impl fmt::Display for Cause {
-    fn fmt(&self, f: &mut fmt::Formatter<'_>) -> fmt::Result {
-        f.write_str(match self {
-            Self::NoMemory => "no memory",
-            Self::JournalFull => "the journal is full",
-            Self::Backwards => "the clock went back",
-            Self::StoreFailed => "the store of tickets failed",
-        })
-    }
 }

@@ -140,7 +140,7 @@ fn faults_are_those_of_the_text() {
 fn a_fault_has_its_place_and_what_is_wanted_there() {
     let deep = format!("{}\"forever\"{}", r#"{"nothing":"#.repeat(33), "}".repeat(33));
     for (json, place, hint) in [
-        ("", "line 1, column 0", ""),
+        ("", "line 1, column 1", ""),
         ("[\n{\"plan\":]", "line 2, column 9", ""),
         ("7", "", "a plan is a string or an object of one member"),
         (r#"{"fixed":0}"#, "", r#""fixed" is spelt {"fixed":D}, D from 1 to 4611686018427387903"#),

@@ -4,6 +4,7 @@ use hikebox::{
     retry, Budget, BudgetError, Ended, Grants, Machine, Policy, Quota, QuotaPass, Report, RetryError, Retrying, Step,
     Unlimited, Usage,
 };
+use std::cell::Cell;
 use std::sync::Barrier;
 use std::thread;
 use std::time::{Duration, Instant};
@@ -259,4 +260,53 @@ fn values_go_to_other_threads() {
     shares::<Usage>();
     shares::<Unlimited>();
     sends::<Machine>();
+}
+
+#[test]
+fn the_time_of_the_first_run_counts() {
+    // by windows of a second: the first run begins 0.9 s after the quota and fails at 1.5, the second one fails at 2.1
+    let now = Cell::new(Instant::now());
+    let quota = Quota::new_at(now.get() - at(900), 1, 0.0, Duration::from_secs(1)).unwrap();
+    let (policy, mut seen) = (policy(r#"{"recurs":1}"#), Vec::new());
+    let ended = Retrying::new(&policy, &quota).clock(|| now.get()).call(|| {
+        seen.push(quota.seen_at(at(0)));
+        now.set(now.get() + at(600));
+        Err::<(), _>("no")
+    });
+    assert_eq!(ended, Err(RetryError::ScheduleDone("no")));
+    assert_eq!(seen, [usage(0, 1, 0, 1), usage(1, 0, 1, 0)]);
+    assert_eq!(quota.close().unwrap(), 1);
+}
+
+#[test]
+fn requests_of_many_threads_are_counted_each_once_and_by_their_windows() {
+    let began = Instant::now() - Duration::from_millis(500);
+    let quota = Quota::new_at(began, 0, 1.0, Duration::from_secs(3600)).unwrap();
+    thread::scope(|scope| {
+        for _ in 0..40 {
+            scope.spawn(|| (0..500).for_each(|_| quota.deposit()));
+        }
+    });
+    assert_eq!(quota.seen(), usage(0, 20_000, 0, 20_000));
+    assert_eq!(quota.close().unwrap(), 0);
+}
+
+#[test]
+fn a_thread_counts_in_the_window_that_its_clock_tells() {
+    // the same thread, in windows of 100 ms from 250 ms after the quota's beginning on
+    let (origin, policy) = (Instant::now(), policy(r#"{"recurs":0}"#));
+    let quota = Quota::new_at(origin, 5, 0.0, Duration::from_millis(100)).unwrap();
+    let counted = |millis: u64| {
+        let call = Retrying::new(&policy, &quota).clock(|| origin + at(millis)).call(|| Ok::<_, ()>(()));
+        assert_eq!(call, Ok(()));
+        let Usage { window, asked, .. } = quota.seen_at(at(0));
+        (window, asked)
+    };
+    let moments = [250, 299, 300, 399, 399, 400, 600, 699, 700];
+    let seen = [(2, 1), (2, 2), (3, 1), (3, 2), (3, 3), (4, 1), (6, 1), (6, 2), (7, 1)];
+    assert_eq!(moments.map(counted), seen);
+    // a clock that went back counts in the latest window
+    assert_eq!(counted(50), (7, 2));
+    assert_eq!(counted(710), (7, 3));
+    assert_eq!(quota.close().unwrap(), 0);
 }

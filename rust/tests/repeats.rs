@@ -1,6 +1,11 @@
 //! Repeats, and polls until an answer is there.
 
-use hikebox::{poll_until, repeat, Policy, RepeatError};
+use hikebox::{poll_until, repeat, Policy, RepeatError, Repeating};
+use std::cell::{Cell, RefCell};
+use std::future::{ready, Future};
+use std::pin::Pin;
+use std::sync::Arc;
+use std::task::{Context, Poll, Wake, Waker};
 use std::time::{Duration, Instant};
 
 fn policy(json: &str) -> Policy {
@@ -36,7 +41,6 @@ fn a_poll_ends_with_what_was_wanted_or_with_the_last_answer() {
 #[tokio::test(start_paused = true)]
 async fn futures_are_repeated_at_the_planned_starts() {
     use hikebox::{poll_until_async, repeat_async};
-    use std::future::ready;
 
     let began = tokio::time::Instant::now();
     let mut starts = Vec::new();
@@ -50,4 +54,69 @@ async fn futures_are_repeated_at_the_planned_starts() {
     let mut answers = 0..;
     let polled = poll_until_async(&fixed, |answer| *answer == 1, || ready(answers.next().ok_or("none"))).await;
     assert_eq!(polled, Ok(1));
+}
+
+/// When each run of a repetition began whose runs take so long, in milliseconds, and its last value.
+fn runs(json: &str, took: u64, deadline: Option<u64>) -> (Vec<u128>, Result<usize, RepeatError<usize, &'static str>>) {
+    let (policy, now) = (policy(json), Cell::new(Instant::now()));
+    let (origin, mut seen) = (now.get(), Vec::new());
+    let repeating = Repeating::new(&policy).clock(|| now.get()).sleep(|wait| now.set(now.get() + wait));
+    let mut repeating = match deadline {
+        Some(deadline) => repeating.deadline(Duration::from_millis(deadline)),
+        None => repeating,
+    };
+    let last = repeating.call(|| {
+        seen.push((now.get() - origin).as_millis());
+        now.set(now.get() + Duration::from_millis(took));
+        Ok(seen.len())
+    });
+    drop(repeating);
+    (seen, last)
+}
+
+#[test]
+fn a_repetition_goes_by_a_clock_of_ones_own_and_ends_by_its_deadline() {
+    let three = r#"{"meet":[{"recurs":2},{"spaced":1000}]}"#;
+    assert_eq!(runs(three, 5, None), (vec![0, 1005, 2010], Ok(3)));
+    // runs end at 30, 160 and 290, and the next ones would begin at 130, 260 and 390
+    assert_eq!(runs(r#"{"spaced":100}"#, 30, Some(259)), (vec![0, 130], Ok(2)));
+    assert_eq!(runs(r#"{"spaced":100}"#, 30, Some(260)), (vec![0, 130, 260], Ok(3)));
+    assert_eq!(runs("\"forever\"", 30, Some(29)), (vec![0], Ok(1)));
+    let mut deep = r#"{"recurs":1}"#.to_owned();
+    (0..31).for_each(|_| deep = format!(r#"{{"nothing":{deep}}}"#));
+    let broken = runs(&deep, 1, Some(9)).1.unwrap_err();
+    assert!(broken.to_string().starts_with("the repeat could not go on: too deep"), "{broken}");
+}
+
+#[test]
+fn a_schedule_is_given_the_numbers_of_values_and_random_words() {
+    let policy = policy(r#"{"gate":["input",true,"equal",202,{"jitter":[1,0,1000,{"spaced":1000}]}]}"#);
+    let (mut statuses, mut waits) = ([202, 202, 200, 202].into_iter(), Vec::new());
+    let mut repeating = Repeating::new(&policy)
+        .code(|status: &u64| *status)
+        .words(|| [9, 1 << 31, 9, 9])
+        .sleep(|wait: Duration| waits.push(wait.as_millis()));
+    assert_eq!(repeating.call(|| statuses.next().ok_or(())), Ok(200));
+    drop(repeating);
+    assert_eq!((waits, statuses.next()), (vec![500, 500], Some(202)));
+}
+
+#[test]
+fn a_poll_of_futures_runs_on_any_runtime() {
+    let (policy, stopped, waits) = (policy(r#"{"spaced":100}"#), Instant::now(), RefCell::new(Vec::new()));
+    let mut answers = 1..;
+    let mut polling = Repeating::new(&policy).clock(|| stopped).sleep(|wait: Duration| {
+        waits.borrow_mut().push(wait.as_millis());
+        ready(())
+    });
+    let polled = polling.until_async(|answer| *answer == 4, || ready(answers.next().ok_or("none")));
+    let mut polled: Pin<Box<dyn Future<Output = _> + '_>> = Box::pin(polled);
+    struct Nobody;
+    impl Wake for Nobody {
+        fn wake(self: Arc<Self>) {}
+    }
+    let ended = polled.as_mut().poll(&mut Context::from_waker(&Waker::from(Arc::new(Nobody))));
+    assert_eq!(ended, Poll::Ready(Ok(4)));
+    drop(polled);
+    assert_eq!(*waits.borrow(), [100; 3]);
 }

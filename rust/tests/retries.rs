@@ -6,7 +6,6 @@ use hikebox::{
 };
 use std::cell::{Cell, RefCell};
 use std::error::Error;
-use std::fmt;
 use std::io;
 use std::rc::Rc;
 use std::sync::atomic::{AtomicI64, AtomicU64, Ordering};
@@ -40,8 +39,13 @@ fn scripted_retries_end_as_a_pool_of_jobs_says() {
     assert_eq!(scripted(r#"{"recurs":5}"#, 1, &[Lost(7), Lost(8)]), (Ended::BudgetRefused, 2, 1));
     assert_eq!(scripted(r#"{"recurs":3}"#, 0, &[Lost(7)]), (Ended::BudgetRefused, 1, 0));
     assert_eq!(scripted(r#""forever""#, 10_000, &[Lost(7)]), (Ended::BudgetRefused, 10_001, 10_000));
-    let full = Ended::Broken(Cause::JournalFull);
-    assert_eq!(scripted(r#""forever""#, 100_000, &[Lost(7)]), (full, 65_537, 65_536));
+}
+
+#[test]
+fn a_retry_goes_on_after_65_536_failures() {
+    let mut outcomes = vec![Report::Lost(7); 70_000];
+    outcomes.push(Report::Won(1));
+    assert_eq!(scripted(r#""forever""#, 100_000, &outcomes), (Ended::Won, 70_001, 70_000));
 }
 
 #[test]
@@ -171,7 +175,9 @@ fn settings_are_cloned_shown_and_called_as_often_as_one_likes() {
         assert_eq!(other.call(|| Err::<u8, _>("fatal")), Err(RetryError::NotRetried("fatal")));
     }
     assert_eq!((heard.get(), budget.granted()), (3, 3));
-    assert!(format!("{retrying:?}").starts_with("Retrying { policy: Policy"));
+    drop(other);
+    let shown = r#"Retrying { policy: Policy({"recurs":1}), budget: Budget { granted: 3, .. }, longest: 21600s, "#;
+    assert!(format!("{retrying:?}").starts_with(shown));
 }
 
 #[test]
@@ -194,45 +200,22 @@ fn a_call_is_retried_by_a_method_of_its_own() {
     assert_eq!(answer.retry(&policy).run(), Ok(7));
 }
 
-/// An error as `anyhow::Error` is: it takes any error on by `?`, and is none itself; `{:#}` shows its causes.
-#[derive(Debug)]
-struct Taken(Box<dyn Error + Send + Sync>);
-
-impl<E: Error + Send + Sync + 'static> From<E> for Taken {
-    fn from(error: E) -> Self {
-        Self(error.into())
-    }
-}
-
-impl fmt::Display for Taken {
-    fn fmt(&self, f: &mut fmt::Formatter<'_>) -> fmt::Result {
-        write!(f, "{}", self.0)?;
-        let mut cause = self.0.source().filter(|_| f.alternate());
-        while let Some(error) = cause {
-            write!(f, ": {error}")?;
-            cause = error.source();
-        }
-        Ok(())
-    }
-}
-
 #[test]
 fn errors_of_all_kinds_go_on_by_a_question_mark_and_are_told_once() {
     let never = policy(r#"{"recurs":0}"#);
-    let of_text = || -> Result<(), Taken> { Ok(retry(&never, &Unlimited, || Err::<(), _>("busy"))?) };
-    let of_taken = || -> Result<(), Taken> {
-        Ok(retry(&never, &Unlimited, || Err::<(), _>(Taken::from(io::Error::new(io::ErrorKind::Other, "away"))))?)
+    let away = || io::Error::new(io::ErrorKind::Other, "away");
+    let of_text = || -> anyhow::Result<()> { Ok(retry(&never, &Unlimited, || Err::<(), _>("busy"))?) };
+    let of_io = || -> anyhow::Result<()> { Ok(retry(&never, &Unlimited, || Err::<(), _>(away()))?) };
+    let of_anyhow = || -> anyhow::Result<()> {
+        Ok(retry(&never, &Unlimited, || Err::<(), _>(anyhow::Error::from(away()).context("no answer")))?)
     };
     let of_box = || -> Result<(), Box<dyn Error>> {
         Ok(retry(&never, &Unlimited, || Err::<(), Box<dyn Error>>("gone".into()))?)
     };
-    let of_io = || -> Result<(), Taken> {
-        Ok(retry(&never, &Unlimited, || Err::<(), _>(io::Error::new(io::ErrorKind::Other, "away")))?)
-    };
     assert_eq!(format!("{:#}", of_text().unwrap_err()), "busy (the schedule was done)");
-    assert_eq!(format!("{:#}", of_taken().unwrap_err()), "away (the schedule was done)");
-    assert_eq!(of_box().unwrap_err().to_string(), "gone (the schedule was done)");
     assert_eq!(format!("{:#}", of_io().unwrap_err()), "away (the schedule was done)");
+    assert_eq!(format!("{:#}", of_anyhow().unwrap_err()), "no answer: away (the schedule was done)");
+    assert_eq!(of_box().unwrap_err().to_string(), "gone (the schedule was done)");
 }
 
 /// A store with so many tickets, which counts requests, and fails where it has none and is told to.
@@ -313,7 +296,7 @@ fn the_last_error_is_kept() {
     let error = retry(&policy(r#"{"recurs":5}"#), &budget, away).unwrap_err();
     assert_eq!(error.to_string(), "away (the retry budget had no ticket)");
     assert!(error.source().is_none());
-    assert_eq!(error.into_last().unwrap().kind(), io::ErrorKind::Other);
+    assert_eq!(error.into_last().kind(), io::ErrorKind::Other);
 }
 
 #[test]
@@ -346,6 +329,53 @@ fn a_budget_bounds_the_retries_past_its_passes_too() {
     }
     assert_eq!(retry(&policy, &budget, || Ok::<_, ()>(1)), Ok(1));
     assert_eq!(budget.close().unwrap(), 70_000);
+}
+
+/// How a retry ends whose runs end so, and how often it looked at its clock.
+fn looks(script: &[Result<u8, u8>], budget: &Budget) -> (Result<u8, RetryError<u8>>, u64) {
+    let (policy, now, looks) = (policy(r#"{"recurs":9}"#), Instant::now(), Cell::new(0));
+    let mut runs = script.iter().copied();
+    let result = Retrying::new(&policy, budget)
+        .when(|error: &u8| *error < 9)
+        .clock(|| {
+            looks.set(looks.get() + 1);
+            now + Duration::from_millis(looks.get())
+        })
+        .call(|| runs.next().unwrap());
+    (result, looks.get())
+}
+
+#[test]
+fn a_call_that_succeeds_at_once_takes_one_look_at_the_clock() {
+    let budget = Budget::new(10).unwrap();
+    assert_eq!(looks(&[Ok(5)], &budget), (Ok(5), 1));
+    // and one more at each failure
+    assert_eq!(looks(&[Err(9)], &budget), (Err(RetryError::NotRetried(9)), 2));
+    assert_eq!(looks(&[Err(1), Err(2), Ok(5)], &budget), (Ok(5), 3));
+    assert_eq!(budget.close().unwrap(), 2);
+}
+
+#[test]
+fn a_call_that_succeeds_or_is_not_retried_leaves_nothing_in_the_budget() {
+    let (policy, budget) = (policy(r#"{"recurs":2}"#), Budget::new(100).unwrap());
+    let drawn = |run: &dyn Fn() -> Result<(), u8>| {
+        let before = budget.granted();
+        let _ = Retrying::new(&policy, &budget).when(|error| *error < 9).call(run);
+        budget.granted() - before
+    };
+    let second = Cell::new(0);
+    let then = |failure: Result<(), u8>| {
+        second.set(second.get() + 1);
+        if second.get() % 2 == 1 { Err(1) } else { failure }
+    };
+    assert_eq!(drawn(&|| Ok(())), 0);
+    assert_eq!(drawn(&|| Err(9)), 0);
+    assert_eq!(drawn(&|| then(Ok(()))), 1);
+    assert_eq!(drawn(&|| then(Err(9))), 1);
+    assert_eq!(drawn(&|| Err(1)), 2);
+    let panics = || then(Ok(())).map(|()| panic!("in the second run"));
+    assert!(std::panic::catch_unwind(std::panic::AssertUnwindSafe(|| drawn(&panics))).is_err());
+    assert_eq!(budget.close().unwrap(), 5);
 }
 
 #[test]

@@ -3,6 +3,8 @@
 
 use hikebox::{Budget, Policy, Quota};
 use std::hint::black_box;
+use std::sync::Barrier;
+use std::thread;
 use std::time::{Duration, Instant};
 
 const ROUNDS: u32 = 200;
@@ -15,6 +17,42 @@ fn main() {
         retries(failures);
     }
     draws();
+    for threads in [1, 2, 4] {
+        successes(threads);
+    }
+}
+
+/// Calls that succeed at once, by so many threads that share a policy and what they draw on.
+fn successes(threads: u32) {
+    let policy: Policy = r#"{"recurs":5}"#.parse().expect("a policy");
+    let budget = Budget::new(MOST).expect("a budget");
+    let quota = Quota::new(1_000_000, 1.0, WINDOW).expect("a quota");
+    let on_budget = at_once(threads, || hikebox::retry(&policy, &budget, call(0)).is_ok());
+    let on_quota = at_once(threads, || hikebox::retry(&policy, &quota, call(0)).is_ok());
+    println!("a success on {threads} threads at once: {on_budget:.0} ns on a budget, {on_quota:.0} ns on a quota");
+}
+
+/// The least nanoseconds that one call takes where so many threads make calls.
+fn at_once(threads: u32, run: impl Fn() -> bool + Sync) -> f64 {
+    const MANY: u32 = 20_000;
+    let took = || {
+        let barrier = Barrier::new(threads as usize);
+        let slowest = thread::scope(|scope| {
+            let threads: Vec<_> = (0..threads)
+                .map(|_| {
+                    scope.spawn(|| {
+                        barrier.wait();
+                        let began = Instant::now();
+                        assert!((0..MANY).all(|_| run()));
+                        began.elapsed()
+                    })
+                })
+                .collect();
+            threads.into_iter().map(|thread| thread.join().expect("no panic")).max()
+        });
+        slowest.expect("a thread").as_secs_f64() * 1e9 / f64::from(MANY)
+    };
+    (0..50).map(|_| took()).fold(f64::INFINITY, f64::min)
 }
 
 fn retries(failures: u32) {

@@ -1,7 +1,7 @@
 //! Drivers.
 ghost use Rattle.std.specs.Prelude.{◌≡◌, ◌⊎◌, ◌<◌, ◌≤◌, Err};
 ghost use Rattle.sched_time.specs.declared.numbers.TheConstants.{FAR};
-ghost use Rattle.sched_handle.specs.Drivers.{Resets, Planned, CountsEvents, LastNumber, LastText};
+ghost use Rattle.sched_handle.specs.Drivers.{Resets, Planned, CountsEvents, DriverNoted, LastNumber, LastText};
 ghost use Rattle.sched_handle.specs.Fills.{Frees};
 ghost use Rattle.sched_handle.specs.Policies.{Drives};
 ghost use Rattle.sched_reply.specs.Status.{told};
@@ -10,7 +10,7 @@ ghost use Rattle.sched_reply.specs.declared.status.Status.TheVariants as status;
 ghost use Rattle.sched_calls.specs.Calls.{Tells, Kept, OnHeld, MakesWith};
 ghost use Rattle.sched_calls.specs.Drivers.{TellsText, NextsAt};
 
-use sched_handle::{Decided, Handle};
+use sched_handle::{Decided, Handle, Noted};
 use std::alloc::Global;
 
 #[unsafe(no_mangle)]
@@ -77,6 +77,18 @@ pub extern "C" fn hikebox_driver_events(alloc: Global, driver: &mut Handle, even
     ensures { OnHeld (Kept CountsEvents) driver.old.held driver.new.held (Tells result events.old events.new) }
 {
     sched_calls::driver_events(alloc, driver, events)
+}
+
+#[unsafe(no_mangle)]
+pub extern "C" fn hikebox_driver_event(
+    alloc: Global,
+    driver: &mut Handle,
+    index: u64,
+    event: &mut Noted,
+) -> u32
+    ensures { OnHeld (Kept (DriverNoted index)) driver.old.held driver.new.held (Tells result event.old event.new) }
+{
+    sched_calls::driver_event(alloc, driver, index, event)
 }
 
 #[unsafe(no_mangle)]

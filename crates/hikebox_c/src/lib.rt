@@ -4,7 +4,6 @@
 mod budgets;
 mod drivers;
 mod faults;
-mod journals;
 mod policies;
 mod quotas;
 mod retries;

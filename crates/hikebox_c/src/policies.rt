@@ -1,7 +1,7 @@
 //! Policies.
 ghost use Rattle.std.specs.Prelude.{◌≡◌, ◌≢◌};
 ghost use Rattle.sched_handle.specs.Fills.{Frees};
-ghost use Rattle.sched_handle.specs.Policies.{ReadsPolicy, Copies, Sizes, nowhere};
+ghost use Rattle.sched_handle.specs.Policies.{ReadsPolicy, Shares, Sizes, nowhere};
 ghost use Rattle.sched_reply.specs.Status.{code_of};
 ghost use Rattle.sched_handle.specs.declared.held.Kind.TheVariants as kind;
 ghost use Rattle.sched_reply.specs.declared.status.Status.TheVariants as status;
@@ -25,10 +25,14 @@ pub extern "C" fn hikebox_policy_read(
 }
 
 #[unsafe(no_mangle)]
-pub extern "C" fn hikebox_policy_copy(alloc: Global, policy: &mut Handle, copy: &mut Handle) -> u32
-    ensures { MakesWith (Kept Copies) policy.old.held policy.new.held copy.old.held result copy.new.held }
+pub extern "C" fn hikebox_policy_share(
+    alloc: Global,
+    policy: &mut Handle,
+    other: &mut Handle,
+) -> u32
+    ensures { MakesWith (Kept Shares) policy.old.held policy.new.held other.old.held result other.new.held }
 {
-    sched_calls::policy_copy(alloc, policy, copy)
+    sched_calls::policy_share(alloc, policy, other)
 }
 
 #[unsafe(no_mangle)]

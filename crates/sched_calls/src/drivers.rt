@@ -1,7 +1,7 @@
 //! Drivers.
 ghost use Rattle.std.specs.Prelude.{◌≡◌, ◌⊎◌, ◌<◌, ◌≤◌, Err};
 ghost use Rattle.sched_time.specs.declared.numbers.TheConstants.{FAR};
-ghost use Rattle.sched_handle.specs.Drivers.{Resets, Planned, CountsEvents, LastNumber, LastText};
+ghost use Rattle.sched_handle.specs.Drivers.{Resets, Planned, CountsEvents, DriverNoted, LastNumber, LastText};
 ghost use Rattle.sched_handle.specs.Fills.{Frees};
 ghost use Rattle.sched_handle.specs.Policies.{Drives};
 ghost use Rattle.sched_reply.specs.Status.{told};
@@ -10,7 +10,7 @@ ghost use Rattle.sched_reply.specs.declared.status.Status.TheVariants as status;
 ghost use Rattle.sched_calls.specs.Calls.{Tells, Kept, OnHeld, MakesWith};
 ghost use Rattle.sched_calls.specs.Drivers.{TellsText, NextsAt};
 
-use sched_handle::{Decided, Handle, Kind, Status, put_text, tell, tick_at};
+use sched_handle::{Decided, Handle, Kind, Noted, Status, put_text, tell, tick_at};
 use sched_time::Millis;
 use std::alloc::Global;
 
@@ -115,6 +115,18 @@ pub fn driver_events(alloc: Global, driver: &mut Handle, events: &mut u64) -> u3
     let answer = held.events();
     driver.put(held);
     tell(answer, events)
+}
+
+/// Writes the event of this number, counted from 0.
+pub fn driver_event(alloc: Global, driver: &mut Handle, index: u64, event: &mut Noted) -> u32
+    ensures { OnHeld (Kept (DriverNoted index)) driver.old.held driver.new.held (Tells result event.old event.new) }
+{
+    let Some(held) = driver.take(alloc) else {
+        return Status::Empty.code();
+    };
+    let answer = held.driver_event(index);
+    driver.put(held);
+    tell(answer, event)
 }
 
 /// Goes back to before the first event, whatever the moment of the next one.

@@ -5,7 +5,6 @@
 mod budgets;
 mod drivers;
 mod faults;
-mod journals;
 mod policies;
 mod quotas;
 mod retries;
@@ -15,12 +14,11 @@ pub use budgets::{
     pass_raise, pass_split,
 };
 pub use drivers::{
-    driver_events, driver_free, driver_last_number, driver_last_text, driver_new, driver_next,
-    driver_next_start, driver_reset,
+    driver_event, driver_events, driver_free, driver_last_number, driver_last_text, driver_new,
+    driver_next, driver_next_start, driver_reset,
 };
 pub use faults::policy_fault;
-pub use journals::{driver_event, retry_event, retry_events};
-pub use policies::{policy_copy, policy_free, policy_read, policy_size};
+pub use policies::{policy_free, policy_read, policy_share, policy_size};
 pub use quotas::{
     quota_close, quota_count, quota_deposit, quota_draw, quota_free, quota_join, quota_new,
     quota_seen, quota_split,

@@ -1,7 +1,7 @@
 //! Policies.
 ghost use Rattle.std.specs.Prelude.{◌≡◌, ◌≢◌};
 ghost use Rattle.sched_handle.specs.Fills.{Frees};
-ghost use Rattle.sched_handle.specs.Policies.{ReadsPolicy, Copies, Sizes, nowhere};
+ghost use Rattle.sched_handle.specs.Policies.{ReadsPolicy, Shares, Sizes, nowhere};
 ghost use Rattle.sched_reply.specs.Status.{code_of};
 ghost use Rattle.sched_handle.specs.declared.held.Kind.TheVariants as kind;
 ghost use Rattle.sched_reply.specs.declared.status.Status.TheVariants as status;
@@ -24,19 +24,19 @@ pub fn policy_read(alloc: Global, json: &[u8], policy: &mut Handle, place: &mut 
     policy.fill(made)
 }
 
-/// Puts an equal policy into `copy`.
-pub fn policy_copy(alloc: Global, policy: &mut Handle, copy: &mut Handle) -> u32
-    ensures { MakesWith (Kept Copies) policy.old.held policy.new.held copy.old.held result copy.new.held }
+/// Puts the same policy into `other`; no plan is copied.
+pub fn policy_share(alloc: Global, policy: &mut Handle, other: &mut Handle) -> u32
+    ensures { MakesWith (Kept Shares) policy.old.held policy.new.held other.old.held result other.new.held }
 {
-    if copy.is_full(alloc) {
+    if other.is_full(alloc) {
         return Status::Full.code();
     }
     let Some(held) = policy.take(alloc) else {
         return Status::Empty.code();
     };
-    let made = held.copied(alloc);
+    let made = held.shared(alloc);
     policy.put(held);
-    copy.fill(made)
+    other.fill(made)
 }
 
 /// Writes how many nodes the policy has, and how deep it is.

@@ -17,7 +17,7 @@ use sched_handle::{Handle, Held, Kind, Reply, Status, tell, tick_at};
 use sched_time::Millis;
 use std::alloc::Global;
 
-/// Puts a retry that has not begun into `retry`, with a copy of the policy and a pass split off `pass`.
+/// Puts a retry that has not begun into `retry`, with the policy and a pass split off `pass`.
 pub fn retry_new(alloc: Global, policy: &mut Handle, pass: &mut Handle, retry: &mut Handle) -> u32
     ensures retry { NewRetry Retries policy.old.held pass.old.held pass.new.held
         retry.old.held result retry.new.held }

@@ -39,7 +39,7 @@ pub(crate) fn report_bytes(alloc: Global, bytes: &[u8]) -> Result<Report, NoMemo
         Err(error) => {
             let told = ToldFault::NotJson {
                 line: error.line(),
-                column: error.column(),
+                column: error.column().max(1),
             };
             let text = fault_line(alloc, &told)?;
             Ok(Report::NotJson(text))

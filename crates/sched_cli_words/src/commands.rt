@@ -17,7 +17,7 @@ const PLAN_EXAMPLES: &str = "Examples:
 const POOL_EXAMPLES: &str = "Examples:
   zsched pool jobs/three-calls.json
   zsched pool --workers 4 --budget 2 - < jobs/three-calls.json
-  zsched pool --quota 1/500/100 jobs/three-calls.json";
+  zsched pool --quota 1/50%/100ms jobs/three-calls.json";
 
 /// The whole command.
 pub(crate) fn zsched_command<'a>(alloc: Global) -> Result<Command<'a>, AllocError> {

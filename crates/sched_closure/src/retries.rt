@@ -22,8 +22,11 @@ use std::sync::Wait;
 /// retry, and answers how that ended. Between two calls it waits by the clock.
 ///
 /// Each run calls the closure once, and ends at the moment that the clock tells after the call: the schedule's delays
-/// count from there. Nothing is kept of a run but its code, in the schedule, so nothing that finished is lost where
-/// memory is refused; the retry then ends as `Broken`.
+/// count from there. Where memory is refused or a journal is full at the end of a run that failed, the retry ends as
+/// `Broken`: it has the run's code, and the fault itself is dropped.
+///
+/// With a deadline, by `Until` as the retry's driver, it ends as `ScheduleDone` where the start planned is past that; the
+/// driver's `late_start` then tells that start.
 pub fn retry_call<I, F, R, S, D, K, G, C>(
     rt: &R,
     retry: &mut Machine<S, D>,
@@ -44,7 +47,7 @@ where
     requires callable { C.IsAlwaysCallable call }
     ensures turns { (ticks : List Ticked) × (called : C) × (last : Option (Result I F)) × HandsOut last result
         × ((v : Retrying D) → StandsFor S.stands S.keeps D.grants retry.old v →
-        (u : Retrying D)
+        S.goes_by retry.new.driver v.past.driver.plan → (u : Retrying D)
         × FoldsTo (Turn D.grants (a_retry S.keeps) K.tells K.waits C.step I.coded F.coded)
         (calling v clock.old (G.stream words.old) call None)
         ticks

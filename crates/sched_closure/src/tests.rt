@@ -16,6 +16,8 @@ use std::alloc::{AllocGlobal, Global};
 use std::cell::Cell;
 use std::process::Abort;
 
+mod deadlines;
+
 fn moment(rt: &impl Abort, at: u64) -> Moment {
     Moment::new(at).expect(rt, "the moment is in range")
 }

@@ -41,7 +41,7 @@ pub(crate) fn end_run<I: Coded + Drop, F: Coded + Drop, S: Drives, D: Draws>(
 ) -> Option<Ending<I, F>>
     requires unended { retry.old.over ≡ None }
     requires running { retry.old.under_way ≡ true }
-    ensures polls { Polls S.stands S.keeps D.grants retry.old tick.entry.now
+    ensures polls { Polls S.stands S.keeps S.goes_by D.grants retry.old tick.entry.now
         (ran_by I.coded F.coded outcome ∷ []) retry.new }
     ensures over { retry.new.over ≡ over_by result }
     ensures value { IfSome result (HandsOut (Some outcome)) }
@@ -68,7 +68,7 @@ fn tell_run<I: Coded, F: Coded, S: Drives, D: Draws>(
 )
     requires unended { retry.old.over ≡ None }
     requires running { retry.old.under_way ≡ true }
-    ensures polls { Polls S.stands S.keeps D.grants retry.old tick.entry.now
+    ensures polls { Polls S.stands S.keeps S.goes_by D.grants retry.old tick.entry.now
         (ran_by I.coded F.coded outcome.now ∷ []) retry.new }
     ensures ends { EndsAs (ran_by I.coded F.coded outcome.now) retry.new.over }
 {

@@ -1,5 +1,5 @@
 -- What the calls on a driver do.
-use Rattle.std.specs.Prelude.{◌≡◌, ◌≢◌, ℕ, ◌<◌, ◌≤◌, [], length, string_bytes, Some, None}
+use Rattle.std.specs.Prelude.{◌≡◌, ◌≢◌, ◌⊎◌, ℕ, ◌<◌, ◌≤◌, [], length, string_bytes, Some, None}
 use Rattle.std.specs.Prelude.{Result, Ok, Err, String}
 use Rattle.std.specs.Global.{Global}
 use Rattle.sched_time.specs.Decision.{start_of}
@@ -12,10 +12,12 @@ use Rattle.sched_step.specs.StateOf.{event_of}
 use Rattle.sched_driver.specs.Driven.{Driven, last_output, next_start_of, after}
 use Rattle.sched_driver.specs.Driver.{HasRoom}
 use Rattle.sched_handle.specs.Held.{kind_of, IsOther, OtherKind}
+use Rattle.sched_reply.specs.Events.{NotedAt}
 use Rattle.sched_reply.specs.Replies.{decided_of}
 use Rattle.sched_handle.specs.declared.held.Held.{Held}
 use Rattle.sched_handle.specs.declared.held.Held.TheVariants.{Driver}
 use Rattle.sched_handle.specs.declared.held.Kind.TheVariants as kind
+use Rattle.sched_reply.specs.declared.events.Noted.{Noted}
 use Rattle.sched_reply.specs.declared.replies.Decided.{Decided}
 use Rattle.sched_reply.specs.declared.status.Status.{Status}
 use Rattle.sched_reply.specs.declared.status.Status.TheVariants.{WrongKind, Backwards, JournalFull, NoMemory}
@@ -58,6 +60,11 @@ Planned u (Err s) = IsOther kind.Driver u s
 abbrev pub CountsEvents : Held → Result ℕ Status → Type 0
 CountsEvents u (Ok n) = (d : Driven) × (u ≡ Driver d) × (n ≡ length d.journal)
 CountsEvents u (Err s) = IsOther kind.Driver u s
+
+-- the event of this number of the journal
+abbrev pub DriverNoted : ℕ → Held → Result Noted Status → Type 0
+DriverNoted index u r =
+    ((d : Driven) × (u ≡ Driver d) × NotedAt d.journal index r) ⊎ ((kind_of u ≢ kind.Driver) × (r ≡ Err WrongKind))
 
 -- this is the output last given
 abbrev pub Gave : Held → Datum → Type 0

@@ -6,4 +6,3 @@ pub mod Drivers
 pub mod Passes
 pub mod Quotas
 pub mod Retries
-pub mod Journals

@@ -1,6 +1,7 @@
 -- What bytes are read as, and what the calls on a policy do.
 use Rattle.std.specs.Prelude.{◌≡◌, ℕ, List, [], Result, Ok, Err}
 use Rattle.sched_plan.specs.Schedule.{Schedule, nodes_of, depth_of}
+use Rattle.sched_driver.specs.Driven.{Driven}
 use Rattle.sched_plan_json.specs.Texts.{ReadsText}
 use Rattle.sched_plan_json.specs.declared.texts.TextFault.TheVariants as text
 use Rattle.sched_handle.specs.Held.{kind_of, IsOther, Wants}
@@ -35,10 +36,10 @@ abbrev pub TellsPlace : Result (Box Held Global) Status → Place → Type 0
 TellsPlace (Err NotJson) place = Unit {0}
 TellsPlace r place = place ≡ nowhere
 
--- an equal policy is made, or none for this reason
-abbrev pub Copies : Held → Result (Box Held Global) Status → Type 0
-Copies u (Ok b) = (b.value ≡ u) × (kind_of u ≡ kind.Policy)
-Copies u (Err s) = Wants kind.Policy u s
+-- one more handle has the policy, or none for this reason
+abbrev pub Shares : Held → Result (Box Held Global) Status → Type 0
+Shares u (Ok b) = (b.value ≡ u) × (kind_of u ≡ kind.Policy)
+Shares u (Err s) = Wants kind.Policy u s
 
 -- how many nodes a policy has, and how deep it is
 abbrev pub Sizes : Held → Result Size Status → Type 0
@@ -47,5 +48,5 @@ Sizes u (Err s) = IsOther kind.Policy u s
 
 -- a driver of a policy is made, before its first event, or none for this reason
 abbrev pub Drives : Held → Result (Box Held Global) Status → Type 0
-Drives u (Ok b) = (s : Schedule) × (u ≡ Policy s) × (b.value ≡ Driver (record { plan = s; journal = [] }))
+Drives u (Ok b) = (d : Driven) × (b.value ≡ Driver d) × (u ≡ Policy d.plan) × (d.journal ≡ [])
 Drives u (Err s) = Wants kind.Policy u s

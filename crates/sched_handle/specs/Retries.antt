@@ -1,9 +1,10 @@
 -- What the calls on a retry do.
-use Rattle.std.specs.Prelude.{◌≡◌, ℕ, false, [], ◌∷◌, length, Option, Some, None, Result, Ok, Err}
+use Rattle.std.specs.Prelude.{◌≡◌, ℕ, false, List, [], ◌∷◌, length, min, Option, Some, None, Result, Ok, Err}
 use Rattle.std.specs.Global.{Global}
 use Rattle.std_alloc.specs.declared.boxed.Box.{Box}
 use Rattle.sched_time.specs.declared.numbers.Tick.{Tick}
 use Rattle.sched_plan.specs.Schedule.{Schedule}
+use Rattle.sched_driver_stepper.specs.Standing.{Standing, standing_after}
 use Rattle.sched_effect.specs.declared.ran.Ran.{Ran}
 use Rattle.sched_task.specs.declared.endings.How.{How}
 use Rattle.sched_task.specs.declared.endings.How.TheVariants as how
@@ -12,11 +13,12 @@ use Rattle.sched_ticket_draws.specs.Budgets.{OfBudget}
 use Rattle.sched_ticket_draws.specs.Quotas.{OfQuota}
 use Rattle.sched_ticket.specs.View.{part_of, with_split}
 use Rattle.sched_ticket_quota.specs.View.{part_of as quota_part_of, without_part}
-use Rattle.sched_task_law.specs.Kind.{retry}
-use Rattle.sched_task_law.specs.Past.{Past, nothing_yet}
+use Rattle.sched_task_law.specs.Past.{Past}
 use Rattle.sched_retry.specs.Retrying.{Retrying, gives_up}
-use Rattle.sched_run_machine.specs.Next.{HostPoll, hears, next_of}
-use Rattle.sched_host.specs.Drawing.{granted_by, drawing_grants}
+use Rattle.sched_run_machine.specs.Drives.{IsStepped, GoesByPlan}
+use Rattle.sched_run_machine.specs.Machine.{Machine, begins, unbegun, is_told, cancelled, StandsFor, Polls as PollsMachine}
+use Rattle.sched_run_machine.specs.Next.{next_of}
+use Rattle.sched_host.specs.Drawing.{drawing_grants}
 use Rattle.sched_host.specs.declared.drawing.Drawing.{Drawing}
 use Rattle.sched_host.specs.declared.drawing.Drawing.TheVariants as by
 use Rattle.sched_run_machine.specs.declared.next.Next.{Next}
@@ -31,6 +33,14 @@ use Rattle.sched_handle.specs.declared.held.Kind.TheVariants as kind
 use Rattle.sched_reply.specs.declared.replies.Reply.{Reply}
 use Rattle.sched_reply.specs.declared.status.Status.{Status}
 use Rattle.sched_reply.specs.declared.status.Status.TheVariants.{WrongKind, NoMemory, NoRun}
+
+-- A retry as its handle holds it: a machine whose driver keeps no journal, so that it may stand for many lists of runs.
+abbrev pub Hosted : Type 0
+Hosted = Machine Standing Drawing
+
+-- it may stand for this retry
+abbrev pub MayBe : Hosted → Retrying Drawing → Type 0
+MayBe m u = StandsFor IsStepped false drawing_grants m u
 
 -- the number by which C knows how a retry ended
 abbrev pub how_number : How → ℕ
@@ -50,13 +60,23 @@ reply_to next.Run granted runs = record { what = 1; how = 0; until = 0; granted 
 reply_to (next.Wait start) granted runs = record { what = 2; how = 0; until = start; granted = granted; runs = runs }
 reply_to (next.Over h) granted runs = record { what = 3; how = how_number h; until = 0; granted = granted; runs = runs }
 
+-- of runs past 2^64 - 1 that many are told
 abbrev pub reply_of : Past → Reply
-reply_of v = reply_to (next_of v) v.granted (length v.runs)
+reply_of v = reply_to (next_of v) v.granted (min (length v.runs) 18446744073709551615)
 
--- a retry that has not begun, of this policy, and that draws by this
+-- What a retry is at: there is a retry that it may stand for, and of each such one this is told.
+pub record Shows (m : Hosted) (x : Reply) : Type 0 where
+  pub stands : (u : Retrying Drawing) × MayBe m u
+  pub tells : (u : Retrying Drawing) → MayBe m u → x ≡ reply_of u.past
+
+-- A retry that has not begun, of this policy: the one that has done nothing yet is among those that it may stand for.
+pub record IsUnbegun (plan : Schedule) (m : Hosted) : Type 0 where
+  pub begins_so : m ≡ begins drawing_grants (standing_after plan []) m.drawing
+  pub stands : MayBe m (unbegun drawing_grants plan m.drawing)
+
+-- and one that draws by this
 abbrev pub IsFresh : Schedule → Drawing → Held → Type 0
-IsFresh plan d v =
-    (r : Retrying Drawing) × (v ≡ Retry r) × (r.past ≡ nothing_yet plan) × (r.drawing ≡ d) × (r.had ≡ granted_by d)
+IsFresh plan d v = (m : Hosted) × (v ≡ Retry m) × (m.drawing ≡ d) × IsUnbegun plan m
 
 -- a retry of a policy is made with a part of a pass, which has no ticket
 abbrev pub PassRetries : Schedule → OfBudget → Result (Box Held Global) Status → Held → Type 0
@@ -95,28 +115,37 @@ abbrev pub RetriesUnlimited : Held → Result (Box Held Global) Status → Type 
 RetriesUnlimited u (Ok b) = (plan : Schedule) × (u ≡ Policy plan) × IsFresh plan (by.Unlimited 0) b.value
 RetriesUnlimited u (Err s) = Wants kind.Policy u s
 
+-- one poll, in which the runs that finish are those told, of each retry that it may stand for
+abbrev pub IsPoll : Hosted → Tick → List Ran → Hosted → Type 0
+IsPoll m t told n = PollsMachine IsStepped false GoesByPlan drawing_grants m t told n
+
+-- the run under way ends as it is reported, and then one begins where it may
+abbrev pub Ends : Hosted → Tick → Ran → Hosted → Type 0
+Ends m t ran n = (k : Hosted) × IsPoll m t (ran ∷ []) k × IsPoll k t [] n
+
 -- a poll, after a report where there is one
-abbrev pub RetryPolls : Tick → Option Ran → Retrying Drawing → Result Reply Status → Held → Type 0
-RetryPolls t None r (Ok x) v =
-    (u : Retrying Drawing) × (v ≡ Retry u) × HostPoll drawing_grants retry r t [] u × (x ≡ reply_of u.past)
-RetryPolls t (Some ran) r (Ok x) v =
-    (m u : Retrying Drawing) × (v ≡ Retry u) × HostPoll drawing_grants retry r t (ran ∷ []) m
-    × HostPoll drawing_grants retry m t [] u × (x ≡ reply_of u.past)
-RetryPolls t (Some ran) r (Err NoRun) v = (hears r.past ≡ false) × (v ≡ Retry r)
-RetryPolls t report r (Err _) v = ⊥
+abbrev pub RetryPolls : Tick → Option Ran → Hosted → Result Reply Status → Hosted → Type 0
+RetryPolls t None m (Ok x) n = IsPoll m t [] n × Shows n x
+RetryPolls t (Some ran) m (Ok x) n = Ends m t ran n × Shows n x
+RetryPolls t (Some ran) m (Err NoRun) n = (is_told m ≡ false) × (n ≡ m)
+RetryPolls t report m (Err _) n = ⊥
 
 abbrev pub Polls : Tick → Option Ran → Held → Result Reply Status → Held → Type 0
-Polls t report (Retry r) x v = RetryPolls t report r x v
+Polls t report (Retry m) x v = (n : Hosted) × (v ≡ Retry n) × RetryPolls t report m x n
 Polls t report u x v = OtherKind u x v
 
 -- what a retry is at
 abbrev pub Sees : Held → Result Reply Status → Type 0
-Sees u (Ok x) = (r : Retrying Drawing) × (u ≡ Retry r) × (x ≡ reply_of r.past)
+Sees u (Ok x) = (m : Hosted) × (u ≡ Retry m) × Shows m x
 Sees u (Err s) = IsOther kind.Retry u s
 
--- a retry that is not over ends as cancelled
+-- a retry that is not over ends as cancelled, whichever it is
+pub record GivesUp (m n : Hosted) : Type 0 where
+  pub cancels : n ≡ cancelled m
+  pub stands : (u : Retrying Drawing) → MayBe m u → MayBe n (gives_up u)
+
 abbrev pub Cancels : Held → Result (Unit {0}) Status → Held → Type 0
-Cancels (Retry r) x v = (x ≡ Ok tt) × (v ≡ Retry (gives_up r))
+Cancels (Retry m) x v = (x ≡ Ok tt) × (n : Hosted) × (v ≡ Retry n) × GivesUp m n
 Cancels u x v = OtherKind u x v
 
 -- the pass of what draws, as a handle holds it; room where it draws on nothing
@@ -127,21 +156,21 @@ pass_of (by.Unlimited n) = Room
 
 -- the kind of a retry's pass
 abbrev pub drawn_on : Held → Kind
-drawn_on (Retry r) = kind_of (pass_of r.drawing)
+drawn_on (Retry m) = kind_of (pass_of m.drawing)
 drawn_on u = kind.Room
 
 -- the pass of a retry, with all its tickets
 abbrev pub GivesBack : Held → Held → Type 0
-GivesBack u v = (r : Retrying Drawing) × (u ≡ Retry r) × (v ≡ pass_of r.drawing)
+GivesBack u v = (m : Hosted) × (u ≡ Retry m) × (v ≡ pass_of m.drawing)
 
 -- handles of a retry and of a pass of its budget
 abbrev pub IsOfItsBudget : Option Held → Option Held → Type 0
 IsOfItsBudget u v =
-    (r : Retrying Drawing) (d s : OfBudget) → u ≡ Some (Retry r) → pass_of r.drawing ≡ Pass d → v ≡ Some (Pass s) →
+    (m : Hosted) (d s : OfBudget) → u ≡ Some (Retry m) → pass_of m.drawing ≡ Pass d → v ≡ Some (Pass s) →
     d.budget ≡ s.budget
 
 -- handles of a retry and of a pass of its quota
 abbrev pub IsOfItsQuota : Option Held → Option Held → Type 0
 IsOfItsQuota u v =
-    (r : Retrying Drawing) (d s : OfQuota) → u ≡ Some (Retry r) → pass_of r.drawing ≡ Quota d → v ≡ Some (Quota s) →
+    (m : Hosted) (d s : OfQuota) → u ≡ Some (Retry m) → pass_of m.drawing ≡ Quota d → v ≡ Some (Quota s) →
     d.quota ≡ s.quota

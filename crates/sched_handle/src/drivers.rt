@@ -3,7 +3,7 @@ ghost use Rattle.std.specs.Prelude.{◌≡◌, IfOk, IfErr};
 ghost use Rattle.std.specs.Borrow.{LendsIfOk, sem};
 ghost use Rattle.sched_driver.specs.contracts.drivers.Driver.{the_row as driver_row};
 ghost use Rattle.sched_handle.specs.Held.{IsOther};
-ghost use Rattle.sched_handle.specs.Drivers.{Nexts, Resets, Planned, CountsEvents, LastNumber, LastText};
+ghost use Rattle.sched_handle.specs.Drivers.{Nexts, Resets, Planned, CountsEvents, DriverNoted, LastNumber, LastText};
 ghost use Rattle.sched_handle.specs.contracts.held.Held.{the_row as held_row};
 ghost use Rattle.sched_handle.specs.declared.held.Held.TheVariants as what;
 ghost use Rattle.sched_handle.specs.declared.held.Kind.TheVariants as kind;
@@ -11,7 +11,7 @@ ghost use Rattle.sched_handle.specs.declared.held.Kind.TheVariants as kind;
 use crate::held::Held;
 use sched_driver::{DriveFault, Driver};
 use sched_plan::Val;
-use sched_reply::{Decided, Status};
+use sched_reply::{Decided, Noted, Status, noted_at};
 use sched_time::{Millis, Tick};
 use std::alloc::Global;
 
@@ -38,22 +38,18 @@ impl Held {
         Ok(())
     }
 
-    /// The driver, where it is one.
-    pub(crate) fn driven(&self) -> Result<&Driver, Status>
+    // The driver, where it is one.
+    fn driven(&self) -> Result<&Driver, Status>
         ensures ok { IfOk result (λ driver. self.now ≡ what.Driver driver.now) }
         ensures err { IfErr result (IsOther kind.Driver self.now) }
     {
         match self {
             Held::Driver(driver) => Ok(driver),
-            Held::Room => Err(Status::WrongKind),
-            Held::Policy(_) => Err(Status::WrongKind),
-            Held::Pass(_) => Err(Status::WrongKind),
-            Held::Quota(_) => Err(Status::WrongKind),
-            Held::Retry(_) => Err(Status::WrongKind),
+            _ => Err(Status::WrongKind),
         }
     }
 
-    /// The same, to be changed.
+    // The same, to be changed.
     fn driver_mut(&mut self) -> Result<&mut Driver, Status>
         ensures* lends { sem 𝓛 (LendsIfOk held_row driver_row self.entry result what.Driver self.old) }
         ensures ok { IfOk result (λ driver. self.old ≡ what.Driver driver.now) }
@@ -80,6 +76,14 @@ impl Held {
     {
         let driver = self.driven()?;
         Ok(driver.journal().len() as u64)
+    }
+
+    /// The event of this number, counted from 0, of the journal.
+    pub fn driver_event(&self, index: u64) -> Result<Noted, Status>
+        ensures { DriverNoted index self.now result }
+    {
+        let driver = self.driven()?;
+        noted_at(driver.journal(), index)
     }
 
     /// The output last given, where it is a number.

@@ -4,9 +4,11 @@ ghost use Rattle.sched_handle.specs.Held.{kind_of};
 ghost use Rattle.sched_reply.specs.declared.status.Status.TheVariants as status;
 
 use sched_driver::Driver;
-use sched_host::{Drawing, HostRetry, QuotaWorker, Worker};
-use sched_plan::Plan;
+use sched_driver_stepper::Stepper;
+use sched_host::{Drawing, QuotaWorker, Worker};
+use sched_plan::SharedPlan;
 use sched_reply::Status;
+use sched_run_machine::Machine;
 use std::alloc::Global;
 use std::mem;
 
@@ -15,16 +17,16 @@ use std::mem;
 pub enum Held {
     /// Room for what is being made.
     Room,
-    /// A policy.
-    Policy(Plan),
+    /// A policy, which other handles, drivers and retries may hold too.
+    Policy(SharedPlan),
     /// A driver.
     Driver(Driver),
     /// A pass, with its budget.
     Pass(Worker),
     /// A pass of a quota, with its quota.
     Quota(QuotaWorker),
-    /// A retry.
-    Retry(HostRetry<Drawing>),
+    /// A retry, which keeps no journal.
+    Retry(Machine<Stepper, Drawing>),
 }
 
 /// Which kind of thing a handle holds.

@@ -5,7 +5,6 @@
 mod drivers;
 mod handle;
 mod held;
-mod journals;
 mod passes;
 mod policies;
 mod quotas;

@@ -84,11 +84,7 @@ impl Held {
     {
         match self {
             Held::Pass(worker) => Ok(worker.count()),
-            Held::Room => Err(Status::WrongKind),
-            Held::Policy(_) => Err(Status::WrongKind),
-            Held::Driver(_) => Err(Status::WrongKind),
-            Held::Quota(_) => Err(Status::WrongKind),
-            Held::Retry(_) => Err(Status::WrongKind),
+            _ => Err(Status::WrongKind),
         }
     }
 

@@ -1,13 +1,15 @@
 //! Calls on policies.
 ghost use Rattle.std.specs.Prelude.{◌≡◌, [], IfOk, IfErr};
+ghost use Rattle.sched_driver_stepper.specs.Standing.{standing_after};
 ghost use Rattle.sched_handle.specs.Held.{Wants, IsOther};
-ghost use Rattle.sched_handle.specs.Policies.{ReadsPolicy, TellsPlace, Copies, Sizes, Drives};
+ghost use Rattle.sched_handle.specs.Policies.{ReadsPolicy, TellsPlace, Shares, Sizes, Drives};
 ghost use Rattle.sched_handle.specs.declared.held.Held.TheVariants as what;
 ghost use Rattle.sched_handle.specs.declared.held.Kind.TheVariants as kind;
 
 use crate::held::Held;
 use sched_driver::Driver;
-use sched_plan::Plan;
+use sched_driver_stepper::Stepper;
+use sched_plan::SharedPlan;
 use sched_plan_json::{TextFault, read_text};
 use sched_reply::{Place, Size, Status};
 use std::alloc::Global;
@@ -34,32 +36,40 @@ impl Held {
             Err(TextFault::TooMany) => return Err(Status::TooMany),
             Err(TextFault::NoMemory) => return Err(Status::NoMemory),
         };
-        Held::Policy(plan).boxed(alloc)
+        match SharedPlan::new(alloc, plan) {
+            Ok(plan) => Held::Policy(plan).boxed(alloc),
+            Err(_) => Err(Status::NoMemory),
+        }
     }
 
-    /// The policy, where it is one.
-    fn policy(&self) -> Result<&Plan, Status>
+    // The policy, where it is one.
+    fn policy(&self) -> Result<&SharedPlan, Status>
         ensures ok { IfOk result (λ plan. self.now ≡ what.Policy plan.now) }
         ensures err { IfErr result (IsOther kind.Policy self.now) }
     {
         match self {
             Held::Policy(plan) => Ok(plan),
-            Held::Room => Err(Status::WrongKind),
-            Held::Driver(_) => Err(Status::WrongKind),
-            Held::Pass(_) => Err(Status::WrongKind),
-            Held::Quota(_) => Err(Status::WrongKind),
-            Held::Retry(_) => Err(Status::WrongKind),
+            _ => Err(Status::WrongKind),
         }
     }
 
-    /// An equal policy.
-    pub fn copied(&self, alloc: Global) -> Result<Box<Held>, Status>
-        ensures { Copies self.now result }
+    /// The policy's plan, with one more owner.
+    pub fn plan(&self) -> Result<SharedPlan, Status>
+        ensures ok { IfOk result (λ plan. self.now ≡ what.Policy plan) }
+        ensures err { IfErr result (Wants kind.Policy self.now) }
     {
         let plan = self.policy()?;
-        let Ok(plan) = plan.copy(alloc) else {
-            return Err(Status::NoMemory);
-        };
+        match plan.share() {
+            Ok(plan) => Ok(plan),
+            Err(_) => Err(Status::NoMemory),
+        }
+    }
+
+    /// The same policy, for one more handle. No plan is copied.
+    pub fn shared(&self, alloc: Global) -> Result<Box<Held>, Status>
+        ensures { Shares self.now result }
+    {
+        let plan = self.plan()?;
         Held::Policy(plan).boxed(alloc)
     }
 
@@ -67,7 +77,7 @@ impl Held {
     pub fn size(&self) -> Result<Size, Status>
         ensures { Sizes self.now result }
     {
-        let plan = self.policy()?;
+        let plan = self.policy()?.get();
         Ok(Size {
             nodes: plan.nodes() as u64,
             depth: plan.depth() as u64,
@@ -78,21 +88,22 @@ impl Held {
     pub fn driver(&self, alloc: Global) -> Result<Box<Held>, Status>
         ensures { Drives self.now result }
     {
-        let driver = self.fresh_driver(alloc)?;
-        Held::Driver(driver).boxed(alloc)
+        let plan = self.plan()?;
+        match Driver::of_shared(alloc, plan) {
+            Ok(driver) => Held::Driver(driver).boxed(alloc),
+            Err(_) => Err(Status::NoMemory),
+        }
     }
 
-    /// The same, not yet in a box.
-    pub(crate) fn fresh_driver(&self, alloc: Global) -> Result<Driver, Status>
-        ensures ok { IfOk result (λ driver. (self.now ≡ what.Policy driver.plan) × (driver.journal ≡ [])) }
+    /// What steps the policy and keeps no journal, before its first event.
+    pub(crate) fn stepper(&self, alloc: Global) -> Result<Stepper, Status>
+        ensures ok { IfOk result
+            (λ stepper. (self.now ≡ what.Policy stepper.plan) × (stepper ≡ standing_after stepper.plan [])) }
         ensures err { IfErr result (Wants kind.Policy self.now) }
     {
-        let plan = self.policy()?;
-        let Ok(plan) = plan.copy(alloc) else {
-            return Err(Status::NoMemory);
-        };
-        match Driver::new(alloc, plan) {
-            Ok(driver) => Ok(driver),
+        let plan = self.plan()?;
+        match Stepper::of_shared(alloc, plan) {
+            Ok(stepper) => Ok(stepper),
             Err(_) => Err(Status::NoMemory),
         }
     }

@@ -98,11 +98,7 @@ impl Held {
     {
         match self {
             Held::Quota(worker) => Ok(worker.count()),
-            Held::Room => Err(Status::WrongKind),
-            Held::Policy(_) => Err(Status::WrongKind),
-            Held::Driver(_) => Err(Status::WrongKind),
-            Held::Pass(_) => Err(Status::WrongKind),
-            Held::Retry(_) => Err(Status::WrongKind),
+            _ => Err(Status::WrongKind),
         }
     }
 

@@ -1,33 +1,35 @@
 //! Calls on retries.
 ghost use Rattle.std.specs.Prelude.{◌≡◌, []};
+ghost use Rattle.sched_driver_stepper.specs.Standing.{standing_after};
 ghost use Rattle.sched_handle.specs.Held.{kind_of};
 ghost use Rattle.sched_handle.specs.Retries.{IsFresh, Retries, RetriesOnQuota, RetriesUnlimited};
-ghost use Rattle.sched_handle.specs.Retries.{Polls, Sees, Cancels, drawn_on, GivesBack, reply_of, how_number};
+ghost use Rattle.sched_handle.specs.Retries.{IsPoll, RetryPolls, Polls, Shows, Sees, Cancels, drawn_on, GivesBack};
+ghost use Rattle.sched_handle.specs.Retries.{reply_to, how_number};
 ghost use Rattle.sched_handle.specs.declared.held.Kind.TheVariants as kind;
 
 use crate::held::{Held, Kind};
 use crate::passes::split_off;
 use crate::quotas::split_off_quota;
-use sched_driver::Driver;
+use sched_driver_stepper::Stepper;
 use sched_effect::Ran;
-use sched_host::{Drawing, HostRetry, QuotaWorker, Worker};
+use sched_host::{Drawing, QuotaWorker, Worker};
 use sched_reply::{Reply, Status};
-use sched_run_machine::Next;
+use sched_run_machine::{Machine, Next};
 use sched_task::{How, RunFault};
 use sched_ticket_draws::Unlimited;
 use sched_time::Tick;
 use std::alloc::Global;
 
 impl Held {
-    /// A retry that has not begun, of a copy of the policy, with a pass that is split off.
+    /// A retry that has not begun, of the policy, with a pass that is split off.
     pub fn retry(alloc: Global, policy: &Held, pass: &mut Held) -> Result<Box<Held>, Status>
         ensures { Retries policy.now pass.old result pass.new }
     {
-        let driver = policy.fresh_driver(alloc)?;
+        let stepper = policy.stepper(alloc)?;
         let worker = pass.pass_mut()?;
         let (part, room) = split_off(alloc, worker)?;
         let drawing = Drawing::Budget(part.into_drawing());
-        Ok(fresh(alloc, driver, drawing).within(room))
+        Ok(fresh(stepper, drawing).within(room))
     }
 
     /// The same with a pass that is split off a quota's.
@@ -38,19 +40,19 @@ impl Held {
     ) -> Result<Box<Held>, Status>
         ensures { RetriesOnQuota policy.now quota.old result quota.new }
     {
-        let driver = policy.fresh_driver(alloc)?;
+        let stepper = policy.stepper(alloc)?;
         let worker = quota.quota_mut()?;
         let (part, room) = split_off_quota(alloc, worker)?;
         let drawing = Drawing::Quota(part.into_drawing());
-        Ok(fresh(alloc, driver, drawing).within(room))
+        Ok(fresh(stepper, drawing).within(room))
     }
 
     /// The same, drawing on nothing.
     pub fn retry_unlimited(alloc: Global, policy: &Held) -> Result<Box<Held>, Status>
         ensures { RetriesUnlimited policy.now result }
     {
-        let driver = policy.fresh_driver(alloc)?;
-        fresh(alloc, driver, Drawing::Unlimited(Unlimited::new())).boxed(alloc)
+        let stepper = policy.stepper(alloc)?;
+        fresh(stepper, Drawing::Unlimited(Unlimited::new())).boxed(alloc)
     }
 
     /// Ends the run under way as it is reported, where one is, and begins one where one may begin.
@@ -58,15 +60,7 @@ impl Held {
         ensures { Polls tick.entry.now report self.old result self.new }
     {
         match self {
-            Held::Retry(retry) => {
-                if let Some(ran) = report {
-                    if !retry.report(alloc, tick, ran) {
-                        return Err(Status::NoRun);
-                    }
-                }
-                retry.poll(tick);
-                Ok(reply(retry))
-            }
+            Held::Retry(retry) => poll_retry(alloc, retry, tick, report),
             Held::Room => Err(Status::WrongKind),
             Held::Policy(_) => Err(Status::WrongKind),
             Held::Driver(_) => Err(Status::WrongKind),
@@ -81,11 +75,7 @@ impl Held {
     {
         match self {
             Held::Retry(retry) => Ok(reply(retry)),
-            Held::Room => Err(Status::WrongKind),
-            Held::Policy(_) => Err(Status::WrongKind),
-            Held::Driver(_) => Err(Status::WrongKind),
-            Held::Pass(_) => Err(Status::WrongKind),
-            Held::Quota(_) => Err(Status::WrongKind),
+            _ => Err(Status::WrongKind),
         }
     }
 
@@ -132,7 +122,7 @@ impl Held {
     {
         match self {
             Held::Retry(retry) => {
-                let (_, _, drawing) = retry.into_parts();
+                let (_, drawing) = retry.into_parts();
                 match drawing {
                     Drawing::Budget(drawing) => Held::Pass(Worker::of_drawing(drawing)),
                     Drawing::Quota(drawing) => Held::Quota(QuotaWorker::of_drawing(drawing)),
@@ -148,20 +138,56 @@ impl Held {
 }
 
 // A retry that has not begun.
-fn fresh(alloc: Global, driver: Driver, drawing: Drawing) -> Held
-    requires { driver.journal ≡ [] }
-    ensures { IsFresh driver.plan drawing result }
+fn fresh(stepper: Stepper, drawing: Drawing) -> Held
+    requires { stepper ≡ standing_after stepper.plan [] }
+    ensures { IsFresh stepper.plan drawing result }
 {
-    Held::Retry(HostRetry::new(alloc, driver, drawing))
+    Held::Retry(Machine::new(stepper, drawing))
+}
+
+// Ends the run under way as it is reported, where one is, and begins one where one may begin.
+fn poll_retry(
+    alloc: Global,
+    retry: &mut Machine<Stepper, Drawing>,
+    tick: &Tick,
+    report: Option<Ran>,
+) -> Result<Reply, Status>
+    ensures { RetryPolls tick.entry.now report retry.old result retry.new }
+{
+    match report {
+        None => Ok(poll_at(retry, tick)),
+        Some(ran) => {
+            if !retry.report(alloc, tick, ran) {
+                return Err(Status::NoRun);
+            }
+            Ok(poll_at(retry, tick))
+        }
+    }
+}
+
+// Begins a run where one may begin, and answers what the retry is at then.
+fn poll_at(retry: &mut Machine<Stepper, Drawing>, tick: &Tick) -> Reply
+    ensures polls { IsPoll retry.old tick.entry.now [] retry.new }
+    ensures shows { Shows retry.new result }
+{
+    retry.poll(tick);
+    reply(retry)
 }
 
 // What the retry is at, as C sees it.
-fn reply(retry: &HostRetry<Drawing>) -> Reply
-    ensures { result ≡ reply_of retry.now.past }
+fn reply(retry: &Machine<Stepper, Drawing>) -> Reply
+    ensures { Shows retry.now result }
 {
+    let next = retry.next();
     let granted = retry.granted();
-    let runs = retry.runs().len() as u64;
-    let (what, how, until) = match retry.next() {
+    let runs = retry.told();
+    reply_to(next, granted, runs)
+}
+
+fn reply_to(next: Next, granted: u64, runs: u64) -> Reply
+    ensures { result ≡ reply_to next granted runs }
+{
+    let (what, how, until) = match next {
         Next::Poll => (0, 0, 0),
         Next::Run => (1, 0, 0),
         Next::Wait(start) => (2, 0, start.get()),

@@ -57,7 +57,7 @@ pub fn plan_fault(alloc: Global, bytes: &[u8]) -> Result<Option<ToldFault>, NoMe
         Err(error) if error.is_memory() => Err(NoMemory),
         Err(error) => Ok(Some(ToldFault::NotJson {
             line: error.line(),
-            column: error.column(),
+            column: error.column().max(1),
         })),
     }
 }

@@ -1,5 +1,5 @@
 //! What is wanted where a plan has its fault. Nothing is proved of these texts.
-use crate::nodes::{nearest, spelling};
+use crate::nodes::{foreign, nearest, spelling};
 use sched_plan::PlanFault;
 use sched_plan_json::ReadFault;
 use sched_time::NoMemory;
@@ -34,7 +34,10 @@ fn push_form_hint(alloc: Global, text: &mut String, value: &Value) -> Result<(),
             let count = members.len();
             let mut members = members.iter();
             match (members.next(), members.next()) {
-                (Some((name, _)), None) => push_name_hint(alloc, text, name.as_str())?,
+                (Some((name, value)), None) => {
+                    push_name_hint(alloc, text, name.as_str())?;
+                    push_fraction_hint(text, name.as_str(), value)?;
+                }
                 _ => write!(text, "{PLAN_WANTED}, and this has {count}")?,
             }
         }
@@ -50,9 +53,24 @@ fn push_name_hint(alloc: Global, text: &mut String, name: &str) -> Result<(), No
         return Ok(());
     }
     write!(text, "no node is called \"{name}\"")?;
-    let near = nearest(alloc, name)?;
+    let near = match foreign(name) {
+        Some(node) => Some(node),
+        None => nearest(alloc, name)?,
+    };
     if let Some(known) = near {
         write!(text, "; did you mean \"{known}\"?")?;
+    }
+    Ok(())
+}
+
+// Adds the node that takes a factor in thousandths, where `exponential` is given one that is no whole number.
+fn push_fraction_hint(text: &mut String, name: &str, value: &Value) -> Result<(), NoMemory> {
+    if let Value::Array(items) = value {
+        if let [_, Value::Number(factor)] = items.as_slice() {
+            if name == "exponential" && factor.as_u64().is_none() {
+                text.push_str("; a factor of 1.5 is 1500 in \"exponential_milli\"")?;
+            }
+        }
     }
     Ok(())
 }

@@ -95,6 +95,40 @@ const NODES: [(&str, &str); 32] = [
     ("nothing", r#"{"nothing":PLAN}"#),
 ];
 
+// Words of other libraries, each with the node that does the same.
+const FOREIGN: [(&str, &str); 20] = [
+    ("and", "meet"),
+    ("both", "meet"),
+    ("intersect", "meet"),
+    ("or", "join"),
+    ("either", "join"),
+    ("union", "join"),
+    ("andThen", "follow"),
+    ("and_then", "follow"),
+    ("then", "follow"),
+    ("retry", "recurs"),
+    ("times", "recurs"),
+    ("attempts", "recurs"),
+    ("max_retries", "recurs"),
+    ("constant", "spaced"),
+    ("delay", "spaced"),
+    ("wait", "spaced"),
+    ("backoff", "exponential"),
+    ("always", "forever"),
+    ("upTo", "within"),
+    ("max_delay", "cap"),
+];
+
+/// The node that does what another library calls so, if there is one.
+pub(crate) fn foreign(word: &str) -> Option<&'static str> {
+    for (known, node) in &FOREIGN {
+        if *known == word {
+            return Some(*node);
+        }
+    }
+    None
+}
+
 /// How the node of this name is spelt, if there is one.
 pub(crate) fn spelling(name: &str) -> Option<&'static str> {
     for (known, form) in &NODES {

@@ -29,6 +29,23 @@ fn a_plan_has_no_fault_and_another_text_its_first(rt: HostRuntime) -> Result<(),
             r#"{"first":{"join":[{"fixed":0},"never"]}}"#,
             "first.join[0]: \"fixed\" is spelt {\"fixed\":D}, D from 1 to 4611686018427387903",
         ),
+        (
+            r#"{"and":[]}"#,
+            "top: no node is called \"and\"; did you mean \"meet\"?",
+        ),
+        (
+            r#"{"or":[]}"#,
+            "top: no node is called \"or\"; did you mean \"join\"?",
+        ),
+        (
+            r#"{"retry":3}"#,
+            "top: no node is called \"retry\"; did you mean \"recurs\"?",
+        ),
+        (
+            r#"{"exponential":[100,1.5]}"#,
+            "top: \"exponential\" is spelt {\"exponential\":[D,F]}, D from 0 to 4611686018427387903, F from 1 to 1000; \
+             a factor of 1.5 is 1500 in \"exponential_milli\"",
+        ),
     ];
     for (text, wanted) in &table {
         says(&rt, rt.alloc(), text, wanted)?;

@@ -42,7 +42,7 @@ pub fn read_text(alloc: Global, bytes: &[u8]) -> Result<Plan, TextFault>
         Err(error) => {
             return Err(TextFault::NotJson {
                 line: error.line(),
-                column: error.column(),
+                column: error.column().max(1),
             });
         }
     };

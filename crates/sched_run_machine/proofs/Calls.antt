@@ -1,6 +1,6 @@
 -- Each call on a machine is one poll of each retry that it may stand for.
-use Rattle.std.proofs.Common.{◌≡◌, ℕ, if◌then◌else◌, ◌+◌, ◌<◌, ◌≤◌, Bool, true, false, List, [], ◌∷◌, ◌++◌, Option, Some, None, is_some, IfSome, IsSomeAnd, refl, sym, ap, ◌∙◌, subst, arith}
-use Rattle.std.proofs.lemmas.List.{append-nil}
+use Rattle.std.proofs.Common.{◌≡◌, ℕ, if◌then◌else◌, ◌+◌, ◌≤◌, Bool, true, false, List, [], ◌∷◌, ◌++◌, length, min, Option, Some, None, is_some, IfSome, refl, sym, ap, ◌∙◌, subst, arith}
+use Rattle.std.proofs.lemmas.List.{append-nil, length_push}
 use Rattle.sched_time.specs.declared.numbers.Tick.{Tick}
 use Rattle.sched_plan.specs.Schedule.{Schedule}
 use Rattle.sched_driver.specs.Driven.{Driven}
@@ -9,17 +9,38 @@ use Rattle.sched_effect.specs.declared.ran.Ran.TheVariants.{Won, Lost}
 use Rattle.sched_task.specs.declared.endings.How.{How}
 use Rattle.sched_task.specs.declared.endings.How.TheVariants as how
 use Rattle.sched_ticket_draws.specs.Grants.{Grants, Lawful}
-use Rattle.sched_task_law.specs.Kind.{a_retry}
+use Rattle.sched_task_law.specs.Kind.{Kind, a_retry}
 use Rattle.sched_task_law.specs.Past.{Past, is_under_way, waits_for}
-use Rattle.sched_task_law.specs.Poll.{Happened, runs_on, ends, breaks, stops_done, stops_denied, recurs, after, CanRun, Steps, May}
+use Rattle.sched_task_law.specs.Poll.{Happened, stays, cannot_begin, runs_on, cannot_run, ends, breaks, stops_done, stops_denied, recurs, asks, cannot_ask, falls, after, CanRun, Steps, May}
 use Rattle.sched_task_law.proofs.Law.{under_way_then, finished_then, law_of_nothing, law_cancelled}
-use Rattle.sched_retry.specs.Retrying.{Retrying, RetryLaw, RetryPoll, DrawsIn, gives_up}
+use Rattle.sched_retry.specs.Retrying.{Retrying, RetryPoll, DrawsIn, gives_up}
 use Rattle.sched_retry.proofs.Polls.{Settled, asks_fallback, next, settles, rests_over, rests_waiting}
 use Rattle.sched_run_machine.specs.Drives.{unstepped, SteppedOn}
-use Rattle.sched_run_machine.specs.Machine.{Machine, begins, unbegun, cancelled, StandsFor, Polls, Ends}
+use Rattle.sched_run_machine.specs.Machine.{Machine, begins, unbegun, cancelled, StandsFor, IsMachine, Polls, Ends}
 use Rattle.sched_run_machine.specs.Next.{HostPoll, Rests}
 
-module _ {R D : Type 0} (stands : R → Driven → Type 0) (keeps : Bool) (grants : Grants D) (lawful : Lawful grants) where
+-- whatever happens in a poll, the schedule stays
+same_plan : (kind : Kind) (v : Past) (t : Tick) (h : Happened) → (after kind v t h).driver.plan ≡ v.driver.plan
+same_plan kind v t stays = refl
+same_plan kind v t cannot_begin = refl
+same_plan kind v t runs_on = refl
+same_plan kind v t cannot_run = refl
+same_plan kind v t (ends r) = refl
+same_plan kind v t (breaks r fault) = refl
+same_plan kind v t (stops_done r) = refl
+same_plan kind v t (stops_denied r) = refl
+same_plan kind v t (recurs r) = refl
+same_plan kind v t asks = refl
+same_plan kind v t cannot_ask = refl
+same_plan kind v t falls = refl
+
+pub plan_after : {D : Type 0} (grants : Grants D) (kind : Kind) (v : Retrying D) (t : Tick) (told : List Ran) (u : Retrying D) →
+    HostPoll grants kind v t told u → u.past.driver.plan ≡ v.past.driver.plan
+plan_after grants kind v t told u polled =
+    ap (λ (p : Past). p.driver.plan) polled.poll.poll.leaves ∙ same_plan kind v.past t polled.poll.poll.happened
+
+module _ {R D : Type 0} (stands : R → Driven → Type 0) (keeps : Bool) (goes_by : R → Schedule → Type 0) (grants : Grants D)
+    (lawful : Lawful grants) where
   -- a machine that has not begun stands for a retry that has not
   pub stands_new : (r : R) (p : D) (plan : Schedule) → grants.stands p → stands r (unstepped plan) →
       StandsFor stands keeps grants (begins grants r p) (unbegun grants plan p)
@@ -36,6 +57,7 @@ module _ {R D : Type 0} (stands : R → Driven → Type 0) (keeps : Bool) (grant
     over = refl;
     drawing = refl;
     had = refl;
+    told = refl;
   }
 
   module _ (m : Machine R D) (t : Tick) where
@@ -46,8 +68,9 @@ module _ {R D : Type 0} (stands : R → Driven → Type 0) (keeps : Bool) (grant
         stands n.driver (after (a_retry keeps) v.past t h).driver →
         n.under_way ≡ is_under_way (after (a_retry keeps) v.past t h).runs (after (a_retry keeps) v.past t h).begun →
         n.over ≡ (after (a_retry keeps) v.past t h).over → n.drawing ≡ q → n.had ≡ m.had →
+        n.told ≡ min (length (v.past.runs ++ told)) 18446744073709551615 →
         (u : Retrying D) × HostPoll grants (a_retry keeps) v t told u × StandsFor stands keeps grants n u
-    polled n v st h q told unended may draws holds run runs driver under_way over drawing had =
+    polled n v st h q told unended may draws holds run runs driver under_way over drawing had count =
         let was = settles grants lawful (a_retry keeps) v t h q refl st.law unended may draws holds run in (
           next grants lawful (a_retry keeps) v t h q,
           record { poll = was.poll; runs = runs },
@@ -58,19 +81,32 @@ module _ {R D : Type 0} (stands : R → Driven → Type 0) (keeps : Bool) (grant
             over = over;
             drawing = drawing;
             had = had ∙ st.had;
+            told = count ∙ ap (λ (runs : List Ran). min (length runs) 18446744073709551615) (sym runs);
           },
         )
 
     -- polls of the value that a contract sees
-    pub polled_as : (w n : Machine R D) (told : List Ran) → m ≡ w → Polls stands keeps grants m t told n → Polls stands keeps grants w t told n
-    polled_as w n told same polls = subst (λ (m : Machine R D). Polls stands keeps grants m t told n) same polls
+    pub polled_as : (w n : Machine R D) (told : List Ran) → m ≡ w → Polls stands keeps goes_by grants m t told n →
+        Polls stands keeps goes_by grants w t told n
+    polled_as w n told same polls = subst (λ (m : Machine R D). Polls stands keeps goes_by grants m t told n) same polls
 
     -- and what they leave
-    pub left : (w n : Machine R D) (told : List Ran) → m ≡ w → Polls stands keeps grants w t told n →
-        (v : Retrying D) × StandsFor stands keeps grants m v → (u : Retrying D) × StandsFor stands keeps grants n u
-    left w n told same polls was =
-        let after = polls was.0 (subst (λ (m : Machine R D). StandsFor stands keeps grants m was.0) same was.1) in
-        (after.0, after.2)
+    pub left : (w n : Machine R D) (told : List Ran) → m ≡ w → Polls stands keeps goes_by grants w t told n →
+        IsMachine stands keeps goes_by grants m → IsMachine stands keeps goes_by grants n
+    left w n told same polls is s by =
+        let was = subst (λ (m : Machine R D). IsMachine stands keeps goes_by grants m) same is s (polls.narrows s by) in
+        let after = polls.leads was.0 was.2 (subst (λ (s : Schedule). goes_by n.driver s) (sym was.1) by) in
+        (after.0, plan_after grants (a_retry keeps) was.0 t told after.0 after.1 ∙ was.1, after.2)
+
+    -- polls in which the driver stays as it is
+    same_driver_polls : (n : Machine R D) (told : List Ran) → n.driver ≡ m.driver →
+        ((v : Retrying D) → StandsFor stands keeps grants m v →
+        (u : Retrying D) × HostPoll grants (a_retry keeps) v t told u × StandsFor stands keeps grants n u) →
+        Polls stands keeps goes_by grants m t told n
+    same_driver_polls n told same leads = record {
+      narrows = λ s by. subst (λ (r : R). goes_by r s) same by;
+      leads = λ v st _. leads v st;
+    }
 
     -- a retry that stays as it is
     stayed : (v : Retrying D) (ready : Bool) → StandsFor stands keeps grants m v → Settled grants lawful (a_retry keeps) v t ready v →
@@ -84,14 +120,16 @@ module _ {R D : Type 0} (stands : R → Driven → Type 0) (keeps : Bool) (grant
       st,
     )
 
-    pub stays_over : is_some m.over ≡ true → Polls stands keeps grants m t [] m
-    stays_over over v st =
-        stayed v true st (rests_over grants lawful (a_retry keeps) v t st.law (ap is_some (sym st.over) ∙ over))
+    pub stays_over : is_some m.over ≡ true → Polls stands keeps goes_by grants m t [] m
+    stays_over over =
+        same_driver_polls m [] refl (λ v st.
+        stayed v true st (rests_over grants lawful (a_retry keeps) v t st.law (ap is_some (sym st.over) ∙ over)))
 
     pub stays_waiting : m.over ≡ None → ((v : Retrying D) → StandsFor stands keeps grants m v → Rests v.past t.now true) →
-        Polls stands keeps grants m t [] m
-    stays_waiting unended waits v st =
-        stayed v false st (rests_waiting grants lawful (a_retry keeps) v t st.law (sym st.over ∙ unended) (waits v st))
+        Polls stands keeps goes_by grants m t [] m
+    stays_waiting unended waits =
+        same_driver_polls m [] refl (λ v st.
+        stayed v false st (rests_waiting grants lawful (a_retry keeps) v t st.law (sym st.over ∙ unended) (waits v st)))
 
     can_run : m.over ≡ None → (v : Retrying D) → StandsFor stands keeps grants m v → IfSome (waits_for v.past) (λ s. s ≤ t.now) →
         CanRun v.past t
@@ -101,15 +139,17 @@ module _ {R D : Type 0} (stands : R → Driven → Type 0) (keeps : Bool) (grant
 
     -- a run begins, or is under way
     begins_run : m.over ≡ None → ((v : Retrying D) → StandsFor stands keeps grants m v → Rests v.past t.now false) →
-        Polls stands keeps grants m t [] (record m { under_way = true })
-    begins_run unended due v st =
+        Polls stands keeps goes_by grants m t [] (record m { under_way = true })
+    begins_run unended due =
+        same_driver_polls (record m { under_way = true }) [] refl (λ v st.
         let can = can_run unended v st (due v st) in
         polled (record m { under_way = true }) v st runs_on v.drawing [] can.unended can refl st.law.stands refl
         (sym (append-nil v.past.runs)) st.driver (sym (under_way_then v.past t st.law.law.counted)) st.over st.drawing refl
+        (st.told ∙ ap (λ (runs : List Ran). min (length runs) 18446744073709551615) (sym (append-nil v.past.runs))))
 
     pub begins_as : (w : Machine R D) → m ≡ w → m.over ≡ None →
         ((v : Retrying D) → StandsFor stands keeps grants w v → Rests v.past t.now false) →
-        Polls stands keeps grants w t [] (record m { under_way = true })
+        Polls stands keeps goes_by grants w t [] (record m { under_way = true })
     begins_as w same unended due =
         polled_as w (record m { under_way = true }) [] same (begins_run unended (λ v st.
         due v (subst (λ (m : Machine R D). StandsFor stands keeps grants m v) same st)))
@@ -122,7 +162,13 @@ module _ {R D : Type 0} (stands : R → Driven → Type 0) (keeps : Bool) (grant
           can_run unended v st (rw (none, under) tt)
 
       abbrev pub ended : R → Option How → D → Machine R D
-      ended s over q = record m { driver = s; under_way = false; over = over; drawing = q }
+      ended s over q =
+          record m { driver = s; under_way = false; over = over; drawing = q; told = min (m.told + 1) 18446744073709551615 }
+
+      counted : (v : Retrying D) (r : Ran) → StandsFor stands keeps grants m v →
+          min (m.told + 1) 18446744073709551615 ≡ min (length (v.past.runs ++ r ∷ [])) 18446744073709551615
+      counted v r st =
+          omega (arith, st.told, length_push v.past.runs r)
 
       idle : (v : Retrying D) (r : Ran) → StandsFor stands keeps grants m v →
           false ≡ is_under_way (after (a_retry keeps) v.past t (ends r)).runs (after (a_retry keeps) v.past t (ends r)).begun
@@ -139,34 +185,44 @@ module _ {R D : Type 0} (stands : R → Driven → Type 0) (keeps : Bool) (grant
           SteppedOn stands keeps v.past.driver t code done s → Steps (a_retry keeps) v.past t (Lost code)
       steps v s code done st step = record { can = can_end v st; called = refl; room = step.room }
 
-      pub ends_run : (r : Ran) (over : Option How) (s : R) (q : D) → Ends stands keeps grants m.driver m.drawing t r over s q →
-          grants.stands q →
-          Polls stands keeps grants m t (r ∷ []) (ended s over q)
-      ends_run (Won code) over s q came holds v st =
+      ends_leads : (r : Ran) (over : Option How) (s : R) (q : D) → Ends stands keeps goes_by grants m.driver m.drawing t r over s q →
+          grants.stands q → (v : Retrying D) → StandsFor stands keeps grants m v → goes_by s v.past.driver.plan →
+          (u : Retrying D) × HostPoll grants (a_retry keeps) v t (r ∷ []) u × StandsFor stands keeps grants (ended s over q) u
+      ends_leads (Won code) over s q came holds v st by =
           let can = can_end v st in
           polled (ended s over q) v st (ends (Won code)) q (Won code ∷ []) can.unended (can, refl) (came.2 ∙ st.drawing) holds refl
           refl (same_driver v s st came.1) (idle v (Won code) st) came.0 refl refl
-      ends_run (Lost code) None s q came holds v st =
-          let step = came.0 v.past.driver st.driver in let steps = steps v s code false st step in
+          (counted v (Won code) st)
+      ends_leads (Lost code) None s q came holds v st by =
+          let step = came.0 v.past.driver st.driver by in let steps = steps v s code false st step in
           polled (ended s None q) v st (recurs (Lost code)) q (Lost code ∷ []) steps.can.unended (steps, step.done_is)
           (drew_by v true q st came.1) holds refl refl step.stands_on (idle v (Lost code) st) (sym steps.can.unended) refl refl
-      ends_run (Lost code) (Some how.ScheduleDone) s q came holds v st =
-          let step = came.0 v.past.driver st.driver in let steps = steps v s code true st step in
+          (counted v (Lost code) st)
+      ends_leads (Lost code) (Some how.ScheduleDone) s q came holds v st by =
+          let step = came.0 v.past.driver st.driver by in let steps = steps v s code true st step in
           polled (ended s (Some how.ScheduleDone) q) v st (stops_done (Lost code)) q (Lost code ∷ []) steps.can.unended
           (steps, step.done_is) (came.1 ∙ st.drawing) holds refl refl step.stands_on (idle v (Lost code) st) refl refl refl
-      ends_run (Lost code) (Some how.BudgetRefused) s q came holds v st =
-          let step = came.0 v.past.driver st.driver in let steps = steps v s code false st step in
+          (counted v (Lost code) st)
+      ends_leads (Lost code) (Some how.BudgetRefused) s q came holds v st by =
+          let step = came.0 v.past.driver st.driver by in let steps = steps v s code false st step in
           polled (ended s (Some how.BudgetRefused) q) v st (stops_denied (Lost code)) q (Lost code ∷ []) steps.can.unended
           (steps, step.done_is, refl) (drew_by v false q st came.1) holds refl refl step.stands_on (idle v (Lost code) st)
           refl refl refl
-      ends_run (Lost code) (Some (how.Broken fault)) s q came holds v st =
+          (counted v (Lost code) st)
+      ends_leads (Lost code) (Some (how.Broken fault)) s q came holds v st by =
           let can = can_end v st in
           polled (ended s (Some (how.Broken fault)) q) v st (breaks (Lost code) fault) q (Lost code ∷ []) can.unended
           (can, refl, came.0 v.past.driver st.driver) (came.2 ∙ st.drawing) holds refl refl (same_driver v s st came.1)
           (idle v (Lost code) st) refl refl refl
-      ends_run (Lost code) (Some how.Won) s q came holds v st = absurd came
-      ends_run (Lost code) (Some how.Failed) s q came holds v st = absurd came
-      ends_run (Lost code) (Some how.Cancelled) s q came holds v st = absurd came
+          (counted v (Lost code) st)
+      ends_leads (Lost code) (Some how.Won) s q came holds v st by = absurd came
+      ends_leads (Lost code) (Some how.Failed) s q came holds v st by = absurd came
+      ends_leads (Lost code) (Some how.Cancelled) s q came holds v st by = absurd came
+
+      pub ends_run : (r : Ran) (over : Option How) (s : R) (q : D) → Ends stands keeps goes_by grants m.driver m.drawing t r over s q →
+          grants.stands q → ((c : Schedule) → goes_by s c → goes_by m.driver c) →
+          Polls stands keeps goes_by grants m t (r ∷ []) (ended s over q)
+      ends_run r over s q came holds narrows = record { narrows = narrows; leads = ends_leads r over s q came holds }
 
   -- one that gives up
   pub cancels : (m : Machine R D) (v : Retrying D) → StandsFor stands keeps grants m v →
@@ -187,16 +243,29 @@ module _ {R D : Type 0} (stands : R → Driven → Type 0) (keeps : Bool) (grant
     over = ap (λ (over : Option How). if is_some over then over else Some how.Cancelled) st.over;
     drawing = st.drawing;
     had = st.had;
+    told = st.told;
   }
 
   -- one that is not over ends as cancelled
-  pub cancels_unended : (m : Machine R D) (v : Retrying D) → StandsFor stands keeps grants m v → m.over ≡ None →
-      StandsFor stands keeps grants (record m { over = Some how.Cancelled }) (gives_up v)
-  cancels_unended m v st unended =
-      subst (λ (over : Option How). StandsFor stands keeps grants (record m { over = over }) (gives_up v))
-      (ap (λ (over : Option How). if is_some over then over else Some how.Cancelled) unended) (cancels m v st)
+  pub cancels_unended : (m : Machine R D) → m.over ≡ None → IsMachine stands keeps goes_by grants m →
+      IsMachine stands keeps goes_by grants (record m { over = Some how.Cancelled })
+  cancels_unended m unended is s by =
+      let was = is s by in (
+        gives_up was.0,
+        was.1,
+        subst (λ (over : Option How). StandsFor stands keeps grants (record m { over = over }) (gives_up was.0))
+            (ap (λ (over : Option How). if is_some over then over else Some how.Cancelled) unended) (cancels m was.0 was.2),
+      )
 
-  -- there is a retry that the value stands for that a contract sees
-  pub seen : (m w : Machine R D) → m ≡ w → (v : Retrying D) × StandsFor stands keeps grants m v →
-      (v : Retrying D) × StandsFor stands keeps grants w v
-  seen m w same = subst (λ (m : Machine R D). (v : Retrying D) × StandsFor stands keeps grants m v) same
+  -- what is always so of a machine: it has what draws as that stands, and no fewer tickets than at its beginning
+  pub has_drawn : (m : Machine R D) (s : Schedule) → goes_by m.driver s → IsMachine stands keeps goes_by grants m →
+      (m.had ≤ grants.granted m.drawing) × grants.stands m.drawing
+  has_drawn m s by is =
+      let was = is s by in let st = was.2 in (
+        omega (arith, st.law.granted, st.had, ap grants.granted st.drawing),
+        subst grants.stands (sym st.drawing) st.law.stands,
+      )
+
+  -- so it is of the value that a contract sees
+  pub seen : (m w : Machine R D) → m ≡ w → IsMachine stands keeps goes_by grants m → IsMachine stands keeps goes_by grants w
+  seen m w same = subst (λ (m : Machine R D). IsMachine stands keeps goes_by grants m) same

@@ -1,6 +1,6 @@
 -- A step of a driver, of each journal that it may stand for.
 use Rattle.std.specs.Prelude.{◌≡◌, ℕ, Bool, List, []}
-use mathlib.Core.Path.{ap}
+use mathlib.Core.Path.{ap, ◌∙◌}
 use Rattle.sched_time.specs.declared.numbers.Tick.{Tick}
 use Rattle.sched_plan.specs.Datum.{num}
 use Rattle.sched_plan.specs.Schedule.{Schedule}
@@ -17,8 +17,9 @@ abbrev pub unstepped : Schedule → Driven
 unstepped plan = record { plan = plan; journal = [] }
 
 -- a driver without a step is its plan
-pub unstepped_driver : (d : Driven) → d.journal ≡ [] → d ≡ unstepped d.plan
-unstepped_driver d none = ap (λ (journal : List Event). record { plan = d.plan; journal = journal }) none
+pub unstepped_driver : (d : Driven) → d.journal ≡ [] → (s : Schedule) → d.plan ≡ s → d ≡ unstepped s
+unstepped_driver d none s is =
+    ap (λ (journal : List Event). record { plan = d.plan; journal = journal }) none ∙ ap unstepped is
 
 -- the journal with the step of a run of this code
 abbrev pub with_code : Driven → Tick → ℕ → Driven
@@ -31,13 +32,19 @@ module _ {R : Type 0} (stands : R → Driven → Type 0) (keeps : Bool) where
     pub stands_on : stands new (with_code d t code)
     pub done_is : schedule_is_done (with_code d t code) ≡ done
 
-  -- a step, and one that was refused, whichever journal it was
-  abbrev pub Stepped : R → Tick → ℕ → Bool → R → Type 0
-  Stepped old t code done new = (d : Driven) → stands old d → SteppedOn d t code done new
+  -- a step, whichever journal it was, by each schedule that the driver may go by after it
+  abbrev pub Stepped : (R → Schedule → Type 0) → R → Tick → ℕ → Bool → R → Type 0
+  Stepped goes_by old t code done new =
+      (d : Driven) → stands old d → goes_by new d.plan → SteppedOn d t code done new
 
+  -- and one that was refused
   abbrev pub Refused : R → Tick → RunFault → Type 0
   Refused old t fault = (d : Driven) → stands old d → RefusedIn keeps d t.now fault
 
 -- a stepper of the plan that may stand for the journal
 abbrev pub IsStepped : Standing → Driven → Type 0
 IsStepped v d = (v.plan ≡ d.plan) × StandsFor v d.journal
+
+-- and it goes by its plan
+abbrev pub GoesByPlan : Standing → Schedule → Type 0
+GoesByPlan v s = v.plan ≡ s

@@ -1,5 +1,5 @@
 -- What contracts see of a machine, and which retries it may stand for.
-use Rattle.std.specs.Prelude.{◌≡◌, ℕ, Bool, true, false, not, ◌&&◌, if◌then◌else◌, List, Option, Some, None, is_some, refl}
+use Rattle.std.specs.Prelude.{◌≡◌, ℕ, Bool, true, false, not, ◌&&◌, if◌then◌else◌, List, length, min, Option, Some, None, is_some, refl}
 use Rattle.std.specs.Coded.{Coded, code_by, coded×, coded_ℕ, coded_bool, coded_option}
 use Rattle.sched_time.specs.declared.numbers.Tick.{Tick}
 use Rattle.sched_plan.specs.Schedule.{Schedule}
@@ -9,7 +9,7 @@ use Rattle.sched_effect.specs.declared.ran.Ran.{Ran}
 use Rattle.sched_effect.specs.declared.ran.Ran.TheVariants.{Won, Lost}
 use Rattle.sched_task.specs.declared.endings.How.{How}
 use Rattle.sched_task.specs.declared.endings.How.TheVariants as how
-use Rattle.sched_task_law.specs.Kind.{Kind, a_retry}
+use Rattle.sched_task_law.specs.Kind.{a_retry}
 use Rattle.sched_task_law.specs.Past.{nothing_yet, is_under_way}
 use Rattle.sched_task_law.specs.Codes.{coded_how}
 use Rattle.sched_retry.specs.Retrying.{Retrying, RetryLaw}
@@ -27,13 +27,23 @@ pub record Machine (R D : Type 0) : Type 0 where
   pub drawing : D
   -- how many tickets that had been granted before
   pub had : ℕ
+  -- how many runs were reported
+  pub told : ℕ
 
 abbrev pub coded_machine : {R D : Type 0} → Coded R → Coded D → Coded (Machine R D)
 coded_machine {R} {D} coded_driver coded_drawing =
-    code_by (R × (Bool × (Option How × (D × ℕ))))
-    (coded× coded_driver (coded× coded_bool (coded× (coded_option coded_how) (coded× coded_drawing coded_ℕ))))
-    (λ m. (m.driver, (m.under_way, (m.over, (m.drawing, m.had)))))
-    (λ p. record { driver = p.0; under_way = p.1.0; over = p.1.1.0; drawing = p.1.1.1.0; had = p.1.1.1.1 })
+    code_by (R × (Bool × (Option How × (D × (ℕ × ℕ)))))
+    (coded× coded_driver
+    (coded× coded_bool (coded× (coded_option coded_how) (coded× coded_drawing (coded× coded_ℕ coded_ℕ)))))
+    (λ m. (m.driver, (m.under_way, (m.over, (m.drawing, (m.had, m.told))))))
+    (λ p. record {
+      driver = p.0;
+      under_way = p.1.0;
+      over = p.1.1.0;
+      drawing = p.1.1.1.0;
+      had = p.1.1.1.1.0;
+      told = p.1.1.1.1.1;
+    })
     (λ _. refl)
 
 -- a report is heard where a run is under way and the machine is not over
@@ -62,8 +72,14 @@ cancelled m = record m { over = if is_some m.over then m.over else Some how.Canc
 module _ {D : Type 0} (grants : Grants D) where
   -- a machine that has not begun, and the retry that it stands for
   abbrev pub begins : {R : Type 0} → R → D → Machine R D
-  begins driver drawing =
-      record { driver = driver; under_way = false; over = None; drawing = drawing; had = grants.granted drawing }
+  begins driver drawing = record {
+    driver = driver;
+    under_way = false;
+    over = None;
+    drawing = drawing;
+    had = grants.granted drawing;
+    told = 0;
+  }
 
   abbrev pub unbegun : Schedule → D → Retrying D
   unbegun plan drawing =
@@ -79,20 +95,30 @@ module _ {R D : Type 0} (stands : R → Driven → Type 0) (keeps : Bool) (grant
     pub over : m.over ≡ v.past.over
     pub drawing : m.drawing ≡ v.drawing
     pub had : m.had ≡ v.had
+    pub told : m.told ≡ min (length v.past.runs) 18446744073709551615
 
-  -- Of each retry that the machine may stand for it was one poll, in which the runs that finished are those told; and
-  -- the machine may stand for the retry after it.
-  abbrev pub Polls : Machine R D → Tick → List Ran → Machine R D → Type 0
-  Polls m t told n = (v : Retrying D) → StandsFor m v →
-      (u : Retrying D) × HostPoll grants (a_retry keeps) v t told u × StandsFor n u
+module _ {R D : Type 0} (stands : R → Driven → Type 0) (keeps : Bool) (goes_by : R → Schedule → Type 0)
+    (grants : Grants D) where
+  -- By each schedule that its driver may go by there is a retry that the machine may stand for.
+  abbrev pub IsMachine : Machine R D → Type 0
+  IsMachine m = (s : Schedule) → goes_by m.driver s →
+      (v : Retrying D) × (v.past.driver.plan ≡ s) × StandsFor stands keeps grants m v
+
+  -- The machine after a poll goes by no other schedules than before. Of each retry that the machine may stand for, by a
+  -- schedule that it may go by after the poll, it was one poll, in which the runs that finished are those told; and it
+  -- may stand for the retry after it.
+  pub record Polls (m : Machine R D) (t : Tick) (told : List Ran) (n : Machine R D) : Type 0 where
+    pub narrows : (s : Schedule) → goes_by n.driver s → goes_by m.driver s
+    pub leads : (v : Retrying D) → StandsFor stands keeps grants m v → goes_by n.driver v.past.driver.plan →
+        (u : Retrying D) × HostPoll grants (a_retry keeps) v t told u × StandsFor stands keeps grants n u
 
   -- What the end of a run comes to: the driver r and what draws, p, become s and q. It draws where the schedule goes on,
   -- and nowhere else.
   abbrev pub Ends : R → D → Tick → Ran → Option How → R → D → Type 0
   Ends r p t (Won code) over s q = (over ≡ Some how.Won) × (s ≡ r) × (q ≡ p)
-  Ends r p t (Lost code) None s q = Stepped stands keeps r t code false s × grants.drew p t.now true q
-  Ends r p t (Lost code) (Some how.ScheduleDone) s q = Stepped stands keeps r t code true s × (q ≡ p)
+  Ends r p t (Lost code) None s q = Stepped stands keeps goes_by r t code false s × grants.drew p t.now true q
+  Ends r p t (Lost code) (Some how.ScheduleDone) s q = Stepped stands keeps goes_by r t code true s × (q ≡ p)
   Ends r p t (Lost code) (Some how.BudgetRefused) s q =
-      Stepped stands keeps r t code false s × grants.drew p t.now false q
+      Stepped stands keeps goes_by r t code false s × grants.drew p t.now false q
   Ends r p t (Lost code) (Some (how.Broken fault)) s q = Refused stands keeps r t fault × (s ≡ r) × (q ≡ p)
   Ends r p t (Lost code) _ s q = ⊥

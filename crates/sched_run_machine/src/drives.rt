@@ -17,14 +17,17 @@ pub trait Drives: Drop {
     // Whether it keeps its journal, which then has room for 65,536 events.
     ghost keeps: { Bool };
 
-    // Whether it may stand for this plan and this journal of its steps.
+    // Whether it may stand for this schedule and this journal of its steps.
     ghost stands: { Self → Driven → Type 0 };
+
+    // Whether it may go by this schedule. A step leaves fewer where the schedule depends on the step's moment.
+    ghost goes_by: { Self → Schedule → Type 0 };
+
+    // One that it may go by.
+    ghost plan: { Self → Schedule };
 
     // Whether it has made no step.
     ghost fresh: { Self → Type 0 };
-
-    // Its plan.
-    ghost plan: { Self → Schedule };
 
     /// The start planned last, or `None` where there was no step or the plan was done.
     fn next_start(&self) -> Option<Moment>
@@ -34,27 +37,36 @@ pub trait Drives: Drop {
     /// A refused step changes nothing.
     fn step(&mut self, alloc: Global, tick: &Tick, code: Millis) -> Result<Option<Moment>, RunFault>
         ensures stepped { IfOk result (λ start.
-            Stepped stands keeps self.old tick.entry.now code (is_none start) self.new) }
+            Stepped stands keeps goes_by self.old tick.entry.now code (is_none start) self.new) }
+        ensures narrows { (s : Schedule) → goes_by self.new s → goes_by self.old s }
         ensures refused { IfErr result (λ fault. Refused stands keeps self.old tick.entry.now fault) }
         ensures unchanged { IfErr result (λ _. self.new ≡ self.old) };
 
-    // What has made no step stands for no step of its plan.
-    ghost begins: { (driver : Self) → fresh driver → stands driver (unstepped (plan driver)) };
+    // What has made no step stands for no step of each schedule that it may go by.
+    ghost begins: { (driver : Self) → fresh driver →
+        (s : Schedule) → goes_by driver s → stands driver (unstepped s) };
+
+    // It always may go by one.
+    ghost goes: { (driver : Self) → goes_by driver (plan driver) };
 }
 
 impl Drives for Driver {
-    ghost use Rattle.std.specs.Prelude.{◌≡◌, [], true};
+    ghost use Rattle.std.specs.Prelude.{◌≡◌, [], true, refl};
     ghost use Rattle.sched_run_machine.specs.Drives.{unstepped_driver};
 
     ghost keeps = { true };
 
     ghost stands = { λ v d. v ≡ d };
 
-    ghost fresh = { λ v. v.journal ≡ [] };
+    ghost goes_by = { λ v s. v.plan ≡ s };
 
     ghost plan = { λ v. v.plan };
 
+    ghost fresh = { λ v. v.journal ≡ [] };
+
     ghost begins = { unstepped_driver };
+
+    ghost goes = { λ _. refl };
 
     fn next_start(&self) -> Option<Moment> {
         Driver::next_start(self)
@@ -73,17 +85,21 @@ impl Drives for Driver {
 impl Drives for Stepper {
     ghost use Rattle.std.specs.Prelude.{◌≡◌, [], false, refl};
     ghost use Rattle.sched_driver_stepper.specs.Standing.{standing_after};
-    ghost use Rattle.sched_run_machine.specs.Drives.{IsStepped};
+    ghost use Rattle.sched_run_machine.specs.Drives.{IsStepped, GoesByPlan};
 
     ghost keeps = { false };
 
     ghost stands = { IsStepped };
 
-    ghost fresh = { λ v. v ≡ standing_after v.plan [] };
+    ghost goes_by = { GoesByPlan };
 
     ghost plan = { λ v. v.plan };
 
-    ghost begins = { λ v fresh. (refl, record { in_order = tt; is = fresh }) };
+    ghost fresh = { λ v. v ≡ standing_after v.plan [] };
+
+    ghost begins = { λ v fresh _ by. (by, record { in_order = tt; is = fresh }) };
+
+    ghost goes = { λ _. refl };
 
     fn next_start(&self) -> Option<Moment> {
         Stepper::next_start(self)

@@ -7,7 +7,9 @@
 mod drives;
 mod machine;
 mod next;
+mod until;
 
 pub use drives::Drives;
 pub use machine::Machine;
 pub use next::Next;
+pub use until::Until;

@@ -1,7 +1,8 @@
 //! The machine of a retry.
 ghost use Rattle.std.specs.Prelude.{◌≡◌, ◌+◌, [], ◌∷◌, true, false, None};
+ghost use Rattle.sched_plan.specs.Schedule.{Schedule};
 ghost use Rattle.sched_retry.specs.Retrying.{Retrying, gives_up};
-ghost use Rattle.sched_run_machine.specs.Machine.{begins, unbegun, is_told, cancelled, StandsFor, Polls, Finds, Ends, EndsAs};
+ghost use Rattle.sched_run_machine.specs.Machine.{begins, unbegun, is_told, cancelled, StandsFor, IsMachine, Polls, Finds, Ends, EndsAs};
 ghost use Rattle.sched_run_machine.specs.Next.{next_of, Rests};
 
 use crate::drives::Drives;
@@ -24,11 +25,11 @@ pub struct Machine<R: Drives, D: Draws> {
     over: Option<How>,
     drawing: D,
     had: u64,
+    told: u64,
 }
 
 impl<R: Drives, D: Draws> Model for Machine<R, D> {
-    ghost use Rattle.sched_retry.specs.Retrying.{Retrying};
-    ghost use Rattle.sched_run_machine.specs.Machine.{Machine as Made, coded_machine, StandsFor};
+    ghost use Rattle.sched_run_machine.specs.Machine.{Machine as Made, coded_machine, IsMachine};
 
     ghost Value = { Made R D };
 
@@ -40,10 +41,17 @@ impl<R: Drives, D: Draws> Model for Machine<R, D> {
       over = m.over;
       drawing = m.drawing;
       had = m.had;
+      told = m.told;
     } };
 
-    ghost invariant = { λ m. (v : Retrying D) × StandsFor R.stands R.keeps D.grants
-        (record { driver = m.driver; under_way = m.under_way; over = m.over; drawing = m.drawing; had = m.had }) v };
+    ghost invariant = { λ m. IsMachine R.stands R.keeps R.goes_by D.grants record {
+      driver = m.driver;
+      under_way = m.under_way;
+      over = m.over;
+      drawing = m.drawing;
+      had = m.had;
+      told = m.told;
+    } };
 }
 
 impl<R: Drives, D: Draws> Machine<R, D> {
@@ -51,7 +59,8 @@ impl<R: Drives, D: Draws> Machine<R, D> {
     pub fn new(driver: R, drawing: D) -> Machine<R, D>
         requires fresh { R.fresh driver }
         ensures begins { result ≡ begins D.grants driver drawing }
-        ensures stands { StandsFor R.stands R.keeps D.grants result (unbegun D.grants (R.plan driver) drawing) }
+        ensures stands { (s : Schedule) → R.goes_by driver s →
+            StandsFor R.stands R.keeps D.grants result (unbegun D.grants s drawing) }
     {
         let had = drawing.granted();
         Machine {
@@ -60,12 +69,13 @@ impl<R: Drives, D: Draws> Machine<R, D> {
             over: None,
             drawing,
             had,
+            told: 0,
         }
     }
 
     /// Begins a run at the tick, where none is under way, the retry is not over and waits for no later moment.
     pub fn poll(&mut self, tick: &Tick)
-        ensures polls { Polls R.stands R.keeps D.grants self.old tick.entry.now [] self.new }
+        ensures polls { Polls R.stands R.keeps R.goes_by D.grants self.old tick.entry.now [] self.new }
         ensures unbroken { self.new.over ≡ self.old.over }
     {
         if self.over.is_some() {
@@ -85,7 +95,7 @@ impl<R: Drives, D: Draws> Machine<R, D> {
     pub fn report(&mut self, alloc: Global, tick: &Tick, ran: Ran) -> bool
         ensures heard { result ≡ is_told self.old }
         ensures told { result ≡ true →
-            Polls R.stands R.keeps D.grants self.old tick.entry.now (ran ∷ []) self.new }
+            Polls R.stands R.keeps R.goes_by D.grants self.old tick.entry.now (ran ∷ []) self.new }
         ensures ends { result ≡ true → EndsAs ran self.new.over }
         ensures unchanged { result ≡ false → self.new ≡ self.old }
     {
@@ -99,6 +109,7 @@ impl<R: Drives, D: Draws> Machine<R, D> {
         let drawing = &mut self.drawing;
         self.over = end_run(alloc, driver, drawing, tick, ran);
         self.under_way = false;
+        self.told = self.told.saturating_add(1);
         true
     }
 
@@ -138,13 +149,21 @@ impl<R: Drives, D: Draws> Machine<R, D> {
         self.over = Some(How::Cancelled);
     }
 
-    /// How many tickets it was granted, without those of earlier retries. There is always a retry that it stands for.
+    /// How many tickets it was granted, without those of earlier retries. There is always a retry that it stands for, by
+    /// each schedule that its driver may go by.
     pub fn granted(&self) -> u64
-        ensures stands { (v : Retrying D) × StandsFor R.stands R.keeps D.grants self.now v }
+        ensures stands { IsMachine R.stands R.keeps R.goes_by D.grants self.now }
         ensures granted { (v : Retrying D) → StandsFor R.stands R.keeps D.grants self.now v → result ≡ v.past.granted }
         ensures tickets { self.now.had + result ≡ D.grants.granted self.now.drawing }
     {
         self.drawing.granted() - self.had
+    }
+
+    /// How many runs were reported; 2^64 - 1 where there were more.
+    pub fn told(&self) -> u64
+        ensures { result ≡ self.now.told }
+    {
+        self.told
     }
 
     /// The driver.
@@ -173,6 +192,7 @@ impl<R: Drives, D: Draws> Machine<R, D> {
             over: _,
             drawing,
             had: _,
+            told: _,
         } = self;
         (driver, drawing)
     }
@@ -203,7 +223,8 @@ fn end_run<R: Drives, D: Draws>(
 ) -> Option<How>
     requires stands { D.grants.stands drawing.old }
     ensures stands { D.grants.stands drawing.new }
-    ensures ends { Ends R.stands R.keeps D.grants
+    ensures narrows { (s : Schedule) → R.goes_by driver.new s → R.goes_by driver.old s }
+    ensures ends { Ends R.stands R.keeps R.goes_by D.grants
         driver.old drawing.old tick.entry.now ran result driver.new drawing.new }
 {
     match ran {

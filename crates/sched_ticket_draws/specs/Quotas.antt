@@ -18,9 +18,9 @@ abbrev pub QuotaDrew : OfQuota → ℕ → Bool → OfQuota → Type 0
 QuotaDrew d now true e = (e.quota ≡ d.quota) × (t : ℕ) × Drew d.quota.terms now d.pass.has t e.pass.has
 QuotaDrew d now false e = (e.quota ≡ d.quota) × DrawRefused d.quota.terms now d.pass.has e.pass.has
 
--- so many tickets were found given in the latest window as its requests allow, or 64 races were lost
+-- the last draw found so many tickets given in the latest window as its requests allow, or lost 64 races with other draws
 abbrev pub NoneLeft : Terms → View → Type 0
-NoneLeft k v = HasNoRoom k v ⊎ (64 ≤ v.losses)
+NoneLeft k v = HasNoRoom k v ⊎ (v.losses ≡ 64)
 
 abbrev pub quota_grants : Grants OfQuota
 quota_grants = record {
@@ -60,7 +60,7 @@ QuotaDrew-denies : (d : OfQuota) (now : ℕ) (e : OfQuota) → QuotaDrew d now f
     NoneLeft e.quota.terms e.pass.has
 QuotaDrew-denies d now e drew = elim drew.1.2.reason [
   | inl full ↦ inl (subst (λ (q : Name). HasNoRoom q.terms e.pass.has) (sym drew.0) full)
-  | inr lost ↦ inr (omega (arith, lost))
+  | inr lost ↦ inr lost
 ]
 
 pub quota_lawful : Lawful quota_grants

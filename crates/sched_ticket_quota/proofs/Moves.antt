@@ -18,7 +18,7 @@ use Rattle.sched_ticket_quota.specs.Steps.{Sat, reads, opens, counts, finds, win
 use Rattle.sched_ticket_quota.specs.declared.view.Terms.{Terms}
 use Rattle.sched_ticket_quota.specs.declared.view.View.{View}
 use Rattle.sched_ticket_quota.proofs.Numbers.{allowed-mono, allows-on, below-mono}
-use Rattle.sched_ticket_quota.proofs.Counts.{may_count-yes, may_count-no, all_may_count, total-same, total-more, seen_at, found_at, is_later, asked_le, no_later, is_sound}
+use Rattle.sched_ticket_quota.proofs.Counts.{may_count-yes, may_count-no, all_may_count, total-same, total-more, seen_at, found_at, is_later, asked_le, drawn_le, no_later, is_sound}
 
 -- the draws fit where a view with the same tickets takes another's place
 dealt-same : (d window : ℕ) (views : List View) (j : ℕ) (v w : View) → get_elem? views j ≡ some v → w.tickets ≡ v.tickets → IsDealt d window views → IsDealt d window (set views j w)
@@ -143,7 +143,7 @@ module _ (k : Terms) where
       let f = o.each id v at in (
         with_found v d,
         (λ homes. kept-draws ws (set views id (with_found v d)) homes window latest d long
-            (told d window (slice_index ws 24) latest views id v v.seen d v.readings v.losses o at f.seen f.counted (omega arith) (found_at d window views o.dealt))),
+            (told d window (slice_index ws 24) latest views id v v.seen d v.readings 0 o at f.seen f.counted (omega arith) (found_at d window views o.dealt))),
         (f.found, refl),
       ))
 
@@ -315,7 +315,7 @@ module _ (k : Terms) where
         spent = λ none. absurd (omega arith);
       })
 
-  pub wins_ok : (n id : ℕ) (m : Sat) (st : Step ℕ) → 0 < m.0.weight → st.first ≡ m.0.found → st.second ≡ next_ticket m.0 + 1 → next_ticket m.0 < floor_of k m.0.seen
+  pub wins_ok : (n id : ℕ) (m : Sat) (st : Step ℕ) → 0 < m.0.weight → (st.first ≤ 17496587910722355200 → st.first ≡ m.0.found) → st.second ≡ next_ticket m.0 + 1 → next_ticket m.0 < floor_of k m.0.seen
       → Allows (IsKept k) n id m 8 (λ x. either (x == st.first) st.second x) (wins st m)
   wins_ok n id m st live first second room = allows n id m 8 (λ x. either (x == st.first) st.second x) (wins st m) (λ window latest ws views long o at.
       let v : View = m.0 in
@@ -328,12 +328,19 @@ module _ (k : Terms) where
       (λ hit. (
         with_ticket v t,
         (λ homes. subst (λ (x : ℕ). IsKept k (record { words = set ws 8 x; homes = homes; views = set views id (with_ticket v t) })) (sym second)
-            (kept-draws ws (set views id (with_ticket v t)) homes (window_of v.seen) latest (t + 1) long (wins-to d window q latest views id v o at live (hit ∙ first) room))),
+            (kept-draws ws (set views id (with_ticket v t)) homes (window_of v.seen) latest (t + 1) long (wins-to d window q latest views id v o at live (hit ∙ first (omega (arith, hit, drawn_le k d window q latest views o))) room))),
         ((λ _. (is_later d window views o.dealt id v t at (omega arith) (omega (arith, asked_le k d window q latest views o, f.seen)), refl)), λ miss. absurd (miss hit)),
       ))
-      (λ miss. (
+      (λ miss. dite (dec_le d v.found)
+      (λ known. (
+        v,
+        (λ homes. kept-draws ws (set views id v) homes window latest d long
+            (told d window q latest views id v v.seen v.found v.readings v.losses o at f.seen f.counted f.found f.given)),
+        ((λ hit. absurd (miss hit)), λ _. (f.found, (λ past. absurd (omega (arith, past, known))), λ _. refl)),
+      ))
+      (λ not. (
         with_loss v d,
         (λ homes. kept-draws ws (set views id (with_loss v d)) homes window latest d long
             (told d window q latest views id v v.seen d v.readings (v.losses + 1) o at f.seen f.counted (omega arith) (found_at d window views o.dealt))),
-        ((λ hit. absurd (miss hit)), λ _. (f.found, refl)),
-      )))
+        ((λ hit. absurd (miss hit)), λ _. (f.found, (λ _. refl), λ same. absurd (omega (arith, same, lt_of_not-le not)))),
+      ))))

@@ -1,5 +1,5 @@
 -- What each call does to a pass, and when each refusal comes.
-use Rattle.std.specs.Prelude.{◌≡◌, ℕ, ◌+◌, ◌-◌, ◌<◌, ◌≤◌, ◌⊎◌, ◌%◌, max}
+use Rattle.std.specs.Prelude.{◌≡◌, ℕ, ◌-◌, ◌<◌, ◌≤◌, ◌⊎◌, ◌%◌, max}
 use Rattle.sched_ticket_quota.specs.Windows.{window_of, first_of, window_at, opening, allowed, floor_of, count_in}
 use Rattle.sched_ticket_quota.specs.View.{with_reading, with_opening, with_request, with_ticket, next_ticket}
 use Rattle.sched_ticket_quota.specs.Steps.{IsNoLater, IsLater}
@@ -63,10 +63,10 @@ pub record Won (k : Terms) (v : View) (t : ℕ) (w : View) : Type 0 where
   pub later : IsLater v t
   pub gained : w ≡ with_ticket tried t
 
--- a pass won none: it read the requests and has found no room, or has lost 64 races
+-- a pass won none: it read the requests and has found no room, or this very draw has lost 64 races with other draws
 pub record WonNone (k : Terms) (v w : View) : Type 0 where
   pub tries : Tried v w
-  pub reason : HasNoRoom k w ⊎ (w.losses ≡ v.losses + 64)
+  pub reason : HasNoRoom k w ⊎ (w.losses ≡ 64)
 
 -- a draw that gave the ticket t, of the window that the pass came to or of a later one
 abbrev pub Drew : Terms → ℕ → View → ℕ → View → Type 0

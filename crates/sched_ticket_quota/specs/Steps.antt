@@ -34,6 +34,7 @@ opens s m q n = Rises m.0 q × Sees m n (with_opening m.0 s.first (max q s.first
 abbrev pub counts : Then
 counts s m q n = Rises m.0 q × Sees m n (with_request m.0 q)
 
+-- a look at the draws begins a draw, which has lost no race yet
 abbrev pub finds : Then
 finds s m d n = (m.0.found ≤ d) × Sees m n (with_found m.0 d)
 
@@ -41,10 +42,12 @@ finds s m d n = (m.0.found ≤ d) × Sees m n (with_found m.0 d)
 abbrev pub IsLater : View → ℕ → Type 0
 IsLater v t = Each (λ x. x < t) v.tickets × (length v.tickets ≤ t) × (t < 17496587910722355200)
 
+-- A race is lost where another draw came since the pass looked: where the word is past the one that it found. A try that
+-- finds the word as the pass knew it, and does not meet what it expects, is none.
 abbrev pub wins : Then
 wins s m d n =
     (d ≡ s.first → IsLater m.0 (next_ticket m.0) × Sees m n (with_ticket m.0 (next_ticket m.0)))
-    × (d ≢ s.first → (m.0.found ≤ d) × Sees m n (with_loss m.0 d))
+    × (d ≢ s.first → (m.0.found ≤ d) × (m.0.found < d → Sees m n (with_loss m.0 d)) × (d ≡ m.0.found → n ≡ m))
 
 -- what holds of a pass's tickets and parts, whatever was joined into it
 pub record IsSound (v : View) : Type 0 where

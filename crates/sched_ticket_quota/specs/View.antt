@@ -39,8 +39,9 @@ with_opening v first q = record v { opened = first ∷ v.opened; seen = q }
 abbrev pub with_request : View → ℕ → View
 with_request v n = record v { requests = n ∷ v.requests; seen = n + 1; told = n + 1 }
 
+-- a pass that has looked at the draws, and has lost no race since
 abbrev pub with_found : View → ℕ → View
-with_found v d = record v { found = d }
+with_found v d = record v { found = d; losses = 0 }
 
 abbrev pub with_ticket : View → ℕ → View
 with_ticket v t = record v { tickets = t ∷ v.tickets; found = t + 1 }
@@ -73,5 +74,5 @@ joined_view v w = record {
   found = v.found;
   weight = v.weight + w.weight;
   readings = v.readings + w.readings;
-  losses = v.losses + w.losses;
+  losses = v.losses;
 }

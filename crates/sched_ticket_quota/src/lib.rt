@@ -4,8 +4,7 @@
 //! A `Quota` is a table of two words under one rule: the tickets drawn and the requests counted, each numbered within
 //! its window. A `Pass` is the right to step on them: a thread counts requests and draws tickets with its pass for as
 //! long as it lives, splits a pass for another thread, and joins the passes of threads that have ended. There is no
-//! lock, no call waits, each call makes a bounded number of atomic steps, and no memory is taken after the quota is
-//! made.
+//! lock, no call waits, and no memory is taken after the quota is made.
 #![tactic(auto)]
 
 mod fault;

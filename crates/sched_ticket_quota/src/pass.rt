@@ -86,7 +86,7 @@ impl Pass {
     }
 
     /// Counts a request in the window of `now`, or in the latest one where that is later.
-    /// One atomic step, after two where the pass meets a new window. Past the last window nothing is counted.
+    /// Past the last window nothing is counted.
     pub fn deposit(&mut self, quota: &Quota, now: Moment)
         requires { IsOf quota.now self.old }
         ensures of { IsOf quota.now self.new }
@@ -104,8 +104,7 @@ impl Pass {
     }
 
     /// A ticket of the window of `now`, or of the latest one where that is later. None where so many were given there
-    /// as its requests allow, or where other draws came first 64 times. A pass that was refused may draw again.
-    /// Three atomic steps, of which two are repeated after a lost race, and two more where the pass meets a new window.
+    /// as its requests allow, or where other draws came first 64 times in this call. A pass that was refused may draw again.
     pub fn draw(&mut self, quota: &Quota, now: Moment) -> Option<u64>
         requires { IsOf quota.now self.old }
         ensures of { IsOf quota.now self.new }

@@ -5,8 +5,8 @@
 //! | `Read` | requests are read | has seen them |
 //! | `Open` | requests become a window's first number, where they are less | has opened that window, and seen them |
 //! | `Count` | 1 more request | gains its number |
-//! | `Find` | draws are read | has found them |
-//! | `Win` | draws become the one after its next ticket, where they are what it found | gains the ticket, or a loss |
+//! | `Find` | draws are read | has found them, and has lost no race since |
+//! | `Win` | draws become the one after its next ticket, where they are what it found | gains the ticket, or a loss where the draws are past what it found |
 //! | `Part` | none changes | gives some of its parts to a new pass |
 //! | `Merge` | none changes | takes in another pass, which is spent |
 //! | `Learn` | none changes | learns that its tickets are distinct |

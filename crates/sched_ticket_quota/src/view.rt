@@ -35,6 +35,6 @@ pub struct View {
     pub weight: u64,
     /// How often it read the word of requests.
     pub readings: u64,
-    /// How often another draw came between its look and its own.
+    /// How many races its last draw lost: how often another draw came between its look and its own.
     pub losses: u64,
 }

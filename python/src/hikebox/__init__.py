@@ -11,6 +11,7 @@ What a policy answers, that a retry follows its policy and its budget, and that 
 engine in `libhikebox.so`, which this package calls.
 """
 
+from ._deadline import seconds_left
 from ._time import FAR, Duration, Milliseconds, milliseconds
 from .budget import Budget
 from .builders import (
@@ -108,6 +109,7 @@ __all__ = [
     "recurs",
     "repeat",
     "retry",
+    "seconds_left",
     "spaced",
     "state_of",
     "stop",

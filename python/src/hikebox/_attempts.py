@@ -2,11 +2,13 @@
 
 from __future__ import annotations
 
+from contextvars import Token
 from types import TracebackType
 from typing import TYPE_CHECKING, Any, Optional, Tuple, Type, Union
 
 from ._course import Course, Steps
-from ._drivers import advance, answer_of, settle, settle_async
+from ._deadline import Limit, enter, leave
+from ._drivers import advance, answer_of, not_awaitable, settle, settle_async
 from .state import Outcome, RetryState
 
 if TYPE_CHECKING:
@@ -33,7 +35,15 @@ class Attempt:
         """The number of the attempt, from 1."""
         return self.retry_state.attempt_number
 
+    @property
+    def seconds_left(self) -> Optional[float]:
+        """How many seconds it is until the deadline of the retry, or None where it has none."""
+        return self.retry_state.seconds_left
+
     def __enter__(self) -> Attempt:
+        attempts = self._attempts
+        if attempts.limit is not None:
+            attempts.token = enter(attempts.limit)
         return self
 
     def __exit__(
@@ -42,7 +52,11 @@ class Attempt:
         error: Optional[BaseException],
         trace: Optional[TracebackType],
     ) -> bool:
-        return self._attempts.ended(error)
+        attempts = self._attempts
+        if attempts.token is not None:
+            leave(attempts.token)
+            attempts.token = None
+        return attempts.ended(error)
 
 
 class _BaseAttempts:
@@ -54,6 +68,9 @@ class _BaseAttempts:
 
     def __init__(self, owner: BaseRetrying) -> None:
         self.course = Course(owner)
+        self.limit: Optional[Limit] = self.course.state.limit
+        #: What goes back to the time that calls had before the attempt.
+        self.token: Optional[Token[Optional[Limit]]] = None
         #: Whether an attempt is under way, and whether one is over that is not judged yet.
         self.under_way = False
         self.is_open = False
@@ -114,6 +131,12 @@ class Attempts(_BaseAttempts):
         try:
             if self.is_open:
                 settle(self.told())
+            wait = course.plain_wait()
+            if wait is not None:
+                if wait > 0:
+                    not_awaitable(course.settings.sleeps(wait))
+                course.goes_on()
+                return self.begins()
             if settle(course.begins()):
                 return self.begins()
         except BaseException:

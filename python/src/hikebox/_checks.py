@@ -7,7 +7,7 @@ from typing import Any
 from ._time import FAR, Duration, seconds
 from .errors import Fault, PolicyError
 
-__all__ = ["interval", "ratio", "thousandths", "whole"]
+__all__ = ["factor_of", "interval", "ratio", "thousandths", "whole"]
 
 
 def whole(number: Any, what: str, least: int = 0, most: int = FAR) -> int:
@@ -21,7 +21,7 @@ def whole(number: Any, what: str, least: int = 0, most: int = FAR) -> int:
 
 def interval(duration: Duration, what: str) -> int:
     """A duration of at least a millisecond, in milliseconds."""
-    count = seconds(duration)
+    count = seconds(duration, what)
     if count == 0:
         raise PolicyError(Fault.OUT_OF_RANGE, hint=f"{what}: an interval is at least 0.001 s, not {duration!r}")
     return count
@@ -34,6 +34,15 @@ def thousandths(number: Any, what: str, least: float, most: float) -> int:
     if not least <= number <= most:
         raise PolicyError(Fault.OUT_OF_RANGE, hint=f"{what}: {number} is not from {least:g} to {most:g}")
     return round(number * 1000)
+
+
+def factor_of(number: Any, what: str, least: float) -> int:
+    """A factor up to 1000 in thousandths: none that is not whole becomes it."""
+    milli = thousandths(number, f"{what}: a factor", least, 1000)
+    if milli % 1000 == 0 and number != milli // 1000:
+        hint = f"{what}: the factor {number!r} is less than a thousandth from {milli // 1000}"
+        raise PolicyError(Fault.OUT_OF_RANGE, hint=hint)
+    return milli
 
 
 def ratio(number: Any, what: str) -> int:

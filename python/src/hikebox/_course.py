@@ -11,7 +11,8 @@ import logging
 from math import ceil
 from typing import TYPE_CHECKING, Any, Callable, Generator, List, Mapping, Optional, Tuple, TypeVar, Union
 
-from ._engine import LOST, NO_REPORT, OVER, RUN, WAIT
+from ._deadline import Limit
+from ._engine import LOST, NO_REPORT, OVER, RUN, WAIT, PolicyHandle
 from ._machine import Machine, lend_machine, take_machine_back
 from ._passes import NO_BUDGET, DrawnOn
 from ._preview import word_of
@@ -63,6 +64,7 @@ class Course:
         "_origin",
         "_last",
         "_until",
+        "_asked",
         "_begun",
         "_machine",
         "_drawn_on",
@@ -78,11 +80,13 @@ class Course:
         args: Tuple[Any, ...] = (),
         kwargs: Mapping[str, Any] = {},
         start: Optional[float] = None,
+        limit: Optional[Limit] = None,
     ) -> None:
         settings = self.settings = owner.settings
         self._counts = owner.counts
         self._clock = settings.clock
-        self.state = RetryState(owner, fn, args, kwargs, self._clock() if start is None else start)
+        state = self.state = RetryState(owner, fn, args, kwargs, self._clock() if start is None else start)
+        state.limit = settings.limit_of(state.start_time) if limit is None else limit
         #: Whether no attempt follows, and what comes of the retry, where that is not the exception at hand.
         self.over = False
         self.answer: Optional[Outcome] = None
@@ -94,6 +98,8 @@ class Course:
         self._last = 0
         #: The start that the engine planned.
         self._until = 0
+        #: The seconds that `at_least` and `wait` ask for, where they were asked already.
+        self._asked: Optional[float] = None
         #: Whether the engine has begun the next attempt already.
         self._begun = False
         self._machine: Optional[Machine] = None
@@ -108,14 +114,21 @@ class Course:
 
     def begins(self) -> Union[bool, Steps[bool]]:
         """Whether one more attempt is to be made, once the wait for it is over. The first one is a request."""
-        if self.over:
-            return False
-        if self._begun and self.settings.is_plain and self.settings.pause is None:
-            self._planned()
-            self.waited()
-            self.state.outcome = None
-            return True
-        return self._begins()
+        return False if self.over else self._begins()
+
+    def plain_wait(self) -> Optional[float]:
+        """Of a retry for which nothing is to be called: how many seconds it waits before its next attempt, which then
+        `goes_on` begins; None where it is over, before the first attempt, and where something is to be called. So many
+        may wait at once, and what waits is small."""
+        if self.over or not self.settings.is_plain or self.state.outcome is None:
+            return None
+        delay = self._planned()
+        return 0.0 if switch.no_waits else delay
+
+    def goes_on(self) -> None:
+        """The plain wait is over."""
+        self.waited()
+        self.state.outcome = None
 
     def _begins(self) -> Steps[bool]:
         settings, state = self.settings, self.state
@@ -198,6 +211,9 @@ class Course:
         if settings.is_stopped is not None and settings.is_stopped(state):
             state.ending = Ending.STOPPED
             return False
+        if state.limit is not None and self._is_past(state.limit):
+            state.ending = Ending.SCHEDULE_DONE
+            return False
         if not self._asks_engine(outcome):
             return False
         if settings.draw is None:
@@ -233,7 +249,9 @@ class Course:
         if delay < 0.0:
             delay = 0.0
         if settings.at_least is not None or settings.wait is not None:
-            asked = self._asked_for()
+            asked, self._asked = self._asked, None
+            if asked is None:
+                asked = self._asked_for()
             if asked > delay:
                 delay = asked
                 self._until = max(self._until, self._moment(self._seconds() + delay))
@@ -244,6 +262,14 @@ class Course:
             text = "%s: attempt %d %s; next in %.3f s"
             logger.debug(text, state.name, state.attempt_number, state.outcome, delay, extra=fields)
         return delay
+
+    def _is_past(self, limit: Limit) -> bool:
+        """Whether the wait that `at_least` or `wait` asks for goes past the deadline."""
+        settings = self.settings
+        if settings.at_least is None and settings.wait is None:
+            return False
+        self._asked = self._asked_for()
+        return self._asked > 0.0 and self._asked > limit.left() + HAIR / 1000
 
     def _asked_for(self) -> float:
         """How many seconds `at_least` and `wait` ask for, up to `longest`."""
@@ -265,6 +291,8 @@ class Course:
         if seconds * 1000 + HAIR < self._until:
             self._ahead += self._until / 1000 - seconds
             seconds = self._until / 1000
+            if state.limit is not None:
+                state.limit.ahead = self._ahead
         if self._begun:
             return
         machine = self._machine
@@ -344,10 +372,14 @@ class Course:
     def _asks_engine(self, outcome: Outcome) -> bool:
         """Whether the policy goes on, and the engine's retry drew a ticket where it does that itself."""
         settings, state = self.settings, self.state
+        seconds = state.seconds_since_start or 0.0
         machine = self._machine
         if machine is None:
-            machine = self._begin()
-        seconds = state.seconds_since_start or 0.0
+            policy = self._policy(self._moment(seconds))
+            if policy is None:
+                state.ending = Ending.SCHEDULE_DONE
+                return False
+            machine = self._begin(policy)
         words = {lane: word_of(settings.random()) for lane in settings.lanes} if settings.lanes else None
         code = settings.code_for(outcome) if settings.reads_codes else 0
         what, detail, granted = machine.poll(self._origin + self._moment(seconds), LOST, code, words)
@@ -360,16 +392,25 @@ class Course:
             state.granted = granted
         return True
 
-    def _begin(self) -> Machine:
+    def _policy(self, moment: int) -> Optional[PolicyHandle]:
+        """The policy of a retry whose first attempt failed at this moment, or None where its deadline was before that.
+        The policy's first event is that failure, so it has what is left of the time."""
+        settings = self.settings
+        plan, most = settings.policy.plan, settings.most_millis
+        if most is None:
+            return plan.lend()
+        return plan.until(most - moment) if moment <= most else None
+
+    def _begin(self, policy: PolicyHandle) -> Machine:
         """A retry of the engine, whose first attempt began at the start."""
         settings = self.settings
         machine = lend_machine()
-        plan, drawn_on = settings.policy.plan, settings.drawn_on
-        handle = plan.lend()
+        drawn_on = settings.drawn_on
         try:
-            drawn_on.begin_retry(machine, handle)
+            drawn_on.begin_retry(machine, policy)
         finally:
-            plan.give_back(handle)
+            if settings.most_millis is None:
+                settings.policy.plan.give_back(policy)
         self._drawn_on, self._generation = drawn_on, drawn_on.generation
         self._origin = drawn_on.moment_of(self.state.start_time)
         self._machine = machine

@@ -6,12 +6,12 @@ from types import CoroutineType
 from typing import TYPE_CHECKING, Any, Callable, Tuple, TypeVar, Union
 
 from ._course import Course, Steps
-from .state import Ending
+from ._deadline import enter, leave
 
 if TYPE_CHECKING:
     from .retrying import BaseRetrying
 
-__all__ = ["advance", "answer_of", "refuse_awaitable", "run", "run_async", "settle", "settle_async"]
+__all__ = ["advance", "answer_of", "not_awaitable", "refuse_awaitable", "run", "run_async", "settle", "settle_async"]
 
 Answer = TypeVar("Answer")
 
@@ -42,9 +42,7 @@ def settle(steps: Union[bool, Steps[Answer]]) -> Any:
             function, argument = send(answer)
         except StopIteration as done:
             return done.value
-        answer = function(argument)
-        if hasattr(type(answer), "__await__"):
-            refuse_awaitable("what was given to a Retrying", answer)
+        answer = not_awaitable(function(argument))
 
 
 async def settle_async(steps: Union[bool, Steps[Answer]]) -> Any:
@@ -59,28 +57,40 @@ def run(owner: BaseRetrying, fn: Callable[..., Any], args: Any, kwargs: Any) -> 
     """Calls the function until its retry is over."""
     settings = owner.settings
     start = settings.clock()
+    limit = None if settings.most_millis is None else settings.limit_of(start)
+    token = None if limit is None else enter(limit)
     # until something is to be done for it, a retry is only its start
-    course = None if settings.is_quiet else Course(owner, fn, args, kwargs, start)
+    course = None if settings.is_quiet else Course(owner, fn, args, kwargs, start, limit)
     try:
-        while course is None or settle(course.begins()):
+        if course is None and settings.deposit is not None:
+            settings.deposit()
+        goes_on = course is None or settle(course.begins())
+        while goes_on:
             try:
                 result = fn(*args, **kwargs)
             except BaseException as error:
                 if course is None:
-                    course = Course(owner, fn, args, kwargs, start)
+                    course = Course(owner, fn, args, kwargs, start, limit)
                 if not settle(course.raised(error)):
                     raise
             else:
                 if type(result) is CoroutineType:
                     refuse_awaitable(repr(fn), result)
                 if course is None:
-                    owner.counts.add(1, 0.0, Ending.WON)
+                    owner.counts.add_success()
                     return result
                 settle(course.returned(result))
-                if course.over:
-                    break
-        return answer_of(course)
+            wait = course.plain_wait()
+            if wait is None:
+                goes_on = settle(course.begins())
+                continue
+            if wait > 0:
+                not_awaitable(settings.sleeps(wait))
+            course.goes_on()
+        return None if course is None else answer_of(course)
     finally:
+        if token is not None:
+            leave(token)
         if course is not None:
             course.close()
 
@@ -89,8 +99,12 @@ async def run_async(owner: BaseRetrying, fn: Callable[..., Any], args: Any, kwar
     """Awaits the function's calls until its retry is over."""
     settings = owner.settings
     start = settings.clock()
-    course = None if settings.is_quiet else Course(owner, fn, args, kwargs, start)
+    limit = None if settings.most_millis is None else settings.limit_of(start)
+    token = None if limit is None else enter(limit)
+    course = None if settings.is_quiet else Course(owner, fn, args, kwargs, start, limit)
     try:
+        if course is None and settings.deposit is not None:
+            settings.deposit()
         goes_on = True if course is None else await settle_async(course.begins())
         while goes_on:
             try:
@@ -98,7 +112,7 @@ async def run_async(owner: BaseRetrying, fn: Callable[..., Any], args: Any, kwar
                 result = await awaitable if hasattr(type(awaitable), "__await__") else _NOT_AWAITABLE
             except BaseException as error:
                 if course is None:
-                    course = Course(owner, fn, args, kwargs, start)
+                    course = Course(owner, fn, args, kwargs, start, limit)
                 judged = course.raised(error)
                 if not (judged if isinstance(judged, bool) else await settle_async(judged)):
                     raise
@@ -106,16 +120,22 @@ async def run_async(owner: BaseRetrying, fn: Callable[..., Any], args: Any, kwar
                 if result is _NOT_AWAITABLE:
                     raise TypeError(f"{fn!r} gave nothing that is awaited: a Retrying is for functions")
                 if course is None:
-                    owner.counts.add(1, 0.0, Ending.WON)
+                    owner.counts.add_success()
                     return result
                 await settle_async(course.returned(result))
-            # (what waits for the next attempt is kept small, since many may wait)
-            steps = course.begins()
-            done, goes_on = advance(steps)
-            while not done:
-                done, goes_on = advance(steps, await goes_on)
+            awaitable = None  # which nobody needs while it waits
+            wait = course.plain_wait()
+            if wait is None:
+                goes_on = await settle_async(course.begins())
+                continue
+            pause = settings.sleeps(wait) if wait > 0 else None if settings.pause is None else settings.pause(0)
+            if hasattr(type(pause), "__await__"):
+                await pause
+            course.goes_on()
         return None if course is None else answer_of(course)
     finally:
+        if token is not None:
+            leave(token)
         if course is not None:
             course.close()
 
@@ -130,6 +150,13 @@ def answer_of(course: Course) -> Any:
         return None if outcome is None else outcome.result()
     finally:
         del outcome
+
+
+def not_awaitable(answer: Any) -> Any:
+    """What something gave that is called by a `Retrying`: nothing there is awaited."""
+    if hasattr(type(answer), "__await__"):
+        refuse_awaitable("what was given to a Retrying", answer)
+    return answer
 
 
 def refuse_awaitable(what: str, awaitable: Any) -> None:

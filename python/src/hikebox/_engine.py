@@ -23,6 +23,7 @@ __all__ = [
     "PolicyHandle",
     "QuotaPass",
     "SIGNATURES",
+    "give_memory_back",
     "library",
     "library_path",
     "refused",
@@ -49,8 +50,6 @@ PASSES_OUT = 34
 MOST_TICKETS = 2**32
 #: The most thousandths of a ticket that a request gives.
 MOST_SHARE = 1_000_000
-#: The most events of a driver, and of a retry.
-MOST_EVENTS = 65536
 
 NO_REPORT, WON, LOST = 0, 1, 2
 POLL, RUN, WAIT, OVER = 0, 1, 2, 3
@@ -94,6 +93,7 @@ _WORDS = POINTER(c_uint32)
 SIGNATURES: Dict[str, Tuple[Any, ...]] = {
     "hikebox_policy_read": (c_char_p, c_size_t, _HANDLE, POINTER(Place)),
     "hikebox_policy_fault": (c_char_p, c_size_t, POINTER(c_uint8), c_size_t, POINTER(c_size_t)),
+    "hikebox_policy_share": (_HANDLE, _HANDLE),
     "hikebox_policy_size": (_HANDLE, _NUMBER, _NUMBER),
     "hikebox_policy_free": (_HANDLE,),
     "hikebox_driver_new": (_HANDLE, _HANDLE),
@@ -161,6 +161,14 @@ library = _load()
 _pass_draw = unchecked("hikebox_pass_draw")
 _quota_deposit = unchecked("hikebox_quota_deposit")
 _quota_draw = unchecked("hikebox_quota_draw")
+#: The call of the C library, where it is one that has it.
+_trim = getattr(ctypes.PyDLL(None), "malloc_trim", None)
+
+
+def give_memory_back() -> None:
+    """Gives the system back what the C library keeps of what was freed."""
+    if _trim is not None:
+        _trim(c_size_t(0))
 
 
 def refused(call: str, status: int) -> Exception:
@@ -220,6 +228,14 @@ class PolicyHandle:
         if NOT_JSON <= status <= TOO_MANY:
             return _refusal(status, text, place)
         raise refused("hikebox_policy_read", status)
+
+    def share(self) -> PolicyHandle:
+        """A second handle to the same policy, which is not copied."""
+        other = PolicyHandle()
+        status = library.hikebox_policy_share(self.at, other.at)
+        if status != OK:
+            raise refused("hikebox_policy_share", status)
+        return other
 
     def size(self) -> Tuple[int, int]:
         """How many nodes the policy has, and how deep it is."""

@@ -5,6 +5,7 @@ from __future__ import annotations
 import inspect
 import threading
 import time
+from types import BuiltinFunctionType
 from typing import Any, Callable, Optional, Tuple, Type
 
 __all__ = [
@@ -19,6 +20,8 @@ __all__ = [
 
 def is_async(fn: Any) -> bool:
     """Whether it is a coroutine function, or an object whose calls are coroutines."""
+    if isinstance(fn, BuiltinFunctionType):
+        return False
     return inspect.iscoroutinefunction(fn) or inspect.iscoroutinefunction(getattr(fn, "__call__", None))
 
 

@@ -2,6 +2,7 @@
 
 from __future__ import annotations
 
+import itertools
 from ctypes import byref, c_uint64
 from typing import Dict, List, Optional, Tuple
 
@@ -15,6 +16,7 @@ from ._engine import (
     Next,
     PolicyHandle,
     Words,
+    give_memory_back,
     library,
     refused,
     unchecked,
@@ -116,6 +118,10 @@ def _begun(call: str, status: int) -> bool:
 #: Machines that hold no retry, for the next ones; those of many concurrent retries are given up.
 _machines: List[Machine] = []
 _MOST_MACHINES = 64
+#: How many were given up, and after how many of them the system has its memory back: the C library keeps what the engine
+#: freed below what is still in use.
+_given_up = itertools.count(1)
+_GIVEN_BACK_AFTER = 4096
 
 
 def lend_machine() -> Machine:
@@ -131,3 +137,5 @@ def take_machine_back(machine: Machine) -> None:
     machine.free()
     if len(_machines) < _MOST_MACHINES:
         _machines.append(machine)
+    elif next(_given_up) % _GIVEN_BACK_AFTER == 0:
+        give_memory_back()

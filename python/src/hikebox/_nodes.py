@@ -6,7 +6,7 @@ from typing import Any, Dict, Iterator, List, Optional, Tuple
 
 from ._time import FAR
 
-__all__ = ["FOLDS", "FORMS", "NAMES", "most_goes", "parts_of", "walk"]
+__all__ = ["FOLDS", "FORMS", "NAMES", "most_goes", "parts_of", "reads_of", "walk"]
 
 #: The leaves that are spelt as a string alone.
 NAMES = ("forever", "elapsed", "identity")
@@ -70,6 +70,25 @@ def walk(tree: Any) -> Iterator[Tuple[str, List[Any]]]:
     yield name, own
     for plan in plans:
         yield from walk(plan)
+
+
+def reads_of(tree: Any) -> Tuple[List[int], bool]:
+    """What a policy that was accepted reads at an event: the lanes by which its nodes pick at random, and whether it reads
+    the code."""
+    lanes, codes, nodes = set(), False, [tree]
+    while nodes:
+        node = nodes.pop()
+        if isinstance(node, str):
+            codes = codes or node == "identity"
+            continue
+        ((name, value),) = node.items()
+        if name in ("jitter", "decorrelated"):
+            lanes.add(value[0])
+        elif name == "gate":
+            codes = codes or value[0] == "input"
+        items = value if isinstance(value, list) else [value]
+        nodes.extend(item for item in items if isinstance(item, dict) or item in NAMES)
+    return sorted(lanes), codes
 
 
 def most_goes(tree: Any) -> Optional[int]:

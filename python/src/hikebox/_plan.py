@@ -3,10 +3,10 @@
 from __future__ import annotations
 
 import json
-from typing import Any, List, Optional, Tuple
+from typing import Any, Callable, List, Optional, Tuple
 
 from . import _engine
-from ._nodes import walk
+from ._nodes import reads_of
 from .errors import Fault, PolicyError
 
 __all__ = ["Plan"]
@@ -19,6 +19,10 @@ _FAULTS = {
     _engine.TOO_MANY: Fault.TOO_MANY,
 }
 
+#: The most nodes of a policy, and how deep it may be.
+MOST_NODES = 256
+MOST_DEPTH = 32
+
 #: The most handles of one policy that wait for their next use.
 _IDLE = 64
 
@@ -26,55 +30,80 @@ _IDLE = 64
 class Plan:
     """What a policy is made of. Threads may share it."""
 
-    __slots__ = ("tree", "text", "_handles", "_lanes")
+    __slots__ = ("tree", "nodes", "depth", "_text", "_handles", "_reads")
 
-    def __init__(self, text: bytes, tree: Any = None) -> None:
-        handle = _read(text)
+    def __init__(self, tree: Any, nodes: int, depth: int) -> None:
         #: The value of `json.loads` that spells it.
-        self.tree = json.loads(text) if tree is None else tree
-        #: Its JSON, without spaces.
-        self.text = json.dumps(self.tree, separators=(",", ":"))
-        self._handles = [handle]
-        self._lanes: Optional[List[int]] = None
+        self.tree = tree
+        #: How many nodes it has, and how deep it is.
+        self.nodes = nodes
+        self.depth = depth
+        self._text: Optional[str] = None
+        self._handles: List[_engine.PolicyHandle] = []
+        self._reads: Optional[Tuple[List[int], bool]] = None
 
     @classmethod
-    def of_tree(cls, tree: Any) -> Plan:
-        """The plan that this value of `json.loads` spells."""
-        return cls(json.dumps(tree, separators=(",", ":")).encode(), tree)
+    def of_text(cls, text: bytes) -> Plan:
+        """The plan that this JSON text spells."""
+        handle = _read(text)
+        made = cls(json.loads(text), *handle.size())
+        made.give_back(handle)
+        return made
+
+    @classmethod
+    def over(cls, name: str, own: Tuple[Any, ...], *parts: Plan) -> Plan:
+        """The plan of a node with these parameters, which its builder has looked at, over these plans. The engine reads
+        it when it is used, and here where it may be too large."""
+        items = [*own, *(part.tree for part in parts)]
+        tree = {name: items[0] if len(items) == 1 else items} if items else name
+        depth = 1 + max((part.depth for part in parts), default=0)
+        made = cls(tree, 1 + sum(part.nodes for part in parts), depth)
+        if made.nodes > MOST_NODES or depth > MOST_DEPTH:
+            made.is_used()
+        return made
+
+    def is_used(self) -> None:
+        """Has the engine read it, where it has not yet."""
+        if not self._handles:
+            self.give_back(self.lend())
 
     @property
-    def size(self) -> Tuple[int, int]:
-        """How many nodes it has, and how deep it is."""
-        handle = self.lend()
-        try:
-            return handle.size()
-        finally:
-            self.give_back(handle)
+    def text(self) -> str:
+        """Its JSON, without spaces."""
+        if self._text is None:
+            self._text = _written(self.tree)
+        return self._text
 
     @property
-    def lanes(self) -> List[int]:
-        """The lanes by which its nodes pick at random."""
-        if self._lanes is None:
-            self._lanes = sorted({own[0] for name, own in walk(self.tree) if name in ("jitter", "decorrelated")})
-        return self._lanes
-
-    @property
-    def reads_codes(self) -> bool:
-        """Whether a node reads the code of a failure."""
-        return any(name == "identity" or (name == "gate" and own[0] == "input") for name, own in walk(self.tree))
+    def reads(self) -> Tuple[List[int], bool]:
+        """The lanes by which its nodes pick at random, and whether one reads the code of a failure."""
+        if self._reads is None:
+            self._reads = reads_of(self.tree)
+        return self._reads
 
     def lend(self) -> _engine.PolicyHandle:
         """A handle that nobody else uses until it is given back."""
         try:
-            return self._handles.pop()
-        except IndexError:
-            pass
-        return _read(self.text.encode())
+            handle = self._handles.pop()
+        except IndexError:  # another thread took the last one just now, and has not put a share of it here yet
+            return _read(self.text.encode())
+        if not self._handles:
+            self._handles.append(handle.share())
+        return handle
+
+    def until(self, millis: int) -> _engine.PolicyHandle:
+        """A handle of its own to the same policy, but done where the next call would start later than so many
+        milliseconds after the first event."""
+        return _read(b'{"ends_by":[%d,%s]}' % (millis, self.text.encode()))
 
     def give_back(self, handle: _engine.PolicyHandle) -> None:
         """Takes a handle back that was lent."""
         if len(self._handles) < _IDLE:
             self._handles.append(handle)
+
+
+#: The JSON of a value, without spaces.
+_written: Callable[[Any], str] = json.JSONEncoder(separators=(",", ":")).encode
 
 
 def _read(text: bytes) -> _engine.PolicyHandle:

@@ -9,8 +9,9 @@ from dataclasses import dataclass, field, fields
 from typing import Any, Awaitable, Callable, List, Optional, Protocol, Sequence, Tuple, Type, Union
 
 from . import _kinds
+from ._deadline import Limit
 from ._passes import NO_BUDGET, DrawnOn
-from ._time import FAR
+from ._time import FAR, Duration, seconds
 from .budget import Budget
 from .errors import TryAgain
 from .policy import Policy
@@ -66,6 +67,7 @@ class Settings:
     at_least: Optional[Callable[[Any], Optional[float]]] = None
     wait: Optional[Callable[[RetryState], Optional[float]]] = None
     longest: float = LONGEST
+    deadline: Optional[Duration] = None
     stop: Optional[Stop] = None
     before: Hooks = None
     after: Hooks = None
@@ -99,10 +101,12 @@ class Settings:
     #: What draws a ticket where the engine's retry does not, or None; and what counts a request, where the budget does.
     draw: Optional[Callable[[], Union[Optional[int], Awaitable[Optional[int]]]]] = field(init=False)
     deposit: Optional[Callable[[], Any]] = field(init=False)
-    #: Whether nothing is to be done before a first attempt, nor where it succeeds.
+    #: Whether nothing is to be done before a first attempt but to count it, nor where it succeeds.
     is_quiet: bool = field(init=False)
     #: Whether nothing is to be called where an attempt fails, but the engine and what draws without a wait.
     is_plain: bool = field(init=False)
+    #: The milliseconds of the deadline.
+    most_millis: Optional[int] = field(init=False)
     #: The lanes of the policy's jitters, and whether it reads codes.
     lanes: List[int] = field(init=False)
     reads_codes: bool = field(init=False)
@@ -112,8 +116,11 @@ class Settings:
         for name, value in {**given, **self._derived()}.items():
             object.__setattr__(self, name, value)
         given_policy: Policy = given["policy"]  # type: ignore[assignment]
-        object.__setattr__(self, "lanes", given_policy.plan.lanes)
-        object.__setattr__(self, "reads_codes", given_policy.plan.reads_codes)
+        given_policy.plan.is_used()
+        object.__setattr__(self, "most_millis", _deadline_of(self.deadline, given_policy))
+        lanes, reads_codes = given_policy.plan.reads
+        object.__setattr__(self, "lanes", lanes)
+        object.__setattr__(self, "reads_codes", reads_codes)
 
     def _derived(self) -> Any:
         for name in ("on_result", "fallback"):
@@ -125,7 +132,7 @@ class Settings:
         drawn_on, draw = _drawn_on(self.budget, self.clock, self.awaits)
         hooks = {f"hooks_{name}": _kinds.hooks_of(name, getattr(self, name), self.awaits) for name in _HOOKS}
         deposit = getattr(self.budget, "deposit", None)
-        told = (deposit, self.on_result, *hooks["hooks_before"], *hooks["hooks_on_success"])
+        told = (self.on_result, *hooks["hooks_before"], *hooks["hooks_on_success"])
         return {
             **hooks,
             "is_quiet": not self.repeats and all(each is None for each in told),
@@ -141,6 +148,10 @@ class Settings:
             "draw": draw,
             "deposit": deposit,
         }
+
+    def limit_of(self, start: float) -> Optional[Limit]:
+        """The deadline of a retry that began then."""
+        return None if self.most_millis is None else Limit(self.clock, start + self.most_millis / 1000)
 
     def code_for(self, outcome: Optional[Outcome]) -> int:
         """The number of an outcome, as the policy is given it."""
@@ -167,6 +178,14 @@ def _longest_of(longest: Any) -> float:
     if isinstance(longest, bool) or not isinstance(longest, (int, float)) or not longest >= 0:
         raise TypeError(f"longest: a number of seconds is wanted, or None, not {longest!r}")
     return float(longest)
+
+
+def _deadline_of(deadline: Any, policy: Policy) -> Optional[int]:
+    if deadline is None:
+        return None
+    millis = seconds(deadline, "deadline")
+    policy.plan.until(millis)  # which is refused where the policy has no room for one more node
+    return millis
 
 
 def _drawn_on(budget: Any, clock: Any, awaits: bool) -> Tuple[DrawnOn, Optional[Callable[[], Any]]]:

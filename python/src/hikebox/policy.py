@@ -5,7 +5,7 @@ from __future__ import annotations
 import json
 import os
 from itertools import chain, islice, repeat
-from typing import Any, Callable, Dict, Iterable, List, Optional, Union
+from typing import Any, Callable, Dict, Iterable, List, Optional, Tuple, Union
 
 from ._checks import interval, ratio, whole
 from ._nodes import FOLDS, most_goes
@@ -22,8 +22,7 @@ class Policy:
     """A retry policy: at each failure it says when to call again, or that it is done.
 
     It is made by the builders of this module, by `from_json`, `from_dict` or `from_file`. It never changes, two equal
-    ones are `==`, and its `repr` is the expression that builds it. Every way to make one asks the engine, and what the
-    engine refuses is a `PolicyError`.
+    ones are `==`, and its `repr` is the expression that builds it. What the engine refuses is a `PolicyError`.
 
     >>> from hikebox import exponential, recurs
     >>> policy = recurs(5) & exponential(0.1, 2).cap(1)
@@ -47,9 +46,9 @@ class Policy:
         return policy
 
     @classmethod
-    def of_tree(cls, tree: Any) -> Policy:
-        """The policy of a value that `to_dict` gave: the value is kept, and must not be changed later."""
-        return cls._of_plan(Plan.of_tree(tree))
+    def of_node(cls, name: str, *own: Any, over: Tuple[Policy, ...] = ()) -> Policy:
+        """The policy of a node, with parameters that were looked at, over other policies: for builders."""
+        return cls._of_plan(Plan.over(name, own, *(each._plan for each in over)))
 
     @classmethod
     def from_json(cls, text: Union[str, bytes]) -> Policy:
@@ -63,7 +62,7 @@ class Policy:
         hikebox.errors.PolicyError: number out of range: "fixed" is spelt {"fixed":D}, D from 1 to 4611686018427387903
         """
         encoded = text.encode("utf-8", "surrogatepass") if isinstance(text, str) else bytes(text)
-        return cls._of_plan(Plan(encoded))
+        return cls._of_plan(Plan.of_text(encoded))
 
     @classmethod
     def from_dict(cls, value: Any) -> Policy:
@@ -76,7 +75,7 @@ class Policy:
             text = json.dumps(value, allow_nan=False)
         except (ValueError, RecursionError) as error:
             raise PolicyError(Fault.NOT_JSON, hint=str(error)) from None
-        return cls._of_plan(Plan(text.encode()))
+        return cls._of_plan(Plan.of_text(text.encode()))
 
     @classmethod
     def from_file(cls, path: Union[str, os.PathLike[str]]) -> Policy:
@@ -125,7 +124,7 @@ class Policy:
     @property
     def nodes(self) -> int:
         """How many nodes it has, at most 256."""
-        return self._plan.size[0]
+        return self._plan.nodes
 
     @property
     def depth(self) -> int:
@@ -135,7 +134,7 @@ class Policy:
         >>> (recurs(5) & spaced(1).cap(2)).depth
         3
         """
-        return self._plan.size[1]
+        return self._plan.depth
 
     @property
     def most_retries(self) -> Optional[int]:
@@ -239,25 +238,25 @@ class Policy:
     def _with(self, name: str, other: object) -> Policy:
         if not isinstance(other, Policy):
             return NotImplemented
-        return Policy.of_tree({name: [self._plan.tree, other._plan.tree]})
+        return Policy.of_node(name, over=(self, other))
 
     # One policy
 
     def cap(self, longest: Duration) -> Policy:
         """With no delay longer than this."""
-        return Policy.of_tree({"cap": [seconds(longest, "cap"), self._plan.tree]})
+        return Policy.of_node("cap", seconds(longest, "cap"), over=(self,))
 
     def add_delay(self, more: Duration) -> Policy:
         """With each delay longer by this. JSON's `add`."""
-        return Policy.of_tree({"add": [seconds(more, "add_delay"), self._plan.tree]})
+        return Policy.of_node("add", seconds(more, "add_delay"), over=(self,))
 
     def set_delay(self, delay: Duration) -> Policy:
         """With this in the place of each delay. JSON's `set`."""
-        return Policy.of_tree({"set": [seconds(delay, "set_delay"), self._plan.tree]})
+        return Policy.of_node("set", seconds(delay, "set_delay"), over=(self,))
 
     def add_output(self) -> Policy:
         """With each delay longer by the output, in milliseconds, where that is a number. JSON's `add_out`."""
-        return Policy.of_tree({"add_out": self._plan.tree})
+        return Policy.of_node("add_out", over=(self,))
 
     def jittered(self, least: float = 0.8, most: float = 1.2, *, lane: int = 0) -> Policy:
         """With each delay times a ratio from `least` up to `most`, which a random number picks. JSON's `jitter`.
@@ -274,11 +273,11 @@ class Policy:
         if ratios[0] == ratios[1] and least != most:
             hint = f"jittered({least}, {most}): the range is less than a thousandth"
             raise PolicyError(Fault.OUT_OF_RANGE, hint=hint)
-        return Policy.of_tree({"jitter": [whole(lane, "jittered: a lane", 0, 3), *ratios, self._plan.tree]})
+        return Policy.of_node("jitter", whole(lane, "jittered: a lane", 0, 3), *ratios, over=(self,))
 
     def up_to(self, duration: Duration) -> Policy:
         """But done once this much time has passed since the first event. ZIO's `upTo`, JSON's `within`."""
-        return Policy.of_tree({"within": [seconds(duration, "up_to"), self._plan.tree]})
+        return Policy.of_node("within", seconds(duration, "up_to"), over=(self,))
 
     def ends_by(self, duration: Duration) -> Policy:
         """But done where the next call would start later than this after the first event, so that none does.
@@ -287,33 +286,33 @@ class Policy:
         >>> [step.next_ms for step in spaced(0.45).ends_by(1).preview()]
         [450, 900, None]
         """
-        return Policy.of_tree({"ends_by": [seconds(duration, "ends_by"), self._plan.tree]})
+        return Policy.of_node("ends_by", seconds(duration, "ends_by"), over=(self,))
 
     def renew(self, duration: Duration) -> Policy:
         """Begun anew at the first event at which this much time has passed since it last began."""
-        return Policy.of_tree({"renew": [interval(duration, "renew"), self._plan.tree]})
+        return Policy.of_node("renew", interval(duration, "renew"), over=(self,))
 
     def renew_idle(self, duration: Duration) -> Policy:
         """Begun anew at each event that comes this long or longer after the one before."""
-        return Policy.of_tree({"renew_idle": [interval(duration, "renew_idle"), self._plan.tree]})
+        return Policy.of_node("renew_idle", interval(duration, "renew_idle"), over=(self,))
 
     def gather(self, fold: str) -> Policy:
         """With the "sum", "count", "max" or "list" of the outputs at the earlier events as output."""
         if fold not in FOLDS:
             raise PolicyError(Fault.NOT_A_PLAN, hint=f"gather: one of {', '.join(FOLDS)} is wanted, not {fold!r}")
-        return Policy.of_tree({"gather": [fold, self._plan.tree]})
+        return Policy.of_node("gather", fold, over=(self,))
 
     def first(self) -> Policy:
         """With the first part of the output, where that is a pair."""
-        return Policy.of_tree({"first": self._plan.tree})
+        return Policy.of_node("first", over=(self,))
 
     def second(self) -> Policy:
         """With the second part of the output, where that is a pair."""
-        return Policy.of_tree({"second": self._plan.tree})
+        return Policy.of_node("second", over=(self,))
 
     def nothing(self) -> Policy:
         """With nothing as output."""
-        return Policy.of_tree({"nothing": self._plan.tree})
+        return Policy.of_node("nothing", over=(self,))
 
     def while_input(
         self, *, below: Optional[int] = None, at_least: Optional[int] = None, equal: Optional[int] = None
@@ -350,4 +349,4 @@ class Policy:
             raise TypeError("one of below, at_least and equal is wanted")
         ((test, number),) = given
         bound = whole(number, f"{'while' if want else 'until'}_{side}")
-        return Policy.of_tree({"gate": [side, want, test, bound, self._plan.tree]})
+        return Policy.of_node("gate", side, want, test, bound, over=(self,))

@@ -30,6 +30,7 @@ from ._attempts import AsyncAttempts, Attempt, Attempts
 from ._drivers import run, run_async
 from ._kinds import is_async
 from ._settings import GIVEN, LONGEST, Hook, Hooks, On, Settings, Stop, Tickets
+from ._time import Duration
 from .budget import Budget
 from .policy import Policy
 from .quota import Quota
@@ -123,6 +124,10 @@ class BaseRetrying:
         as `Retry-After`. The policy's wait is the least.
     `longest`
         How many seconds these two may ask for, at most; None for any number.
+    `deadline`
+        No attempt is planned to begin later than this after the first one began: seconds, or a `timedelta`. Where the
+        policy, `at_least` or `wait` would have it so, the retry ends as where the policy is done, and draws no ticket.
+        It takes a node of the policy. `seconds_left()` tells the call how long it has.
     `stop`
         What ends a retry, though its policy goes on: an event of threading or asyncio that is set, which ends its wait
         too, or a function of the `RetryState`, asked after each attempt that failed and each wait.
@@ -150,6 +155,7 @@ class BaseRetrying:
     at_least = Setting[Optional[Callable[[Any], Optional[float]]]]()
     wait = Setting[Any]()
     longest = Setting[Optional[float]]()
+    deadline = Setting[Optional[Duration]]()
     stop = Setting[Any]()
     before = Setting[Hooks]()
     after = Setting[Hooks]()
@@ -171,6 +177,7 @@ class BaseRetrying:
         at_least: Optional[Callable[[Any], Optional[float]]] = None,
         wait: Optional[Callable[[Any], Optional[float]]] = None,
         longest: Optional[float] = LONGEST,
+        deadline: Optional[Duration] = None,
         stop: Optional[Stop] = None,
         before: Hooks = None,
         after: Hooks = None,
@@ -282,7 +289,8 @@ class Retrying(BaseRetrying):
 
     def __call__(self, fn: Callable[..., Result], /, *args: Any, **kwargs: Any) -> Result:
         """Calls the function until it succeeds; in the end its last exception is raised."""
-        return cast(Result, run(self, fn, args, kwargs))
+        result: Result = run(self, fn, args, kwargs)
+        return result
 
     #: The same, by its name.
     call = __call__

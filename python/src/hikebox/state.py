@@ -3,10 +3,12 @@
 from __future__ import annotations
 
 import enum
+import itertools
 import threading
 from dataclasses import asdict, dataclass
 from typing import TYPE_CHECKING, Any, Callable, Dict, Mapping, NamedTuple, Optional, Tuple
 
+from ._deadline import Limit
 from ._forks import begins_anew_in_a_child
 from ._time import FAR
 
@@ -33,13 +35,11 @@ class Ending(enum.Enum):
     CANCELLED = "it was cancelled"
     #: The engine found no memory.
     NO_MEMORY = "the engine found no memory"
-    #: It had 65,536 failures, the most that the engine keeps of one retry.
-    JOURNAL_FULL = "it had 65,536 failures"
     #: The clock went back. The clocks here are kept from it, so it does not come.
     CLOCK_WENT_BACK = "the clock went back"
 
 
-#: The endings by their numbers in the engine's header.
+#: The endings by their numbers in the engine's header, which has none for 0 and 6.
 ENDINGS: Tuple[Optional[Ending], ...] = (
     None,
     Ending.WON,
@@ -47,7 +47,7 @@ ENDINGS: Tuple[Optional[Ending], ...] = (
     Ending.BUDGET_REFUSED,
     Ending.CANCELLED,
     Ending.NO_MEMORY,
-    Ending.JOURNAL_FULL,
+    None,
     Ending.CLOCK_WENT_BACK,
 )
 
@@ -116,6 +116,7 @@ class RetryState:
         "upcoming_sleep",
         "granted",
         "ending",
+        "limit",
     )
 
     def __init__(
@@ -150,12 +151,19 @@ class RetryState:
         self.granted = 0
         #: How it ended, or None where it is not over.
         self.ending: Optional[Ending] = None
+        #: Its deadline, where it has one.
+        self.limit: Optional[Limit] = None
 
     @property
     def next_action(self) -> Optional[NextAction]:
         """What comes next where one more attempt does: a wait."""
         outcome = self.outcome
         return None if outcome is None or self.ending is not None else NextAction(self.upcoming_sleep)
+
+    @property
+    def seconds_left(self) -> Optional[float]:
+        """How many seconds it is until the deadline of the retry, or None where it has none."""
+        return None if self.limit is None else self.limit.left()
 
     @property
     def code(self) -> int:
@@ -261,17 +269,22 @@ class Statistics:
         return {name: counts[name] for name in (*_NAMED, "broken")}
 
 
-_BROKEN = (Ending.NO_MEMORY, Ending.JOURNAL_FULL, Ending.CLOCK_WENT_BACK)
+_BROKEN = (Ending.NO_MEMORY, Ending.CLOCK_WENT_BACK)
 _NAMED = tuple(ending.name.lower() for ending in Ending if ending not in _BROKEN)
 
 
 class Counts:
     """The counts behind `Statistics`, shared by threads."""
 
-    __slots__ = ("_lock", "_calls", "_attempts", "_idle_for", "_endings", "__weakref__")
+    __slots__ = ("add_success", "_lock", "_looks", "_calls", "_attempts", "_idle_for", "_endings", "__weakref__")
 
     def __init__(self) -> None:
+        #: Counts a call that succeeded at its first attempt: in one step, without a lock.
+        self.add_success = itertools.count().__next__
+        #: How often that was called to look at the count alone.
+        self._looks = 0
         self._lock = threading.RLock()
+        #: All other calls.
         self._calls = 0
         self._attempts = 0
         self._idle_for = 0.0
@@ -294,5 +307,9 @@ class Counts:
         """The counts as of now."""
         with self._lock:
             named = {ending.name.lower(): count for ending, count in self._endings.items() if ending not in _BROKEN}
+            at_once = self.add_success() - self._looks
+            self._looks += 1
+            named["won"] += at_once
             broken = sum(self._endings[ending] for ending in _BROKEN)
-            return Statistics(self._calls, self._attempts, self._idle_for, broken=broken, **named)
+            calls, attempts = self._calls + at_once, self._attempts + at_once
+            return Statistics(calls, attempts, self._idle_for, broken=broken, **named)

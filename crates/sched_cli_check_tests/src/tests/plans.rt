@@ -57,7 +57,10 @@ fn names_that_no_node_has(rt: HostRuntime) -> Result<(), Fail> {
         ),
         (r#""never""#, "top: no node is called \"never\"\n"),
         (r#""""#, "top: no node is called \"\"\n"),
-        (r#"{"retry":3}"#, "top: no node is called \"retry\"\n"),
+        (
+            r#"{"retry":3}"#,
+            "top: no node is called \"retry\"; did you mean \"recurs\"?\n",
+        ),
         (
             r#"{"gather":["sum","forevr"]}"#,
             "gather[1]: no node is called \"forevr\"; did you mean \"forever\"?\n",

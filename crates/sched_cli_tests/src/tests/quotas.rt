@@ -57,6 +57,10 @@ fn a_quota_has_three_numbers(rt: HostRuntime) -> Result<(), Fail> {
     is_quota(&rt, alloc, line, (1, 2, 3, 4))?;
     let line = "zsched pool --quota 0/0/1";
     is_quota(&rt, alloc, line, (0, 0, 1, 1000000))?;
+    let line = "zsched pool --quota 10/20%/60s";
+    is_quota(&rt, alloc, line, (10, 200, 60000, 1000000))?;
+    let line = "zsched pool --quota 1/0.5%/100ms";
+    is_quota(&rt, alloc, line, (1, 5, 100, 1000000))?;
     let line = "zsched pool --quota 4294967296/1000000/4611686018427387903";
     let most = (4294967296, 1000000, 4611686018427387903, 1000000);
     is_quota(&rt, alloc, line, most)
@@ -66,6 +70,7 @@ fn a_quota_has_three_numbers(rt: HostRuntime) -> Result<(), Fail> {
 const BAD_QUOTAS: &str =
     "zsched pool --quota 1/2|zsched pool --quota 1/2/3/4|zsched pool --quota 1//3|zsched pool --quota a/2/3|\
      zsched pool --quota 4294967297/2/3|zsched pool --quota 1/1000001/3|zsched pool --quota 1/2/0|\
+     zsched pool --quota 1/2%/3|zsched pool --quota 1/2/3s|zsched pool --quota 1/0.55%/3s|zsched pool --quota 1/2%/0s|\
      zsched pool --quota 1/2/4611686018427387904|zsched pool --quota 1/2/3 --budget 100|\
      zsched pool --quota 1/2/3 --workers 2|zsched plan --quota 1/2/3";
 

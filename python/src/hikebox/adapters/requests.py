@@ -29,7 +29,7 @@ _ADAPTERS = frozenset(inspect.signature(HTTPAdapter.__init__).parameters)
 class PolicyAdapter(HTTPAdapter):
     """Retries a session's requests by a policy, under a budget, as `hikebox.adapters.urllib3.PolicyRetry` does.
 
-    It takes what that takes, and what `HTTPAdapter` takes. In the end the session gives the last response, or raises
+    It takes what that takes, and what `HTTPAdapter` takes; a `deadline` counts from the request's beginning. In the end the session gives the last response, or raises
     what requests raises for the last failure. A session with one can be copied, and pickled where its budget can.
     """
 
@@ -43,6 +43,16 @@ class PolicyAdapter(HTTPAdapter):
     ) -> None:
         own = {name: kw.pop(name) for name in list(kw) if name in _ADAPTERS}
         super().__init__(max_retries=PolicyRetry(policy, budget=budget, on_status=on_status, **kw), **own)
+
+    @property
+    def max_retries(self) -> Any:
+        """The `Retry` of a request that begins now."""
+        retries = self._retries
+        return retries.begun() if isinstance(retries, PolicyRetry) else retries
+
+    @max_retries.setter
+    def max_retries(self, retries: Any) -> None:
+        self._retries = retries
 
     @property
     def retrying(self) -> Optional[Retrying]:

@@ -15,6 +15,7 @@ nobody there 3
 
 from __future__ import annotations
 
+import time
 from typing import Any, Callable, Dict, Tuple, Union
 
 from tenacity.stop import stop_base
@@ -34,7 +35,7 @@ __all__ = ["before_deposit", "stop_and_wait"]
 def stop_and_wait(policy: Union[Policy, str, bytes, Dict[str, Any]], **how: Any) -> Tuple[stop_base, wait_base]:
     """The `stop` and the `wait` of a policy, for one `tenacity.retry` or `Retrying`; both are to be given to it.
 
-    `how` is what `hikebox.Retrying` takes: `budget`, `code`, `at_least`, `clock`, `random`. The policy is asked once
+    `how` is what `hikebox.Retrying` takes: `budget`, `code`, `at_least`, `deadline`, `clock`, `random`. The policy is asked once
     for each attempt that tenacity finds failed, whichever of the two tenacity asks first. Other stops and waits may
     be joined by tenacity's `|` and `+`. They hear of no call that succeeds at once, so where the budget is a quota,
     `before_deposit` counts the requests.
@@ -87,7 +88,9 @@ class _Shared:
         answers: Dict[_Shared, _Answer] = state.__dict__.setdefault("_hikebox", {})
         answer = answers.get(self)
         if answer is None:
-            answer = answers[self] = _Answer(Course(self.retrying))
+            # tenacity's moments are those of this clock
+            start = state.start_time if self.retrying.clock is time.monotonic else None
+            answer = answers[self] = _Answer(Course(self.retrying, start=start))
         if answer.attempt == state.attempt_number or not answer.goes_on:
             return answer
         course = answer.course

@@ -25,7 +25,7 @@ from ..state import Outcome, Statistics
 __all__ = ["PolicyRetry", "STATUSES"]
 
 #: What of `Retrying` a `PolicyRetry` takes: the rest is the request's own.
-_HOW = ("longest", "stop", "after", "before_sleep", "on_success", "sleep", "clock", "random")
+_HOW = ("longest", "deadline", "stop", "after", "before_sleep", "on_success", "sleep", "clock", "random")
 
 
 class _BadStatus(Exception):
@@ -47,8 +47,9 @@ class PolicyRetry(Retry):
     `MaxRetryError` in both cases. Redirects are followed and counted as by `Retry`. Under a quota a request counts when
     it has its first response, or fails to get one.
 
-    It takes the hooks `after`, `before_sleep` and `on_success`, and `stop`, `sleep`, `clock` and `random`, as
-    `Retrying` does. One object serves any number of requests and threads; `statistics` counts them.
+    It takes the hooks `after`, `before_sleep` and `on_success`, and `deadline`, `stop`, `sleep`, `clock` and `random`, as
+    `Retrying` does; a deadline counts from the first failure, since urllib3 tells no earlier moment (`PolicyAdapter`
+    knows one). One object serves any number of requests and threads; `statistics` counts them.
     """
 
     def __init__(
@@ -71,8 +72,9 @@ class PolicyRetry(Retry):
         self.retrying: Optional[Retrying] = None
         if policy is not None:
             self.retrying = Retrying(policy, budget=budget, code=_code, at_least=_asked_for, **how)
-        #: The retry of one request that is under way.
+        #: The retry of one request that is under way, and when it began, where that is known.
         self._course: Optional[Course] = None
+        self._start: Optional[float] = None
 
     @property
     def statistics(self) -> Statistics:
@@ -84,6 +86,15 @@ class PolicyRetry(Retry):
         made: PolicyRetry = super().new(**kw)
         made.retrying = self.retrying
         made._course = self._course
+        made._start = self._start
+        return made
+
+    def begun(self) -> PolicyRetry:
+        """That of a request which begins now."""
+        if self.retrying is None or self.retrying.deadline is None:
+            return self
+        made = self.new()
+        made._start = self.retrying.clock()
         return made
 
     def is_retry(self, method: str, status_code: int, has_retry_after: bool = False) -> bool:
@@ -107,7 +118,7 @@ class PolicyRetry(Retry):
         """The request is over, with this response."""
         if self.retrying is None:
             return
-        course, self._course = self._course or Course(self.retrying), None
+        course, self._course = self._course or Course(self.retrying, start=self._start), None
         try:
             settle(course.returned(status))
         finally:
@@ -141,7 +152,7 @@ class PolicyRetry(Retry):
             asked = None if response is None else parse_retry_after(response.headers.get("Retry-After"))
             failure = _BadStatus(status, asked if self.respect_retry_after_header else None)
             reason = ResponseError(ResponseError.SPECIFIC_ERROR.format(status_code=status))
-        course = Course(self.retrying) if self._course is None else self._course
+        course = Course(self.retrying, start=self._start) if self._course is None else self._course
         if not settle(course.judges(Outcome(error=failure, attempt_number=course.state.attempt_number))):
             course.close()
             raise MaxRetryError(_pool, url, reason)

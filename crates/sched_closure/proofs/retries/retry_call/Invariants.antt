@@ -8,7 +8,7 @@ invariant-loop g l =
     (l.retry.over ≡ None)
     × goal.C-IsAlwaysCallable g l.call
     × ((ticks : List Tick) × (last : Option (Result g.row.I.Denot g.row.F.Denot))
-    × Leads g.S.Drives.stands g.S.Drives.keeps g.D.Draws.grants g.K.Clock.tells g.K.Clock.waits (goal.C-step g)
+    × Leads g.S.Drives.stands g.S.Drives.keeps g.S.Drives.goes_by g.D.Draws.grants g.K.Clock.tells g.K.Clock.waits (goal.C-step g)
     g.I.Coded.coded g.F.Coded.coded
     l.fn.retry l.fn.clock (g.G.Rng.stream l.fn.words) l.fn.call ticks
     l.retry l.clock (g.G.Rng.stream l.words) l.call last)

@@ -38,5 +38,5 @@ compare_exchange-found-requires c =
     let at = ap (λ (q : ℕ). allowed c.quota.inside.table.shared.key (q % 4294967296)) seen in (
       read.0 ∙ before.of.0 ∙ c.requires.of.0 ∙ sym (ap (λ (b : Name). b.table) c.quota.view_is),
       omega arith,
-      wins_ok _ _ _ _ (step 0 8 _ _ none) (omega arith) (sym found) (omega arith) (omega arith),
+      wins_ok _ _ _ _ (step 0 8 _ _ none) (omega arith) (λ small. omega (arith, found, small)) (omega arith) (omega arith),
     )

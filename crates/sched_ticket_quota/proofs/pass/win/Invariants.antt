@@ -7,6 +7,6 @@ invariant-loop l = record {
   same : l.seat.me.0 ≡ record l.fn.seat.me.0 { seen = l.seat.me.0.seen; found = l.seat.me.0.found; readings = l.seat.me.0.readings; losses = l.seat.me.0.losses };
   seen : l.fn.seat.me.0.seen ≤ l.seat.me.0.seen;
   found : l.seat.me.0.found ≡ l.drawn;
-  lost : l.seat.me.0.losses ≡ l.fn.seat.me.0.losses + l.counter;
+  lost : l.seat.me.0.losses ≡ l.counter;
   read : l.fn.seat.me.0.readings + l.counter ≤ l.seat.me.0.readings;
 }

@@ -1,0 +1,42 @@
+/* Made by bin/bindings: the calls of hikebox.h that answer a text. They are not proved: the engine's exports answer numbers
+ * alone. (It includes nothing, so that the kit's compiler builds it.) */
+const char *hikebox_version(void);
+const char *hikebox_status_text(unsigned status);
+
+const char *hikebox_version(void) {
+    return "1.0.0";
+}
+
+const char *hikebox_status_text(unsigned status) {
+    switch (status) {
+    case 0: return "done";
+    case 1: return "the handle is empty";
+    case 2: return "the handle holds something of another kind";
+    case 3: return "the handle holds something already";
+    case 4: return "no memory";
+    case 5: return "a number is out of range";
+    case 6: return "there is not enough room";
+    case 10: return "the text is not JSON";
+    case 11: return "the value is not a policy";
+    case 12: return "a parameter is out of range";
+    case 13: return "the policy is too deep";
+    case 14: return "the policy has too many nodes";
+    case 20: return "the moment is before the last event";
+    case 21: return "the journal is full";
+    case 22: return "there is no output yet";
+    case 23: return "the output is not a number";
+    case 24: return "there is no such event";
+    case 30: return "the limit is more than 4294967296 tickets";
+    case 31: return "the budget keeps its limit";
+    case 32: return "there is no ticket";
+    case 33: return "no more passes can be split off";
+    case 34: return "another pass is alive or was dropped";
+    case 35: return "the reserve is more than 4294967296 tickets a window";
+    case 36: return "the share is more than 1000 tickets a request";
+    case 37: return "the window is shorter than 1 ms";
+    case 40: return "there is no such report";
+    case 41: return "no run is under way";
+    case 42: return "the retry draws on something else";
+    default: return "no such status";
+    }
+}

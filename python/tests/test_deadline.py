@@ -1,0 +1,317 @@
+"""Deadlines: worked by hand, on a clock that sleeps and calls move."""
+
+from __future__ import annotations
+
+import asyncio
+import random
+import threading
+import time
+from datetime import timedelta
+from typing import Any, List, Optional, Tuple
+
+import pytest
+import reference
+
+from hikebox import (
+    AsyncRetrying,
+    Budget,
+    Ending,
+    Fault,
+    Policy,
+    PolicyError,
+    Quota,
+    Retrying,
+    exponential,
+    forever,
+    linear,
+    poll_until,
+    recurs,
+    repeat,
+    retry,
+    seconds_left,
+    spaced,
+)
+from hikebox.testing import VirtualClock, no_waits
+
+Seen = List[Tuple[float, Optional[float]]]
+
+
+class Failing:
+    """A call that takes so many seconds of the clock, and fails; it notes when it begins and what it has left."""
+
+    def __init__(self, clock: VirtualClock, took: float) -> None:
+        self.clock = clock
+        self.took = took
+        self.seen: Seen = []
+
+    def __call__(self) -> None:
+        left = seconds_left()
+        self.seen.append((round(self.clock(), 6), None if left is None else round(left, 6)))
+        self.clock.advance(self.took)
+        raise ConnectionError()
+
+    async def later(self) -> None:
+        self()
+
+
+def runs(kind: str, clock: VirtualClock, policy: Policy, took: float, **how: Any) -> Tuple[Seen, int, Any]:
+    """When each attempt began and what it had left; the tickets; and how the retry ended."""
+    failing, budget = Failing(clock, took), Budget(100)
+    how = {"budget": budget, "clock": clock, "fallback": lambda state: state.ending, **how}
+    if kind == "blocking":
+        ending = Retrying(policy, sleep=clock.sleep, **how)(failing)
+    else:
+        ending = asyncio.run(AsyncRetrying(policy, sleep=clock.sleep_async, **how)(failing.later))
+    return failing.seen, budget.close(), ending
+
+
+kinds = pytest.mark.parametrize("kind", ["blocking", "async"])
+
+
+@kinds
+def test_no_attempt_is_planned_past_the_deadline_and_no_ticket_is_drawn_for_it(kind: str, clock: VirtualClock) -> None:
+    # attempts of 0.03 s fail at 0.03, 0.16 and 0.29, and the next ones would begin at 0.13, 0.26 and 0.39
+    done = Ending.SCHEDULE_DONE
+    assert runs(kind, clock, spaced(0.1), 0.03, deadline=0.259) == ([(0, 0.259), (0.13, 0.129)], 1, done)
+    clock = VirtualClock(7.0)
+    seen = [(7.0, 0.26), (7.13, 0.13), (7.26, 0.0)]
+    assert runs(kind, clock, spaced(0.1), 0.03, deadline=timedelta(milliseconds=260)) == (seen, 2, done)
+    assert runs(kind, VirtualClock(), spaced(0.1), 0.03, deadline=0.129) == ([(0, 0.129)], 0, done)
+
+
+def starts(policy: Policy, seed: int, deadline: Optional[float]) -> List[float]:
+    """When each attempt of a retry began whose attempts take as long as a random number of this seed says."""
+    clock, rng = VirtualClock(), random.Random(seed)
+    seen: List[float] = []
+
+    def call() -> None:
+        seen.append(round(clock(), 3))
+        clock.advance(rng.randrange(1, 50) / 1000)
+        raise OSError(503, "busy")
+
+    how: Any = {"clock": clock, "sleep": clock.sleep, "random": random.Random(seed).random}
+    Retrying(policy, deadline=deadline, fallback=lambda state: None, **how)(call)
+    return seen
+
+
+def test_up_to_the_deadline_a_retry_runs_as_without_one_and_then_no_more() -> None:
+    rng = random.Random(5)
+    later = 0
+    for seed in range(300):
+        policy = Policy.from_dict(reference.some_plan(rng, rng.randrange(1, 9)))
+        deadline = rng.randrange(0, 2000) / 1000
+        without = starts(policy.up_to(4) & recurs(60), seed, None)
+        expected = [start for start in without if start <= deadline]
+        assert starts(policy & recurs(60), seed, deadline) == expected, (policy, deadline)
+        later += len(without) > len(expected) > 1
+    assert later > 30
+
+
+@kinds
+def test_it_counts_from_the_start_of_the_first_attempt(kind: str, clock: VirtualClock) -> None:
+    # 0.005 s after 0.24 is 0.245; by `ends_by`, from the first failure, there are attempts up to 0.49
+    assert runs(kind, clock, spaced(0.005), 0.24, deadline=0.25)[0] == [(0, 0.25), (0.245, 0.005)]
+    assert len(runs(kind, VirtualClock(), spaced(0.005).ends_by(0.25), 0.24)[0]) == 3
+    assert runs(kind, VirtualClock(), forever(), 0.251, deadline=0.25)[1:] == (0, Ending.SCHEDULE_DONE)
+
+
+@kinds
+def test_parts_of_a_millisecond_come_before_it(kind: str, clock: VirtualClock) -> None:
+    # a failure at 0.9 ms leaves 99 ms
+    assert len(runs(kind, clock, spaced(0.1), 0.0009, deadline=0.1)[0]) == 1
+    assert len(runs(kind, VirtualClock(), spaced(0.099), 0.0009, deadline=0.1)[0]) == 2
+
+
+@pytest.mark.parametrize("name", ["at_least", "wait"])
+@kinds
+def test_who_asks_for_more_than_is_left_ends_it(name: str, kind: str, clock: VirtualClock) -> None:
+    asked: List[float] = []
+
+    def asks(_: Any) -> float:
+        asked.append(0.01 * 10 ** len(asked))
+        return asked[-1]
+
+    # waits of 0.01 and 0.1, and one of 1 s would end at 1.11
+    seen, tickets, ending = runs(kind, clock, recurs(9), 0.0, deadline=1.1, **{name: asks})
+    assert [round(moment, 6) for moment, _ in seen] == [0, 0.01, 0.11]
+    assert (tickets, ending, len(asked)) == (2, Ending.SCHEDULE_DONE, 3)
+    asked.clear()
+    assert len(runs(kind, VirtualClock(), recurs(3), 0.0, deadline=9999, **{name: asks})[0]) == 4
+    # once at each failure
+    assert len(asked) == 4
+
+
+@kinds
+def test_a_retry_in_a_retry_has_the_least_of_both(kind: str, clock: VirtualClock) -> None:
+    seen: List[Optional[float]] = []
+
+    def inner() -> None:
+        seen.append(seconds_left())
+
+    async def inner_later() -> None:
+        inner()
+
+    def both() -> None:
+        for deadline in (5, 50, None):
+            Retrying(recurs(0), deadline=deadline, clock=clock)(inner)
+        seen.append(seconds_left())
+
+    async def both_later() -> None:
+        for deadline in (5, 50, None):
+            await AsyncRetrying(recurs(0), deadline=deadline, clock=clock)(inner_later)
+        seen.append(seconds_left())
+
+    if kind == "blocking":
+        Retrying(recurs(0), deadline=10, clock=clock)(both)
+    else:
+        asyncio.run(AsyncRetrying(recurs(0), deadline=10, clock=clock)(both_later))
+    assert seen == [5, 10, 10, 10]
+    assert seconds_left() is None
+
+
+def test_hooks_loops_and_states_tell_it(clock: VirtualClock) -> None:
+    seen: List[Optional[float]] = []
+    retrying = Retrying(
+        spaced(1),
+        deadline=2.25,
+        clock=clock,
+        sleep=clock.sleep,
+        before_sleep=lambda state: seen.append(state.seconds_left),
+        fallback=lambda state: state.seconds_left,
+    )
+    # failures at 0.25 and 1.5
+    assert retrying(Failing(clock, 0.25)) == 0.75
+    assert seen == [2.0]
+    seen.clear()
+    for attempt in retrying:
+        with attempt:
+            seen.append(attempt.seconds_left)
+            assert seconds_left() == attempt.seconds_left
+            clock.advance(0.25)
+            raise ConnectionError()
+    assert seen == [2.25, 2.0, 1.0] and seconds_left() is None
+    for attempt in retrying.copy(deadline=None):
+        with attempt:
+            assert attempt.seconds_left is None
+
+
+def test_it_is_the_timeout_of_an_attempt() -> None:
+    seen: List[float] = []
+
+    async def hangs() -> None:
+        left = seconds_left()
+        assert left is not None
+        seen.append(left)
+        await asyncio.wait_for(asyncio.sleep(60), left)
+
+    @retry(spaced(0.01), deadline=0.2)
+    async def ask() -> None:
+        await hangs()
+
+    began = time.monotonic()
+    with pytest.raises(asyncio.TimeoutError):
+        asyncio.run(ask())
+    assert len(seen) == 1 and 0.1 < seen[0] <= 0.2
+    assert 0.2 <= time.monotonic() - began < 20
+
+
+def test_tasks_and_threads_have_deadlines_of_their_own() -> None:
+    seen: List[Tuple[int, bool]] = []
+
+    async def asks(deadline: int) -> None:
+        await asyncio.sleep(0)
+        left = seconds_left()
+        assert left is not None
+        seen.append((deadline, deadline - 5 < left <= deadline))
+
+    async def many() -> None:
+        await asyncio.gather(*(AsyncRetrying(recurs(0), deadline=each)(asks, each) for each in (10, 20, 30)))
+
+    asyncio.run(many())
+    assert sorted(seen) == [(10, True), (20, True), (30, True)]
+
+    def starts_a_thread() -> None:
+        thread = threading.Thread(target=lambda: seen.append((0, seconds_left() is None)))
+        thread.start()
+        thread.join()
+
+    Retrying(recurs(0), deadline=10)(starts_a_thread)
+    assert seen[-1] == (0, True)
+
+
+def test_a_sleep_that_takes_no_time_uses_it_up(clock: VirtualClock) -> None:
+    failing = Failing(clock, 0.0)
+    with no_waits(), pytest.raises(ConnectionError):
+        Retrying(spaced(1), deadline=2.5, clock=clock)(failing)
+    assert [left for _, left in failing.seen] == [2.5, 1.5, 0.5]
+
+
+def test_a_quota_and_other_stores_draw_by_it(clock: VirtualClock) -> None:
+    clock.advance(3600.25)
+    quota = Quota(reserve=1, share=0, per=0.3, clock=clock)
+    # failures at 3600.26, .57, .88 and 3601.19, and one more attempt would begin at 3601.49
+    seen, _, ending = runs("blocking", clock, spaced(0.3), 0.01, deadline=1.2, budget=quota)
+    assert (len(seen), quota.close(), ending) == (4, 3, Ending.SCHEDULE_DONE)
+
+    class Store:
+        drawn = 0
+
+        def draw(self) -> int:
+            self.drawn += 1
+            return self.drawn
+
+    store = Store()
+    assert len(runs("blocking", clock, spaced(0.3), 0.0, deadline=1.0, budget=store)[0]) == 4
+    assert store.drawn == 3
+
+
+def test_a_repetition_and_a_poll_end_by_it(clock: VirtualClock) -> None:
+    moments: List[float] = []
+
+    def tick() -> float:
+        moments.append(clock())
+        return clock()
+
+    assert repeat(spaced(1), deadline=2.5, clock=clock, sleep=clock.sleep)(tick)() == 2
+    how: Any = {"clock": clock, "sleep": clock.sleep, "fallback": lambda state: "not there"}
+    answer: Any = poll_until(linear(1), lambda moment: moment > 99, deadline=6, **how)(tick)()
+    assert answer == "not there"
+    assert moments == [0, 1, 2, 2, 3, 5, 8]
+
+
+def test_what_is_given_is_looked_at(clock: VirtualClock) -> None:
+    with pytest.raises(PolicyError, match="deadline: 0.0004 s is less than a millisecond"):
+        Retrying(recurs(1), deadline=0.0004)
+    with pytest.raises(TypeError, match="deadline: seconds or a timedelta are wanted, not 'soon'"):
+        Retrying(recurs(1), deadline="soon")  # type: ignore[arg-type]
+    deep = recurs(1)
+    for _ in range(31):
+        deep = deep.nothing()
+    assert deep.depth == 32
+    with pytest.raises(PolicyError) as refused:
+        Retrying(deep, deadline=1)
+    assert refused.value.fault is Fault.TOO_DEEP
+
+    retrying = Retrying(exponential(1), deadline=3, clock=clock, sleep=clock.sleep, fallback=lambda state: clock())
+    assert retrying.deadline == 3 and retrying.copy().deadline == 3
+    assert retrying(Failing(clock, 0.0)) == 3
+    retrying.deadline = 1
+    assert retrying(Failing(clock, 0.0)) == 4
+
+
+def test_tenacitys_retries_end_by_it() -> None:
+    tenacity = pytest.importorskip("tenacity")
+    from hikebox.adapters.tenacity import stop_and_wait
+
+    stop, wait = stop_and_wait(forever(), deadline=0.5)
+    attempts: List[float] = []
+
+    def fails() -> None:
+        attempts.append(time.monotonic())
+        time.sleep(0.3)
+        raise ConnectionError()
+
+    with pytest.raises(ConnectionError):
+        tenacity.retry(stop=stop, wait=wait, reraise=True)(fails)()
+    # the first attempt ends at 0.3, the second at 0.6
+    assert len(attempts) == 2

@@ -1,0 +1,178 @@
+//! A retry under way, whoever drives it.
+
+use crate::clock::whole_millis;
+use crate::engine::FAR;
+use crate::error::RetryError;
+use crate::grants::DrawnOn;
+use crate::machine::{Cause, Ended, Machine, Report};
+use crate::policy::{Policy, PolicyFault};
+use std::time::{Duration, Instant};
+
+/// What a retry goes by.
+#[derive(Clone, Copy)]
+pub(crate) struct Terms<'a> {
+    pub(crate) policy: &'a Policy,
+    pub(crate) budget: &'a dyn DrawnOn,
+    /// How long after the first run began the last one may begin.
+    pub(crate) deadline: Option<Duration>,
+}
+
+/// A run that failed.
+#[derive(Clone, Copy)]
+pub(crate) struct Lost {
+    pub(crate) now: Instant,
+    pub(crate) code: u64,
+    pub(crate) words: [u32; 4],
+    /// How long the error asks to wait.
+    pub(crate) asked: Option<Duration>,
+}
+
+/// A retry from its first run on. The engine hears of it at its first failure, with the moments at which the first run
+/// began and failed: until then there is nothing to decide, and nothing is drawn, locked or allocated. Of a success it
+/// hears nothing: the retry is dropped then, and gives its tickets back to be counted.
+#[derive(Debug)]
+pub(crate) struct Course {
+    began: Instant,
+    begun: Option<Begun>,
+}
+
+/// A retry that the engine has begun. Its moments are whole milliseconds.
+#[derive(Debug)]
+struct Begun {
+    machine: Machine,
+    /// When the first run began.
+    origin: u64,
+    /// The latest moment that the engine was told.
+    latest: u64,
+    /// When the next run is due, where the engine has not begun it yet.
+    due: Option<u64>,
+}
+
+/// The random words of a step at which the schedule is not asked.
+const NO_WORDS: [u32; 4] = [0; 4];
+
+impl Course {
+    /// One whose first run begins now.
+    pub(crate) fn new(now: Instant) -> Self {
+        Self { began: now, begun: None }
+    }
+
+    /// How long ago the first run began.
+    pub(crate) fn passed(&self, now: Instant) -> Duration {
+        now.saturating_duration_since(self.began)
+    }
+
+    /// The run under way failed: how long it is to be waited from then on, or how the retry ended. The wait is the
+    /// planned one in full, whatever part of a millisecond the run ended at, or what the error asks for.
+    pub(crate) fn lost(&mut self, terms: Terms<'_>, lost: Lost) -> Result<Duration, Ended> {
+        let passed = self.passed(lost.now);
+        let asked = lost.asked.unwrap_or(Duration::ZERO);
+        if terms.deadline.map_or(false, |deadline| passed.saturating_add(asked) > deadline) {
+            return Err(Ended::ScheduleDone);
+        }
+        let begun = match &mut self.begun {
+            Some(begun) => begun,
+            None => self.begun.insert(Begun::new(terms, self.began, passed)?),
+        };
+        begun.due = begun.step(passed, Some(Report::Lost(lost.code)), &lost.words)?;
+        Ok(match begun.due {
+            Some(due) => asked.max(Duration::from_millis(due - begun.latest)),
+            None => asked,
+        })
+    }
+
+    /// Begins the run that is due, where the engine did not at the failure before.
+    pub(crate) fn resume(&mut self, clock: impl FnOnce() -> Instant) -> Result<(), Cause> {
+        let began = self.began;
+        match &mut self.begun {
+            Some(begun) if begun.due.is_some() => begun.resume(clock().saturating_duration_since(began)),
+            _ => Ok(()),
+        }
+    }
+
+    /// The error of a retry that ended so.
+    pub(crate) fn error<E>(&self, ended: Ended, error: E) -> RetryError<E> {
+        let failure = || self.begun.as_ref().and_then(|begun| begun.machine.store_failure());
+        match ended {
+            Ended::BudgetRefused => RetryError::BudgetRefused(error),
+            Ended::Broken(cause) => match failure() {
+                Some(failure) => RetryError::StoreFailed(failure.clone(), error),
+                None => RetryError::Broken(cause, error),
+            },
+            Ended::ScheduleDone => RetryError::ScheduleDone(error),
+            Ended::Won | Ended::Cancelled => RetryError::NotRetried(error),
+        }
+    }
+}
+
+impl Begun {
+    /// A retry whose first run began then, and failed after so long.
+    fn new(terms: Terms<'_>, began: Instant, passed: Duration) -> Result<Self, Ended> {
+        let source = terms.budget.source();
+        let machine = match terms.deadline {
+            None => Machine::on(terms.policy, source),
+            Some(deadline) => Machine::on(&policy_until(terms.policy, deadline, passed)?, source),
+        };
+        // (for want of passes 2^42 of them would have to be alive)
+        let machine = machine.map_err(|_| Ended::Broken(Cause::NoMemory))?;
+        let origin = terms.budget.origin(began);
+        let mut begun = Self { machine, origin, latest: origin, due: None };
+        begun.step(Duration::ZERO, None, &NO_WORDS)?;
+        Ok(begun)
+    }
+
+    /// Begins the run that is due. A clock that did not move while it was waited is taken to have moved.
+    fn resume(&mut self, passed: Duration) -> Result<(), Cause> {
+        self.latest = self.latest.max(self.due.take().unwrap_or(0));
+        match self.step(passed, None, &NO_WORDS) {
+            Err(Ended::Broken(cause)) => Err(cause),
+            _ => Ok(()),
+        }
+    }
+
+    /// A step so long after the first run began, and not before the latest: when the next run is due, or `None` where it
+    /// is under way.
+    fn step(&mut self, passed: Duration, report: Option<Report>, words: &[u32; 4]) -> Result<Option<u64>, Ended> {
+        let now = self.origin.saturating_add(whole_millis(passed)).min(FAR);
+        self.latest = self.latest.max(now);
+        self.machine.step_at(self.latest, report, words)
+    }
+}
+
+/// The policy of a retry that ends by its deadline, where its first run failed after so long.
+fn policy_until(policy: &Policy, deadline: Duration, passed: Duration) -> Result<Policy, Ended> {
+    let until = policy.until(deadline, passed).map_err(|error| match error.fault() {
+        PolicyFault::TooDeep | PolicyFault::TooMany => Ended::Broken(Cause::PolicyTooLarge),
+        _ => Ended::Broken(Cause::NoMemory),
+    });
+    until?.ok_or(Ended::ScheduleDone)
+}
+
+/// The moment after so long, or after a century where the system's clock can't tell it.
+pub(crate) fn later(now: Instant, wait: Duration) -> Instant {
+    now.checked_add(wait).unwrap_or_else(|| now + A_CENTURY)
+}
+
+const A_CENTURY: Duration = Duration::from_secs(100 * 365 * 86_400);
+
+#[cfg(test)]
+mod tests {
+    use crate::{retry, Budget, Policy};
+    use std::sync::mpsc;
+    use std::thread;
+    use std::time::Duration;
+
+    #[test]
+    fn a_call_that_succeeds_at_once_waits_for_no_lock() {
+        let (policy, budget): (Policy, _) = (r#"{"recurs":3}"#.parse().unwrap(), Budget::new(1).unwrap());
+        let (tells, told) = mpsc::channel();
+        let ended = policy.with(|_| {
+            budget.with(|_| {
+                let (policy, budget) = (policy.clone(), budget.clone());
+                thread::spawn(move || tells.send(retry(&policy, &budget, || Ok::<_, ()>(5))));
+                told.recv_timeout(Duration::from_secs(20))
+            })
+        });
+        assert_eq!(ended, Ok(Ok(5)));
+    }
+}

@@ -1,0 +1,76 @@
+//! How a retry ends without a value.
+
+use crate::grants::StoreFailure;
+use crate::machine::Cause;
+use std::error::Error;
+use std::fmt;
+
+/// Why a retry gave no value, with the last error of the call.
+///
+/// Its text has that of the last error, so it has no [`source`](Error::source): [`RetryError::last`] leads to the error
+/// and its causes. It is an [`Error`] for every `E` that can be shown, `&str`, `Box<dyn Error>` and `anyhow::Error`
+/// too, so `?` takes it on.
+#[derive(Clone, Debug, PartialEq, Eq, Hash)]
+#[non_exhaustive]
+pub enum RetryError<E> {
+    /// The call failed, and the schedule does not go on, or not before the deadline.
+    ScheduleDone(E),
+    /// The call failed, the schedule goes on, and the budget or the quota has no ticket.
+    BudgetRefused(E),
+    /// The call failed with an error that is not to be retried.
+    NotRetried(E),
+    /// The call failed, the schedule goes on, and the store of tickets failed.
+    StoreFailed(StoreFailure, E),
+    /// The retry could not go on after this error.
+    Broken(Cause, E),
+}
+
+impl<E> RetryError<E> {
+    /// The last error of the call.
+    pub fn last(&self) -> &E {
+        match self {
+            Self::ScheduleDone(error)
+            | Self::BudgetRefused(error)
+            | Self::NotRetried(error)
+            | Self::StoreFailed(_, error)
+            | Self::Broken(_, error) => error,
+        }
+    }
+
+    /// The same, by value.
+    pub fn into_last(self) -> E {
+        match self {
+            Self::ScheduleDone(error)
+            | Self::BudgetRefused(error)
+            | Self::NotRetried(error)
+            | Self::StoreFailed(_, error)
+            | Self::Broken(_, error) => error,
+        }
+    }
+}
+
+impl<E: fmt::Display> fmt::Display for RetryError<E> {
+    // `{:#}` of an `anyhow::Error` has its causes; of most errors it is their text.
+    fn fmt(&self, f: &mut fmt::Formatter<'_>) -> fmt::Result {
+        match self {
+            Self::ScheduleDone(error) => write!(f, "{error:#} (the schedule was done)"),
+            Self::BudgetRefused(error) => write!(f, "{error:#} (the retry budget had no ticket)"),
+            Self::NotRetried(error) => write!(f, "{error:#} (not an error to be retried)"),
+            Self::StoreFailed(store, error) => write!(f, "{error:#} (the store of retry tickets failed: {store})"),
+            Self::Broken(cause, error) => write!(f, "{error:#} (the retry could not go on: {cause})"),
+        }
+    }
+}
+
+impl<E: fmt::Debug + fmt::Display> Error for RetryError<E> {}
+
+impl fmt::Display for Cause {
+    fn fmt(&self, f: &mut fmt::Formatter<'_>) -> fmt::Result {
+        f.write_str(match self {
+            Self::NoMemory => "no memory",
+            Self::Backwards => "the clock went back",
+            Self::StoreFailed => "the store of tickets failed",
+            Self::PolicyTooLarge => "the policy has 256 nodes or is 32 deep, and a deadline takes one more",
+        })
+    }
+}

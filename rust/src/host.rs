@@ -1,0 +1,66 @@
+//! Where a retry has its clock, its waits and its random words from.
+
+use crate::{clock, words};
+use std::thread;
+use std::time::{Duration, Instant};
+
+/// Where a retry has its clock, its waits and its random words from.
+#[derive(Clone, Copy)]
+pub struct Host<K, S, R> {
+    pub(crate) clock: K,
+    pub(crate) sleep: S,
+    pub(crate) words: R,
+}
+
+/// The system's clock, waits and random words; with the feature `tokio` tokio's clock, and its waits in futures.
+pub type SystemHost = Host<fn() -> Instant, SystemSleep, SystemWords>;
+
+/// Waits of the thread, or with the feature `tokio` of the task.
+#[derive(Clone, Copy, Debug, Default)]
+pub struct SystemSleep;
+
+/// Random words of the thread, which the system's random bytes begin.
+#[derive(Clone, Copy, Debug, Default)]
+pub struct SystemWords;
+
+/// A way to block for some time: any function of a [`Duration`].
+pub trait Sleep {
+    /// Blocks for so long, or longer.
+    fn sleep(&mut self, wait: Duration);
+}
+
+/// Random words: any function that makes four.
+pub trait Random {
+    /// The next four.
+    fn draw(&mut self) -> [u32; 4];
+}
+
+impl SystemHost {
+    pub(crate) fn system() -> Self {
+        Self { clock: clock::now, sleep: SystemSleep, words: SystemWords }
+    }
+}
+
+impl Sleep for SystemSleep {
+    fn sleep(&mut self, wait: Duration) {
+        thread::sleep(wait);
+    }
+}
+
+impl<F: FnMut(Duration)> Sleep for F {
+    fn sleep(&mut self, wait: Duration) {
+        self(wait);
+    }
+}
+
+impl Random for SystemWords {
+    fn draw(&mut self) -> [u32; 4] {
+        words::next()
+    }
+}
+
+impl<F: FnMut() -> [u32; 4]> Random for F {
+    fn draw(&mut self) -> [u32; 4] {
+        self()
+    }
+}

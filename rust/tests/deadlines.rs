@@ -1,0 +1,189 @@
+//! Deadlines: worked by hand, on a clock that the sleeps and the calls move.
+
+use hikebox::{Attempt, Budget, Cause, Policy, Quota, RetryError, Retrying, Unlimited};
+use std::cell::Cell;
+use std::time::{Duration, Instant};
+
+fn policy(json: &str) -> Policy {
+    json.parse().unwrap()
+}
+
+const fn micros(micros: u64) -> Duration {
+    Duration::from_micros(micros)
+}
+
+/// When each run began and how long it had left, in microseconds, of runs that take so long and fail; and the tickets.
+fn runs(json: &str, deadline: u64, took: u64) -> (Vec<(u128, u128)>, u64) {
+    let (policy, budget, now) = (policy(json), Budget::new(100).unwrap(), Cell::new(Instant::now()));
+    let (origin, mut seen) = (now.get(), Vec::new());
+    let mut retrying = Retrying::new(&policy, &budget)
+        .deadline(micros(deadline))
+        .clock(|| now.get())
+        .sleep(|wait| now.set(now.get() + wait));
+    let ended = retrying.call_with(|attempt: Attempt| {
+        assert_eq!(attempt.number(), seen.len() as u64 + 1);
+        seen.push(((now.get() - origin).as_micros(), attempt.left().unwrap().as_micros()));
+        now.set(now.get() + micros(took));
+        Err::<(), _>("busy")
+    });
+    assert_eq!(ended, Err(RetryError::ScheduleDone("busy")));
+    drop(retrying);
+    (seen, budget.close().unwrap())
+}
+
+#[test]
+fn no_run_is_planned_past_the_deadline_and_no_ticket_is_drawn_for_it() {
+    let spaced = r#"{"spaced":100}"#;
+    // runs of 30 ms fail at 30, 160 and 290, and the next ones would begin at 130, 260 and 390
+    assert_eq!(runs(spaced, 259_000, 30_000), (vec![(0, 259_000), (130_000, 129_000)], 1));
+    assert_eq!(runs(spaced, 260_000, 30_000), (vec![(0, 260_000), (130_000, 130_000), (260_000, 0)], 2));
+    assert_eq!(runs(spaced, 129_000, 30_000), (vec![(0, 129_000)], 0));
+}
+
+/// When each run of a retry began, in milliseconds, of runs that take as long as these numbers say, a millisecond at least.
+fn starts(json: &str, deadline: Option<u64>, mut numbers: u64) -> Vec<u64> {
+    let (policy, now) = (policy(json), Cell::new(Instant::now()));
+    let (origin, mut seen) = (now.get(), Vec::new());
+    let retrying = Retrying::new(&policy, &Unlimited)
+        .clock(|| now.get())
+        .sleep(|wait| now.set(now.get() + wait))
+        .words(|| [7, 1 << 30, 1 << 31, 9]);
+    let mut retrying = match deadline {
+        Some(deadline) => retrying.deadline(Duration::from_millis(deadline)),
+        None => retrying,
+    };
+    let _ = retrying.call(|| {
+        seen.push((now.get() - origin).as_millis() as u64);
+        numbers = numbers.wrapping_mul(6_364_136_223_846_793_005).wrapping_add(1_442_695_040_888_963_407);
+        now.set(now.get() + Duration::from_millis((numbers >> 33) % 50 + 1));
+        Err::<(), _>(())
+    });
+    drop(retrying);
+    seen
+}
+
+#[test]
+fn up_to_the_deadline_a_retry_runs_as_without_one_and_then_no_more() {
+    let policies = [
+        r#"{"meet":[{"recurs":30},{"spaced":70}]}"#,
+        r#"{"meet":[{"recurs":30},{"cap":[400,{"exponential":[10,2]}]}]}"#,
+        r#"{"meet":[{"recurs":30},{"jitter":[1,500,1500,{"fibonacci":20}]}]}"#,
+        r#"{"meet":[{"recurs":30},{"fixed":90}]}"#,
+        r#"{"follow":[{"meet":[{"recurs":3},{"spaced":5}]},{"meet":[{"recurs":20},{"windowed":130}]}]}"#,
+        r#"{"renew":[300,{"meet":[{"recurs":30},{"linear":40}]}]}"#,
+        r#"{"within":[900,{"decorrelated":[2,10,3000,200]}]}"#,
+    ];
+    for (index, json) in policies.iter().enumerate() {
+        for deadline in (0..2000).step_by(37) {
+            let numbers = index as u64 * 1000 + deadline;
+            let mut expected: Vec<u64> = starts(&format!(r#"{{"within":[4000,{json}]}}"#), None, numbers);
+            expected.retain(|start| *start <= deadline);
+            assert_eq!(starts(json, Some(deadline), numbers), expected, "{json} by {deadline}");
+        }
+    }
+}
+
+#[test]
+fn it_counts_from_the_start_of_the_first_run() {
+    // 5 ms after 240 is 245; by `ends_by`, from the first failure, there would be runs up to 490
+    let ends_by = r#"{"ends_by":[250,{"spaced":5}]}"#;
+    assert_eq!(runs(r#"{"spaced":5}"#, 250_000, 240_000), (vec![(0, 250_000), (245_000, 5_000)], 1));
+    assert_eq!(runs(ends_by, 9_000_000, 240_000).0.len(), 3);
+    assert_eq!(runs(r#"{"spaced":0}"#, 250_000, 251_000), (vec![(0, 250_000)], 0));
+}
+
+#[test]
+fn parts_of_a_millisecond_come_before_it() {
+    // a failure at 0.9 ms leaves 99 ms, and a run after 100 would begin at 100.9
+    assert_eq!(runs(r#"{"spaced":100}"#, 100_000, 900), (vec![(0, 100_000)], 0));
+    assert_eq!(runs(r#"{"spaced":99}"#, 100_000, 900), (vec![(0, 100_000), (99_900, 100)], 1));
+    assert_eq!(runs("\"forever\"", 100_999, 40_000).0, [(0, 100_999), (40_000, 60_999), (80_000, 20_999)]);
+}
+
+#[test]
+fn an_error_that_asks_for_more_than_is_left_ends_it() {
+    let (policy, budget, now) = (policy(r#"{"recurs":9}"#), Budget::new(9).unwrap(), Cell::new(Instant::now()));
+    let mut asks = [10, 20, 71].into_iter();
+    let ended = Retrying::new(&policy, &budget)
+        .deadline(micros(100_000))
+        .clock(|| now.get())
+        .sleep(|wait| now.set(now.get() + wait))
+        .retry_after(|asked: &u64| Some(Duration::from_millis(*asked)))
+        .call(|| Err::<(), _>(asks.next().unwrap()));
+    // it waited for 10 and 20, and 71 more would be 101
+    assert_eq!(ended, Err(RetryError::ScheduleDone(71)));
+    assert_eq!(budget.close().unwrap(), 2);
+}
+
+#[test]
+fn a_retry_on_a_quota_ends_by_it_in_the_quotas_windows() {
+    let now = Cell::new(Instant::now());
+    let began = now.get() - Duration::from_millis(3_600_250);
+    let quota = Quota::new_at(began, 1, 0.0, Duration::from_millis(300)).unwrap();
+    let (policy, mut runs) = (policy(r#"{"spaced":300}"#), 0);
+    let ended = Retrying::new(&policy, &quota)
+        .deadline(micros(1_200_000))
+        .clock(|| now.get())
+        .sleep(|wait| now.set(now.get() + wait))
+        .call(|| {
+            runs += 1;
+            now.set(now.get() + Duration::from_millis(10));
+            Err::<(), _>("busy")
+        });
+    // failures at 3600.26, .57, .88 and 3601.19 s, each in a window of its own, and the next run would begin at 1.24 s
+    assert_eq!((ended, runs), (Err(RetryError::ScheduleDone("busy")), 4));
+    assert_eq!(quota.close().unwrap(), 3);
+}
+
+#[test]
+fn without_one_nothing_is_left_to_tell() {
+    let policy = policy(r#"{"recurs":2}"#);
+    let mut seen = Vec::new();
+    let _ = Retrying::new(&policy, &Unlimited).call_with(|attempt| {
+        seen.push((attempt.number(), attempt.left()));
+        Err::<(), _>(())
+    });
+    assert_eq!(seen, [(1, None), (2, None), (3, None)]);
+}
+
+#[test]
+fn a_policy_with_no_room_for_it_is_told_at_the_first_failure() {
+    let meets = |count: usize| {
+        let leaves: Vec<String> = (0..count).map(|_| r#"{"recurs":1}"#.to_owned()).collect();
+        leaves.into_iter().reduce(|both, leaf| format!(r#"{{"meet":[{leaf},{both}]}}"#)).unwrap()
+    };
+    let ended = |json: &str| {
+        let policy = policy(json);
+        Retrying::new(&policy, &Unlimited).deadline(micros(1000)).call(|| Err::<(), _>("no"))
+    };
+    assert_eq!(ended(&meets(31)), Err(RetryError::ScheduleDone("no")));
+    assert_eq!(ended(&meets(32)), Err(RetryError::Broken(Cause::PolicyTooLarge, "no")));
+    let text = "no (the retry could not go on: the policy has 256 nodes or is 32 deep, and a deadline takes one more)";
+    assert_eq!(ended(&meets(32)).unwrap_err().to_string(), text);
+    let deep = policy(&meets(32));
+    assert_eq!(Retrying::new(&deep, &Unlimited).deadline(micros(1000)).call(|| Ok::<_, ()>(7)), Ok(7));
+}
+
+#[cfg(feature = "tower")]
+#[tokio::test(start_paused = true)]
+async fn a_request_of_towers_has_a_deadline_of_its_own() {
+    use hikebox::RetryPolicy;
+    use tokio::time::{sleep, Instant};
+    use tower::{retry::RetryLayer, service_fn, Service, ServiceBuilder, ServiceExt};
+
+    let quota = Quota::new(100, 0.0, Duration::from_secs(3600)).unwrap();
+    let by = RetryPolicy::new(policy(r#"{"spaced":100}"#), quota.clone()).deadline(Duration::from_millis(259));
+    let busy = service_fn(|_: u32| async {
+        sleep(Duration::from_millis(30)).await;
+        Err::<(), _>("busy")
+    });
+    let mut service = ServiceBuilder::new().layer(RetryLayer::new(by)).service(busy);
+    for request in 1..=2 {
+        sleep(Duration::from_secs(1)).await;
+        let began = Instant::now();
+        assert_eq!(service.ready().await.unwrap().call(request).await, Err("busy"));
+        // runs begin at 0 and 130, and the next one would at 260
+        assert_eq!(began.elapsed().as_millis(), 160);
+        assert_eq!((quota.seen().asked, quota.granted()), (u64::from(request), u64::from(request)));
+    }
+}

@@ -1,0 +1,77 @@
+"""Makes the manual pages: `manual.py DIST FOLDER` writes hikebox.3, which is what hikebox.h says, and zsched.1, which is
+what the program's help says."""
+
+import pathlib
+import re
+import subprocess
+import sys
+
+
+def escaped(line):
+    """A line of text as roff has it."""
+    line = line.replace("\\", "\\e").replace("-", "\\-")
+    return "\\&" + line if line.startswith((".", "'")) else line
+
+
+def verbatim(text):
+    """Lines that stay as they are."""
+    return [".nf", *map(escaped, text.strip("\n").split("\n")), ".fi"]
+
+
+def comment(text):
+    """The paragraphs of a comment of C; what is set in stays as it is."""
+    lines = [re.sub(r"^\s*\* ?", "", line) for line in text.split("\n")]
+    page, is_set_in, is_item = [], False, False
+    for line in lines:
+        is_item = line.startswith(" - ") or is_item and line.startswith("   ")
+        if is_item:
+            page += [".IP \\(bu 2", escaped(line[3:])] if line.startswith(" - ") else [escaped(line.strip())]
+            continue
+        if line.startswith("  ") != is_set_in:
+            is_set_in = not is_set_in
+            page.append(".nf" if is_set_in else ".fi")
+        page.append(escaped(line) if line.strip() else ".PP")
+    return page + [".fi"] * is_set_in
+
+
+def header_page(text, version):
+    page = [f'.TH HIKEBOX 3 "" "hikebox {version}" "Hikebox"', ".SH NAME",
+            "hikebox \\- retry policies, retry budgets and quotas, and retries", ".SH SYNOPSIS",
+            ".nf", "#include <hikebox.h>", ".PP", "cc program.c $(pkg\\-config \\-\\-cflags \\-\\-libs hikebox)", ".fi",
+            ".SH DESCRIPTION"]
+    body = re.sub(r"(?m)^#(?:ifdef __cplusplus\n.*\n#endif|ifndef HIKEBOX_H|define HIKEBOX_H$|include .*)\n?", "", text)
+    body = re.sub(r"#endif\s*\Z", "", body)
+    for at, (said, declared) in enumerate(re.findall(r"(?ms)^/\*(.*?)\*/\n?(.*?)(?=^/\*|\Z)", body)):
+        section = re.match(r" -+ (.*?) -+ ?$", said)
+        if section:
+            page.append(f".SH {section[1].upper()}")
+        else:
+            page += [".PP"] * bool(at) + comment(said.strip())
+        if declared.strip():
+            page += [".PP", *verbatim(declared)]
+    return "\n".join(page) + "\n"
+
+
+def program_page(zsched, version):
+    def help_of(*words):
+        return subprocess.run([zsched, *words, "--help"], capture_output=True, text=True, check=True).stdout
+
+    whole = help_of()
+    page = [f'.TH ZSCHED 1 "" "hikebox {version}" "Hikebox"', ".SH NAME",
+            "zsched \\- runs recurrence schedules on a virtual clock", ".SH SYNOPSIS", *verbatim("zsched COMMAND [OPTIONS] [FILE]"),
+            ".SH DESCRIPTION", *verbatim(whole)]
+    for command in re.findall(r"(?m)^  ([a-z]+) ", whole[whole.index("Commands:"):whole.index("\n\n", whole.index("Commands:"))]):
+        if command != "help":
+            page += [f".SH {command.upper()}", *verbatim(help_of(command))]
+    return "\n".join(page) + "\n"
+
+
+def main():
+    dist, folder = map(pathlib.Path, sys.argv[1:])
+    text = (dist / "hikebox.h").read_text()
+    version = re.search(r'HIKEBOX_VERSION "(.*)"', text)[1]
+    (folder / "hikebox.3").write_text(header_page(text, version))
+    (folder / "zsched.1").write_text(program_page(dist / "zsched", version))
+
+
+main()

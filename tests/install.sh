@@ -1,0 +1,105 @@
+#!/usr/bin/env bash
+# Installs into a folder by bin/install, and uses what is there: examples/c/retry.c is compiled by pkg-config and by CMake,
+# and run; the soname is right; man reads both pages with no warning, and they have each call and each option; the
+# completions are loaded in bash and in zsh. HIKEBOX_LIB_DIR names the files to install, dist/ where it does not.
+set -euo pipefail
+top=$(cd "$(dirname "${BASH_SOURCE[0]}")/.." && pwd)
+work=$(mktemp -d)
+trap 'rm -rf "$work"' EXIT
+version=$(<"$top/VERSION")
+major=${version%%.*}
+prefix=$work/prefix
+failed=0
+
+wrong() {
+  echo "tests/install.sh: $*" >&2
+  failed=1
+}
+
+"$top/bin/install" --prefix "$prefix" >/dev/null
+"$top/bin/install" --destdir "$work/staged" --prefix=/usr >/dev/null
+[ -e "$work/staged/usr/lib/libhikebox.so.$version" ] || wrong "--destdir is not heeded"
+status=0
+"$top/bin/install" --perfix x 2>"$work/err" || status=$?
+[ "$status" = 2 ] && grep -q perfix "$work/err" || wrong "a word that there is not: $status"
+
+# The library by its names.
+soname=$(readelf -d "$prefix/lib/libhikebox.so" | sed -n 's/.*SONAME.*\[\(.*\)\]/\1/p')
+[ "$soname" = "libhikebox.so.$major" ] && [ -e "$prefix/lib/$soname" ] || wrong "the soname is $soname"
+
+# By pkg-config.
+printf 'won after 3 runs, 2 retries granted\n' >"$work/want"
+runs_example() { "$@" | grep '^won' | cmp -s - "$work/want" || wrong "$1: another output"; }
+export PKG_CONFIG_PATH=$prefix/lib/pkgconfig
+[ "$(pkg-config --modversion hikebox)" = "$version" ] || wrong "pkg-config has another version"
+# shellcheck disable=SC2046
+cc "$top/examples/c/retry.c" $(pkg-config --cflags --libs hikebox) -o "$work/loaded"
+runs_example env "LD_LIBRARY_PATH=$prefix/lib" "$work/loaded"
+
+# By CMake, both libraries; another major version is not taken.
+mkdir "$work/project"
+cat >"$work/project/CMakeLists.txt" <<EOF
+cmake_minimum_required(VERSION 3.13)
+project(tries C)
+find_package(hikebox $major REQUIRED)
+find_package(hikebox $((major + 1)) QUIET)
+if(hikebox_FOUND)
+  message(FATAL_ERROR "a later version is found")
+endif()
+foreach(kind hikebox static)
+  add_executable(retry_\${kind} $top/examples/c/retry.c)
+  target_link_libraries(retry_\${kind} hikebox::\${kind})
+endforeach()
+EOF
+{ cmake -S "$work/project" -B "$work/cmake" "-DCMAKE_PREFIX_PATH=$prefix" && cmake --build "$work/cmake"; } >"$work/log" 2>&1 || {
+  cat "$work/log"
+  wrong "CMake fails"
+}
+for kind in hikebox static; do runs_example "$work/cmake/retry_$kind"; done
+
+# The manual pages.
+for page in man3/hikebox.3 man1/zsched.1; do
+  MANWIDTH=100 man --warnings -l "$prefix/share/man/$page" >"$work/${page##*/}" 2>"$work/err" </dev/null || wrong "man $page fails"
+  [ ! -s "$work/err" ] || wrong "man $page: $(cat "$work/err")"
+done
+for call in $(grep -oE '\bhikebox_[a-z_]+\(' "$top/include/hikebox.h" | sort -u); do
+  grep -qF "$call" "$work/hikebox.3" || wrong "hikebox(3) has no $call"
+done
+for command in plan pool check; do
+  for word in $("$prefix/bin/zsched" "$command" --help | grep -oE -- '--[a-z]+'); do
+    grep -qF -- "$word" "$work/zsched.1" || wrong "zsched(1) has no $word"
+  done
+done
+
+# The completions.
+cat >"$work/bash" <<'EOF'
+source "$1/share/bash-completion/completions/zsched"
+complete -p zsched | grep -q -- '-F _zsched'
+offers() { COMP_WORDS=("$@"); COMP_CWORD=$(($# - 1)); _zsched; echo "${COMPREPLY[*]}"; }
+offers zsched p
+offers zsched --v
+offers zsched plan --st
+offers zsched pool --
+cd "$1/lib/pkgconfig" && offers zsched check hike
+EOF
+options=$("$prefix/bin/zsched" pool --help | sed -n 's/^ *\(-h, \)\{0,1\}\(--[a-z]*\).*/\2/p' | tr '\n' ' ')
+printf 'plan pool\n--version\n--steps\n%s\nhikebox.pc\n' "${options% }" >"$work/want"
+PATH=$prefix/bin:$PATH bash --norc "$work/bash" "$prefix" >"$work/out" && cmp -s "$work/out" "$work/want" || wrong "bash: $(cat "$work/out")"
+[ "$(wc -w <<<"$options")" -ge 5 ] || wrong "zsched pool has the options $options"
+
+cat >"$work/zsh" <<'EOF'
+fpath=($1/share/zsh/site-functions $fpath)
+autoload -Uz compinit && compinit -D -u
+[[ $_comps[zsched] = _zsched ]] || exit 1
+autoload +X -Uz _zsched
+compadd() { print -r -- ${(P)2}; }
+_files() { print files; }
+offers() { local -a words=("$@"); local CURRENT=$#; _zsched; }
+offers zsched p
+offers zsched pool --
+offers zsched check ''
+EOF
+printf 'plan pool check help --help --version\n%s\nfiles\n' "${options% }" >"$work/want"
+PATH=$prefix/bin:$PATH zsh -f "$work/zsh" "$prefix" >"$work/out" && cmp -s "$work/out" "$work/want" || wrong "zsh: $(cat "$work/out")"
+[ "$failed" = 0 ] || exit 1
+echo "tests/install.sh: what is installed is compiled against in two ways, read by man and completed by bash and zsh"
