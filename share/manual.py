@@ -52,6 +52,18 @@ def header_page(text, version):
     return "\n".join(page) + "\n"
 
 
+STATUSES = """\
+0  what was asked for is done
+2  a bad command line; a second line on standard error says why
+3  a text that is no plan or no jobs, or too long; a second line says where, and what is wanted there
+4  what can't be read or written; a second line says which stream, and why. Nothing is said where nobody reads the output
+5  no memory
+6  of pool: a job was not over, cancelled or broken
+7  of pool: a worker was not started
+8  of pool: jobs were mixed up
+"""
+
+
 def program_page(zsched, version):
     def help_of(*words):
         return subprocess.run([zsched, *words, "--help"], capture_output=True, text=True, check=True).stdout
@@ -63,6 +75,7 @@ def program_page(zsched, version):
     for command in re.findall(r"(?m)^  ([a-z]+) ", whole[whole.index("Commands:"):whole.index("\n\n", whole.index("Commands:"))]):
         if command != "help":
             page += [f".SH {command.upper()}", *verbatim(help_of(command))]
+    page += [".SH EXIT STATUS", *verbatim(STATUSES)]
     return "\n".join(page) + "\n"
 
 

@@ -135,14 +135,15 @@ static int fault(void) {
 static int faults(void) {
     static const char *const table[][2] = {
         {"{\"recurs\":3}", ""},
-        {"", "not JSON: line 1, column 1"},
-        {"[\n{\"plan\":]", "not JSON: line 2, column 9"},
-        {"[]", "top: a plan is a string or an object of one member"},
-        {"{\"fixed\":0}", "top: \"fixed\" is spelt {\"fixed\":D}, D from 1 to 4611686018427387903"},
+        {"", "not JSON: line 1, column 1: the text ends too soon"},
+        {"[\n{\"plan\":]", "not JSON: line 2, column 9: what stands here is not JSON, or is nested more than 127 deep"},
+        {"[]", "top: a plan is a string or an object of one member; found []"},
+        {"{\"fixed\":0}",
+         "top: \"fixed\" is spelt {\"fixed\":D}, D from 1 to 4611686018427387903; found {\"fixed\":0}"},
         {"{\"meet\":[\"forever\",{\"cap\":[5,{\"exponental\":[1,2]}]}]}",
          "meet[1].cap[1]: no node is called \"exponental\"; did you mean \"exponential\"?"},
         {"{\"first\":{\"join\":[{\"lone\":-1},7]}}",
-         "first.join[0]: \"lone\" is spelt {\"lone\":D}, D from 0 to 4611686018427387903"},
+         "first.join[0]: \"lone\" is spelt {\"lone\":D}, D from 0 to 4611686018427387903; found {\"lone\":-1}"},
     };
     char text[128];
     size_t length;
@@ -860,7 +861,7 @@ static int calls(void) {
     size_t length;
     static const char json[] = "{\"gather\":[\"list\",{\"meet\":[{\"recurs\":2},{\"spaced\":10}]}]}";
     again(say_fault("{\"first\":{\"recurs\":-1}}", text, sizeof text, &length));
-    holds(length == 70 && memcmp(text, "first: \"recurs\" is spelt {\"recurs\":N}, N from 0 to", 50) == 0);
+    holds(length == 91 && memcmp(text, "first: \"recurs\" is spelt {\"recurs\":N}, N from 0 to", 50) == 0);
     again(say_fault(json, text, sizeof text, &length));
     holds(length == 0);
     again(read_policy(json, &policy));

@@ -22,6 +22,26 @@ wants() {
   fi
 }
 
+# bad WHY WORD..: these words are a bad command line, as a second line says; `..` stands for any line
+bad() {
+  local why=$1 got=0
+  shift
+  "$zsched" "$@" <"$work/in" >"$work/out" 2>"$work/err" || got=$?
+  [ "$why" != .. ] || why=$(sed -n 2p "$work/err")
+  printf 'zsched: bad command line\n%s\n' "$why" >"$work/err.want"
+  if [ "$got" != 2 ] || [ -s "$work/out" ] || [ -z "$why" ] || ! cmp -s "$work/err" "$work/err.want"; then
+    echo "tests/program.sh: zsched $*: status $got, wanted 2; output $(head -c 200 "$work/out"); errors $(head -c 400 "$work/err")" >&2
+    failed=1
+  fi
+}
+
+# refuses LINE MORE WORD..: zsched refuses the text for this fault, and a second line tells where and what
+refuses() {
+  local line=$1 more=$2
+  shift 2
+  wants 3 '' "zsched: $line\\n$more\\n" "$@"
+}
+
 # helps WORD..: zsched shows help on standard output with these words
 helps() {
   local got=0
@@ -88,10 +108,11 @@ wants 0 '7: 3 next 7\n9: 5 next 9\n11: 5 next 11\n' '' plan --inputs 3,5 --steps
 input '{"jitter":[0,800,1200,{"spaced":1000}]}'
 wants 0 '0: 0 next 838\n838: 1 next 1661\n1661: 2 next 2643\n' '' plan --words 7 --steps 3
 wants 0 '' '' plan --words 7 --steps 0
-wants 2 '' 'zsched: bad command line\n' plan --inputs 3,
-wants 2 '' 'zsched: bad command line\n' plan --inputs 3 --input 3
-wants 2 '' 'zsched: bad command line\n' plan --words 7 --word 7
-wants 2 '' 'zsched: bad command line\n' plan --words 18446744073709551616
+bad .. plan --inputs 3,
+bad "the argument '--inputs <A,B,..>' cannot be used with '--input <N>'" plan --inputs 3 --input 3
+bad "the argument '--words <SEED>' cannot be used with '--word <W>'" plan --words 7 --word 7
+bad "invalid value '18446744073709551616' for '--words <SEED>': number too large to fit in target type" \
+  plan --words 18446744073709551616
 
 # A text comes from standard input, also by the word -, or from a file, and is the same from each.
 for word in plan pool; do
@@ -103,49 +124,57 @@ for word in plan pool; do
     input ''
     wants 0 "$(sed 's/$/\\n/' "$work/printed" | tr -d '\n')" '' $word "$file"
   done
-  wants 4 '' 'zsched: read failed\n' $word "$work/none.json"
-  wants 4 '' 'zsched: read failed\n' $word "$work"
-  wants 4 '' 'zsched: read failed\n' $word ''
-  wants 2 '' 'zsched: bad command line\n' $word - -
+  wants 4 '' "zsched: read failed\n$work/none.json: No such file or directory (os error 2)\n" $word "$work/none.json"
+  wants 4 '' "zsched: read failed\n$work: Is a directory (os error 21)\n" $word "$work"
+  wants 4 '' 'zsched: read failed\n: No such file or directory (os error 2)\n' $word ''
+  bad "unexpected argument '-' found" $word - -
 done
-wants 2 '' 'zsched: bad command line\n'
+bad "'zsched' requires a subcommand but one was not provided; [subcommands: plan, pool, check, help]; \
+zsched --help says what there is"
+bad "unrecognized subcommand 'plans'; tip: a similar subcommand exists: 'plan'; zsched --help says what there is" plans
 wants 0 "$("$zsched" --version)\n" '' -V
-wants 2 '' 'zsched: bad command line\n' plan --steps 4097
-wants 2 '' 'zsched: bad command line\n' plan --none
-wants 2 '' 'zsched: bad command line\n' pool --workers 0
-wants 2 '' 'zsched: bad command line\n' pool --workers 17
-wants 2 '' 'zsched: bad command line\n' pool --budget 4294967297
-wants 2 '' 'zsched: bad command line\n' pool --turns 4294967297
-wants 2 '' 'zsched: bad command line\n' pool --steps 1
-wants 2 '' 'zsched: bad command line\n' check --steps 1
-wants 2 '' 'zsched: bad command line\n' plan --from $'\xff'
+bad "invalid value '4097' for '--steps <N>': 4097 is not in 0..=4096" plan --steps 4097
+bad "invalid value 'ten' for '--steps <N>': invalid digit found in string" plan --steps ten
+bad "a value is required for '--steps <N>' but none was supplied" plan --steps
+bad "the argument '--steps <N>' cannot be used multiple times" plan --steps 1 --steps 2
+bad "unexpected argument '--step' found; tip: a similar argument exists: '--steps'" plan --step 1
+bad "unexpected argument '--none' found; tip: to pass '--none' as a value, use '-- --none'" plan --none
+bad "invalid value '0' for '--workers <N>': 0 is not in 1..=16" pool --workers 0
+bad "invalid value '17' for '--workers <N>': 17 is not in 1..=16" pool --workers 17
+bad "invalid value '4294967297' for '--budget <N>': 4294967297 is not in 0..=4294967296" pool --budget 4294967297
+bad "invalid value '4294967297' for '--turns <N>': 4294967297 is not in 0..=4294967296" pool --turns 4294967297
+bad .. pool --steps 1
+bad .. check --steps 1
+bad 'a word is not UTF-8' plan --from $'\xff'
 { printf '"forever"'; head -c 1048568 /dev/zero | tr '\0' ' '; } >"$work/in"
 wants 3 '' 'zsched: input too long\n' plan
 input ''
-wants 3 '' 'zsched: not JSON\n' plan
+refuses 'not JSON' 'not JSON: line 1, column 1: the text ends too soon' plan
 input '{"recurs":3'
-wants 3 '' 'zsched: not JSON\n' plan
+refuses 'not JSON' 'not JSON: line 1, column 11: the text ends too soon' plan
 input '{"recurs":-1}'
-wants 3 '' 'zsched: not a plan\n' plan
+refuses 'not a plan' 'top: "recurs" is spelt {"recurs":N}, N from 0 to 4611686018427387903; found {"recurs":-1}' plan
 input '{"exponential":[1]}'
-wants 3 '' 'zsched: not a plan\n' plan
+refuses 'not a plan' \
+  'top: "exponential" is spelt {"exponential":[D,F]}, D from 0 to 4611686018427387903, F from 1 to 1000; found {"exponential":[1]}' \
+  plan
 input '{"fixed":0}'
-wants 3 '' 'zsched: number out of range\n' plan
+refuses 'number out of range' 'top: "fixed" is spelt {"fixed":D}, D from 1 to 4611686018427387903; found {"fixed":0}' plan
 
 deep='"forever"'
 for _ in $(seq 32); do deep="{\"meet\":[$deep,\"forever\"]}"; done
 printf '%s' "$deep" >"$work/in"
-wants 3 '' 'zsched: too deep\n' plan
+refuses 'too deep' 'top: a plan is at most 32 deep' plan
 
 deep='"forever"'
 for _ in $(seq 32); do deep="{\"nothing\":$deep}"; done
 printf '%s' "$deep" >"$work/in"
-wants 3 '' 'zsched: too deep\n' plan
+refuses 'too deep' 'top: a plan is at most 32 deep' plan
 
 wide='"forever"'
 for _ in $(seq 8); do wide="{\"meet\":[$wide,$wide]}"; done
 printf '%s' "$wide" >"$work/in"
-wants 3 '' 'zsched: too many nodes\n' plan
+refuses 'too many nodes' 'top: a plan has at most 256 nodes' plan
 
 cp "$top/jobs/three-calls.json" "$work/in"
 wants 0 'job 0: won 1, granted 2\njob 1: schedule done, failure 8, granted 1\njob 2: won 200, granted 0\ngranted 3 of 100\n' '' pool --workers 2
@@ -217,57 +246,69 @@ input '[{"plan":"forever","runs":[{"lost":7}]}]'
 wants 0 'job 0: budget refused, failure 7, granted 1000\ngranted 1000 in 1 windows\n' '' pool --quota 0/1000000/100
 input '[]'
 wants 0 'granted 0 in 0 windows\n' '' pool --quota 5/1000/100
-for terms in '' 1 1/2 1/2/3/4 1/2/ /2/3 a/2/3 1/b/3 1/2/c -1/2/3 1.5/2/3 ' 1/2/3' 4294967297/2/3 1/1000001/3 1/2/0 \
+spelt='it is spelt as 10/20%/60s, with ms, s, m, h or d, or without units as 10/200/60000; RESERVE is at most 4294967296,'
+spelt+=' SHARE at most 100000%, and PERIOD from 1ms to 4611686018427387903ms'
+for terms in 1 1/2 1/2/3/4 1/2/ /2/3 a/2/3 1/b/3 1/2/c -1/2/3 1.5/2/3 ' 1/2/3' 4294967297/2/3 1/1000001/3 1/2/0 \
   1/2/4611686018427387904 18446744073709551616/2/3 1/2%/3 1/2/3s 1/2.55%/3s 1/2.%/3s 1/%/3s 1/2%/s 1/2%/1.5s 1/2%/3w \
   1/2%/0s 1/100000.1%/3s 1/2%/18446744073709551615d; do
-  wants 2 '' 'zsched: bad command line\n' pool --quota "$terms"
+  bad "invalid value '$terms' for '--quota <RESERVE/SHARE%/PERIOD>': $spelt" pool --quota="$terms"
 done
-wants 2 '' 'zsched: bad command line\n' pool --quota
-wants 2 '' 'zsched: bad command line\n' pool --quota 1/2/3 --quota 1/2/3
-wants 2 '' 'zsched: bad command line\n' pool --quota 1/2/3 --budget 100
-wants 2 '' 'zsched: bad command line\n' pool --quota 1/2/3 --workers 2
-wants 2 '' 'zsched: bad command line\n' plan --quota 1/2/3
+bad "a value is required for '--quota <RESERVE/SHARE%/PERIOD>' but none was supplied" pool --quota
+bad .. pool --quota ''
+bad "the argument '--quota <RESERVE/SHARE%/PERIOD>' cannot be used multiple times" pool --quota 1/2/3 --quota 1/2/3
+bad "the argument '--quota <RESERVE/SHARE%/PERIOD>' cannot be used with '--budget <N>'" pool --quota 1/2/3 --budget 100
+bad "the argument '--quota <RESERVE/SHARE%/PERIOD>' cannot be used with '--workers <N>' of more than 1: jobs on a quota \
+run on one thread" pool --quota 1/2/3 --workers 2
+bad .. plan --quota 1/2/3
 input '{}'
-wants 3 '' 'zsched: not a plan\n' pool --quota 1/2/3
+refuses 'not a plan' 'top: jobs are an array, with a job for each item; found {}' pool --quota 1/2/3
 
 # Of a bad text the first fault is told: the array, the number of jobs, and of each job in turn its members, the number
 # of its runs, each run, and its plan.
 past_far=4611686018427387904
 too_deep="{\"plan\":$deep,\"runs\":[{\"won\":1}]}"
 input '['
-wants 3 '' 'zsched: not JSON\n' pool
+refuses 'not JSON' 'not JSON: line 1, column 1: the text ends too soon' pool
 input '{}'
-wants 3 '' 'zsched: not a plan\n' pool
+refuses 'not a plan' 'top: jobs are an array, with a job for each item; found {}' pool
 input "[$(repeated 4097 7)]"
-wants 3 '' 'zsched: number out of range\n' pool
+refuses 'number out of range' 'top: at most 4096 jobs are wanted, 4097 found' pool
 input "[$(repeated 4096 7)]"
-wants 3 '' 'zsched: not a plan\n' pool
+refuses 'not a plan' '[0]: a job is {"plan":PLAN,"runs":[RUN,..]}; found 7' pool
 input '[{"plan":7,"runs":[],"more":1}]'
-wants 3 '' 'zsched: not a plan\n' pool
+refuses 'not a plan' '[0]: a job is {"plan":PLAN,"runs":[RUN,..]}; found {"more":1,"plan":7,"runs":[]}' pool
 input '[{"runs":[]}]'
-wants 3 '' 'zsched: not a plan\n' pool
+refuses 'not a plan' '[0]: a job is {"plan":PLAN,"runs":[RUN,..]}; found {"runs":[]}' pool
 input '[{"plan":7,"runs":[]}]'
-wants 3 '' 'zsched: number out of range\n' pool
+refuses 'number out of range' '[0].runs: 1 to 64 runs are wanted, 0 found' pool
 input "[{\"plan\":7,\"runs\":[$(repeated 65 7)]}]"
-wants 3 '' 'zsched: number out of range\n' pool
+refuses 'number out of range' '[0].runs: 1 to 64 runs are wanted, 65 found' pool
 input "[{\"plan\":\"forever\",\"runs\":[$(repeated 63 '{"lost":7}'),{\"won\":$((past_far - 1))}]}]"
 wants 0 "job 0: won $((past_far - 1)), granted 63\ngranted 63 of 100\n" '' pool
 input "[{\"plan\":{\"fixed\":0},\"runs\":[{\"won\":1},{\"none\":$past_far}]}]"
-wants 3 '' 'zsched: not a plan\n' pool
+refuses 'not a plan' \
+  '[0].runs[1]: a run is {"won":CODE} or {"lost":CODE}, CODE from 0 to 4611686018427387903; found {"none":4611686018427387904}' \
+  pool
 input '[{"plan":{"fixed":0},"runs":[{"lost":1,"won":1}]}]'
-wants 3 '' 'zsched: not a plan\n' pool
+refuses 'not a plan' \
+  '[0].runs[0]: a run is {"won":CODE} or {"lost":CODE}, CODE from 0 to 4611686018427387903; found {"lost":1,"won":1}' \
+  pool
 input "[{\"plan\":7,\"runs\":[{\"won\":$past_far},7]}]"
-wants 3 '' 'zsched: number out of range\n' pool
+refuses 'number out of range' \
+  '[0].runs[0]: a run is {"won":CODE} or {"lost":CODE}, CODE from 0 to 4611686018427387903; found {"won":4611686018427387904}' \
+  pool
 input '[{"plan":7,"runs":[{"won":1}]}]'
-wants 3 '' 'zsched: not a plan\n' pool
+refuses 'not a plan' '[0].plan: a plan is a string or an object of one member; found 7' pool
 input '[{"plan":{"fixed":0},"runs":[{"won":1}]}]'
-wants 3 '' 'zsched: number out of range\n' pool
+refuses 'number out of range' \
+  '[0].plan: "fixed" is spelt {"fixed":D}, D from 1 to 4611686018427387903; found {"fixed":0}' \
+  pool
 input "[$lost,$too_deep,7]"
-wants 3 '' 'zsched: too deep\n' pool
+refuses 'too deep' '[1].plan: a plan is at most 32 deep' pool
 input "[$lost,7,$too_deep]"
-wants 3 '' 'zsched: not a plan\n' pool
+refuses 'not a plan' '[1]: a job is {"plan":PLAN,"runs":[RUN,..]}; found 7' pool
 input "[{\"plan\":$wide,\"runs\":[{\"won\":1}]}]"
-wants 3 '' 'zsched: too many nodes\n' pool
+refuses 'too many nodes' '[0].plan: a plan has at most 256 nodes' pool
 { printf '[]'; head -c 1048574 /dev/zero | tr '\0' ' '; } >"$work/in"
 wants 0 'granted 0 of 100\n' '' pool
 printf ' ' >>"$work/in"
@@ -283,16 +324,18 @@ for file in "$top"/plans/*.json "$top"/jobs/*.json; do
 done
 wants 0 'plan: 4 nodes, depth 3, goes on at most 5 times\n' '' check "$top/plans/back-off.json"
 wants 0 'jobs: 3 jobs, 6 runs\n' '' check "$top/jobs/three-calls.json"
-wants 4 '' 'zsched: read failed\n' check "$work/none.json"
-wants 2 '' 'zsched: bad command line\n' check - -
+wants 4 '' "zsched: read failed\n$work/none.json: No such file or directory (os error 2)\n" check "$work/none.json"
+bad "unexpected argument '-' found" check - -
 input '"forever"'
 wants 0 'plan: 1 node, depth 1\n' '' check
 input '[]'
 wants 0 'jobs: 0 jobs, 0 runs\n' '' check
 input '{"recurs":3'
-wants 3 'not JSON: line 1, column 11\n' 'zsched: not JSON\n' check
+wants 3 'not JSON: line 1, column 11: the text ends too soon\n' 'zsched: not JSON\n' check
+input '{"recurs":3]'
+wants 3 'not JSON: line 1, column 12: what stands here is not JSON, or is nested more than 127 deep\n' 'zsched: not JSON\n' check
 input '7'
-wants 3 'top: a plan is a string or an object of one member\n' 'zsched: not a plan\n' check
+wants 3 'top: a plan is a string or an object of one member; found 7\n' 'zsched: not a plan\n' check
 input '{"meet":[{"recurs":1},{"cap":[1,{"exponental":[100,2]}]}]}'
 wants 3 'meet[1].cap[1]: no node is called "exponental"; did you mean "exponential"?\n' 'zsched: not a plan\n' check
 for words in and:meet or:join andThen:follow retry:recurs times:recurs constant:spaced upTo:within; do
@@ -300,10 +343,11 @@ for words in and:meet or:join andThen:follow retry:recurs times:recurs constant:
   wants 3 "top: no node is called \"${words%:*}\"; did you mean \"${words#*:}\"?\n" 'zsched: not a plan\n' check
 done
 input '{"exponential":[100,1.5]}'
-{ "$zsched" check <"$work/in" 2>/dev/null || true; } | grep -q '; a factor of 1.5 is 1500 in "exponential_milli"$' ||
-  { echo "tests/program.sh: zsched check: a factor that is a fraction has no hint" >&2; failed=1; }
+more='; found {"exponential":[100,1.5]}; a factor of 1.5 is 1500 in "exponential_milli"'
+wants 3 "top: \"exponential\" is spelt {\"exponential\":[D,F]}, D from 0 to $((past_far - 1)), F from 1 to 1000$more\n" \
+  'zsched: not a plan\n' check
 input '{"first":{"fixed":0}}'
-wants 3 "first: \"fixed\" is spelt {\"fixed\":D}, D from 1 to $((past_far - 1))\n" 'zsched: number out of range\n' check
+wants 3 "first: \"fixed\" is spelt {\"fixed\":D}, D from 1 to $((past_far - 1)); found {\"fixed\":0}\n" 'zsched: number out of range\n' check
 printf '{"first":%s}' "$deep" >"$work/in"
 wants 3 'first: a plan is at most 32 deep\n' 'zsched: too deep\n' check
 printf '%s' "$wide" >"$work/in"
@@ -311,33 +355,47 @@ wants 3 'top: a plan has at most 256 nodes\n' 'zsched: too many nodes\n' check
 input "[$lost,$lost,$lost,{\"plan\":7,\"runs\":[]}]"
 wants 3 '[3].runs: 1 to 64 runs are wanted, 0 found\n' 'zsched: number out of range\n' check
 input "[$lost,7]"
-wants 3 '[1]: a job is {"plan":PLAN,"runs":[RUN,..]}\n' 'zsched: not a plan\n' check
+wants 3 '[1]: a job is {"plan":PLAN,"runs":[RUN,..]}; found 7\n' 'zsched: not a plan\n' check
 input "[{\"plan\":7,\"runs\":[{\"won\":1},{\"won\":$past_far}]}]"
-wants 3 "[0].runs[1]: a run is {\"won\":CODE} or {\"lost\":CODE}, CODE from 0 to $((past_far - 1))\n" \
+wants 3 "[0].runs[1]: a run is {\"won\":CODE} or {\"lost\":CODE}, CODE from 0 to $((past_far - 1)); \
+found {\"won\":$past_far}\n" \
   'zsched: number out of range\n' check
 input "[$lost,{\"plan\":{\"join\":[\"forever\",null]},\"runs\":[{\"won\":1}]}]"
-wants 3 '[1].plan.join[1]: a plan is a string or an object of one member\n' 'zsched: not a plan\n' check
+wants 3 '[1].plan.join[1]: a plan is a string or an object of one member; found null\n' 'zsched: not a plan\n' check
 { printf '[]'; head -c 1048575 /dev/zero | tr '\0' ' '; } >"$work/in"
 wants 3 '' 'zsched: input too long\n' check
 
 # Standard input that is a folder can't be read, but a bad command line is refused before anything is.
 rm "$work/in"
 mkdir "$work/in"
-wants 4 '' 'zsched: read failed\n' plan
-wants 4 '' 'zsched: read failed\n' pool
-wants 4 '' 'zsched: read failed\n' check
-wants 2 '' 'zsched: bad command line\n' plan --none
-wants 2 '' 'zsched: bad command line\n' pool --workers 17
+for word in plan pool check; do
+  wants 4 '' 'zsched: read failed\nstandard input: Is a directory (os error 21)\n' $word
+done
+bad .. plan --none
+bad .. pool --workers 17
 rmdir "$work/in"
 
-# A full device can't be written.
-printf 'zsched: write failed\n' >"$work/err.want"
+# A full device can't be written, and says why.
+printf 'zsched: write failed\nstandard output: No space left on device (os error 28)\n' >"$work/err.want"
 for word in plan pool check; do
   got=0
   case $word in plan | check) input '"forever"' ;; pool) input '[]' ;; esac
   "$zsched" $word <"$work/in" >/dev/full 2>"$work/err" || got=$?
   [ "$got" = 4 ] && cmp -s "$work/err" "$work/err.want" ||
     { echo "tests/program.sh: zsched $word: a write that fails: status $got" >&2; failed=1; }
+done
+
+# A pipe that nobody reads ends it without a word.
+input '"forever"'
+for words in 'plan --steps 4096' check --help; do
+  got=0
+  exec 3> >(:)
+  wait "$!"
+  # shellcheck disable=SC2086
+  "$zsched" $words <"$work/in" >&3 2>"$work/err" || got=$?
+  exec 3>&-
+  [ "$got" = 4 ] && ! [ -s "$work/err" ] ||
+    { echo "tests/program.sh: zsched $words: a pipe that nobody reads: status $got; errors $(cat "$work/err")" >&2; failed=1; }
 done
 
 if [ "$failed" = 0 ]; then

@@ -234,6 +234,8 @@ tries_zsched() {
   beside tries refuses 0 "$(cat "$top/plans/jittered-back-off.json")" plan --words 7 --inputs 3,5
   beside tries refuses 3 '[{"plan":{"recurs":3},"runs":[{"lost":7},{"won":-1}]}]' pool
   beside tries refuses 3 '[{"plan":"forever","runs":[]}]' pool
+  beside tries refuses 3 '{}' pool
+  beside tries refuses_spared 3 '{"exponental":[100,2]}' plan
   beside tries refuses 2 '' pool --workers 17
   beside tries refuses 2 '' pool --quota 1/2/0
   beside tries refuses 0 "$(cat "$top/plans/back-off.json")" check

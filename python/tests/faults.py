@@ -5,6 +5,7 @@ The tests compare the two. It shares nothing with the engine or the package but 
 
 from __future__ import annotations
 
+import json
 from typing import Any, Dict, List, NamedTuple, Optional, Tuple
 
 from hikebox import FAR, Fault
@@ -142,7 +143,7 @@ def _size(value: Any, place: str) -> Tuple[int, int]:
         lesser, greater = _AT_MOST[name]
         in_range = in_range and numbers[lesser] <= numbers[greater]
     if not in_range:
-        raise Wrong(Fault.OUT_OF_RANGE, place, _spelling(name))
+        raise Wrong(Fault.OUT_OF_RANGE, place, f"{_spelling(name)}; found {_shown(value)}")
     if depth > MOST_DEPTH:
         raise Wrong(Fault.TOO_DEEP, place, f"a plan is at most {MOST_DEPTH} deep")
     if nodes > MOST_NODES:
@@ -155,20 +156,20 @@ def _spelt(value: Any, place: str) -> Tuple[str, List[Any]]:
     if isinstance(value, str):
         if value in NAMES:
             return value, []
-        raise _named(value, place)
+        raise _named(value, value, place)
     if not isinstance(value, dict):
-        raise Wrong(Fault.NOT_A_PLAN, place, _WANTED)
+        raise Wrong(Fault.NOT_A_PLAN, place, f"{_WANTED}; found {_shown(value)}")
     if len(value) != 1:
         raise Wrong(Fault.NOT_A_PLAN, place, f"{_WANTED}, and this has {len(value)}")
     ((name, inner),) = value.items()
     if name not in FORMS:
-        raise _named(name, place)
+        raise _named(name, value, place)
     kinds = FORMS[name].kinds
     items = [inner] if len(kinds) == 1 else inner
     if not isinstance(items, list) or len(items) != len(kinds):
-        raise _named(name, place)
+        raise _named(name, value, place)
     if not all(_has_kind(kind, item) for kind, item in zip(kinds, items)):
-        wrong = _named(name, place)
+        wrong = _named(name, value, place)
         if name == "exponential" and _is_number(items[1]) and not _has_kind("number", items[1]):
             found = wrong.found
             wrong = Wrong(found.fault, place, f'{found.hint}; a factor of 1.5 is 1500 in "exponential_milli"')
@@ -200,10 +201,10 @@ _FOREIGN = {
 }
 
 
-def _named(name: str, place: str) -> Wrong:
+def _named(name: str, value: Any, place: str) -> Wrong:
     """The fault of a node of this name that has not its form, or that there is not."""
     if name in NAMES or name in FORMS:
-        return Wrong(Fault.NOT_A_PLAN, place, _spelling(name))
+        return Wrong(Fault.NOT_A_PLAN, place, f"{_spelling(name)}; found {_shown(value)}")
     if name in _FOREIGN:
         return Wrong(Fault.NOT_A_PLAN, place, f'no node is called "{name}"; did you mean "{_FOREIGN[name]}"?')
     near = [(distance, known) for known in _ALL for distance in [_edits(name, known)] if distance <= 2]
@@ -226,6 +227,23 @@ def _spelling(name: str) -> str:
         said = [_OWN_RANGES[name]]
     inner = items if len(form.kinds) == 1 else f"[{items}]"
     return ", ".join([f'"{name}" is spelt {{"{name}":{inner}}}', *said])
+
+
+def _shown(value: Any) -> str:
+    """What was found, as the engine writes JSON: members in order of their names, at most 60 letters."""
+    text = json.dumps(_as_read(value), ensure_ascii=False, sort_keys=True, separators=(",", ":"))
+    return text if len(text) <= 60 else f"{text[:60]}.."
+
+
+def _as_read(value: Any) -> Any:
+    """The value with each whole number that has no place in 64 bits as a float, as the engine reads it."""
+    if isinstance(value, dict):
+        return {name: _as_read(item) for name, item in value.items()}
+    if isinstance(value, list):
+        return [_as_read(item) for item in value]
+    if isinstance(value, int) and not isinstance(value, bool) and not -(2**63) <= value <= U64:
+        return float(value)
+    return value
 
 
 def _edits(one: str, other: str) -> int:

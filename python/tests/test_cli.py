@@ -253,7 +253,7 @@ def test_plan_beside_zsched() -> None:
 
 
 def test_faults(tmp_path: Path) -> None:
-    recurs = '"recurs" is spelt {"recurs":N}, N from 0 to 4611686018427387903'
+    recurs = '"recurs" is spelt {"recurs":N}, N from 0 to 4611686018427387903; found {"recurs":-1}'
     for text, fault, place, hint in (
         ('{"recurs":-1}', "not a plan", "top", recurs),
         ('{"first":{"recurs":-1}}', "not a plan", "first", recurs),
@@ -264,8 +264,9 @@ def test_faults(tmp_path: Path) -> None:
         assert hikebox("check", text=text) == (3, f"{place}: {hint}\n", f"hikebox: {fault}\n")
     for text in ('{"recurs":3', ""):
         status, output, errors = hikebox("check", text=text)
-        assert (status, errors) == (3, "hikebox: not JSON\n") and output.startswith("not JSON: line 1, column ")
-        assert hikebox("plan", text=text)[0] == 3
+        said = f"not JSON: line 1, column {max(1, len(text))}: the text ends too soon\n"
+        assert (status, output, errors) == (3, said, "hikebox: not JSON\n")
+        assert hikebox("plan", text=text) == (3, "", f"hikebox: {said}")
     assert hikebox("plan", text=" " * (2**20 + 1))[::2] == (3, "hikebox: input too long\n")
     assert hikebox("plan", str(tmp_path))[0] == 4
     assert hikebox("plan", "/no/such/file")[0] == 4

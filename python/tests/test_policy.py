@@ -303,7 +303,7 @@ def test_a_bad_policy_is_refused_with_its_first_fault_and_place(text: str, fault
         Policy.from_json(text)
     assert caught.value.fault is fault
     assert caught.value.place == place
-    assert bool(caught.value.hint) is (fault is not Fault.NOT_JSON)
+    assert caught.value.hint
     again = pickle.loads(pickle.dumps(caught.value))
     assert (again.fault, again.place, again.hint) == (fault, caught.value.place, caught.value.hint)
     assert isinstance(caught.value, ValueError)
@@ -314,28 +314,38 @@ HINTS = [
     ('"never"', 'no node is called "never"'),
     ('"für immer"', 'no node is called "für immer"'),
     (json.dumps("x" * 1000), f'no node is called "{"x" * 1000}"'),
-    ('"recurs"', '"recurs" is spelt {"recurs":N}, N from 0 to 4611686018427387903'),
-    ('{"forever":1}', '"forever" is spelt "forever"'),
-    ('{"meet":[{"recurs":3}]}', '"meet" is spelt {"meet":[PLAN,PLAN]}'),
-    ("7", "a plan is a string or an object of one member"),
+    ('"recurs"', '"recurs" is spelt {"recurs":N}, N from 0 to 4611686018427387903; found "recurs"'),
+    ('{"forever":1}', '"forever" is spelt "forever"; found {"forever":1}'),
+    ('{"meet":[{"recurs":3}]}', '"meet" is spelt {"meet":[PLAN,PLAN]}; found {"meet":[{"recurs":3}]}'),
+    ("7", "a plan is a string or an object of one member; found 7"),
+    ('["für immer"]', 'a plan is a string or an object of one member; found ["für immer"]'),
+    (json.dumps(["x" * 58]), f'a plan is a string or an object of one member; found ["{"x" * 58}..'),
+    (json.dumps(["ü" * 56]), f'a plan is a string or an object of one member; found ["{"ü" * 56}"]'),
     ("{}", "a plan is a string or an object of one member, and this has 0"),
-    ('{"renew":[0,"forever"]}', '"renew" is spelt {"renew":[D,PLAN]}, D from 1 to 4611686018427387903'),
-    ('{"unfold":1}', '"unfold" is spelt {"unfold":[S,M,A]}, each from 0 to 4611686018427387903'),
+    (
+        '{"renew":[0,"forever"]}',
+        '"renew" is spelt {"renew":[D,PLAN]}, D from 1 to 4611686018427387903; found {"renew":[0,"forever"]}',
+    ),
+    ('{"unfold":1}', '"unfold" is spelt {"unfold":[S,M,A]}, each from 0 to 4611686018427387903; found {"unfold":1}'),
     (
         '{"gate":1}',
         '"gate" is spelt {"gate":[SIDE,WANT,TEST,N,PLAN]}, SIDE "input" or "output", WANT true or false, '
-        'TEST "below", "at_least" or "equal", N from 0 to 4611686018427387903',
+        'TEST "below", "at_least" or "equal", N from 0 to 4611686018427387903; found {"gate":1}',
     ),
-    ('{"gather":1}', '"gather" is spelt {"gather":[KIND,PLAN]}, KIND "sum", "count", "max" or "list"'),
-    ('{"ends_by":1}', '"ends_by" is spelt {"ends_by":[D,PLAN]}, D from 0 to 4611686018427387903'),
+    (
+        '{"gather":1}',
+        '"gather" is spelt {"gather":[KIND,PLAN]}, KIND "sum", "count", "max" or "list"; found {"gather":1}',
+    ),
+    ('{"ends_by":1}', '"ends_by" is spelt {"ends_by":[D,PLAN]}, D from 0 to 4611686018427387903; found {"ends_by":1}'),
     (
         '{"decorrelated":1}',
         '"decorrelated" is spelt {"decorrelated":[LANE,D,F,MOST]}, LANE from 0 to 3, D from 0 to MOST, '
-        "F from 1000 to 1000000, MOST from D to 4611686018427387903",
+        'F from 1000 to 1000000, MOST from D to 4611686018427387903; found {"decorrelated":1}',
     ),
     (
         '{"jitter":1}',
-        '"jitter" is spelt {"jitter":[LANE,LEAST,MOST,PLAN]}, LANE from 0 to 3, LEAST at most MOST, MOST at most 10000',
+        '"jitter" is spelt {"jitter":[LANE,LEAST,MOST,PLAN]}, LANE from 0 to 3, LEAST at most MOST, MOST at most 10000; '
+        'found {"jitter":1}',
     ),
 ]
 

@@ -2,12 +2,15 @@
 
 from __future__ import annotations
 
+import fcntl
 import os
 import pty
 import random
 import signal
+import struct
 import subprocess
 import sys
+import termios
 import time
 from pathlib import Path
 from typing import Any, List, Tuple
@@ -143,6 +146,29 @@ def test_control_c_at_the_start_prints_no_traceback(tmp_path: Path) -> None:
     assert process.returncode == -signal.SIGINT
 
 
+def test_control_c_ends_it_while_it_reads_what_it_replays() -> None:
+    words = [*PROGRAM, "run", "--replay-input", "--", "true"]
+    process = subprocess.Popen(
+        words, stdin=subprocess.PIPE, stderr=subprocess.PIPE, env=python_environment(), preexec_fn=heed_signals
+    )
+    # (it reads once the pipe is empty)
+    assert process.stdin is not None
+    process.stdin.write(b"x")
+    process.stdin.flush()
+    until = time.monotonic() + 20
+    while unread(process.stdin.fileno()):
+        assert time.monotonic() < until
+        time.sleep(0.01)
+    process.send_signal(signal.SIGINT)
+    assert process.wait(timeout=20) == -signal.SIGINT
+    assert process.communicate()[1] == b""
+
+
+def unread(pipe: int) -> int:
+    """How many bytes of a pipe nobody has read."""
+    return int(struct.unpack("i", fcntl.ioctl(pipe, termios.FIONREAD, bytes(4)))[0])
+
+
 def test_control_c_that_is_ignored_stays_ignored() -> None:
     program = "import signal, hikebox_program; print(signal.getsignal(signal.SIGINT) == signal.SIG_IGN)"
     script = f"trap '' INT; exec {sys.executable} -c '{program}'"
@@ -192,6 +218,17 @@ def test_a_line_on_a_terminal_tells_the_attempt_and_the_wait() -> None:
     assert on_a_terminal("run", "--quiet", *words) == (7, "")
     assert "\r\033[K" not in on_a_terminal("run", "--verbose", *words)[1]
     assert hikebox("run", *words) == (7, "", "")
+
+
+def test_a_line_is_cut_where_the_terminal_has_no_room() -> None:
+    ours, theirs = terminal()
+    fcntl.ioctl(theirs, termios.TIOCSWINSZ, struct.pack("HHHH", 24, 19, 0, 0))
+    words = [*PROGRAM, "run", "--policy", "recurs(1) & spaced(0.2)", "--", "sh", "-c", "exit 7"]
+    process = subprocess.Popen(words, stderr=theirs, env=python_environment())
+    assert process.wait(timeout=20) == 7
+    assert os.read(ours, 4096) == b"\rhikebox: attempt 1\033[K\r\033[K"
+    os.close(ours)
+    os.close(theirs)
 
 
 def test_a_signal_takes_the_line_away() -> None:

@@ -201,7 +201,7 @@ impl PolicyError {
         &self.place
     }
 
-    /// What is wanted there, in the words of `zsched check`, or nothing.
+    /// What is wanted there and was found, or why it is not JSON, in the words of `zsched check`, or nothing.
     pub fn hint(&self) -> &str {
         &self.hint
     }
@@ -216,7 +216,11 @@ impl PolicyError {
         let fault = PolicyFault::of(status, at);
         let (place, hint) = match fault {
             PolicyFault::NoMemory | PolicyFault::NotJson { line: 0, .. } => Default::default(),
-            PolicyFault::NotJson { line, column } => (format!("line {line}, column {column}"), String::new()),
+            PolicyFault::NotJson { line, column } => {
+                // (it is told as `not JSON: PLACE: REASON`)
+                let reason = told(json).1.split_once(": ").map(|(_, reason)| reason.to_string());
+                (format!("line {line}, column {column}"), reason.unwrap_or_default())
+            }
             _ => told(json),
         };
         Self { fault, place, hint }

@@ -140,10 +140,14 @@ fn faults_are_those_of_the_text() {
 fn a_fault_has_its_place_and_what_is_wanted_there() {
     let deep = format!("{}\"forever\"{}", r#"{"nothing":"#.repeat(33), "}".repeat(33));
     for (json, place, hint) in [
-        ("", "line 1, column 1", ""),
-        ("[\n{\"plan\":]", "line 2, column 9", ""),
-        ("7", "", "a plan is a string or an object of one member"),
-        (r#"{"fixed":0}"#, "", r#""fixed" is spelt {"fixed":D}, D from 1 to 4611686018427387903"#),
+        ("", "line 1, column 1", "the text ends too soon"),
+        ("[\n{\"plan\":]", "line 2, column 9", "what stands here is not JSON, or is nested more than 127 deep"),
+        ("7", "", "a plan is a string or an object of one member; found 7"),
+        (
+            r#"{"fixed":0}"#,
+            "",
+            r#""fixed" is spelt {"fixed":D}, D from 1 to 4611686018427387903; found {"fixed":0}"#,
+        ),
         (
             r#"{"meet":["forever",{"cap":[5,{"exponental":[1,2]}]}]}"#,
             "meet[1].cap[1]",
@@ -156,8 +160,8 @@ fn a_fault_has_its_place_and_what_is_wanted_there() {
         assert_eq!((error.place(), error.hint()), (place, hint), "{json}");
     }
     let shown = |json: &str| Policy::from_json(json).unwrap_err().to_string();
-    assert_eq!(shown("7"), "not a policy: a plan is a string or an object of one member");
-    assert_eq!(shown(r#"{"recurs":3"#), "not JSON: line 1, column 11");
+    assert_eq!(shown("7"), "not a policy: a plan is a string or an object of one member; found 7");
+    assert_eq!(shown(r#"{"recurs":3"#), "not JSON: line 1, column 11: the text ends too soon");
 }
 
 #[test]

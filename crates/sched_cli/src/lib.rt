@@ -1,8 +1,13 @@
-//! The command-line interface of the program `zsched`, under one name: the words of its command line, what it prints of
-//! plans and of pools, and what it tells of texts.
+//! The command-line interface of the program `zsched`, under one name: the words of its command line, what it does with
+//! an input, what it prints of plans and of pools and tells of texts, and what it tells where it stops.
 #![tactic(auto)]
 
-pub use sched_cli_check::print_check;
+mod answers;
+mod stops;
+mod texts;
+
+pub use answers::answer;
+pub use sched_cli_check::{jobs_fault, print_check};
 pub use sched_cli_plan::{
     Counted, LONGEST_INPUT, MOST_STEPS, PlanCourse, PlanOptions, PrintFault, Sink, Source,
     print_course, print_plan,
@@ -12,3 +17,4 @@ pub use sched_cli_words::{
     Asked, MOST_TICKETS, MOST_TURNS, MOST_WORKERS, Origin, PoolOptions, QuotaOptions, WordsFault,
     read_words,
 };
+pub use stops::{Stop, Told};

@@ -21,7 +21,7 @@ use Rattle.sched_cli_check.specs.declared.reports.Report.TheVariants.{Read, Refu
 
 pub tells_plan : (d : Data) (found : Fault) (t : ToldFault) (text : List ℕ) → IsPlanFault d found → IsTold found t → text ≡ told_text t ++ codes "\n" →
     TellsPlanFault d found.fault text
-tells_plan d found (what.NotJson line column) text is at is_line = absurd at
+tells_plan d found (what.NotJson line column why) text is at is_line = absurd at
 tells_plan d found (what.Refused fault place hint) text is at is_line = record {
   place = place_of found.place.items;
   value = view found.value.now;
@@ -34,7 +34,7 @@ tells_plan d found (what.Refused fault place hint) text is at is_line = record {
 
 pub tells_jobs : (d : Data) (found : Fault) (t : ToldFault) (text : List ℕ) → IsJobsFault d found → IsTold found t → text ≡ told_text t ++ codes "\n" →
     TellsJobsFault d found.fault text
-tells_jobs d found (what.NotJson line column) text is at is_line = absurd at
+tells_jobs d found (what.NotJson line column why) text is at is_line = absurd at
 tells_jobs d found (what.Refused fault place hint) text is at is_line = record {
   place = place_of found.place.items;
   value = view found.value.now;

@@ -2,7 +2,9 @@
 #![tactic(auto)]
 
 mod hints;
+mod jobs_faults;
 mod printing;
 mod reports;
 
+pub use jobs_faults::jobs_fault;
 pub use printing::print_check;

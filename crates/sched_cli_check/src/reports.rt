@@ -4,11 +4,11 @@ ghost use Rattle.serde_json.specs.View.{view};
 ghost use Rattle.sched_cli_check.specs.Reporting.{IsReport, Reports, ReportsPlan, ReportsJobs};
 ghost use Rattle.sched_plan_hint.specs.Faults.{told_text};
 
-use crate::hints::push_jobs_hint;
+use crate::jobs_faults::tell_jobs_fault;
 use sched_plan::Plan;
 use sched_plan_bound::most_goes;
 use sched_plan_check::{PlanChecked, check_plan};
-use sched_plan_hint::{ToldFault, tell_fault, tell_plan_fault};
+use sched_plan_hint::{ToldFault, tell_no_json, tell_plan_fault};
 use sched_plan_json::ReadFault;
 use sched_pool_check::{JobsChecked, check_jobs};
 use sched_pool_json::JobRead;
@@ -37,10 +37,7 @@ pub(crate) fn report_bytes(alloc: Global, bytes: &[u8]) -> Result<Report, NoMemo
         Ok(value) => report_value(alloc, &value),
         Err(error) if error.is_memory() => Err(NoMemory),
         Err(error) => {
-            let told = ToldFault::NotJson {
-                line: error.line(),
-                column: error.column().max(1),
-            };
+            let told = tell_no_json(alloc, &error)?;
             let text = fault_line(alloc, &told)?;
             Ok(Report::NotJson(text))
         }
@@ -90,9 +87,7 @@ fn report_jobs(alloc: Global, value: &Value) -> Result<Report, NoMemory>
             Ok(Report::Read(text))
         }
         JobsChecked::Fault(found) => {
-            let mut hint = String::new(alloc);
-            push_jobs_hint(alloc, &mut hint, found)?;
-            let told = tell_fault(alloc, found, hint)?;
+            let told = tell_jobs_fault(alloc, found)?;
             let text = fault_line(alloc, &told)?;
             Ok(Report::Refused(found.fault, text))
         }

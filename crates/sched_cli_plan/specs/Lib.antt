@@ -1,4 +1,5 @@
 pub mod Counted
+pub mod Again
 pub mod Failures
 pub mod PrintStatus
 pub mod Refusal

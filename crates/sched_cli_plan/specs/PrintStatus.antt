@@ -1,4 +1,4 @@
-use Rattle.std.specs.Prelude.{ℕ}
+use Rattle.std.specs.Prelude.{ℕ, List, codes}
 use Rattle.sched_cli_plan.specs.declared.faults.PrintFault.{PrintFault}
 use Rattle.sched_cli_plan.specs.declared.faults.PrintFault.TheVariants as print
 
@@ -13,3 +13,15 @@ print_status print.TooMany = 3
 print_status print.ReadFailed = 4
 print_status print.WriteFailed = 4
 print_status print.NoMemory = 5
+
+-- the line that the program tells of it on standard error
+abbrev pub print_line : PrintFault → List ℕ
+print_line print.ReadFailed = codes "zsched: read failed"
+print_line print.TooLong = codes "zsched: input too long"
+print_line print.NotJson = codes "zsched: not JSON"
+print_line print.NotAPlan = codes "zsched: not a plan"
+print_line print.OutOfRange = codes "zsched: number out of range"
+print_line print.TooDeep = codes "zsched: too deep"
+print_line print.TooMany = codes "zsched: too many nodes"
+print_line print.NoMemory = codes "zsched: no memory"
+print_line print.WriteFailed = codes "zsched: write failed"

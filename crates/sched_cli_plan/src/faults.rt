@@ -2,37 +2,29 @@ use sched_plan::PlanFault;
 use sched_plan_json::ReadFault;
 use sched_time::NoMemory;
 use std::alloc::AllocError;
-use thiserror::Error;
+use std::error::Error;
+use std::fmt;
 
 /// Why printing from a reader to a writer stopped.
-#[derive(Clone, Copy, Debug, PartialEq, Eq, Error)]
+#[derive(Clone, Copy, Debug, PartialEq, Eq)]
 pub enum PrintFault {
     /// A read failed. Nothing was written.
-    #[error("zsched: read failed")]
     ReadFailed,
     /// The input has more than 1,048,576 bytes. Nothing was written.
-    #[error("zsched: input too long")]
     TooLong,
     /// The input is no JSON text. Nothing was written.
-    #[error("zsched: not JSON")]
     NotJson,
     /// The input is JSON, but no plan or no jobs. Nothing was written.
-    #[error("zsched: not a plan")]
     NotAPlan,
     /// A number lies outside its range. Nothing was written.
-    #[error("zsched: number out of range")]
     OutOfRange,
     /// A plan is deeper than 32. Nothing was written.
-    #[error("zsched: too deep")]
     TooDeep,
     /// A plan has more than 256 nodes. Nothing was written.
-    #[error("zsched: too many nodes")]
     TooMany,
     /// A growth was refused. A front of the text may have been written.
-    #[error("zsched: no memory")]
     NoMemory,
     /// A write failed. A front of the text was written.
-    #[error("zsched: write failed")]
     WriteFailed,
 }
 
@@ -56,6 +48,30 @@ impl PrintFault {
         }
     }
 }
+
+// The line that the program tells of it, without a line feed.
+impl fmt::Display for PrintFault {
+    ghost use Rattle.std.specs.Prelude.{Some};
+    ghost use Rattle.sched_cli_plan.specs.PrintStatus.{print_line};
+
+    ghost output = { λ fault. Some (print_line fault) };
+
+    fn fmt<W: fmt::Write>(&self, f: &mut fmt::Formatter<W>) -> fmt::Result {
+        f.write_str(match self {
+            PrintFault::ReadFailed => "zsched: read failed",
+            PrintFault::TooLong => "zsched: input too long",
+            PrintFault::NotJson => "zsched: not JSON",
+            PrintFault::NotAPlan => "zsched: not a plan",
+            PrintFault::OutOfRange => "zsched: number out of range",
+            PrintFault::TooDeep => "zsched: too deep",
+            PrintFault::TooMany => "zsched: too many nodes",
+            PrintFault::NoMemory => "zsched: no memory",
+            PrintFault::WriteFailed => "zsched: write failed",
+        })
+    }
+}
+
+impl Error for PrintFault {}
 
 impl From<AllocError> for PrintFault {
     ghost use Rattle.sched_cli_plan.specs.declared.faults.PrintFault.TheVariants.{NoMemory};

@@ -2,6 +2,7 @@
 //! each event.
 #![tactic(auto)]
 
+mod again;
 mod counts;
 mod faults;
 mod options;
@@ -9,6 +10,7 @@ mod printing;
 mod streams;
 mod whole;
 
+pub use again::Given;
 pub use counts::Counted;
 pub use faults::PrintFault;
 pub use options::{MOST_STEPS, PlanCourse, PlanOptions};

@@ -1,5 +1,5 @@
-use Rattle.std.specs.Prelude.{ℕ}
-use Rattle.sched_cli_plan.specs.PrintStatus.{print_status}
+use Rattle.std.specs.Prelude.{ℕ, List, codes}
+use Rattle.sched_cli_plan.specs.PrintStatus.{print_line, print_status}
 use Rattle.sched_cli_pool.specs.declared.faults.PoolFault.{PoolFault}
 use Rattle.sched_cli_pool.specs.declared.faults.PoolFault.TheVariants.{Print, NotStarted, Unfinished, Mixed}
 
@@ -9,3 +9,10 @@ pool_status (Print fault) = print_status fault
 pool_status Unfinished = 6
 pool_status NotStarted = 7
 pool_status Mixed = 8
+
+-- the line that the program tells of it on standard error
+abbrev pub pool_line : PoolFault → List ℕ
+pool_line (Print fault) = print_line fault
+pool_line Unfinished = codes "zsched: not finished"
+pool_line NotStarted = codes "zsched: worker not started"
+pool_line Mixed = codes "zsched: jobs mixed up"

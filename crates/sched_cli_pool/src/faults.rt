@@ -1,21 +1,18 @@
 use sched_cli_plan::PrintFault;
 use sched_time::NoMemory;
-use thiserror::Error;
+use std::error::Error;
+use std::fmt;
 
 /// Why printing a pool from a reader to a writer stopped.
-#[derive(Clone, Copy, Debug, PartialEq, Eq, Error)]
+#[derive(Clone, Copy, Debug, PartialEq, Eq)]
 pub enum PoolFault {
     /// Reading the jobs or writing their text stopped, as it does of a plan, or memory was refused while they ran.
-    #[error(transparent)]
     Print(PrintFault),
     /// The system started no thread. Nothing was written.
-    #[error("zsched: worker not started")]
     NotStarted,
     /// A job did not end as won, schedule done or budget refused. The whole text was written.
-    #[error("zsched: not finished")]
     Unfinished,
     /// An ended job is not the one read at its place. Nothing was written.
-    #[error("zsched: jobs mixed up")]
     Mixed,
 }
 
@@ -35,6 +32,25 @@ impl PoolFault {
         }
     }
 }
+
+// The line that the program tells of it, without a line feed.
+impl fmt::Display for PoolFault {
+    ghost use Rattle.std.specs.Prelude.{Some};
+    ghost use Rattle.sched_cli_pool.specs.PoolStatus.{pool_line};
+
+    ghost output = { λ fault. Some (pool_line fault) };
+
+    fn fmt<W: fmt::Write>(&self, f: &mut fmt::Formatter<W>) -> fmt::Result {
+        match self {
+            PoolFault::Print(fault) => fmt::Display::fmt(fault, f),
+            PoolFault::Unfinished => f.write_str("zsched: not finished"),
+            PoolFault::NotStarted => f.write_str("zsched: worker not started"),
+            PoolFault::Mixed => f.write_str("zsched: jobs mixed up"),
+        }
+    }
+}
+
+impl Error for PoolFault {}
 
 impl From<PrintFault> for PoolFault {
     ghost use Rattle.sched_cli_pool.specs.declared.faults.PoolFault.TheVariants.{Print};

@@ -6,3 +6,4 @@ mod fault_lines;
 mod origins;
 mod printed_pools;
 mod quotas;
+mod stops;

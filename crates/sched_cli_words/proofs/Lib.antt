@@ -1,1 +1,2 @@
 pub mod Fours
+pub mod Spelt

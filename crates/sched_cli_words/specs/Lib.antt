@@ -2,3 +2,4 @@ pub mod Seeded
 pub mod Options
 pub mod Status
 pub mod Quotas
+pub mod QuotaSpelling

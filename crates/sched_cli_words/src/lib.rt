@@ -7,6 +7,7 @@ mod faults;
 mod options;
 mod quota_words;
 mod quotas;
+mod reasons;
 mod seeded;
 mod words;
 

@@ -4,7 +4,8 @@ ghost use Rattle.sched_cli_words.specs.Options.{AreInRange, AreInputs, AreWordsF
 use crate::commands::zsched_command;
 use crate::faults::WordsFault;
 use crate::options::{Asked, MOST_TICKETS, MOST_TURNS, MOST_WORKERS, Origin, PoolOptions};
-use crate::quota_words::quota_options;
+use crate::quota_words::{bad_quota, quota_options, terms_in};
+use crate::reasons::reason;
 use crate::seeded::seeded_words;
 use clap::error::ErrorKind;
 use clap::{ArgMatches, Error};
@@ -12,11 +13,18 @@ use sched_cli_plan::{MOST_STEPS, PlanCourse, PlanOptions};
 use sched_time::{Millis, Moment};
 use std::alloc::{AllocError, Global};
 
+// What is told where clap has let pass what it should not.
+const OUT_OF_RANGE: &str = "a value is missing or out of its range";
+
+const QUOTA_ON_THREADS: &str =
+    "the argument '--quota <RESERVE/SHARE%/PERIOD>' cannot be used with '--workers <N>' \
+     of more than 1: jobs on a quota run on one thread";
+
 /// Reads a command line, with the program's own name as its first word.
 ///
-/// Refused with `Bad` where the subcommand is missing or unknown, an option is unknown, comes twice, lacks its value or
-/// stands beside one that takes its place, or a value is no decimal number in its range; with `Help` and the text to
-/// show where help or the version was asked for; and with `NoMemory`.
+/// Refused with `Bad`, and a line that says why, where the subcommand is missing or unknown, an option is unknown, comes
+/// twice, lacks its value or stands beside one that takes its place, or a value is no decimal number in its range; with
+/// `Help` and the text to show where help or the version was asked for; and with `NoMemory`.
 pub fn read_words(alloc: Global, words: &[&str]) -> Result<Asked, WordsFault>
     ensures { IfOk result IsAskedInRange }
 {
@@ -30,13 +38,15 @@ pub fn read_words(alloc: Global, words: &[&str]) -> Result<Asked, WordsFault>
 fn asked(alloc: Global, matches: &ArgMatches<'_>) -> Result<Asked, WordsFault>
     ensures { IfOk result IsAskedInRange }
 {
-    let (name, options) = matches.subcommand().ok_or(WordsFault::Bad)?;
+    let Some((name, options)) = matches.subcommand() else {
+        return Err(WordsFault::bad(alloc, "a command is wanted"));
+    };
     let origin = origin(alloc, options)?;
     match name {
         "plan" => plan(alloc, options, origin),
-        "pool" => pool(options, origin),
+        "pool" => pool(alloc, options, origin),
         "check" => Ok(Asked::Check(origin)),
-        _ => Err(WordsFault::Bad),
+        _ => Err(WordsFault::bad(alloc, "there is no such command")),
     }
 }
 
@@ -52,7 +62,9 @@ fn origin(alloc: Global, options: &ArgMatches<'_>) -> Result<Origin, AllocError>
 fn plan(alloc: Global, options: &ArgMatches<'_>, origin: Origin) -> Result<Asked, WordsFault>
     ensures { IfOk result IsAskedInRange }
 {
-    let plain = plan_options(options).ok_or(WordsFault::Bad)?;
+    let Some(plain) = plan_options(options) else {
+        return Err(WordsFault::bad(alloc, OUT_OF_RANGE));
+    };
     if !options.contains_id("inputs") && !options.contains_id("words") {
         return Ok(Asked::Plan(plain, origin));
     }
@@ -60,7 +72,7 @@ fn plan(alloc: Global, options: &ArgMatches<'_>, origin: Origin) -> Result<Asked
     let words = words_of(alloc, options, plain.steps, plain.word)?;
     match PlanCourse::new(plain.steps, plain.from, plain.took, inputs, words) {
         Some(course) => Ok(Asked::Course(course, origin)),
-        None => Err(WordsFault::Bad),
+        None => Err(WordsFault::bad(alloc, OUT_OF_RANGE)),
     }
 }
 
@@ -93,8 +105,13 @@ fn inputs(alloc: Global, options: &ArgMatches<'_>, input: Millis) -> Result<Vec<
     };
     let mut inputs = Vec::new(alloc);
     for number in given {
-        let number = number.map_err(|_| WordsFault::Bad)?;
-        let input = Millis::new(number).ok_or(WordsFault::Bad)?;
+        let input = match number {
+            Ok(number) => Millis::new(number),
+            Err(_) => None,
+        };
+        let Some(input) = input else {
+            return Err(WordsFault::bad(alloc, OUT_OF_RANGE));
+        };
         if inputs.push(input).is_err() {
             return Err(WordsFault::NoMemory);
         }
@@ -118,18 +135,33 @@ fn words_of(
 }
 
 // A pool on a quota where one is given, or else on a budget.
-fn pool(options: &ArgMatches<'_>, origin: Origin) -> Result<Asked, WordsFault>
+fn pool(alloc: Global, options: &ArgMatches<'_>, origin: Origin) -> Result<Asked, WordsFault>
     ensures { IfOk result IsAskedInRange }
 {
     match options.get_str("quota") {
-        Some(text) => {
-            let quota = quota_options(options, text).ok_or(WordsFault::Bad)?;
-            Ok(Asked::Quota(quota, origin))
-        }
-        None => {
-            let budget = pool_options(options).ok_or(WordsFault::Bad)?;
-            Ok(Asked::Pool(budget, origin))
-        }
+        Some(text) => quota_pool(alloc, options, text, origin),
+        None => match pool_options(options) {
+            Some(budget) => Ok(Asked::Pool(budget, origin)),
+            None => Err(WordsFault::bad(alloc, OUT_OF_RANGE)),
+        },
+    }
+}
+
+// A pool on the quota that a text spells.
+fn quota_pool(
+    alloc: Global,
+    options: &ArgMatches<'_>,
+    text: &str,
+    origin: Origin,
+) -> Result<Asked, WordsFault>
+    ensures { IfOk result IsAskedInRange }
+{
+    let Some(terms) = terms_in(text) else {
+        return Err(bad_quota(alloc, text));
+    };
+    match quota_options(options, terms) {
+        Some(quota) => Ok(Asked::Quota(quota, origin)),
+        None => Err(WordsFault::bad(alloc, QUOTA_ON_THREADS)),
     }
 }
 
@@ -156,6 +188,9 @@ fn refused(alloc: Global, error: &Error) -> WordsFault {
             Ok(text) => WordsFault::Help(text),
             Err(_) => WordsFault::NoMemory,
         },
-        _ => WordsFault::Bad,
+        _ => match reason(alloc, error) {
+            Ok(why) => WordsFault::Bad(why),
+            Err(_) => WordsFault::NoMemory,
+        },
     }
 }

@@ -8,19 +8,26 @@ use Rattle.sched_plan_check.specs.Places.{Into, place_of, value_at}
 use Rattle.sched_plan_check.specs.PlanFaults.{IsPlan, FirstFault}
 use Rattle.sched_plan_check.specs.declared.places.Fault.{Fault}
 use Rattle.sched_plan_hint.specs.PlaceText.{place_text}
+use Rattle.sched_plan_hint.specs.JsonFaults.{json_words}
 use Rattle.sched_plan_hint.specs.declared.faults.ToldFault.{ToldFault}
 use Rattle.sched_plan_hint.specs.declared.faults.ToldFault.TheVariants.{NotJson, Refused}
 
--- `not JSON: line LINE, column COLUMN`, or `PLACE: HINT`
+-- `not JSON: line LINE, column COLUMN: REASON`, or `PLACE: HINT`
 abbrev pub told_text : ToldFault → List ℕ
-told_text (NotJson line column) = codes "not JSON: line " ++ decimal line ++ codes ", column " ++ decimal column
+told_text (NotJson line column why) =
+    codes "not JSON: line " ++ decimal line ++ codes ", column " ++ decimal column ++ codes ": " ++ json_words why
 told_text (Refused fault place hint) = string_bytes place ++ codes ": " ++ string_bytes hint
 
 -- the fault and the text of its place are told
 abbrev pub IsTold : Fault → ToldFault → Type 0
-IsTold found (NotJson line column) = ⊥
+IsTold found (NotJson line column why) = ⊥
 IsTold found (Refused fault place hint) =
     (fault ≡ found.fault) × (string_bytes place ≡ place_text (place_of found.place.items))
+
+-- it is told that the text is no JSON
+abbrev pub IsNoJson : ToldFault → Type 0
+IsNoJson (NotJson line column why) = Unit {0}
+IsNoJson (Refused fault place hint) = ⊥
 
 -- the fault is that of reading the value as a plan, and this is the text of a place that leads to a value that has it,
 -- the first one
@@ -37,9 +44,9 @@ pub record IsFaultAt (d : Data) (fault : ReadFault) (text : List ℕ) : Type 0 w
 abbrev pub TellsFault : Data → Option ToldFault → Type 0
 TellsFault d None = IsPlan d
 TellsFault d (Some (Refused fault place hint)) = IsFaultAt d fault (string_bytes place)
-TellsFault d (Some (NotJson line column)) = ⊥
+TellsFault d (Some (NotJson line column why)) = ⊥
 
 -- what is told of bytes: that they are no JSON, or what is told of the value that they spell
 abbrev pub FindsFault : List ℕ → Option ToldFault → Type 0
-FindsFault bytes (Some (NotJson line column)) = SpellsNothing bytes
+FindsFault bytes (Some (NotJson line column why)) = SpellsNothing bytes
 FindsFault bytes found = Spells bytes (λ d. TellsFault d found)

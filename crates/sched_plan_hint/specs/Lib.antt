@@ -1,2 +1,3 @@
 pub mod PlaceText
+pub mod JsonFaults
 pub mod Faults

@@ -1,4 +1,5 @@
-//! What is wanted where a plan has its fault. Nothing is proved of these texts.
+//! What is wanted where a plan has its fault, and what was found. Nothing is proved of these texts.
+use crate::found::push_found;
 use crate::nodes::{foreign, nearest, spelling};
 use sched_plan::PlanFault;
 use sched_plan_json::ReadFault;
@@ -9,7 +10,7 @@ use std::fmt::Write;
 
 const PLAN_WANTED: &str = "a plan is a string or an object of one member";
 
-/// Adds what is wanted where a plan has this fault, at this value. Fails only with `NoMemory`.
+/// Adds what is wanted where a plan has this fault, at this value, and what was found. Fails only with `NoMemory`.
 pub fn push_plan_hint(
     alloc: Global,
     text: &mut String,
@@ -29,28 +30,36 @@ pub fn push_plan_hint(
 // Adds how the node is spelt that the value should be.
 fn push_form_hint(alloc: Global, text: &mut String, value: &Value) -> Result<(), NoMemory> {
     match value {
-        Value::String(name) => push_name_hint(alloc, text, name.as_str())?,
+        Value::String(name) => push_name_hint(alloc, text, name.as_str(), value)?,
         Value::Object(members) => {
             let count = members.len();
             let mut members = members.iter();
             match (members.next(), members.next()) {
-                (Some((name, value)), None) => {
-                    push_name_hint(alloc, text, name.as_str())?;
-                    push_fraction_hint(text, name.as_str(), value)?;
+                (Some((name, inner)), None) => {
+                    push_name_hint(alloc, text, name.as_str(), value)?;
+                    push_fraction_hint(text, name.as_str(), inner)?;
                 }
                 _ => write!(text, "{PLAN_WANTED}, and this has {count}")?,
             }
         }
-        _ => text.push_str(PLAN_WANTED)?,
+        _ => {
+            text.push_str(PLAN_WANTED)?;
+            push_found(alloc, text, value)?;
+        }
     }
     Ok(())
 }
 
-// Adds how the node of this name is spelt, or that there is none, with the nearest name.
-fn push_name_hint(alloc: Global, text: &mut String, name: &str) -> Result<(), NoMemory> {
+// Adds how the node of this name is spelt and what was found, or that there is none, with the nearest name.
+fn push_name_hint(
+    alloc: Global,
+    text: &mut String,
+    name: &str,
+    value: &Value,
+) -> Result<(), NoMemory> {
     if let Some(form) = spelling(name) {
         write!(text, "\"{name}\" is spelt {form}")?;
-        return Ok(());
+        return push_found(alloc, text, value);
     }
     write!(text, "no node is called \"{name}\"")?;
     let near = match foreign(name) {

@@ -2,12 +2,16 @@
 #![tactic(auto)]
 
 mod faults;
+mod found;
 mod hints;
+mod json_faults;
 mod nodes;
 mod places;
 #[cfg(test)]
 mod tests;
 
-pub use faults::{ToldFault, plan_fault, tell_fault, tell_plan_fault};
+pub use faults::{ToldFault, plan_fault, tell_fault, tell_no_json, tell_plan_fault};
+pub use found::push_found;
 pub use hints::push_plan_hint;
+pub use json_faults::JsonFault;
 pub use places::push_place;

@@ -18,16 +18,25 @@ fn says(rt: &impl Abort, alloc: Global, text: &str, wanted: &str) -> Result<(), 
 fn a_plan_has_no_fault_and_another_text_its_first(rt: HostRuntime) -> Result<(), Fail> {
     let table = [
         (r#"{"recurs":3}"#, ""),
-        (r#"{"recurs":3"#, "not JSON: line 1, column 11"),
-        ("[\n{\"plan\":]", "not JSON: line 2, column 9"),
-        ("[]", "top: a plan is a string or an object of one member"),
+        (
+            r#"{"recurs":3"#,
+            "not JSON: line 1, column 11: the text ends too soon",
+        ),
+        (
+            "[\n{\"plan\":]",
+            "not JSON: line 2, column 9: what stands here is not JSON, or is nested more than 127 deep",
+        ),
+        (
+            "[]",
+            "top: a plan is a string or an object of one member; found []",
+        ),
         (
             r#"{"meet":["forever",{"cap":[5,{"exponental":[1,2]}]}]}"#,
             "meet[1].cap[1]: no node is called \"exponental\"; did you mean \"exponential\"?",
         ),
         (
             r#"{"first":{"join":[{"fixed":0},"never"]}}"#,
-            "first.join[0]: \"fixed\" is spelt {\"fixed\":D}, D from 1 to 4611686018427387903",
+            "first.join[0]: \"fixed\" is spelt {\"fixed\":D}, D from 1 to 4611686018427387903; found {\"fixed\":0}",
         ),
         (
             r#"{"and":[]}"#,
@@ -44,7 +53,7 @@ fn a_plan_has_no_fault_and_another_text_its_first(rt: HostRuntime) -> Result<(),
         (
             r#"{"exponential":[100,1.5]}"#,
             "top: \"exponential\" is spelt {\"exponential\":[D,F]}, D from 0 to 4611686018427387903, F from 1 to 1000; \
-             a factor of 1.5 is 1500 in \"exponential_milli\"",
+             found {\"exponential\":[100,1.5]}; a factor of 1.5 is 1500 in \"exponential_milli\"",
         ),
     ];
     for (text, wanted) in &table {

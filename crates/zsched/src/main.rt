@@ -3,12 +3,9 @@
 
 ghost use Rattle.std.specs.Prelude.{◌≡◌, MatchResult};
 ghost use Rattle.std.specs.Process.{exit_status};
-ghost use Rattle.sched_cli_pool.specs.PoolStatus.{pool_status};
+ghost use Rattle.sched_cli.specs.Stops.{stop_status};
 
-use sched_cli::{
-    Asked, Counted, Origin, PoolFault, PrintFault, WordsFault, print_check, print_course,
-    print_plan, print_pool, print_quota_pool, read_words,
-};
+use sched_cli::{Asked, Counted, Origin, Stop, WordsFault, answer, read_words};
 use std::alloc::{AllocGlobal, Global};
 use std::env;
 use std::fs::File;
@@ -23,16 +20,19 @@ fn main(rt: HostRuntime) -> ExitCode {
         Ok(asked) => match asked.origin() {
             Origin::StandardInput => ended(
                 &rt,
-                answer(&rt, rt.alloc(), rt.stdin(), rt.stdout(), &asked),
+                run(&rt, rt.alloc(), rt.stdin(), rt.stdout(), &asked),
             ),
-            Origin::File(name) => match open(&rt, name.as_str()) {
-                Ok(file) => ended(&rt, answer(&rt, rt.alloc(), file, rt.stdout(), &asked)),
-                Err(fault) => ended(&rt, Err(PoolFault::Print(fault))),
+            Origin::File(name) => match File::open(&rt, name.as_str()) {
+                Ok(file) => ended(&rt, run(&rt, rt.alloc(), file, rt.stdout(), &asked)),
+                Err(error) => {
+                    let stop = Stop::unopened(rt.alloc(), name.as_str(), error);
+                    ended(&rt, Err(stop))
+                }
             },
         },
         Err(WordsFault::Help(text)) => match print!(rt; "{text}") {
             Ok(()) => ExitCode::SUCCESS,
-            Err(_) => ended(&rt, Err(PoolFault::Print(PrintFault::WriteFailed))),
+            Err(error) => ended(&rt, Err(Stop::unwritten(rt.alloc(), error))),
         },
         Err(fault) => {
             let _ = eprintln!(rt; "{fault}");
@@ -46,7 +46,7 @@ fn asked(rt: &HostRuntime) -> Result<Asked, WordsFault> {
     let words = match env::args(rt) {
         Ok(words) => words,
         Err(error) if error.kind() == ErrorKind::OutOfMemory => return Err(WordsFault::NoMemory),
-        Err(_) => return Err(WordsFault::Bad),
+        Err(_) => return Err(WordsFault::bad(rt.alloc(), "a word is not UTF-8")),
     };
     let mut owned = Vec::new(rt.alloc());
     for word in words {
@@ -63,47 +63,33 @@ fn asked(rt: &HostRuntime) -> Result<Asked, WordsFault> {
     read_words(rt.alloc(), &texts)
 }
 
-// The file of this name, to be read.
-fn open(rt: &HostRuntime, name: &str) -> Result<File, PrintFault> {
-    match File::open(rt, name) {
-        Ok(file) => Ok(file),
-        Err(error) if error.kind() == ErrorKind::OutOfMemory => Err(PrintFault::NoMemory),
-        Err(_) => Err(PrintFault::ReadFailed),
-    }
-}
-
-// Does what is asked for: reads a text and writes what is printed of it.
-fn answer<R, S: Read + Drop, W: Write + Drop>(
+// Does what is asked for with the text of this reader.
+fn run<R, S: Read + Drop, W: Write + Drop>(
     rt: &R,
     alloc: Global,
     reader: S,
     writer: W,
     asked: &Asked,
-) -> Result<(), PoolFault>
+) -> Result<(), Stop>
 where
     R: Threads + Wait + RandomSource + AllocGlobal + Sync,
 {
     let mut reader = Counted::new(reader);
     let mut writer = Counted::new(writer);
-    match asked {
-        Asked::Plan(options, _) => print_plan(alloc, &mut reader, &mut writer, options)?,
-        Asked::Course(course, _) => print_course(alloc, &mut reader, &mut writer, course)?,
-        Asked::Pool(options, _) => print_pool(rt, alloc, &mut reader, &mut writer, options)?,
-        Asked::Quota(options, _) => print_quota_pool(rt, alloc, &mut reader, &mut writer, options)?,
-        Asked::Check(_) => print_check(alloc, &mut reader, &mut writer)?,
-    }
-    Ok(())
+    answer(rt, alloc, &mut reader, &mut writer, asked)
 }
 
-// The status of what was printed, with its line on standard error where it stopped at a fault.
-fn ended(rt: &HostRuntime, printed: Result<(), PoolFault>) -> ExitCode
-    ensures { MatchResult printed (λ _. exit_status result ≡ 0) (λ fault. exit_status result ≡ pool_status fault) }
+// The status of what was printed, with what is told on standard error where it stopped at a fault.
+fn ended(rt: &HostRuntime, printed: Result<(), Stop>) -> ExitCode
+    ensures { MatchResult printed (λ _. exit_status result ≡ 0) (λ stop. exit_status result ≡ stop_status stop) }
 {
     match printed {
         Ok(()) => ExitCode::SUCCESS,
-        Err(fault) => {
-            let _ = eprintln!(rt; "{fault}");
-            ExitCode::from(fault.status())
+        Err(stop) => {
+            if !stop.is_quiet() {
+                let _ = eprintln!(rt; "{stop}");
+            }
+            ExitCode::from(stop.status())
         }
     }
 }

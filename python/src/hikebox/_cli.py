@@ -14,7 +14,7 @@ from ._plan_picture import plan_picture
 from ._run import RunOptions, run_command
 from ._seeded import seeded
 from ._time import FAR, milliseconds
-from .errors import BudgetError, PolicyError
+from .errors import BudgetError, Fault, PolicyError
 from .policy import Policy
 from .version import VERSION
 
@@ -179,8 +179,7 @@ def _check(given: Any) -> int:
     try:
         policy = _policy(given.file)
     except PolicyError as error:
-        place = error.place if error.hint and error.place else "top" if error.hint else error.fault.value
-        _prints(f"{place}: {error.hint or error.place}\n")
+        _prints(f"{error}\n" if error.fault is Fault.NOT_JSON else f"{error.place or 'top'}: {error.hint}\n")
         return _fails(error.fault.value, BAD_INPUT)
     nodes = "1 node" if policy.nodes == 1 else f"{policy.nodes} nodes"
     most = policy.most_retries

@@ -202,10 +202,12 @@ def _text(call: str, fill: Callable[[Any, int, Any], int]) -> bytes:
 
 def _refusal(status: int, text: bytes, place: Place) -> Refusal:
     """Why this text is no policy, which was refused with this status."""
-    if status == NOT_JSON:
-        return Refusal(status, f"line {place.line}, column {place.column}" if place.line else "", "")
     fault = _text("hikebox_policy_fault", lambda *room: library.hikebox_policy_fault(text, len(text), *room))
     where, _, wanted = fault.decode().partition(": ")
+    if status == NOT_JSON:
+        # (it is told as `not JSON: PLACE: REASON`)
+        where, _, wanted = wanted.partition(": ")
+        return Refusal(status, where if place.line else "", wanted)
     return Refusal(status, "" if where == "top" else where, wanted)
 
 

@@ -124,11 +124,12 @@ class _Runner:
                 self.watched.add(number)
 
     def __enter__(self) -> _Runner:
-        self.mask = signal.pthread_sigmask(signal.SIG_BLOCK, self.watched)
+        # (a signal ends hikebox while it reads, since there is no command yet that it could go to)
         if self.options.replay_input:
             self.input = _spooled(0)
         if self.options.last_output:
             self.output = _unnamed()
+        self.mask = signal.pthread_sigmask(signal.SIG_BLOCK, self.watched)
         return self
 
     def __exit__(self, *_: Any) -> None:

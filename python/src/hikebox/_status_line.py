@@ -2,6 +2,7 @@
 
 from __future__ import annotations
 
+import os
 from typing import TextIO
 
 __all__ = ["StatusLine"]
@@ -17,9 +18,9 @@ class StatusLine:
         self._shown = ""
 
     def show(self, text: str) -> None:
-        """Has the line say this."""
+        """Has the line say this, as much of it as the terminal has room for: a longer one could not be rewritten."""
         if self.is_on and text != self._shown:
-            self._write(f"\r{text}\033[K")
+            self._write(f"\r{text[: self._room()]}\033[K")
             self._shown = text
 
     def clear(self) -> None:
@@ -27,6 +28,13 @@ class StatusLine:
         if self._shown:
             self._write("\r\033[K")
             self._shown = ""
+
+    def _room(self) -> int:
+        try:
+            columns = os.get_terminal_size(self.stream.fileno()).columns
+        except OSError:
+            columns = 0
+        return columns - 1 if columns > 1 else 80
 
     def _write(self, text: str) -> None:
         try:

@@ -39,7 +39,8 @@ class PolicyError(HikeboxError, ValueError):
     """A policy was refused.
 
     `fault` says what is wrong, `place` at which node of the policy (`meet[1].cap[1]`, or `line 2, column 7` of a text
-    that is no JSON; empty where it is the whole policy) and `hint` what is wanted there, as `zsched check` does.
+    that is no JSON; empty where it is the whole policy) and `hint` what is wanted there and what was found, or why it is
+    no JSON, as `zsched check` does.
 
     >>> from hikebox import Policy
     >>> Policy.from_dict({"meet": ["forever", {"recur": 3}]})

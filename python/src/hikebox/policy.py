@@ -59,7 +59,8 @@ class Policy:
         >>> Policy.from_json('{"fixed":0}')
         Traceback (most recent call last):
         ...
-        hikebox.errors.PolicyError: number out of range: "fixed" is spelt {"fixed":D}, D from 1 to 4611686018427387903
+        hikebox.errors.PolicyError: number out of range: "fixed" is spelt {"fixed":D}, D from 1 to 4611686018427387903; \
+found {"fixed":0}
         """
         encoded = text.encode("utf-8", "surrogatepass") if isinstance(text, str) else bytes(text)
         return cls._of_plan(Plan.of_text(encoded))

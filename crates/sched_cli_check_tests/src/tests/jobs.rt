@@ -1,5 +1,6 @@
 //! Faults of jobs with their places.
 use super::{refuses, tells};
+use sched_cli_check::jobs_fault;
 use sched_cli_plan::PrintFault;
 use std::alloc::{AllocError, Global};
 use std::test::Fail;
@@ -25,29 +26,43 @@ fn array_of(alloc: Global, item: &str, times: u64) -> Result<String, AllocError>
 fn jobs_and_runs_that_have_not_their_form(rt: HostRuntime) -> Result<(), Fail> {
     let alloc = rt.alloc();
     let table = [
-        ("[7]", "[0]"),
-        (r#"[{"plan":"forever","runs":[{"won":1}]},{}]"#, "[1]"),
-        (r#"[{"runs":[]}]"#, "[0]"),
-        (r#"[{"plan":7,"runs":[],"more":1}]"#, "[0]"),
-        (r#"[{"plan":"forever","runs":{"won":1}}]"#, "[0]"),
+        ("[7]", "[0]", "7"),
+        (r#"[{"plan":"forever","runs":[{"won":1}]},{}]"#, "[1]", "{}"),
+        (r#"[{"runs":[]}]"#, "[0]", r#"{"runs":[]}"#),
+        (
+            r#"[{"plan":7,"runs":[],"more":1}]"#,
+            "[0]",
+            r#"{"more":1,"plan":7,"runs":[]}"#,
+        ),
+        (
+            r#"[{"plan":"forever","runs":{"won":1}}]"#,
+            "[0]",
+            r#"{"plan":"forever","runs":{"won":1}}"#,
+        ),
     ];
-    for (text, place) in &table {
-        let line = format!(in alloc; "{place}: {JOB}\n")?;
+    for (text, place, found) in &table {
+        let line = format!(in alloc; "{place}: {JOB}; found {found}\n")?;
         tells(&rt, alloc, text, line.as_str(), Err(PrintFault::NotAPlan))?;
     }
     let table = [
         (
             r#"[{"plan":7,"runs":[{"won":1},{"lost":1,"won":1}]}]"#,
             "[0].runs[1]",
+            r#"{"lost":1,"won":1}"#,
         ),
-        (r#"[{"plan":7,"runs":[{"none":1}]}]"#, "[0].runs[0]"),
+        (
+            r#"[{"plan":7,"runs":[{"none":1}]}]"#,
+            "[0].runs[0]",
+            r#"{"none":1}"#,
+        ),
         (
             r#"[{"plan":"forever","runs":[{"won":1}]},{"plan":"forever","runs":[{"lost":-1}]}]"#,
             "[1].runs[0]",
+            r#"{"lost":-1}"#,
         ),
     ];
-    for (text, place) in &table {
-        let line = format!(in alloc; "{place}: {RUN}\n")?;
+    for (text, place, found) in &table {
+        let line = format!(in alloc; "{place}: {RUN}; found {found}\n")?;
         tells(&rt, alloc, text, line.as_str(), Err(PrintFault::NotAPlan))?;
     }
     Ok(())
@@ -69,7 +84,7 @@ fn numbers_of_jobs_and_runs_and_codes_out_of_range(rt: HostRuntime) -> Result<()
     let line = "[3].runs: 1 to 64 runs are wanted, 0 found\n";
     tells(&rt, alloc, text.as_str(), line, Err(fault))?;
     let text = r#"[{"plan":7,"runs":[{"lost":0},{"lost":1},{"won":4611686018427387904},7]}]"#;
-    let line = format!(in alloc; "[0].runs[2]: {RUN}\n")?;
+    let line = format!(in alloc; "[0].runs[2]: {RUN}; found {{\"won\":4611686018427387904}}\n")?;
     tells(&rt, alloc, text, line.as_str(), Err(fault))
 }
 
@@ -79,7 +94,7 @@ fn a_job_s_plan_has_its_place_in_the_job(rt: HostRuntime) -> Result<(), Fail> {
     let table = [
         (
             r#"[{"plan":7,"runs":[{"won":1}]}]"#,
-            "[0].plan: a plan is a string or an object of one member\n",
+            "[0].plan: a plan is a string or an object of one member; found 7\n",
         ),
         (
             r#"[{"plan":"forever","runs":[{"won":1}]},
@@ -90,7 +105,33 @@ fn a_job_s_plan_has_its_place_in_the_job(rt: HostRuntime) -> Result<(), Fail> {
     refuses(&rt, alloc, &table, PrintFault::NotAPlan)?;
     let table = [(
         r#"[{"plan":{"first":{"fixed":0}},"runs":[{"won":1}]}]"#,
-        "[0].plan.first: \"fixed\" is spelt {\"fixed\":D}, D from 1 to 4611686018427387903\n",
+        "[0].plan.first: \"fixed\" is spelt {\"fixed\":D}, D from 1 to 4611686018427387903; \
+            found {\"fixed\":0}\n",
     )];
     refuses(&rt, alloc, &table, PrintFault::OutOfRange)
+}
+
+#[test]
+fn the_fault_of_a_text_that_should_be_jobs(rt: HostRuntime) -> Result<(), Fail> {
+    let alloc = rt.alloc();
+    let table = [
+        (r#"[{"plan":"forever","runs":[{"won":1}]}]"#, ""),
+        ("[", "not JSON: line 1, column 1: the text ends too soon"),
+        (
+            r#"{"recurs":3}"#,
+            r#"top: jobs are an array, with a job for each item; found {"recurs":3}"#,
+        ),
+        (
+            r#"[{"plan":"forever","runs":[]}]"#,
+            "[0].runs: 1 to 64 runs are wanted, 0 found",
+        ),
+    ];
+    for (text, wanted) in &table {
+        let mut said = String::new(alloc);
+        if let Some(fault) = jobs_fault(alloc, text.as_bytes())? {
+            said = fault.text(alloc)?;
+        }
+        assert_eq!(rt; said.as_str(), *wanted, "{text}");
+    }
+    Ok(())
 }

@@ -27,10 +27,13 @@ fn twice(alloc: Global, plan: &str) -> Result<String, AllocError> {
 #[test]
 fn values_that_are_no_node(rt: HostRuntime) -> Result<(), Fail> {
     let table = [
-        ("7", "top: a plan is a string or an object of one member\n"),
+        (
+            "7",
+            "top: a plan is a string or an object of one member; found 7\n",
+        ),
         (
             "null",
-            "top: a plan is a string or an object of one member\n",
+            "top: a plan is a string or an object of one member; found null\n",
         ),
         (
             "{}",
@@ -42,7 +45,7 @@ fn values_that_are_no_node(rt: HostRuntime) -> Result<(), Fail> {
         ),
         (
             r#"{"follow":["forever",{"add_out":["forever"]}]}"#,
-            "follow[1].add_out: a plan is a string or an object of one member\n",
+            "follow[1].add_out: a plan is a string or an object of one member; found [\"forever\"]\n",
         ),
     ];
     refuses(&rt, rt.alloc(), &table, PrintFault::NotAPlan)
@@ -88,44 +91,50 @@ fn nodes_that_have_not_their_own_form(rt: HostRuntime) -> Result<(), Fail> {
         (
             r#"{"recurs":-1}"#,
             "top",
-            r#""recurs" is spelt {"recurs":N}, N from 0 to 4611686018427387903"#,
+            r#""recurs" is spelt {"recurs":N}, N from 0 to 4611686018427387903; found {"recurs":-1}"#,
         ),
         (
             r#"{"first":{"recurs":1.5}}"#,
             "first",
-            r#""recurs" is spelt {"recurs":N}, N from 0 to 4611686018427387903"#,
+            r#""recurs" is spelt {"recurs":N}, N from 0 to 4611686018427387903; found {"recurs":1.5}"#,
         ),
-        (r#"{"forever":1}"#, "top", r#""forever" is spelt "forever""#),
+        (
+            r#"{"forever":1}"#,
+            "top",
+            r#""forever" is spelt "forever"; found {"forever":1}"#,
+        ),
         (
             r#""lone""#,
             "top",
-            r#""lone" is spelt {"lone":D}, D from 0 to 4611686018427387903"#,
+            r#""lone" is spelt {"lone":D}, D from 0 to 4611686018427387903; found "lone""#,
         ),
         (
             r#"{"exponential":[1]}"#,
             "top",
-            r#""exponential" is spelt {"exponential":[D,F]}, D from 0 to 4611686018427387903, F from 1 to 1000"#,
+            "\"exponential\" is spelt {\"exponential\":[D,F]}, D from 0 to 4611686018427387903, \
+                F from 1 to 1000; found {\"exponential\":[1]}",
         ),
         (
             r#"{"meet":[{"fixed":0},"forever","forever"]}"#,
             "top",
-            r#""meet" is spelt {"meet":[PLAN,PLAN]}"#,
+            r#""meet" is spelt {"meet":[PLAN,PLAN]}; found {"meet":[{"fixed":0},"forever","forever"]}"#,
         ),
         (
             r#"{"join":["forever",{"add":["1",{"fixed":0}]}]}"#,
             "join[1]",
-            r#""add" is spelt {"add":[D,PLAN]}, D from 0 to 4611686018427387903"#,
+            r#""add" is spelt {"add":[D,PLAN]}, D from 0 to 4611686018427387903; found {"add":["1",{"fixed":0}]}"#,
         ),
         (
             r#"{"jitter":[0,800,1200,{"jitter":[0,-1,2,{"fixed":0}]}]}"#,
             "jitter[3]",
             "\"jitter\" is spelt {\"jitter\":[LANE,LEAST,MOST,PLAN]}, LANE from 0 to 3, \
-                LEAST at most MOST, MOST at most 10000",
+                LEAST at most MOST, MOST at most 10000; found {\"jitter\":[0,-1,2,{\"fixed\":0}]}",
         ),
         (
             r#"{"second":{"gate":["input",true,"below",1,{"gather":["min","forever"]}]}}"#,
             "second.gate[4]",
-            r#""gather" is spelt {"gather":[KIND,PLAN]}, KIND "sum", "count", "max" or "list""#,
+            "\"gather\" is spelt {\"gather\":[KIND,PLAN]}, KIND \"sum\", \"count\", \"max\" or \"list\"; \
+                found {\"gather\":[\"min\",\"forever\"]}",
         ),
     ];
     for (text, place, hint) in &table {
@@ -135,7 +144,8 @@ fn nodes_that_have_not_their_own_form(rt: HostRuntime) -> Result<(), Fail> {
     let text = r#"{"gate":["input",true,"above",1,"forever"]}"#;
     let line =
         "top: \"gate\" is spelt {\"gate\":[SIDE,WANT,TEST,N,PLAN]}, SIDE \"input\" or \"output\", \
-        WANT true or false, TEST \"below\", \"at_least\" or \"equal\", N from 0 to 4611686018427387903\n";
+        WANT true or false, TEST \"below\", \"at_least\" or \"equal\", N from 0 to 4611686018427387903; \
+        found {\"gate\":[\"input\",true,\"above\",1,\"forever\"]}\n";
     tells(&rt, alloc, text, line, Err(PrintFault::NotAPlan))
 }
 
@@ -144,32 +154,37 @@ fn numbers_out_of_their_ranges(rt: HostRuntime) -> Result<(), Fail> {
     let table = [
         (
             r#"{"nothing":{"windowed":0}}"#,
-            "nothing: \"windowed\" is spelt {\"windowed\":D}, D from 1 to 4611686018427387903\n",
+            "nothing: \"windowed\" is spelt {\"windowed\":D}, D from 1 to 4611686018427387903; found {\"windowed\":0}\n",
         ),
         (
             r#"{"renew":[0,{"recurs":3}]}"#,
-            "top: \"renew\" is spelt {\"renew\":[D,PLAN]}, D from 1 to 4611686018427387903\n",
+            "top: \"renew\" is spelt {\"renew\":[D,PLAN]}, D from 1 to 4611686018427387903; found {\"renew\":[0,{\"recurs\":3}]}\n",
         ),
         (
             r#"{"within":[1,{"unfold":[0,0,4611686018427387904]}]}"#,
-            "within[1]: \"unfold\" is spelt {\"unfold\":[S,M,A]}, each from 0 to 4611686018427387903\n",
+            "within[1]: \"unfold\" is spelt {\"unfold\":[S,M,A]}, each from 0 to 4611686018427387903; found \
+                {\"unfold\":[0,0,4611686018427387904]}\n",
         ),
         (
             r#"{"meet":[{"spaced":4611686018427387904},{"recurs":-1}]}"#,
-            "meet[0]: \"spaced\" is spelt {\"spaced\":D}, D from 0 to 4611686018427387903\n",
+            "meet[0]: \"spaced\" is spelt {\"spaced\":D}, D from 0 to 4611686018427387903; found \
+                {\"spaced\":4611686018427387904}\n",
         ),
         (
             r#"{"ends_by":[1000,{"decorrelated":[0,10,3000,9]}]}"#,
             "ends_by[1]: \"decorrelated\" is spelt {\"decorrelated\":[LANE,D,F,MOST]}, LANE from 0 to 3, \
-                D from 0 to MOST, F from 1000 to 1000000, MOST from D to 4611686018427387903\n",
+                D from 0 to MOST, F from 1000 to 1000000, MOST from D to 4611686018427387903; \
+                found {\"decorrelated\":[0,10,3000,9]}\n",
         ),
         (
             r#"{"nothing":{"ends_by":[4611686018427387904,"forever"]}}"#,
-            "nothing: \"ends_by\" is spelt {\"ends_by\":[D,PLAN]}, D from 0 to 4611686018427387903\n",
+            "nothing: \"ends_by\" is spelt {\"ends_by\":[D,PLAN]}, D from 0 to 4611686018427387903; found \
+                {\"ends_by\":[4611686018427387904,\"forever\"]}\n",
         ),
         (
             r#"{"set":[1,{"renew_idle":[5,{"linear":4611686018427387904}]}]}"#,
-            "set[1].renew_idle[1]: \"linear\" is spelt {\"linear\":D}, D from 0 to 4611686018427387903\n",
+            "set[1].renew_idle[1]: \"linear\" is spelt {\"linear\":D}, D from 0 to 4611686018427387903; found \
+                {\"linear\":4611686018427387904}\n",
         ),
     ];
     refuses(&rt, rt.alloc(), &table, PrintFault::OutOfRange)
@@ -181,18 +196,53 @@ fn the_first_fault_from_the_left_and_the_innermost_is_told(rt: HostRuntime) -> R
     let table = [
         (
             r#"{"renew":[0,{"recurs":-1}]}"#,
-            "renew[1]: \"recurs\" is spelt {\"recurs\":N}, N from 0 to 4611686018427387903\n",
+            "renew[1]: \"recurs\" is spelt {\"recurs\":N}, N from 0 to 4611686018427387903; found {\"recurs\":-1}\n",
         ),
         (
             r#"{"feed":[{"join":["forever",7]},{"fixed":0}]}"#,
-            "feed[0].join[1]: a plan is a string or an object of one member\n",
+            "feed[0].join[1]: a plan is a string or an object of one member; found 7\n",
         ),
         (
             r#"{"meet":[7,7]}"#,
-            "meet[0]: a plan is a string or an object of one member\n",
+            "meet[0]: a plan is a string or an object of one member; found 7\n",
         ),
     ];
     refuses(&rt, alloc, &table, PrintFault::NotAPlan)
+}
+
+// What was found below the node `first`, and how it is told.
+const FOUND: [(&str, &str); 3] = [
+    (
+        r#"["0123456789012345678901234567890123456789012345678901234567"]"#,
+        r#"["0123456789012345678901234567890123456789012345678901234567.."#,
+    ),
+    (
+        r#"["0123456789012345678901234567890123456789012345678901234é"]"#,
+        r#"["0123456789012345678901234567890123456789012345678901234é"]"#,
+    ),
+    (
+        r#"[{"b":1 , "a" : [ 1.50, "\u0007" ]}]"#,
+        r#"[{"a":[1.5,"\u0007"],"b":1}]"#,
+    ),
+];
+
+#[test]
+fn of_what_was_found_the_first_sixty_letters_are_told(rt: HostRuntime) -> Result<(), Fail> {
+    let alloc = rt.alloc();
+    for (found, shown) in &FOUND {
+        let text = format!(in alloc; "{{\"first\":{found}}}")?;
+        let line = format!(in alloc;
+            "first: a plan is a string or an object of one member; found {shown}\n"
+        )?;
+        tells(
+            &rt,
+            alloc,
+            text.as_str(),
+            line.as_str(),
+            Err(PrintFault::NotAPlan),
+        )?;
+    }
+    Ok(())
 }
 
 #[test]

@@ -1,7 +1,7 @@
 use super::fakes::Halting;
 use sched_cli_plan::{Counted, PrintFault, Sink, Source, put_all, read_all};
 use std::alloc::{AllocError, Global};
-use std::io::{Read, Write};
+use std::io::{ErrorKind, Read, Write};
 use std::process::Abort;
 
 const TEXT: &[u8] = b"0: (0, 0) next 100\n";
@@ -44,6 +44,16 @@ fn a_failed_read_ends_the_reading(rt: HostRuntime) {
         let failed = (Some(PrintFault::ReadFailed), 1, works + 1);
         assert_eq!(rt; failing(rt.alloc(), works), failed);
     }
+}
+
+#[test]
+fn a_stream_keeps_the_error_of_its_last_failed_call(rt: HostRuntime) {
+    let mut reader = Counted::new(Halting::failing_after(TEXT, 1, 2));
+    assert!(rt; reader.last_error().is_none());
+    let answer = read_all(rt.alloc(), &mut reader);
+    assert_eq!(rt; answer.err(), Some(PrintFault::ReadFailed));
+    let kind = reader.last_error().map(|error| error.kind());
+    assert_eq!(rt; kind, Some(ErrorKind::WouldBlock));
 }
 
 // What `read_all` answers of an input of this many bytes: their number. Beside it, how many reads it made and how many

@@ -52,7 +52,7 @@ fn is_pool(rt: &impl Abort, alloc: Global, line: &str, want: (u64, u64, u64)) ->
 fn is_bad(rt: &impl Abort, alloc: Global, line: &str) {
     let answer = read(alloc, line);
     assert!(rt;
-        matches!(answer, Err(WordsFault::Bad)),
+        matches!(answer, Err(WordsFault::Bad(_))),
         "{line}: {answer:?}"
     );
 }
@@ -131,6 +131,49 @@ fn a_pool_with_a_bad_option_is_a_bad_command_line(rt: HostRuntime) {
     }
 }
 
+// Why a command line is bad, as clap says it, in a line.
+const REASONS: [(&str, &str); 6] = [
+    (
+        "zsched",
+        "'zsched' requires a subcommand but one was not provided; [subcommands: plan, pool, check, help]; \
+         zsched --help says what there is",
+    ),
+    (
+        "zsched plan --steps 4097",
+        "invalid value '4097' for '--steps <N>': 4097 is not in 0..=4096",
+    ),
+    (
+        "zsched plan --step 1",
+        "unexpected argument '--step' found; tip: a similar argument exists: '--steps'",
+    ),
+    (
+        "zsched pool --quota 1/2/3 --budget 4",
+        "the argument '--quota <RESERVE/SHARE%/PERIOD>' cannot be used with '--budget <N>'",
+    ),
+    (
+        "zsched pool --quota 1/2/3 --workers 2",
+        "the argument '--quota <RESERVE/SHARE%/PERIOD>' cannot be used with '--workers <N>' of more than 1: \
+         jobs on a quota run on one thread",
+    ),
+    (
+        "zsched pool --quota 1/2\n",
+        "invalid value '1/2' for '--quota <RESERVE/SHARE%/PERIOD>': it is spelt as 10/20%/60s, with ms, s, m, h or d, \
+         or without units as 10/200/60000; RESERVE is at most 4294967296, SHARE at most 100000%, and PERIOD from 1ms \
+         to 4611686018427387903ms",
+    ),
+];
+
+#[test]
+fn a_bad_command_line_says_why(rt: HostRuntime) -> Result<(), Fail> {
+    for (line, why) in &REASONS {
+        match read(rt.alloc(), line) {
+            Err(WordsFault::Bad(said)) => assert_eq!(rt; said.as_str(), *why, "{line}"),
+            answer => assert!(rt; false, "{line}: {answer:?}"),
+        }
+    }
+    Ok(())
+}
+
 const NO_TASKS: &str =
     "zsched|zsched plans|zsched plan --none|zsched --steps 1|zsched plan file file";
 
@@ -155,7 +198,7 @@ fn what_is_no_task_is_a_bad_command_line(rt: HostRuntime) {
 #[test]
 fn no_word_is_a_bad_command_line(rt: HostRuntime) {
     let answer = read_words(rt.alloc(), &[]);
-    assert!(rt; matches!(answer, Err(WordsFault::Bad)));
+    assert!(rt; matches!(answer, Err(WordsFault::Bad(_))));
 }
 
 #[test]

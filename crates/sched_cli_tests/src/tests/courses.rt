@@ -88,7 +88,7 @@ fn a_bad_list_or_two_of_a_kind_is_a_bad_command_line(rt: HostRuntime) {
     for (row, words) in table.iter().enumerate() {
         let answer = read_words(rt.alloc(), words);
         assert!(rt;
-            matches!(answer, Err(WordsFault::Bad)),
+            matches!(answer, Err(WordsFault::Bad(_))),
             "row {row}: {answer:?}"
         );
     }

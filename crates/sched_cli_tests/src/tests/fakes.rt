@@ -52,3 +52,20 @@ impl Write for Short {
         Ok(())
     }
 }
+
+/// A writer whose writes all fail with this kind of error, or take no byte where there is none.
+#[derive(Drop)]
+pub(crate) struct Stuck(pub(crate) Option<io::ErrorKind>);
+
+impl Write for Stuck {
+    fn write(&mut self, _buf: &[u8]) -> io::Result<usize> {
+        match self.0 {
+            Some(kind) => Err(io::Error::from(kind)),
+            None => Ok(0),
+        }
+    }
+
+    fn flush(&mut self) -> io::Result<()> {
+        Ok(())
+    }
+}

@@ -7,7 +7,11 @@ use std::test::Fail;
 fn each_fault_of_a_command_line_has_its_line_and_status(rt: HostRuntime) -> Result<(), Fail> {
     let help = String::from_str(rt.alloc(), "Usage: zsched plan\n")?;
     let table = [
-        (WordsFault::Bad, "zsched: bad command line", 2u8),
+        (
+            WordsFault::bad(rt.alloc(), "why"),
+            "zsched: bad command line\nwhy",
+            2u8,
+        ),
         (WordsFault::Help(help), "Usage: zsched plan\n", 0),
         (WordsFault::NoMemory, "zsched: no memory", 5),
     ];

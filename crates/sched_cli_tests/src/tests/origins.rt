@@ -38,6 +38,6 @@ fn the_version_is_shown_by_the_program_alone(rt: HostRuntime) -> Result<(), Fail
         answer => assert!(rt; false, "{answer:?}"),
     }
     let answer = read_words(rt.alloc(), &["zsched", "plan", "--version"]);
-    assert!(rt; matches!(answer, Err(WordsFault::Bad)), "{answer:?}");
+    assert!(rt; matches!(answer, Err(WordsFault::Bad(_))), "{answer:?}");
     Ok(())
 }

@@ -79,7 +79,7 @@ fn a_bad_quota_is_a_bad_command_line(rt: HostRuntime) {
     for line in BAD_QUOTAS.split('|') {
         let answer = read(rt.alloc(), line);
         assert!(rt;
-            matches!(answer, Err(WordsFault::Bad)),
+            matches!(answer, Err(WordsFault::Bad(_))),
             "{line}: {answer:?}"
         );
     }

@@ -1,0 +1,163 @@
+//! What the program tells where it stops, by hand.
+use super::fakes::{Stuck, Torn};
+use sched_cli::{Counted, Stop, answer, read_words};
+use std::alloc::{AllocGlobal, Global};
+use std::io;
+use std::io::{ErrorKind, Read, Write};
+use std::process::Abort;
+use std::random::RandomSource;
+use std::sync::Wait;
+use std::test::Fail;
+use std::thread::Threads;
+
+// Asserts what is told of what these words do, and with which status it ends: nothing and 0 where it stops at no fault.
+fn tells<R, S: Read + Drop, W: Write + Drop>(
+    rt: &R,
+    line: &str,
+    streams: (S, W),
+    wanted: (&str, u8),
+) -> Result<(), Fail>
+where
+    R: Threads + Wait + RandomSource + AllocGlobal + Sync + Abort,
+{
+    let alloc = rt.alloc();
+    let words: Vec<&str> = line.split(' ').collect(alloc)?;
+    let asked = read_words(alloc, words.as_slice())?;
+    let (reader, writer) = streams;
+    let mut reader = Counted::new(reader);
+    let mut writer = Counted::new(writer);
+    let (text, status) = match answer(rt, alloc, &mut reader, &mut writer, &asked) {
+        Ok(()) => (String::new(alloc), 0),
+        Err(stop) => (stop.to_string(alloc)?, stop.status()),
+    };
+    assert_eq!(rt; (text.as_str(), status), wanted, "{line}");
+    Ok(())
+}
+
+// Command lines with an input, what is told of it, and the status.
+const TEXTS: [(&str, &str, &str, u8); 9] = [
+    ("zsched plan", r#"{"recurs":3}"#, "", 0),
+    (
+        "zsched plan",
+        r#"{"first":{"fixed":0}}"#,
+        "zsched: number out of range\nfirst: \"fixed\" is spelt {\"fixed\":D}, D from 1 to 4611686018427387903; \
+         found {\"fixed\":0}",
+        3,
+    ),
+    (
+        "zsched plan --inputs 1,2",
+        "[",
+        "zsched: not JSON\nnot JSON: line 1, column 1: the text ends too soon",
+        3,
+    ),
+    (
+        "zsched plan",
+        "[]",
+        "zsched: not a plan\ntop: a plan is a string or an object of one member; found []",
+        3,
+    ),
+    (
+        "zsched pool",
+        "{}",
+        "zsched: not a plan\ntop: jobs are an array, with a job for each item; found {}",
+        3,
+    ),
+    (
+        "zsched pool --quota 1/2/3",
+        r#"[{"plan":"forever","runs":[]}]"#,
+        "zsched: number out of range\n[0].runs: 1 to 64 runs are wanted, 0 found",
+        3,
+    ),
+    ("zsched check", "7", "zsched: not a plan", 3),
+    ("zsched check", r#""forever""#, "", 0),
+    (
+        "zsched pool --turns 0",
+        r#"[{"plan":"forever","runs":[{"won":1}]}]"#,
+        "zsched: not finished",
+        6,
+    ),
+];
+
+#[test]
+fn of_a_bad_text_its_first_fault_is_told(rt: HostRuntime) -> Result<(), Fail> {
+    for (line, text, told, status) in &TEXTS {
+        let streams = (text.as_bytes(), Vec::new(rt.alloc()));
+        tells(&rt, line, streams, (*told, *status))?;
+    }
+    Ok(())
+}
+
+#[test]
+fn of_a_failed_read_the_origin_and_the_reason_are_told(rt: HostRuntime) -> Result<(), Fail> {
+    let table = [
+        (
+            "zsched plan",
+            "zsched: read failed\nstandard input: operation would block",
+        ),
+        (
+            "zsched pool jobs.json",
+            "zsched: read failed\njobs.json: operation would block",
+        ),
+        (
+            "zsched check -",
+            "zsched: read failed\nstandard input: operation would block",
+        ),
+    ];
+    for (line, told) in &table {
+        let streams = (Torn("[]".as_bytes()), Vec::new(rt.alloc()));
+        tells(&rt, line, streams, (*told, 4))?;
+    }
+    Ok(())
+}
+
+#[test]
+fn of_a_failed_write_the_reason_is_told_unless_nobody_reads(rt: HostRuntime) -> Result<(), Fail> {
+    let table = [
+        (
+            Some(ErrorKind::StorageFull),
+            "zsched: write failed\nstandard output: no storage space",
+        ),
+        (None, "zsched: write failed\nstandard output: write zero"),
+        (Some(ErrorKind::BrokenPipe), ""),
+    ];
+    for (kind, told) in &table {
+        for line in ["zsched pool", "zsched check"] {
+            let streams = ("[]".as_bytes(), Stuck(*kind));
+            tells(&rt, line, streams, (*told, 4))?;
+        }
+    }
+    Ok(())
+}
+
+// Asserts what is told of a stop, and its status.
+fn stops(rt: &impl Abort, alloc: Global, stop: Stop, wanted: (&str, u8)) -> Result<(), Fail> {
+    let text = stop.to_string(alloc)?;
+    assert_eq!(rt; (text.as_str(), stop.status()), wanted);
+    Ok(())
+}
+
+#[test]
+fn a_file_that_is_not_opened_is_named(rt: HostRuntime) -> Result<(), Fail> {
+    let alloc = rt.alloc();
+    let missing = io::Error::from_raw_os_error(2);
+    let told = "zsched: read failed\na b.json: No such file or directory (os error 2)";
+    stops(
+        &rt,
+        alloc,
+        Stop::unopened(alloc, "a b.json", missing),
+        (told, 4),
+    )?;
+    let refused = io::Error::from(ErrorKind::OutOfMemory);
+    stops(
+        &rt,
+        alloc,
+        Stop::unopened(alloc, "a.json", refused),
+        ("zsched: no memory", 5),
+    )?;
+    let full = io::Error::from_raw_os_error(28);
+    let told = "zsched: write failed\nstandard output: No space left on device (os error 28)";
+    stops(&rt, alloc, Stop::unwritten(alloc, full), (told, 4))?;
+    let unread = Stop::unwritten(alloc, io::Error::from(ErrorKind::BrokenPipe));
+    assert!(rt; unread.is_quiet());
+    stops(&rt, alloc, unread, ("", 4))
+}

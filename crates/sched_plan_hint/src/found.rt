@@ -1,0 +1,24 @@
+//! What was found where something else is wanted. Nothing is proved of these texts.
+use sched_time::NoMemory;
+use serde_json::Value;
+use std::alloc::Global;
+
+// The most letters that are shown.
+const MOST_SHOWN: usize = 60;
+
+/// Adds what was found, as JSON: `; found {"fixed":0}`, and of a long value the first 60 letters and `..`. Fails only
+/// with `NoMemory`.
+pub fn push_found(alloc: Global, text: &mut String, value: &Value) -> Result<(), NoMemory> {
+    let found = value.to_string(alloc)?;
+    text.push_str("; found ")?;
+    let mut shown = 0usize;
+    for letter in found.as_str().chars() {
+        if shown >= MOST_SHOWN {
+            text.push_str("..")?;
+            return Ok(());
+        }
+        text.push(letter)?;
+        shown += 1;
+    }
+    Ok(())
+}
