@@ -1,7 +1,7 @@
 #!/usr/bin/env bash
 # Tries the programs of bin/ on a copy of this repository without git, where the Rattle kit is missing or is a script of this
 # test's own: what is said without the kit, which files of dist/ a change makes old, what bin/zsched runs and what it costs,
-# which crates bin/check proves, and that bin/test leaves nothing behind.
+# which crates bin/check proves, and that bin/test leaves nothing behind. The repository has no link: `rt ci` stops at one.
 set -euo pipefail
 top=$(cd "$(dirname "${BASH_SOURCE[0]}")/.." && pwd)
 work=$(mktemp -d)
@@ -268,6 +268,7 @@ runs_tests() {
     { echo "tests/commands.sh: bin/test, ended by a signal, leaves $(ls -A "$work/tmp"), or the process $id" >&2; failed=1; }
 }
 
+wants 0 '' '' find "$top" -name .git -prune -o -name out -prune -o -type l -print
 copy
 changes
 bindings
