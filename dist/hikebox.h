@@ -180,11 +180,11 @@ HIKEBOX_CHECKED hikebox_status hikebox_policy_read(const char *json, size_t leng
 
 /*
  * Says what is wrong with a text that hikebox_policy_read refuses, and where, in the words of `zsched check`: the place
- * of the first fault, `top` or the steps to it, and what is wanted there, as
+ * of the first fault, `top` or the steps to it, and what is wanted there and was found, as
  *     meet[1].cap[1]: no node is called "exponental"; did you mean "exponential"?
- * or `not JSON: line 2, column 7`. Of a text that is a policy the text is empty. Its bytes, in UTF-8 with no zero byte
- * after them, are written to `text`, which has room for `capacity`, and their number to `length`. HIKEBOX_NO_MEMORY;
- * _NO_ROOM, and then `length` is the room that is needed.
+ * or `not JSON: line 2, column 7: the text ends too soon`. Of a text that is a policy the text is empty. Its bytes, in
+ * UTF-8 with no zero byte after them, are written to `text`, which has room for `capacity`, and their number to `length`.
+ * HIKEBOX_NO_MEMORY; _NO_ROOM, and then `length` is the room that is needed.
  */
 HIKEBOX_CHECKED hikebox_status hikebox_policy_fault(const char *json, size_t json_length, char *text,
                                                     size_t capacity, size_t *length);
