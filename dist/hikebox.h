@@ -5,7 +5,8 @@
  * by event. A budget bounds how many retries all threads of a program make together; a quota bounds them in each
  * window of time, and refills with traffic. A retry is a machine that the program steps: it says when to run the
  * call and when to wait, and is told how each run went. The library has no clock, no thread, no callback and no
- * random numbers of its own: the program gives it the moment, and four random words, at each step.
+ * random numbers of its own: the program gives it the moment, and four random words, at each step. A storm shows what a
+ * policy does to a peer that fails for a while, when many requests have it: its moments and its words are made up.
  * examples/c/retry.c is a whole program.
  *
  *     while (hikebox_retry_poll(&retry, now(), words(), report, code, &next) == HIKEBOX_OK
@@ -100,7 +101,7 @@ enum {
     HIKEBOX_NOT_JSON = 10,
     /* The JSON value, or a part of it that should be a policy, does not have the form of one. */
     HIKEBOX_NOT_A_POLICY = 11,
-    /* A parameter of a policy is outside its range. */
+    /* A parameter of a policy, or of a storm, is outside its range. */
     HIKEBOX_OUT_OF_RANGE = 12,
     /* The policy is deeper than 32. */
     HIKEBOX_TOO_DEEP = 13,
@@ -494,6 +495,123 @@ HIKEBOX_CHECKED hikebox_status hikebox_retry_end_on_quota(hikebox_retry *retry, 
 /* Frees the retry and its pass, where it has one: the budget or the quota can't be closed then. HIKEBOX_EMPTY;
  * _WRONG_KIND. */
 hikebox_status hikebox_retry_free(hikebox_retry *retry);
+
+/* ---- Storms ------------------------------------------------------------------------------------------------------ */
+
+/* What the retries of a storm draw on. */
+enum {
+    /* Nothing: each retry that the policy goes on to is made. */
+    HIKEBOX_ON_NOTHING = 0,
+    /* A budget of `limit` tickets. */
+    HIKEBOX_ON_BUDGET = 1,
+    /* A quota of `reserve`, `share` and `period`. */
+    HIKEBOX_ON_QUOTA = 2
+};
+
+/*
+ * A storm: many requests under one policy, on a peer that fails for a while. Moments and durations are in milliseconds,
+ * from 0 on. HIKEBOX_STORM has numbers to begin with.
+ */
+typedef struct {
+    /* Requests a second, 1 to 1,000,000. */
+    uint64_t rate;
+    /* Requests that come at one moment, 1 to 1,000,000. */
+    uint64_t together;
+    /* For how long requests come, 1 to 3,600 seconds; rate x seconds is at most 1,048,576. */
+    uint64_t seconds;
+    /* Calls that the peer can do in a second, 1 to 1,000,000. */
+    uint64_t capacity;
+    /* After how long a client gives a call up, 1 to 3,600,000. */
+    uint64_t patience;
+    /* Calls of work that may stand at the peer, 0 to 1,048,576. */
+    uint64_t queue;
+    /* In outage_from <= moment < outage_to the peer refuses all calls; 0 <= from <= to <= 3,600,000. */
+    uint64_t outage_from;
+    uint64_t outage_to;
+    /* In slow_from <= moment < slow_to the peer works at slow_percent, 1 to 100, of its capacity; 0 <= from <= to <=
+     * 3,600,000. Where slow_percent is 0 there is no brown-out, and both moments are 0. */
+    uint64_t slow_from;
+    uint64_t slow_to;
+    uint64_t slow_percent;
+    /* Of a line of the report, 1 to 3,600,000; until / window, rounded down, is at most 65,536. */
+    uint64_t window;
+    /* What lies after this moment is not played, 0 to 7,200,000. */
+    uint64_t until;
+    /* The storm is cut before the call after so many, 1 to 2^32. */
+    uint64_t calls;
+    /* The seed of the random words. */
+    uint64_t words;
+    /* HIKEBOX_ON_NOTHING, HIKEBOX_ON_BUDGET or HIKEBOX_ON_QUOTA. */
+    uint64_t draws_on;
+    /* Of a budget: at most HIKEBOX_MOST_TICKETS. */
+    uint64_t limit;
+    /* Of a quota: as hikebox_quota_new takes them. */
+    uint64_t reserve;
+    uint64_t share;
+    uint64_t period;
+} hikebox_storm;
+
+/* 800 requests a second for a minute, on a peer that does 1,000 and is away from 10 to 20 s. */
+#define HIKEBOX_STORM \
+    { 800, 1, 60, 1000, 500, 5000, 10000, 20000, 0, 0, 0, 1000, 120000, 16777216, 0, HIKEBOX_ON_NOTHING, 0, 0, 0, 1 }
+
+/* A window of a storm. */
+typedef struct {
+    /* Its first moment. */
+    uint64_t from;
+    /* The requests that began in it, and how many of these were won in the end. */
+    uint64_t requests;
+    uint64_t won;
+    /* The retries that began in it. */
+    uint64_t retries;
+    /* The calls that ended in it: those that succeeded, that the peer refused for its outage, that it shed for its
+     * queue, and that their clients gave up. */
+    uint64_t succeeded;
+    uint64_t refused;
+    uint64_t shed;
+    uint64_t late;
+    /* The calls of work that stand at the peer at its end, rounded down. */
+    uint64_t waiting;
+} hikebox_window;
+
+/* What a storm comes to. */
+typedef struct {
+    /* The requests, and how they ended: won, lost where the policy was done, denied where there was no ticket, or open. */
+    uint64_t requests;
+    uint64_t won;
+    uint64_t lost;
+    uint64_t denied;
+    uint64_t open;
+    /* The calls that were begun, and for each request, in hundredths. */
+    uint64_t calls;
+    uint64_t hundredths;
+    /* The most calls begun in a window, and the first moment of the first such window. */
+    uint64_t most_calls;
+    uint64_t most_from;
+    /* The tickets that were given. */
+    uint64_t tickets;
+    /* Of the requests that were won, from the first call's beginning to its success: what 50 and 99 in 100 don't pass, and
+     * the longest; 0 where none was won. */
+    uint64_t p50;
+    uint64_t p99;
+    uint64_t slowest;
+    /* Where the storm recovers, the first moment of the window from which on it has; otherwise 0. */
+    uint64_t recovered;
+    bool recovers;
+    /* Whether it was cut, since one call more was to begin than `calls` allows. */
+    bool cut;
+} hikebox_totals;
+
+/*
+ * Plays a storm of requests under the policy, as `zsched storm` does, and writes its windows to `windows`, which has room
+ * for `capacity`, their number to `count`, and its totals. The room that is needed is until / window, rounded down, and
+ * one more. Two calls with the same parameters write the same. The call comes back once the storm is played, which
+ * nothing breaks off but `calls`. HIKEBOX_OUT_OF_RANGE, of a parameter; _NO_ROOM, and then `count` is the room that is
+ * needed; _EMPTY; _WRONG_KIND; _NO_MEMORY.
+ */
+HIKEBOX_CHECKED hikebox_status hikebox_storm_play(hikebox_policy *policy, const hikebox_storm *storm,
+                                                  hikebox_window *windows, size_t capacity, size_t *count,
+                                                  hikebox_totals *totals);
 
 #ifdef __cplusplus
 }

@@ -30,7 +30,7 @@ export HIKEBOX_PLATFORM
 
 mkdir "$work/python" "$work/out"
 cp "$here/pyproject.toml" "$here/setup.cfg" "$here/setup.py" "$here/README.md" "$here/LICENSE" "$work/python/"
-(cd "$here" && find src -name '*.py' -o -name py.typed) | while IFS= read -r file; do
+(cd "$here" && find src -name '*.py' -o -name py.typed -o -path '*/lab/*' -type f) | while IFS= read -r file; do
   install -D -m 644 "$here/$file" "$work/python/$file"
 done
 install -m 755 "$library" "$work/python/src/hikebox/libhikebox.so"

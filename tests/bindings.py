@@ -11,7 +11,8 @@ TOP = pathlib.Path(__file__).resolve().parent.parent
 NUMBERS = {"uint64_t": "u64", "uint32_t": "u32", "uint8_t": "u8", "char": "u8", "size_t": "usize", "bool": "bool",
            "hikebox_status": "u32"}
 #: The structs of the header, and what Rust calls them.
-STRUCTS = {"place": "Place", "decision": "Decision", "next": "Next", "usage": "Used"}
+STRUCTS = {"place": "Place", "decision": "Decision", "next": "Next", "usage": "Used", "storm": "Storm", "window": "Window",
+           "totals": "Totals"}
 #: Constants of Rust that are not named as the header's.
 NAMES = {"FAR": "HIKEBOX_FAR", "MOST_TICKETS": "HIKEBOX_MOST_TICKETS"}
 

@@ -239,6 +239,97 @@ def looks_at_numbers(program: List[str]) -> List[str]:
     return wrong
 
 
+#: Command lines that are bad, each before its plan is read.
+BAD = [
+    "--outage 5..1",
+    "--outage 5",
+    "--outage 0..3600001",
+    "--outage -1..5",
+    "--slow 0..1",
+    "--slow 0..1@0",
+    "--slow 0..1@101",
+    "--rate 0",
+    "--rate 1000001",
+    "--rate 17477",
+    "--together 0",
+    "--seconds 3601 --rate 1",
+    "--capacity 0",
+    "--patience 0",
+    "--queue 1048577",
+    "--window 0",
+    "--window 1",
+    "--until 7200001",
+    "--calls 0",
+    "--calls 4294967297",
+    "--words 18446744073709551616",
+    "--budget 4294967297",
+    "--budget 1 --quota 1/1/1",
+    "--quota 1/1",
+    "--quota 1/1/0",
+    "--scenario flood",
+    "--csv --json",
+    "--csv --compare other.json",
+    "--rate 1 --rate 2",
+]
+
+
+def looks_at_words(program: List[str]) -> List[str]:
+    """What is wrong with how bad command lines are refused."""
+    wrong = []
+    for line in BAD:
+        done = subprocess.run([*program, *line.split(), "no-such-file"], capture_output=True, text=True)
+        if done.returncode != 2 or done.stdout or not done.stderr.startswith("zsched: bad command line\n"):
+            wrong.append(f"{line}: status {done.returncode}: {done.stdout}{done.stderr}")
+    return wrong
+
+
+#: A storm as it is told without JSON, with bars and without.
+LINES = """\
+  from  requests  won  retries  succeeded  refused  shed  late  waiting%s
+     0         1    1        1          1        1     0     0        0%s
+1 requests: 1 won, 0 lost, 0 denied a retry, 0 left open
+2 calls, 2.00 for each request; the most in a window are 2, from 0 ms
+1 tickets of 9 given
+won after 11 ms (50 in 100), 11 ms (99 in 100), 11 ms (all)
+never recovered
+"""
+#: Two plans side by side: no retry, and one after 10 ms, in an outage of 5 ms.
+TABLE = """\
+                    a.json        b.json
+requests                 1             1
+won                      0             1
+lost                     1             0
+denied                   0             0
+open                     0             0
+calls                    1             2
+for each              1.00          2.00
+most calls               1             2
+tickets                  0             0
+50 in 100 ms             -            11
+99 in 100 ms             -            11
+slowest ms               -            11
+recovered ms         never         never
+"""
+
+
+def looks_at_lines(program: List[str]) -> List[str]:
+    """What is wrong with storms that are told in words."""
+    wrong = []
+    with tempfile.TemporaryDirectory() as folder:
+        (Path(folder) / "a.json").write_text('{"recurs":0}')
+        (Path(folder) / "b.json").write_text('{"meet":[{"recurs":1},{"spaced":10}]}')
+        storm = [*program, "--rate", "1", "--seconds", "1", "--outage", "0..5"]
+        for words, wanted in [
+            (["--budget", "9", "--plain", "b.json"], LINES % ("", "")),
+            (["--budget", "9", "b.json"], LINES % ("  # request, + retry", "  ######++++++")),
+            (["a.json", "--compare", "b.json"], TABLE),
+        ]:
+            done = subprocess.run([*storm, *words], capture_output=True, text=True, cwd=folder)
+            if (done.returncode, done.stdout, done.stderr) != (0, wanted, ""):
+                wrong.append(f"{words}: status {done.returncode}: {done.stdout}{done.stderr}")
+    return wrong
+
+
 def some_storm(rng: random.Random) -> Tuple[Any, Dict[str, Any]]:
     """A random policy with the options of a storm. One that looks back far, which the definitions play slowly, is cut early."""
     if rng.random() < 0.6:
@@ -294,6 +385,7 @@ def main() -> int:
     wrong = [line for program in programs for line in looks_at(program)]
     wrong += looks_at_numbers(programs[-1])
     if knows:
+        wrong += looks_at_words(programs[-1]) + looks_at_lines(programs[-1])
         with Pool() as pool:
             wrong += filter(None, pool.imap_unordered(differs, [f"{seed}.{number}" for number in range(count)]))
     for line in wrong[:20]:

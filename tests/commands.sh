@@ -1,11 +1,13 @@
 #!/usr/bin/env bash
 # Tries the programs of bin/ on a copy of this repository without git, where the Rattle kit is missing or is a script of this
 # test's own: what is said without the kit, which files of dist/ a change makes old, what bin/zsched runs and what it costs,
-# which crates bin/check proves, and that bin/test leaves nothing behind. The repository has no link: `rt ci` stops at one.
+# which crates bin/check proves, and that bin/test leaves nothing behind. HIKEBOX_ZSCHED names the zsched of the copy's dist/,
+# that of dist/ where it does not. The repository has no link: `rt ci` stops at one.
 set -euo pipefail
 top=$(cd "$(dirname "${BASH_SOURCE[0]}")/.." && pwd)
 work=$(mktemp -d)
 trap 'rm -rf "$work"' EXIT
+zsched=${HIKEBOX_ZSCHED:-$top/dist/zsched}
 unset HIKEBOX_LIB_DIR HIKEBOX_LIBRARY HIKEBOX_ZSCHED
 export HIKEBOX_RT=$work/no-kit
 tree=$work/tree
@@ -18,7 +20,7 @@ copy() {
   (cd "$top" && tar -cf - --exclude=out --exclude=__pycache__ bin c crates crates.txt HANDLES docs include python plans tests \
     rust/Cargo.toml rust/README.md rust/src/engine.rs README.md LICENSE VERSION) | tar -xf - -C "$tree"
   mkdir "$tree/dist"
-  cp "${zsched:-$top/dist/zsched}" "$tree/dist/zsched"
+  cp "$zsched" "$tree/dist/zsched"
   : >"$tree/dist/libhikebox.so"
   (cd "$tree" && bin/digest zsched libhikebox.a libhikebox.so hikebox.h hikebox.whl) >"$work/SOURCES"
   cp "$work/SOURCES" "$tree/dist/SOURCES"
@@ -77,6 +79,7 @@ bin/bindings: c/texts.c is not what the header says: run bin/bindings' "$changed
 changes() {
   local library=$'libhikebox.a\nlibhikebox.so\nhikebox.whl'
   makes_old '' true
+  makes_old 'hikebox.whl' append python/src/hikebox/lab/lab.js
   makes_old 'hikebox.whl' append python/src/hikebox/retrying.py
   makes_old 'hikebox.whl' append python/setup.cfg
   makes_old 'hikebox.h' append include/hikebox.h

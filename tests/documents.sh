@@ -2,8 +2,8 @@
 # Compares every printed plan, pool and check in README.md and docs/ with what the program prints. A `sh` block with a
 # line `bin/zsched WORDS < plans/NAME.json`, or `< jobs/NAME.json`, or with the file's name as its last word, is followed
 # by a `text` block, its whole output; a `json` block before it, under the same heading, is the file's text. It fails where
-# one of them differs, and where no document prints a plan or a pool of these folders. HIKEBOX_ZSCHED names the program,
-# that of dist/ where it does not.
+# one of them differs, and where no document prints a plan or a pool of these folders; and where a link of a page leads nowhere.
+# HIKEBOX_ZSCHED names the program, that of dist/ where it does not.
 set -euo pipefail
 top=$(cd "$(dirname "${BASH_SOURCE[0]}")/.." && pwd)
 zsched=${HIKEBOX_ZSCHED:-$top/dist/zsched}
@@ -89,6 +89,8 @@ done
 for input in $(cd "$top" && ls plans/*.json jobs/*.json); do
   grep -qxF "$input" "$work/used" || fails "no document prints $input"
 done
+
+"$top/tests/links.py" >"$work/links" || failed=1
 
 if [ "$failed" = 0 ]; then
   echo "tests/documents.sh: the documents print $printed plans and pools of jobs as the program does"

@@ -1,6 +1,6 @@
 """Compares the calls that include/hikebox.h declares with those that crates/hikebox_c exports: their names, and of each the
 types of its parameters in order. A handle's type is a struct of one pointer, whichever kind it is of. Each export makes the
-call of its name of crates/sched_calls and nothing else, and has its parameters and clauses, word for word."""
+call of its name of crates/sched_calls or crates/sched_storm_call and nothing else, and has its parameters and clauses, word for word."""
 import pathlib
 import re
 import sys
@@ -18,6 +18,9 @@ RATTLE = {
     "&mut Noted": ["hikebox_event *"],
     "&mut Reply": ["hikebox_next *"],
     "&mut Usage": ["hikebox_usage *"],
+    "&StormGiven": ["const hikebox_storm *"],
+    "&mut [WindowTold]": ["hikebox_window *", "size_t"],
+    "&mut TotalsTold": ["hikebox_totals *"],
     "u64": ["uint64_t"],
     "u32": ["uint32_t"],
     "alloc: Global": [],
@@ -28,7 +31,12 @@ STRUCTS = {
     "Noted": "hikebox_event",
     "Reply": "hikebox_next",
     "Usage": "hikebox_usage",
+    "StormGiven": "hikebox_storm",
+    "WindowTold": "hikebox_window",
+    "TotalsTold": "hikebox_totals",
 }
+#: The crates whose calls are exported.
+CALLS = ("sched_calls", "sched_storm_call")
 FIELDS = {"u64": "uint64_t", "u32": "uint32_t", "[u32; 4]": "uint32_t[4]"}
 
 
@@ -71,19 +79,20 @@ def functions(crate, begins):
 
 def passed_on():
     """Each export with what it should be by the call that it makes, where it is something else."""
-    calls = dict(functions("sched_calls", "^pub fn "))
+    calls = {name: (crate, *parts) for crate in CALLS for name, parts in functions(crate, "^pub fn ")}
     exports = dict(functions("hikebox_c", r'^pub extern "C" fn hikebox_'))
     for name in sorted({*calls, *exports}):
-        parameters, clauses, _ = calls.get(name, ("", "", ""))
+        crate, parameters, clauses, _ = calls.get(name, ("", "", "", ""))
         words = ", ".join(re.findall(r"(\w+):", parameters))
-        call = f"sched_calls::{name}({words})"
+        call = f"{crate}::{name}({words})"
         if exports.get(name) != [parameters, clauses, call]:
             yield name, exports.get(name), [parameters, clauses, call]
 
 
 def structs():
     header = without_comments((TOP / "include/hikebox.h").read_text())
-    replies = "".join(without_comments(file.read_text()) for file in sorted((TOP / "crates/sched_reply/src").glob("*.rt")))
+    files = [file for crate in ("sched_reply", "sched_storm_call") for file in sorted((TOP / "crates" / crate / "src").glob("*.rt"))]
+    replies = "".join(without_comments(file.read_text()) for file in files)
     for rattle, c in STRUCTS.items():
         here = re.search(r"typedef struct \{([^}]*)\} " + c + ";", header).group(1)
         there = re.search(r"#\[repr\(C\)\]\s*#\[derive\([^)]*\)\]\s*pub struct " + rattle + r" \{([^}]*)\}", replies).group(1)

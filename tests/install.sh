@@ -65,7 +65,7 @@ done
 for call in $(grep -oE '\bhikebox_[a-z_]+\(' "$top/include/hikebox.h" | sort -u); do
   grep -qF "$call" "$work/hikebox.3" || wrong "hikebox(3) has no $call"
 done
-for command in plan pool check; do
+for command in plan pool storm check; do
   for word in $("$prefix/bin/zsched" "$command" --help | grep -oE -- '--[a-z]+'); do
     grep -qF -- "$word" "$work/zsched.1" || wrong "zsched(1) has no $word"
   done
@@ -99,7 +99,7 @@ offers zsched p
 offers zsched pool --
 offers zsched check ''
 EOF
-printf 'plan pool check help --help --version\n%s\nfiles\n' "${options% }" >"$work/want"
+printf 'plan pool storm check help --help --version\n%s\nfiles\n' "${options% }" >"$work/want"
 PATH=$prefix/bin:$PATH zsh -f "$work/zsh" "$prefix" >"$work/out" && cmp -s "$work/out" "$work/want" || wrong "zsh: $(cat "$work/out")"
 [ "$failed" = 0 ] || exit 1
 echo "tests/install.sh: what is installed is compiled against in two ways, read by man and completed by bash and zsh"

@@ -10,6 +10,7 @@
 //   journals                          the events of a driver
 //   lasting                           a retry past 65,536 failures, a journal that is full, and handles of one policy
 //   shares                            threads retry by one policy, each with a share of it, and free it
+//   storms                            storms worked out by hand, and each refusal
 //   draw THREADS TICKETS              threads draw all tickets of a budget, and each is drawn once
 //   calls                             each call at least once; one that is refused for want of memory is made again
 #include <hikebox.h>
@@ -792,6 +793,127 @@ static int shares(void) {
     return wrong;
 }
 
+// ---- Storms
+
+static hikebox_window windows_told[128];
+
+// What a storm of this policy comes to.
+static hikebox_totals plays_at(int line, const char *json, const hikebox_storm *storm, size_t wanted) {
+    hikebox_policy policy = HIKEBOX_INIT;
+    hikebox_totals totals;
+    size_t count = 99;
+    memset(&totals, 0, sizeof totals);
+    wants_at(line, read_policy(json, &policy), HIKEBOX_OK);
+    wants_at(line, hikebox_storm_play(&policy, storm, windows_told, 128, &count, &totals), HIKEBOX_OK);
+    holds_at(line, count == wanted);
+    wants_at(line, hikebox_policy_free(&policy), HIKEBOX_OK);
+    return totals;
+}
+#define plays(json, storm, wanted) plays_at(__LINE__, json, storm, wanted)
+
+// A storm with one parameter changed is refused, and nothing is written.
+static void refuses_at(int line, hikebox_policy *policy, hikebox_storm storm) {
+    hikebox_totals totals;
+    size_t count = 99;
+    memset(&totals, 7, sizeof totals);
+    hikebox_totals before = totals;
+    wants_at(line, hikebox_storm_play(policy, &storm, windows_told, 128, &count, &totals), HIKEBOX_OUT_OF_RANGE);
+    holds_at(line, count == 99 && memcmp(&before, &totals, sizeof totals) == 0);
+}
+#define refuses(field, number)                        \
+    do {                                              \
+        hikebox_storm storm_ = HIKEBOX_STORM;         \
+        storm_.field = number;                        \
+        refuses_at(__LINE__, &policy, storm_);        \
+    } while (0)
+
+static void storms_out_of_range(void) {
+    hikebox_policy policy = HIKEBOX_INIT;
+    wants(read_policy("{\"recurs\":1}", &policy), HIKEBOX_OK);
+    refuses(rate, 0);
+    refuses(rate, 17477);
+    refuses(together, 1000001);
+    refuses(seconds, 0);
+    refuses(capacity, 0);
+    refuses(patience, 3600001);
+    refuses(queue, 1048577);
+    refuses(outage_from, 20001);
+    refuses(outage_to, 3600001);
+    refuses(slow_from, 1);
+    refuses(slow_to, 1);
+    refuses(slow_percent, 101);
+    refuses(window, 0);
+    refuses(window, 1);
+    refuses(until, 7200001);
+    refuses(calls, 0);
+    refuses(calls, UINT64_C(4294967297));
+    refuses(draws_on, 3);
+    hikebox_storm storm = HIKEBOX_STORM;
+    storm.draws_on = HIKEBOX_ON_BUDGET;
+    storm.limit = HIKEBOX_MOST_TICKETS + 1;
+    refuses_at(__LINE__, &policy, storm);
+    storm.draws_on = HIKEBOX_ON_QUOTA;
+    storm.period = 0;
+    refuses_at(__LINE__, &policy, storm);
+    storm.period = HIKEBOX_FAR + 1;
+    refuses_at(__LINE__, &policy, storm);
+    wants(hikebox_policy_free(&policy), HIKEBOX_OK);
+}
+
+// A handle that is empty or of another kind, and too little room.
+static void storms_refused(void) {
+    hikebox_policy policy = HIKEBOX_INIT;
+    hikebox_pass pass = HIKEBOX_INIT;
+    hikebox_storm storm = HIKEBOX_STORM;
+    hikebox_totals totals;
+    size_t count = 99;
+    wants(hikebox_storm_play(&policy, &storm, windows_told, 120, &count, &totals), HIKEBOX_NO_ROOM);
+    holds(count == 121);
+    wants(hikebox_storm_play(&policy, &storm, windows_told, 121, &count, &totals), HIKEBOX_EMPTY);
+    wants(hikebox_budget_fixed(1, &pass), HIKEBOX_OK);
+    wants(hikebox_storm_play((hikebox_policy *)&pass, &storm, windows_told, 121, &count, &totals), HIKEBOX_WRONG_KIND);
+    wants(hikebox_pass_free(&pass), HIKEBOX_OK);
+}
+
+static int storms(void) {
+    static const char eight[] = "{\"meet\":[{\"recurs\":8},{\"cap\":[10000,{\"exponential\":[100,2]}]}]}";
+    hikebox_storm one = HIKEBOX_STORM;
+    one.rate = one.seconds = 1;
+    one.outage_from = one.outage_to = 0;
+    hikebox_totals totals = plays("{\"recurs\":3}", &one, 1);
+    holds(totals.requests == 1 && totals.won == 1 && totals.calls == 1 && totals.hundredths == 100);
+    holds(totals.p50 == 1 && totals.p99 == 1 && totals.slowest == 1 && totals.recovers && totals.recovered == 0 && !totals.cut);
+    holds(windows_told[0].requests == 1 && windows_told[0].succeeded == 1 && windows_told[0].waiting == 0);
+
+    // Refused at 0, denied at 1: the budget has one ticket.
+    hikebox_storm denied = one;
+    denied.outage_to = 2;
+    denied.draws_on = HIKEBOX_ON_BUDGET;
+    denied.limit = 1;
+    totals = plays("{\"spaced\":1}", &denied, 1);
+    holds(totals.denied == 1 && totals.calls == 2 && totals.tickets == 1 && totals.p50 == 0 && !totals.recovers);
+
+    // Ten thousand clients at one moment: waves that come at 0, 100, 300, 700 ms and so on find room for 3,700 calls.
+    hikebox_storm herd = HIKEBOX_STORM;
+    herd.rate = herd.together = 10000;
+    herd.seconds = 1;
+    herd.patience = 1000;
+    herd.queue = 500;
+    herd.outage_from = herd.outage_to = 0;
+    herd.until = 61000;
+    totals = plays(eight, &herd, 24);
+    holds(totals.requests == 10000 && totals.won == 3700 && totals.lost == 6300);
+
+    hikebox_storm cut = one;
+    cut.outage_to = 10;
+    cut.calls = 5;
+    totals = plays("\"forever\"", &cut, 1);
+    holds(totals.cut && totals.calls == 5 && totals.open == 1);
+    storms_out_of_range();
+    storms_refused();
+    return wrong;
+}
+
 static uint8_t *drawn;
 
 static void *draw_all(void *handle) {
@@ -856,6 +978,8 @@ static int calls(void) {
     hikebox_decision decision;
     hikebox_next next;
     hikebox_event event;
+    hikebox_storm storm = HIKEBOX_STORM;
+    hikebox_totals totals;
     uint64_t number, other;
     char text[128];
     size_t length;
@@ -866,6 +990,11 @@ static int calls(void) {
     holds(length == 0);
     again(read_policy(json, &policy));
     again(hikebox_policy_share(&policy, &second));
+    storm.rate = storm.seconds = 2;
+    storm.outage_from = 0;
+    storm.until = 100000;
+    again(hikebox_storm_play(&policy, &storm, windows_told, 128, &length, &totals));
+    holds(totals.requests == 4 && totals.lost == 4 && totals.calls == 12);
     again(hikebox_policy_size(&second, &number, &other));
     holds(number == 4 && other == 3);
     again(hikebox_driver_new(&second, &driver));
@@ -936,6 +1065,7 @@ int main(int count, char **words) {
     if (!strcmp(what, "fault")) return fault();
     if (!strcmp(what, "faults")) return faults();
     if (!strcmp(what, "journals")) return journals();
+    if (!strcmp(what, "storms")) return storms();
     if (!strcmp(what, "lasting")) return lasting();
     if (!strcmp(what, "shares")) return shares();
     if (!strcmp(what, "draw") && count == 4) return draw(words + 2);

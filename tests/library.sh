@@ -38,16 +38,27 @@ for pair in libhikebox.so=14 zsched=34; do
   [ "$latest" = "${pair#*=}" ] || wrong "${pair%=*} asks for glibc 2.$latest"
 done
 
-# The example, with no warning, and by the lines of docs/C.md: two runs fail, and the third succeeds.
+# The example, with no warning, and by the lines of docs/C.md and README.md: two runs fail, and the third succeeds.
 printf 'run 1: 503\nrun 2: 503\nrun 3: 200\nwon after 3 runs, 2 retries granted\n2 tickets drawn of the budget\n' >"$work/want"
 "$work/retry" >"$work/out" && cmp -s "$work/out" "$work/want" || wrong "examples/c/retry.c: $(cat "$work/out")"
 mkdir "$work/page"
 ln -s "$top/examples" "$work/page/examples"
 ln -s "$(realpath "$dist")" "$work/page/dist"
 grep '^cc examples/c/retry.c ' "$top/docs/C.md" >"$work/lines" || wrong "docs/C.md has no line that builds the example"
+grep -o '`cc examples/c/[^`]*`' "$top/README.md" | tr -d '`' >>"$work/lines" || wrong "README.md has no line that builds the example"
 while IFS= read -r line; do
-  (cd "$work/page" && HOME=$work/home sh -c "$line") >"$work/out" && cmp -s "$work/out" "$work/want" || wrong "docs/C.md: $line: $(cat "$work/out")"
+  (cd "$work/page" && HOME=$work/home sh -c "$line") >"$work/out" && cmp -s "$work/out" "$work/want" || wrong "$line: $(cat "$work/out")"
 done <"$work/lines"
+
+# Its waits are whole, also where a run ends within a millisecond: those that it has where runs end at whole ones.
+cc "${flags[@]}" -shared -fPIC -o "$work/waits.so" "$top/tests/waits.c"
+LD_PRELOAD=$work/waits.so LATE=0 "$work/retry" 9>"$work/whole" >"$work/out"
+[ "$(wc -l <"$work/whole")" = 2 ] || wrong "examples/c/retry.c makes other waits: $(cat "$work/whole")"
+for late in 1 840000 999999; do
+  LD_PRELOAD=$work/waits.so LATE=$late "$work/retry" 9>"$work/waits" >"$work/out"
+  paste "$work/whole" "$work/waits" | awk '{ if ($2 < $1 || $2 >= $1 + 1000000) exit 1 }' ||
+    wrong "examples/c/retry.c, $late ns late, waits $(xargs <"$work/waits") and not $(xargs <"$work/whole")"
+done
 
 # The second block of docs/C.md, in a function that has what it names. The first stands in examples/c/poll.c.
 {
@@ -61,6 +72,16 @@ python3 - "$top/examples/c/poll.c" "$(block 1)" <<'EOF' || wrong "docs/C.md: its
 import sys
 sys.exit(not sys.argv[2].strip() or sys.argv[2] not in open(sys.argv[1]).read())
 EOF
+
+python3 - "$top/examples/c/storm.c" "$(block 3)" <<'EOF' || wrong "docs/C.md: its block is not that of examples/c/storm.c"
+import sys
+sys.exit(not sys.argv[2].strip() or sys.argv[2] not in open(sys.argv[1]).read())
+EOF
+
+# The storm that never ends, and the same under a quota: 7.62 and 1.02 calls for each request.
+cc "${flags[@]}" -o "$work/storm" "$top/examples/c/storm.c" "$dist/libhikebox.a"
+printf 'no limit: 365567 calls for 48000 requests in 81 windows, never recovered\na quota: 48900 calls for 48000 requests in 60 windows, recovered at 20000 ms\n' >"$work/want"
+"$work/storm" >"$work/out" && cmp -s "$work/out" "$work/want" || wrong "examples/c/storm.c: $(cat "$work/out")"
 
 # A loop of poll(): it hears a line while it waits, and connects once something listens; with nothing there it tells the fault.
 cc "${flags[@]}" -o "$work/poll" "$top/examples/c/poll.c" "$dist/libhikebox.a"
@@ -119,11 +140,11 @@ ends 5 '{"recurs":0}' '[{"won":1}]' won:1
 ends 5 '"forever"' '[{"lost":1},{"lost":2},{"lost":3},{"won":4}]' lost:1 lost:2 lost:3 won:4
 
 for program in linked loaded; do
-  for words in handles budgets quotas faults journals lasting shares; do
+  for words in handles budgets quotas faults journals lasting shares storms; do
     "$work/$program" "$words" || wrong "$program $words"
   done
   "$work/$program" draw 16 10000000 || wrong "$program draw"
-  for words in handles budgets quotas faults journals shares calls 'draw 4 20000'; do
+  for words in handles budgets quotas faults journals shares storms calls 'draw 4 20000'; do
     # shellcheck disable=SC2086
     valgrind --quiet --leak-check=full --show-leak-kinds=all --error-exitcode=9 "$work/$program" $words >"$work/out" ||
       wrong "valgrind $program $words"

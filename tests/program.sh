@@ -98,6 +98,7 @@ wants 0 '5: 0 done\n' '' plan --from 5 --input 9
 helps --help
 helps plan --help
 helps pool --help
+helps storm --help
 helps check --help
 wants 0 "zsched $(cat "$top/VERSION")\n" '' --version
 
@@ -129,7 +130,7 @@ for word in plan pool; do
   wants 4 '' 'zsched: read failed\n: No such file or directory (os error 2)\n' $word ''
   bad "unexpected argument '-' found" $word - -
 done
-bad "'zsched' requires a subcommand but one was not provided; [subcommands: plan, pool, check, help]; \
+bad "'zsched' requires a subcommand but one was not provided; [subcommands: plan, pool, storm, check, help]; \
 zsched --help says what there is"
 bad "unrecognized subcommand 'plans'; tip: a similar subcommand exists: 'plan'; zsched --help says what there is" plans
 wants 0 "$("$zsched" --version)\n" '' -V
@@ -365,29 +366,77 @@ wants 3 '[1].plan.join[1]: a plan is a string or an object of one member; found 
 { printf '[]'; head -c 1048575 /dev/zero | tr '\0' ' '; } >"$work/in"
 wants 3 '' 'zsched: input too long\n' check
 
+# A storm of one request, which the peer refuses at 0 and serves at 10: its rows, its totals, and a storm that is cut.
+# tests/check_storms.py looks at more of them.
+one='--rate 1 --seconds 1 --outage 0..5'
+names='from,requests,won,retries,succeeded,refused,shed,late,waiting\n'
+input '{"meet":[{"recurs":1},{"spaced":10}]}'
+cp "$work/in" "$work/one.json"
+wants 0 "${names}0,1,1,1,1,1,0,0,0\n" '' storm $one --csv
+wants 0 "${names}0,1,1,1,1,1,0,0,0\n" '' storm $one --csv -
+input ''
+wants 0 "${names}0,1,1,1,1,1,0,0,0\n" '' storm $one --csv "$work/one.json"
+totals='"requests":1,"won":1,"lost":0,"denied":0,"open":0,"calls":2,"hundredths":200,"most_calls":2,"most_from":0,"tickets":1,'
+totals+='"p50":11,"p99":11,"slowest":11,"recovered":null,"cut":false'
+wants 0 "{\"windows\":[[0,1,1,1,1,1,0,0,0]],\"totals\":{$totals}}\n" '' storm $one --quota 1/0%/1s --json "$work/one.json"
+input '"forever"'
+wants 6 "${names}0,1,0,4,0,5,0,0,0\n" 'zsched: not finished\n' storm $one --calls 5 --csv
+wants 4 '' "zsched: read failed\n$work/none.json: No such file or directory (os error 2)\n" storm "$work/none.json"
+# Of a further plan that is refused the file is told too.
+wants 4 '' "zsched: read failed\n$work/none.json: No such file or directory (os error 2)\n" storm --compare "$work/none.json"
+wants 4 '' "zsched: read failed\n$work: Is a directory (os error 21)\n" storm --compare "$work"
+printf '{"fixed":0}' >"$work/bad.json"
+refuses 'number out of range' \
+  "$work/bad.json: top: \"fixed\" is spelt {\"fixed\":D}, D from 1 to 4611686018427387903; found {\"fixed\":0}" \
+  storm $one --compare "$work/one.json" --compare "$work/bad.json"
+head -c 1048577 /dev/zero >"$work/long.json"
+refuses 'input too long' "$work/long.json: more than 1048576 bytes" storm --compare "$work/long.json"
+input 7
+refuses 'not a plan' 'top: a plan is a string or an object of one member; found 7' storm --compare "$work/bad.json"
+{ printf '"forever"'; head -c 1048568 /dev/zero | tr '\0' ' '; } >"$work/in"
+wants 3 '' 'zsched: input too long\n' storm
+bad "invalid value '0' for '--rate <N>': 0 is not in 1..=1000000" storm --rate 0
+bad "'--rate <N>' times '--seconds <S>' is more than 1048576 requests" storm --rate 17477
+bad "'--until <M>' has more than 65536 times '--window <M>'" storm --window 1
+spelt='it is spelt as 10000..20000, in milliseconds; FROM is at most TO, and TO at most 3600000'
+for span in 5..1 5 .. a..b 0..3600001 -1..5; do
+  bad "invalid value '$span' for '--outage <FROM..TO>': $spelt" storm --outage="$span"
+done
+spelt="it is spelt as 10000..20000@50, in milliseconds; FROM is at most TO, TO at most 3600000, and PERCENT from 1 to 100"
+for span in 0..1 0..1@0 0..1@101 1..0@50 0..3600001@50; do
+  bad "invalid value '$span' for '--slow <FROM..TO@PERCENT>': $spelt" storm --slow="$span"
+done
+bad "invalid value 'flood' for '--scenario <NAME>': it is one of outage, herd and brown-out" storm --scenario flood
+bad .. storm --quota 1/2
+bad .. storm --quota 1/2/3 --budget 1
+bad .. storm --csv --json
+bad .. storm --csv --compare "$work/one.json"
+
 # Standard input that is a folder can't be read, but a bad command line is refused before anything is.
 rm "$work/in"
 mkdir "$work/in"
-for word in plan pool check; do
+for word in plan pool storm check; do
   wants 4 '' 'zsched: read failed\nstandard input: Is a directory (os error 21)\n' $word
 done
 bad .. plan --none
 bad .. pool --workers 17
+bad .. storm --outage 5..1
 rmdir "$work/in"
 
 # A full device can't be written, and says why.
 printf 'zsched: write failed\nstandard output: No space left on device (os error 28)\n' >"$work/err.want"
-for word in plan pool check; do
+for words in plan pool 'storm --rate 1 --seconds 1' check; do
   got=0
-  case $word in plan | check) input '"forever"' ;; pool) input '[]' ;; esac
-  "$zsched" $word <"$work/in" >/dev/full 2>"$work/err" || got=$?
+  case $words in pool) input '[]' ;; *) input '"forever"' ;; esac
+  # shellcheck disable=SC2086
+  "$zsched" $words <"$work/in" >/dev/full 2>"$work/err" || got=$?
   [ "$got" = 4 ] && cmp -s "$work/err" "$work/err.want" ||
-    { echo "tests/program.sh: zsched $word: a write that fails: status $got" >&2; failed=1; }
+    { echo "tests/program.sh: zsched $words: a write that fails: status $got" >&2; failed=1; }
 done
 
 # A pipe that nobody reads ends it without a word.
 input '"forever"'
-for words in 'plan --steps 4096' check --help; do
+for words in 'plan --steps 4096' 'storm --rate 1 --seconds 1' check --help; do
   got=0
   exec 3> >(:)
   wait "$!"

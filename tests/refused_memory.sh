@@ -214,7 +214,7 @@ refuses_stored() {
 
 # Plans, jobs and command lines of all kinds.
 tries_zsched() {
-  local job three_calls workers input
+  local job jitter three_calls workers input
   beside tries refuses_stored
   beside tries refuses 0 '{"follow":[{"recurs":2},{"fixed":50}]}' plan --steps 5
   beside tries refuses 0 '{"gather":["list",{"renew":[100,{"follow":[{"recurs":1},{"spaced":60}]}]}]}' plan --steps 5
@@ -243,6 +243,15 @@ tries_zsched() {
   beside tries refuses_spared 3 '{"meet":[{"recurs":1},{"cap":[1,{"exponental":[100,2]}]}]}' check
   beside tries refuses 3 '[{"plan":{"fixed":0},"runs":[{"won":1}]}]' check
   beside tries refuses 3 '{"meet":[' check
+  # Storms of three requests, which are refused, retry and are won or cut.
+  jitter='{"meet":[{"recurs":3},{"jitter":[0,0,1000,{"exponential":[100,2]}]}]}'
+  beside tries refuses 0 "$jitter" storm --rate 3 --seconds 1 --outage 0..500
+  beside tries refuses 0 "$jitter" storm --rate 3 --seconds 1 --outage 0..500 --quota 1/50%/1s --json
+  beside tries refuses 0 "$jitter" storm --rate 3 --seconds 1 --compare "$top/plans/three-times.json"
+  beside tries refuses 3 "$jitter" storm --compare "$top/jobs/three-calls.json"
+  beside tries refuses 4 "$jitter" storm --compare "$top/plans/none.json"
+  beside tries refuses 6 '"forever"' storm --rate 1 --seconds 1 --outage 0..10 --calls 5 --csv
+  beside tries refuses 2 '' storm --outage 5..1
   job='{"plan":{"recurs":3},"runs":[{"lost":7}]}'
   three_calls=$(cat "$top/jobs/three-calls.json")
   for workers in 1 2; do

@@ -24,6 +24,7 @@ tries_wheel() {
     unset HIKEBOX_LIBRARY PYTHONPATH
     venv/bin/python -W error "$top/python/tests/smoke.py" "$fresh/venv"
     [ "$(venv/bin/hikebox plan --steps 1 'spaced(1)')" = '0: 0 next 1000' ] || fails "hikebox plan of $python"
+    [ "$(venv/bin/hikebox storm --seconds 1 --csv 'recurs(0)' | tail -n 1)" = 0,800,800,0,800,0,0,0,0 ] || fails "hikebox storm of $python"
     status=0
     venv/bin/python -m hikebox run --policy 'recurs(1)' -- sh -c 'exit 7' || status=$?
     [ "$status" = 7 ] || fails "hikebox run of $python ended with $status"

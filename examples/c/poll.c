@@ -27,6 +27,7 @@ static void check(hikebox_status status) {
     exit(1);
 }
 
+/* The whole milliseconds since the machine started. */
 static uint64_t now(void) {
     struct timespec at;
     clock_gettime(CLOCK_MONOTONIC, &at);
@@ -80,10 +81,13 @@ int main(int count, char **words) {
 
     struct pollfd fds[2] = {{.fd = 0, .events = POLLIN}, {.fd = -1, .events = POLLOUT}};
     uint32_t report = HIKEBOX_NO_REPORT;
-    uint64_t code = 0;
+    uint64_t code = 0, due = 0;
     for (;;) {
-        if (fds[1].fd < 0) { /* no run is under way: what is to be done now? */
-            check(hikebox_retry_poll(&retry, now(), no_words, report, code, &next));
+        if (fds[1].fd < 0 && now() >= due) { /* no run is under way: what is to be done now? */
+            /* (a run's end is rounded up to the next millisecond, so that no wait falls short) */
+            uint64_t moment = now() + (report != HIKEBOX_NO_REPORT);
+            check(hikebox_retry_poll(&retry, moment, no_words, report, code, &next));
+            due = next.what == HIKEBOX_WAIT ? next.until : 0;
             report = HIKEBOX_NO_REPORT;
             if (next.what == HIKEBOX_OVER) break;
             if (next.what == HIKEBOX_RUN) fds[1].fd = begin(port);

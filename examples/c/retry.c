@@ -19,11 +19,11 @@ static void check(hikebox_status status, const char *call) {
     exit(1);
 }
 
-/* The milliseconds since the machine started. */
+/* The milliseconds since the machine started, rounded up: so a wait that begins as a run ends does not fall short. */
 static uint64_t now(void) {
     struct timespec at;
     clock_gettime(CLOCK_MONOTONIC, &at);
-    return (uint64_t)at.tv_sec * 1000 + (uint64_t)at.tv_nsec / 1000000;
+    return (uint64_t)at.tv_sec * 1000 + ((uint64_t)at.tv_nsec + 999999) / 1000000;
 }
 
 static void sleep_until(uint64_t moment) {

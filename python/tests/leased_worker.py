@@ -2,6 +2,8 @@
 
 `kill` names a point at which it ends itself by SIGKILL: "asked", before its store is asked for the lease of that
 number; "granted", when the store has granted it and nobody drew of it; "drawn", after so many tickets.
+
+Where the machine held it up for long between two draws it writes that down too: `paused BEGAN ENDED`.
 """
 
 from __future__ import annotations
@@ -59,6 +61,19 @@ def uptime() -> int:
     return int(time.clock_gettime(time.CLOCK_BOOTTIME) * 1000)
 
 
+class Pauses:
+    """Notes where a loop did not come by for longer than a twentieth of a second."""
+
+    def __init__(self, output: int) -> None:
+        self.output = output
+        self.seen = uptime()
+
+    def look(self) -> None:
+        began, self.seen = self.seen, uptime()
+        if self.seen - began > 50:
+            os.write(self.output, f"paused {began} {self.seen}\n".encode())
+
+
 def main() -> None:
     how = json.loads(sys.argv[1])
     output = os.open(sys.argv[2], os.O_WRONLY | os.O_CREAT | os.O_APPEND)
@@ -75,7 +90,9 @@ def main() -> None:
 
     def work() -> None:
         mine = 0
+        pauses = Pauses(output)
         while time.monotonic() < until and not os.path.exists(stop):
+            pauses.look()
             before = uptime()
             ticket = leased.draw()
             if ticket is None:

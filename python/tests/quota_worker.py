@@ -2,7 +2,7 @@
 
 It writes down at once each ticket with its window, `ticket NUMBER WINDOW`, and what it told the store,
 `told REQUESTS WINDOW`; and in the end how many requests it made in each window of the machine's uptime,
-`asked REQUESTS WINDOW`. `kill` is as of leased_worker.py.
+`asked REQUESTS WINDOW`. `kill` and `paused` are as of leased_worker.py.
 """
 
 from __future__ import annotations
@@ -15,7 +15,7 @@ import time
 from collections import Counter
 from typing import Any, Counter as Counts
 
-from leased_worker import store_of
+from leased_worker import Pauses, store_of
 
 from hikebox.leased import LeasedQuota, QuotaRange
 
@@ -68,7 +68,9 @@ def main() -> None:
 
     for _ in range(how.get("first", 0)):
         request()
+    pauses = Pauses(output)
     while time.monotonic() < until and not os.path.exists(stop):
+        pauses.look()
         for _ in range(how.get("each", 0)):
             request()
         ticket = quota.draw()

@@ -8,9 +8,12 @@ import doctest
 import importlib
 import os
 import pkgutil
+import signal
+import subprocess
 import sys
 import threading
-from typing import List
+import urllib.request
+from typing import Any, List
 
 
 def main() -> None:
@@ -58,6 +61,7 @@ def main() -> None:
         return "won"
 
     assert asyncio.run(later()) == "won"
+    tries_lab()
     try:
         hikebox.retry(hikebox.recurs(1))(int)("x")
     except ValueError as error:
@@ -66,6 +70,22 @@ def main() -> None:
     else:
         raise AssertionError("int('x') succeeded")
     print(f"smoke.py: Python {sys.version.split()[0]}: {tried} examples, and one of each")
+
+
+def tries_lab() -> None:
+    """The page of `hikebox lab` with its parts, and a storm."""
+    command = [os.path.join(sys.argv[1], "bin", "hikebox"), "lab", "--no-browser"]
+    with subprocess.Popen(command, stdout=subprocess.PIPE, text=True) as lab:
+        assert lab.stdout is not None
+        address = lab.stdout.readline().split()[2]
+        body = b'{"page":"p","sides":[{"text":"recurs(0)","limit":""}],"storm":{"seconds":1}}'
+        asked = urllib.request.Request(address + "storm", body, {"Content-Type": "application/json"})
+        parts: List[Any] = [address, address + "lab.css", address + "lab.js", asked]
+        for part in parts:
+            with urllib.request.urlopen(part, timeout=20) as answer:
+                assert answer.status == 200 and len(answer.read()) > 1000, part
+        lab.send_signal(signal.SIGINT)
+        assert (lab.wait(timeout=20), lab.stdout.read()) == (0, "")
 
 
 if __name__ == "__main__":

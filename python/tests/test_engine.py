@@ -31,6 +31,9 @@ TYPES: Dict[str, Any] = {
     "hikebox_decision *": (ctypes.POINTER(_engine.Decision),),
     "hikebox_next *": (ctypes.POINTER(_engine.Next),),
     "hikebox_usage *": (ctypes.POINTER(_engine.Usage),),
+    "const hikebox_storm *": (ctypes.POINTER(_engine.Storm),),
+    "hikebox_window *": (ctypes.POINTER(_engine.Window),),
+    "hikebox_totals *": (ctypes.POINTER(_engine.Totals),),
     **{f"hikebox_{kind} *": (ctypes.POINTER(Handle),) for kind in ("policy", "driver", "pass", "quota", "retry")},
 }
 
@@ -71,7 +74,8 @@ def test_the_structures_are_those_of_the_header() -> None:
         for body, name in re.findall(r"typedef struct \{(.*?)\} (hikebox_\w+);", header(), flags=re.S)
     )
     kinds: Dict[str, Any] = {"place": _engine.Place, "decision": _engine.Decision}
-    kinds.update({"next": _engine.Next, "usage": _engine.Usage})
+    kinds.update({"next": _engine.Next, "usage": _engine.Usage, "storm": _engine.Storm})
+    kinds.update({"window": _engine.Window, "totals": _engine.Totals})
     for name, kind in kinds.items():
         assert [(field, CTYPES[word]) for word, field in found[f"hikebox_{name}"]] == list(kind._fields_)
 
@@ -84,7 +88,7 @@ def test_the_numbers_are_those_of_the_header() -> None:
     for name in (
         ["OK", "NO_MEMORY", "TOO_LARGE", "NOT_JSON", "NOT_A_POLICY", "OUT_OF_RANGE", "TOO_DEEP", "TOO_MANY"]
         + ["BACKWARDS", "JOURNAL_FULL", "LIMIT_TOO_LARGE", "FIXED", "NO_TICKET", "TOO_MANY_PASSES", "PASSES_OUT"]
-        + ["NO_REPORT", "WON", "LOST", "POLL", "RUN", "WAIT", "OVER"]
+        + ["NO_REPORT", "WON", "LOST", "POLL", "RUN", "WAIT", "OVER", "ON_NOTHING", "ON_BUDGET", "ON_QUOTA"]
     ):
         assert int(numbers[name]) == getattr(_engine, name), name
     from hikebox.state import ENDINGS, Ending

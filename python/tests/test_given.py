@@ -20,9 +20,11 @@ import pytest
 
 from conftest import python_environment
 from hikebox import (
+    AsyncRepeating,
     AsyncRetrying,
     Budget,
     Ending,
+    Repeating,
     ResultRefused,
     Retrying,
     TryAgain,
@@ -30,6 +32,7 @@ from hikebox import (
     before_log,
     before_sleep_log,
     code_of,
+    poll_until,
     recurs,
     retry,
     spaced,
@@ -65,6 +68,7 @@ async def wins_later() -> str:
 plain: Any = Retrying
 awaiting: Any = AsyncRetrying
 decorated: Any = retry
+repeating: Any = Repeating
 
 REFUSED: List[Any] = [
     (lambda: plain(recurs(1)).wraps(wins_later), "AsyncRetrying is for these"),
@@ -84,6 +88,7 @@ REFUSED: List[Any] = [
     (lambda: plain(recurs(1), fallback="none"), "fallback: a function is wanted, not 'none'"),
     (lambda: plain(recurs(1), stop=3), "stop: an event, or a function"),
     (lambda: plain(recurs(1), longest=-1), "longest: a number of seconds is wanted"),
+    (lambda: poll_until(recurs(1), later)(wins), "accepts: .* is a coroutine function"),
     (lambda: decorated(wins), r"@retry\(recurs\(3\) & spaced\(1\)\), with parentheses"),
     (lambda: decorated(recurs(1))(3), "a function is wanted, not 3"),
 ]
@@ -108,6 +113,8 @@ def test_a_coroutine_from_a_function_is_refused_and_not_retried() -> None:
         plain(recurs(3))(wins_later)
     with pytest.raises(TypeError, match="AsyncRetrying awaits"):
         plain(recurs(3), before=lambda state: wins_later())(wins)
+    with pytest.raises(TypeError, match="AsyncRetrying awaits"):
+        poll_until(recurs(3), lambda result: wins_later())(wins)()
     assert runs == [1]
 
 
@@ -122,6 +129,34 @@ def test_a_function_that_gives_nothing_to_await_is_called_once() -> None:
         asyncio.run(AsyncRetrying(recurs(3))(ask))
     assert runs == [1]
     assert asyncio.run(AsyncRetrying(recurs(3))(lambda: wins_later())) == "won"
+
+
+def test_a_function_that_raises_before_it_gives_anything_to_await_is_called_once() -> None:
+    runs = []
+
+    def ask() -> Any:
+        runs.append(1)
+        return fails()
+
+    with pytest.raises(TypeError, match="raised before it gave anything to await: a Retrying is") as caught:
+        asyncio.run(AsyncRetrying(recurs(3))(ask))
+    assert runs == [1] and isinstance(caught.value.__cause__, OSError)
+
+    # one that gave a coroutine before is retried, whatever it raises then
+    def asks_later() -> Any:
+        runs.append(2)
+        return fails_later() if len(runs) == 2 else fails()
+
+    with pytest.raises(OSError):
+        asyncio.run(AsyncRetrying(recurs(3))(asks_later))
+    assert runs == [1] + [2] * 4
+
+
+def test_what_repeats_is_named() -> None:
+    with pytest.raises(TypeError, match="gave coroutine, which is not awaited here: AsyncRepeating awaits"):
+        repeating(recurs(3))(wins_later)
+    with pytest.raises(TypeError, match="gave nothing that is awaited: a Repeating is for functions"):
+        asyncio.run(AsyncRepeating(recurs(3))(wins))  # type: ignore[arg-type]
 
 
 # What is awaited in coroutines
@@ -527,14 +562,15 @@ def test_the_members_of_a_state_are_those_of_tenacitys() -> None:
 
     with pytest.raises(tenacity.RetryError):
         tenacity.Retrying(
-            stop=tenacity.stop_after_attempt(3), wait=tenacity.wait_fixed(0.02), before_sleep=note
+            stop=tenacity.stop_after_attempt(3), wait=tenacity.wait_fixed(0.02), sleep=lambda _: None, before_sleep=note
         )(fails)
     theirs, seen = seen, []
+    clock = VirtualClock()
     with pytest.raises(OSError):
-        Retrying(recurs(2) & spaced(0.02), before_sleep=note)(fails)
+        Retrying(recurs(2) & spaced(0.02), before_sleep=note, clock=clock, sleep=clock.sleep)(fails)
     assert [entry[:3] for entry in seen] == [entry[:3] for entry in theirs]
     for ours, other in zip(seen, theirs):
-        assert ours[3:] == pytest.approx(other[3:], abs=0.002)
+        assert ours[3:] == pytest.approx(other[3:])
 
 
 def test_log_records_have_fields(caplog: Any) -> None:

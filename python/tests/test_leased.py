@@ -45,9 +45,11 @@ class Workers:
                 assert int(output) == len(self.lines(number))
         return [process.returncode for process in self.processes]
 
-    def lines(self, number: int) -> List[str]:
+    def lines(self, number: int, kind: str = "") -> List[str]:
+        """The lines of a process: those of its tickets, or of its pauses."""
         path = self.folder / f"tickets-{number}"
-        return path.read_text().splitlines() if path.exists() else []
+        lines = path.read_text().splitlines() if path.exists() else []
+        return [line for line in lines if line.startswith("paused") == (kind == "paused")]
 
     def await_tickets(self, count: int) -> None:
         """Waits until so many tickets were drawn."""
@@ -55,6 +57,11 @@ class Workers:
         while len(self.drawn()) < count:
             assert time.monotonic() < until
             time.sleep(0.02)
+
+    def pauses(self) -> List[Tuple[int, int]]:
+        """The moments between which a process was held up by the machine."""
+        lines = [line for number in range(len(self.processes)) for line in self.lines(number, "paused")]
+        return [(int(began), int(ended)) for _, began, ended in map(str.split, lines)]
 
     def drawn(self) -> List[Tuple[int, int, int]]:
         """Each ticket with the moments before and after its draw, by the machine's uptime in milliseconds."""
@@ -118,21 +125,35 @@ def test_old_names() -> None:
         Leased(store, "a", 5, per=60, period=60)
 
 
-def test_windows_of_a_file(tmp_path: Path) -> None:
+def test_windows_of_a_file(tmp_path: Path, monkeypatch: Any) -> None:
+    now = [0.0]
+    monkeypatch.setattr("hikebox._file_store.uptime", lambda: now[0])
     store = FileStore(tmp_path / "counts")
-    leased = Leased(store, "a", limit=3, per=0.2)
-    other = Leased(store, "a", limit=3, per=0.2)
+    first, second = (Leased(store, "a", limit=3, per=0.2, clock=lambda: now[0]) for _ in range(2))
+    for window in (35, 36, 37, 39, 50):
+        now[0] = window * 0.2 + 0.001
+        assert [first.draw(), second.draw(), first.draw()] == [0, 1, 2]
+        assert [second.draw(), first.draw()] == [None, None]
+        now[0] = window * 0.2 + 0.199
+        assert [second.draw(), first.draw()] == [None, None]
+
+
+def test_windows_of_a_file_go_by_the_machines_uptime(tmp_path: Path) -> None:
+    def window() -> int:
+        return int(time.clock_gettime(time.CLOCK_BOOTTIME) * 5)
+
+    store = FileStore(tmp_path / "counts")
+    budgets = [Leased(store, "a", limit=3, per=0.2) for _ in range(2)]
     counted: Dict[int, List[int]] = {}
-    until = time.monotonic() + 1
-    while time.monotonic() < until:
-        before = int(time.clock_gettime(time.CLOCK_BOOTTIME) * 5)
-        tickets = [budget.draw() for budget in (leased, other)]
-        if before == int(time.clock_gettime(time.CLOCK_BOOTTIME) * 5):
-            counted.setdefault(before, []).extend(ticket for ticket in tickets if ticket is not None)
-    assert len(counted) >= 5
-    # a ticket that was drawn while a window ended is left out
+    until = time.monotonic() + 60
+    while len(counted) < 6 and time.monotonic() < until:
+        for budget in budgets:
+            before, ticket = window(), budget.draw()
+            # a ticket that was drawn while a window ended is left out
+            if ticket is not None and before == window():
+                counted.setdefault(before, []).append(ticket)
+    assert len(counted) == 6
     assert all(len(set(tickets)) == len(tickets) and set(tickets) <= {0, 1, 2} for tickets in counted.values())
-    assert sum(len(tickets) for tickets in counted.values()) >= len(counted)
 
 
 class Stub:
@@ -375,25 +396,41 @@ def test_processes_killed_at_any_moment(workers: Workers, tmp_path: Path) -> Non
     assert len(tickets) >= 30_000 - killed * (20 + 2)
 
 
-def in_windows(drawn: List[Tuple[int, int, int]], limit: int, period: int) -> None:
-    """No window has more tickets than the limit of those that were drawn in it for sure."""
-    by_window: Any = {}
-    for ticket, before, after in drawn:
-        by_window.setdefault(after // period, []).append(before // period == after // period)
-    whole = sorted(by_window)[1:-1]
-    assert len(whole) >= 2
-    for draws in by_window.values():
-        # the clocks of the test and of the store may differ by a millisecond
-        assert sum(draws) <= limit + 2
+def in_windows(workers: Workers, folder: Path, limit: int, period: int, offset: int = 0) -> None:
+    """Lets processes that heed the file `stop` draw until three windows were drawn nearly whole. No window has more tickets
+    than the limit of those that were drawn in it for sure; and of a whole window nearly all are drawn, where the machine
+    held no process up."""
+
+    def by_windows() -> Dict[int, List[bool]]:
+        found: Dict[int, List[bool]] = {}
+        for _, before, after in workers.drawn():
+            window = (after + offset) // period
+            found.setdefault(window, []).append((before + offset) // period == window)
+        return found
+
+    until = time.monotonic() + 60
+    while sum(len(draws) >= 0.9 * limit for draws in by_windows().values()) < 3:
+        assert time.monotonic() < until
+        time.sleep(0.1)
+    (folder / "stop").touch()
+    workers.wait()
+    by_window = by_windows()
+    # the clocks of the test and of the store may differ by a millisecond
+    assert all(sum(draws) <= limit + 2 for draws in by_window.values())
+    held_up = [((began + offset) // period, (ended + offset) // period) for began, ended in workers.pauses()]
+    whole = [
+        window
+        for window in sorted(by_window)[1:-1]
+        if not any(began <= window <= ended for began, ended in held_up)
+    ]
     assert sum(len(by_window[window]) for window in whole) >= 0.9 * limit * len(whole)
 
 
 def test_windows_of_many_processes_one_with_a_clock_an_hour_off(workers: Workers, tmp_path: Path) -> None:
     how = {"file": str(tmp_path / "counts"), "name": "a", "limit": 50, "lease": 5, "per": 0.5}
     for off in (0, 0, 3600, -3600):
-        workers.start({**how, "clock_off": off, "patient": True, "seconds": 2.5})
-    workers.wait()
-    in_windows(workers.drawn(), 50, 500)
+        workers.start({**how, "clock_off": off, "patient": True, "seconds": 90, "stop": str(tmp_path / "stop")})
+    in_windows(workers, tmp_path, 50, 500)
 
 
 # Redis
@@ -495,7 +532,9 @@ def test_redis_stopped_and_started_under_load(durable: bool, workers: Workers, r
         assert len(tickets) >= leased - 8 * 50 * 3
 
 
-def test_windows_of_redis_one_process_with_a_clock_an_hour_off(workers: Workers, redis_server: Any) -> None:
+def test_windows_of_redis_one_process_with_a_clock_an_hour_off(
+    workers: Workers, redis_server: Any, tmp_path: Path
+) -> None:
     server = redis_server()
     store = RedisStore(server.client())
     # no ticket of a window that may have begun before the server did
@@ -503,11 +542,11 @@ def test_windows_of_redis_one_process_with_a_clock_an_hour_off(workers: Workers,
     time.sleep(3.2)
     for off in (0, 0, 3600, -3600):
         how = {"port": server.port, "name": "a", "limit": 50, "lease": 5, "per": 0.5, "clock_off": off}
-        workers.start({**how, "patient": True, "seconds": 2.5})
-    workers.wait()
+        workers.start({**how, "patient": True, "seconds": 90, "stop": str(tmp_path / "stop")})
     offset = int(time.time() * 1000) - int(time.clock_gettime(time.CLOCK_BOOTTIME) * 1000)
-    in_windows([(ticket, before + offset, after + offset) for ticket, before, after in workers.drawn()], 50, 500)
-    keys = server.client().keys("hikebox:{a}:*")
-    assert all(0 < server.client().pttl(key) <= 1000 for key in keys)
+    in_windows(workers, tmp_path, 50, 500, offset)
+    # -2 is a key that has just gone
+    left = [server.client().pttl(key) for key in server.client().keys("hikebox:{a}:*")]
+    assert all(millis == -2 or 0 < millis <= 1000 for millis in left)
     time.sleep(1.1)
     assert server.client().keys("hikebox:{a}:*") == []

@@ -368,26 +368,43 @@ def test_a_forked_child_has_leases_and_requests_of_its_own(tmp_path: Path) -> No
     assert quota.draw() == 1 and quota.seen().asked == 1
 
 
-def test_windows_of_a_file(tmp_path: Path) -> None:
+def test_windows_of_a_file(tmp_path: Path, monkeypatch: Any) -> None:
+    now = [0.0]
+    monkeypatch.setattr("hikebox._file_store.uptime", lambda: now[0])
+    store = FileStore(tmp_path / "counts")
+    quota = LeasedQuota(store, "a", 2, 0.5, 0.4, lease=1, again_after=0.01, clock=lambda: now[0])
+    for window in (35, 36, 37, 39, 50):
+        now[0] = window * 0.4 + 0.001
+        for _ in range(6):
+            quota.deposit()
+        # two, and three for the six requests
+        assert [quota.draw() for _ in range(6)] == [0, 1, 2, 3, 4, None]
+        now[0] = window * 0.4 + 0.399
+        assert quota.draw() is None
+
+
+def test_windows_of_a_file_go_by_the_machines_uptime(tmp_path: Path) -> None:
+    def present() -> int:
+        return int(time.clock_gettime(time.CLOCK_BOOTTIME) * 1000) // 400
+
     store = FileStore(tmp_path / "counts")
     quota = LeasedQuota(store, "a", 2, 0.5, 0.4, lease=1, again_after=0.01)
     by_window: Dict[int, List[int]] = {}
     made: Counts[int] = Counter()
-    until = time.monotonic() + 2.2
-    while time.monotonic() < until:
-        window = int(time.clock_gettime(time.CLOCK_BOOTTIME) * 1000) // 400
+    until = time.monotonic() + 60
+    while sum(len(tickets) == 5 for tickets in by_window.values()) < 4 and time.monotonic() < until:
+        window = present()
         if made[window] < 6:
             quota.deposit()
             made[window] += 1
         ticket = quota.draw()
         if ticket is None:
             time.sleep(0.005)
-        elif window == int(time.clock_gettime(time.CLOCK_BOOTTIME) * 1000) // 400:
+        elif window == present():
             by_window.setdefault(window, []).append(ticket)
-    # two, and three for the six requests; a ticket that was drawn while a window ended is left out
-    assert len(by_window) >= 5
+    # a ticket that was drawn while a window ended is left out
     assert all(tickets == sorted(set(tickets)) and tickets[-1] < 5 for tickets in by_window.values())
-    assert sum(tickets == [0, 1, 2, 3, 4] for tickets in by_window.values()) >= 3
+    assert sum(tickets == [0, 1, 2, 3, 4] for tickets in by_window.values()) == 4
 
 
 def test_a_damaged_file_grants_nothing(tmp_path: Path) -> None:
@@ -462,28 +479,43 @@ def test_processes_killed_at_points_of_a_lease_of_a_file(workers: Workers, tmp_p
     assert len(tickets) >= 2300 - 10 * len(KILLS)
 
 
-def check_windows(workers: Workers, reserve: int, share: float) -> None:
-    """In no window a ticket is drawn twice, or one past what the requests allow that were told; and of whole windows
-    most of what they allow is drawn."""
+def check_windows(workers: Workers, folder: Path, reserve: int, share: float, offset: int = 0) -> None:
+    """Lets processes that heed the file `stop` draw until of three windows of half a second most of what they allow was
+    drawn. In no window a ticket is drawn twice, or one past what the requests allow that were told; and of whole windows
+    most of what they allow is drawn, where the machine held no process up."""
+
+    def allowed(told: Counts[int], window: int) -> int:
+        return reserve + int(share * 1000) * told[window] // 1000
+
+    until = time.monotonic() + 60
+    full = 0
+    while full < 3:
+        assert time.monotonic() < until
+        time.sleep(0.1)
+        told = workers.sums("told")
+        full = sum(len(drawn) >= 0.8 * allowed(told, window) for window, drawn in workers.tickets().items() if window >= 0)
+    (folder / "stop").touch()
+    workers.wait()
     told, by_window = workers.sums("told"), workers.tickets()
     assert told[-1] == 0
     by_window.pop(-1, None)
     for window, tickets in by_window.items():
-        allowed = reserve + int(share * 1000) * told[window] // 1000
-        assert len(set(tickets)) == len(tickets) and max(tickets) < allowed
-    whole = sorted(by_window)[1:-1]
-    assert len(whole) >= 2
-    allowed = sum(reserve + int(share * 1000) * told[window] // 1000 for window in whole)
-    assert sum(len(by_window[window]) for window in whole) >= 0.8 * allowed
+        assert len(set(tickets)) == len(tickets) and max(tickets) < allowed(told, window)
+    held_up = [((began + offset) // 500, (ended + offset) // 500) for began, ended in workers.notes("paused")]
+    whole = [
+        window
+        for window in sorted(by_window)[1:-1]
+        if not any(began <= window <= ended for began, ended in held_up)
+    ]
+    assert sum(len(by_window[window]) for window in whole) >= 0.8 * sum(allowed(told, window) for window in whole)
 
 
 def test_windows_of_many_processes_two_with_a_clock_an_hour_off(workers: Workers, tmp_path: Path) -> None:
     how = {"file": str(tmp_path / "counts"), "name": "a", "reserve": 20, "share": 0.5, "per": 0.5, "lease": 2}
     for off in (0, 0, 3600, -3600):
-        more = {"clock_off": off, "patient": True, "seconds": 2.5, "each": 1, "again_after": 0.05}
-        workers.start({**how, **more})
-    workers.wait()
-    check_windows(workers, 20, 0.5)
+        more = {"clock_off": off, "patient": True, "seconds": 90, "stop": str(tmp_path / "stop")}
+        workers.start({**how, **more, "each": 1, "again_after": 0.05})
+    check_windows(workers, tmp_path, 20, 0.5)
     # each request counts once at most, and in the window in which it was made
     told, asked = workers.sums("told"), workers.sums("asked")
     assert all(told[window] <= asked[window] + 4 for window in told)
@@ -549,14 +581,17 @@ def test_the_script_rounds_as_a_quota_does(redis_server: Any) -> None:
         assert client.eval(_redis_store.GRANT, 1, "k", 0, 5, reserve, share, 2**32, 1000) == [allowed, 0, asked]
 
 
-def test_windows_of_redis_two_processes_with_a_clock_an_hour_off(workers: Workers, redis_server: Any) -> None:
+def test_windows_of_redis_two_processes_with_a_clock_an_hour_off(
+    workers: Workers, redis_server: Any, tmp_path: Path
+) -> None:
     server = redis_server()
     time.sleep(3.2)
     how = {"port": server.port, "name": "a", "reserve": 20, "share": 0.5, "per": 0.5, "lease": 2, "each": 1}
     for off in (0, 0, 3600, -3600):
-        workers.start({**how, "clock_off": off, "patient": True, "seconds": 2.5, "again_after": 0.05})
-    workers.wait()
-    check_windows(workers, 20, 0.5)
+        more = {"clock_off": off, "patient": True, "seconds": 90, "stop": str(tmp_path / "stop")}
+        workers.start({**how, **more, "again_after": 0.05})
+    offset = int(time.time() * 1000) - int(time.clock_gettime(time.CLOCK_BOOTTIME) * 1000)
+    check_windows(workers, tmp_path, 20, 0.5, offset)
     assert sum(workers.sums("told").values()) >= 0.5 * sum(workers.sums("asked").values())
     time.sleep(1.1)
     assert server.client().keys("*") == []

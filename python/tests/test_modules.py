@@ -30,7 +30,7 @@ def declared(tree: ast.AST) -> Iterator[str]:
 
 
 #: Members of libraries and of the language that have no other name.
-THEIRS = {"_replace", "_exit", "_asdict"}
+THEIRS = {"_replace", "_exit", "_asdict", "_fields"}
 
 
 @pytest.mark.parametrize("path", MODULES, ids=[path.stem for path in MODULES])

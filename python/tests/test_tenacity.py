@@ -4,6 +4,7 @@ from __future__ import annotations
 
 import asyncio
 import threading
+import time
 from typing import Any, List
 
 import pytest
@@ -17,7 +18,8 @@ from hikebox.adapters.tenacity import before_deposit, stop_and_wait  # noqa: E40
 
 
 def made(policy: Any, slept: List[float], **how: Any) -> Any:
-    stop, wait = stop_and_wait(policy, **how)
+    """One that notes its waits and makes none, by a clock that stands still where no other is named."""
+    stop, wait = stop_and_wait(policy, **{"clock": lambda: 0.0, **how})
     return tenacity.Retrying(stop=stop, wait=wait, sleep=slept.append, reraise=True)
 
 
@@ -29,7 +31,18 @@ def test_it_stops_and_waits_as_the_policy_says() -> None:
     slept: List[float] = []
     with pytest.raises(KeyError):
         made(recurs(3) & exponential(0.1), slept)(fails)
-    assert slept == pytest.approx([0.1, 0.2, 0.4], abs=0.01)
+    assert slept == pytest.approx([0.1, 0.2, 0.4])
+
+
+def test_it_goes_by_tenacitys_clock() -> None:
+    slept: List[float] = []
+    began = time.monotonic()
+    with pytest.raises(KeyError):
+        made(recurs(3) & exponential(0.1), slept, clock=time.monotonic)(fails)
+    took = time.monotonic() - began
+    # from the failure on, as a moment that is a whole millisecond, and less what passed since
+    assert len(slept) == 3
+    assert all(wait - took <= made <= wait + 0.0011 for wait, made in zip([0.1, 0.2, 0.4], slept))
 
 
 def test_one_stop_and_wait_serves_many_calls() -> None:
@@ -38,7 +51,7 @@ def test_one_stop_and_wait_serves_many_calls() -> None:
     for _ in range(3):
         with pytest.raises(KeyError):
             retrying(fails)
-    assert slept == pytest.approx([1] * 6, abs=0.01)
+    assert slept == pytest.approx([1] * 6)
 
 
 def test_a_budget_over_all_calls() -> None:
@@ -79,7 +92,7 @@ def test_a_quota_over_all_calls() -> None:
 
 def test_with_tenacitys_own_stops_waits_and_results() -> None:
     slept: List[float] = []
-    stop, wait = stop_and_wait(recurs(9) & spaced(1))
+    stop, wait = stop_and_wait(recurs(9) & spaced(1), clock=lambda: 0.0)
     retrying = tenacity.Retrying(
         stop=tenacity.stop_after_attempt(3) | stop,
         wait=wait + tenacity.wait_fixed(2),
@@ -88,7 +101,7 @@ def test_with_tenacitys_own_stops_waits_and_results() -> None:
         retry_error_callback=lambda state: state.attempt_number,
     )
     assert retrying(lambda: None) == 3
-    assert slept == pytest.approx([3, 3], abs=0.01)
+    assert slept == pytest.approx([3, 3])
 
 
 def test_the_policy_is_given_the_code() -> None:

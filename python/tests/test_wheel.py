@@ -56,3 +56,4 @@ def test_a_source_archive_builds_the_wheel_with_the_engine(sources: Path, tmp_pa
     with zipfile.ZipFile(wheel) as files:
         assert files.read("hikebox/libhikebox.so") == engine.read_bytes()
         assert {"hikebox_program.py", "hikebox/py.typed", "hikebox/adapters/httpx.py"} <= set(files.namelist())
+        assert {"hikebox/lab/page.html", "hikebox/lab/lab.css", "hikebox/lab/lab.js"} <= set(files.namelist())

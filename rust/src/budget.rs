@@ -131,6 +131,7 @@ impl fmt::Debug for Budget {
 impl Pass {
     /// A ticket that no other draw got, or `None` where none is left: of a budget that keeps its limit for good, of one
     /// that may rise until it is raised. A draw takes no lock and no memory, and never waits.
+    #[must_use = "the ticket is drawn, if there is one"]
     pub fn draw(&mut self) -> Option<u64> {
         let pass = self.handle.as_mut().expect("a pass has its handle until it is dropped");
         match pass.draw() {

@@ -46,6 +46,66 @@ pub(crate) struct Used {
     pub(crate) left: u64,
 }
 
+#[repr(C)]
+#[derive(Clone, Copy, Debug)]
+pub(crate) struct Storm {
+    pub(crate) rate: u64,
+    pub(crate) together: u64,
+    pub(crate) seconds: u64,
+    pub(crate) capacity: u64,
+    pub(crate) patience: u64,
+    pub(crate) queue: u64,
+    pub(crate) outage_from: u64,
+    pub(crate) outage_to: u64,
+    pub(crate) slow_from: u64,
+    pub(crate) slow_to: u64,
+    pub(crate) slow_percent: u64,
+    pub(crate) window: u64,
+    pub(crate) until: u64,
+    pub(crate) calls: u64,
+    pub(crate) words: u64,
+    pub(crate) draws_on: u64,
+    pub(crate) limit: u64,
+    pub(crate) reserve: u64,
+    pub(crate) share: u64,
+    pub(crate) period: u64,
+}
+
+#[repr(C)]
+#[derive(Clone, Copy, Debug, Default)]
+pub(crate) struct Window {
+    pub(crate) from: u64,
+    pub(crate) requests: u64,
+    pub(crate) won: u64,
+    pub(crate) retries: u64,
+    pub(crate) succeeded: u64,
+    pub(crate) refused: u64,
+    pub(crate) shed: u64,
+    pub(crate) late: u64,
+    pub(crate) waiting: u64,
+}
+
+#[repr(C)]
+#[derive(Clone, Copy, Debug, Default)]
+pub(crate) struct Totals {
+    pub(crate) requests: u64,
+    pub(crate) won: u64,
+    pub(crate) lost: u64,
+    pub(crate) denied: u64,
+    pub(crate) open: u64,
+    pub(crate) calls: u64,
+    pub(crate) hundredths: u64,
+    pub(crate) most_calls: u64,
+    pub(crate) most_from: u64,
+    pub(crate) tickets: u64,
+    pub(crate) p50: u64,
+    pub(crate) p99: u64,
+    pub(crate) slowest: u64,
+    pub(crate) recovered: u64,
+    pub(crate) recovers: bool,
+    pub(crate) cut: bool,
+}
+
 const OK: u32 = 0;
 const NO_MEMORY: u32 = 4;
 const TOO_LARGE: u32 = 5;
@@ -76,6 +136,10 @@ pub(crate) const ENDED_DONE: u32 = 2;
 pub(crate) const ENDED_REFUSED: u32 = 3;
 pub(crate) const ENDED_CANCELLED: u32 = 4;
 pub(crate) const ENDED_NO_MEMORY: u32 = 5;
+
+pub(crate) const ON_NOTHING: u64 = 0;
+pub(crate) const ON_BUDGET: u64 = 1;
+pub(crate) const ON_QUOTA: u64 = 2;
 
 /// The greatest moment, length of a window, and code.
 pub(crate) const FAR: u64 = (1 << 62) - 1;
@@ -142,6 +206,15 @@ extern "C" {
     fn hikebox_retry_end(retry: *mut Raw, pass: *mut Raw) -> u32;
     fn hikebox_retry_end_on_quota(retry: *mut Raw, quota: *mut Raw) -> u32;
     fn hikebox_retry_free(retry: *mut Raw) -> u32;
+
+    fn hikebox_storm_play(
+        policy: *mut Raw,
+        storm: *const Storm,
+        windows: *mut Window,
+        capacity: usize,
+        count: *mut usize,
+        totals: *mut Totals,
+    ) -> u32;
 }
 
 /// Why a call is refused.
@@ -284,6 +357,16 @@ impl Handle<PolicyKind> {
             hikebox_policy_read(json.as_ptr(), json.len(), policy, &mut place)
         });
         read.map_err(|status| (status, place))
+    }
+
+    /// Plays a storm under it, of at most so many windows: those that there are, and the totals.
+    pub(crate) fn play(&mut self, storm: &Storm, room: usize) -> Result<(Vec<Window>, Totals), Status> {
+        let (mut windows, mut count, mut totals) = (vec![Window::default(); room], 0, Totals::default());
+        Status::of(unsafe {
+            hikebox_storm_play(self.raw(), storm, windows.as_mut_ptr(), windows.len(), &mut count, &mut totals)
+        })?;
+        windows.truncate(count);
+        Ok((windows, totals))
     }
 
     /// How many nodes it has, and how deep it is.

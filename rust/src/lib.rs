@@ -29,6 +29,7 @@
 //!   your own implements [`Tickets`].
 //! - With the feature `serde`, a policy is read and written as a part of a configuration.
 //! - [`Machine`] is a retry that a host with a clock of its own steps.
+//! - [`Storm`] shows what a policy does to a peer that fails for a while, when thousands of calls fail together.
 //!
 //! What the engine does is proved; this crate, which calls it, is tested. `docs/RUST.md` of the repository is the
 //! guide.
@@ -59,6 +60,7 @@ mod schedule;
 mod serial;
 #[cfg(feature = "leased")]
 mod store;
+mod storm;
 mod words;
 
 #[cfg(feature = "tokio")]
@@ -85,6 +87,7 @@ pub use retrying::{retry, Attempt, Blocking, BlockingRetryable, Retrying};
 pub use schedule::{Fold, Schedule, Test};
 #[cfg(feature = "leased")]
 pub use store::StoreError;
+pub use storm::{Storm, StormError, StormReport, StormTotals, StormWindow};
 
 #[cfg(doctest)]
 mod pages {
@@ -101,4 +104,63 @@ mod pages {
 
     #[doc = include_str!("../../docs/FROM-BACKOFF.md")]
     struct FromBackoff;
+
+    /// A match on what may grow has an arm for the rest:
+    ///
+    /// ```compile_fail,E0004
+    /// use hikebox::RetryError::{self, *};
+    /// fn last(error: RetryError<u8>) -> u8 {
+    ///     match error {
+    ///         ScheduleDone(last) | BudgetRefused(last) | NotRetried(last) | StoreFailed(_, last) | Broken(_, last) => last,
+    ///     }
+    /// }
+    /// ```
+    ///
+    /// ```compile_fail,E0004
+    /// use hikebox::Ended::{self, *};
+    /// fn won(ended: Ended) -> bool {
+    ///     match ended {
+    ///         Won => true,
+    ///         ScheduleDone | BudgetRefused | Cancelled | Broken(_) => false,
+    ///     }
+    /// }
+    /// ```
+    ///
+    /// ```compile_fail,E0004
+    /// use hikebox::PolicyFault::{self, *};
+    /// fn is_json(fault: PolicyFault) -> bool {
+    ///     match fault {
+    ///         NotJson { .. } => false,
+    ///         NotAPolicy | OutOfRange | TooMany | TooDeep | JournalFull | NoMemory => true,
+    ///     }
+    /// }
+    /// ```
+    struct Grows;
+
+    /// What does nothing by itself, and a ticket that nobody looks at, are told:
+    ///
+    /// ```compile_fail
+    /// #![deny(unused_must_use)]
+    /// hikebox::Retrying::<u8>::new(&"{\"recurs\":3}".parse().unwrap(), &hikebox::Unlimited).longest(Default::default());
+    /// ```
+    ///
+    /// ```compile_fail
+    /// #![deny(unused_must_use)]
+    /// hikebox::Schedule::recurs(3).nothing();
+    /// ```
+    ///
+    /// ```compile_fail
+    /// #![deny(unused_must_use)]
+    /// fn goes_on(machine: &mut hikebox::Machine) {
+    ///     machine.step(Default::default(), None);
+    /// }
+    /// ```
+    ///
+    /// ```compile_fail
+    /// #![deny(unused_must_use)]
+    /// fn draws(pass: &mut hikebox::Pass) {
+    ///     pass.draw();
+    /// }
+    /// ```
+    struct IsUsed;
 }

@@ -239,6 +239,7 @@ impl QuotaPass {
 
     /// A ticket that no other draw got, or `None` where the present window has none left: a later one may, and so may
     /// this one after more requests. Ticket n of a window, from 0, has the number `window << 32 | n`.
+    #[must_use = "the ticket is drawn, if there is one"]
     pub fn draw(&mut self) -> Option<u64> {
         self.draw_at(self.quota.moment(now()))
     }
@@ -255,6 +256,7 @@ impl QuotaPass {
     }
 
     /// [`QuotaPass::draw`] at such a moment.
+    #[must_use = "the ticket is drawn, if there is one"]
     pub fn draw_at(&mut self, now: Duration) -> Option<u64> {
         match self.handle().draw(whole_millis(now)) {
             Ok(ticket) => {

@@ -92,7 +92,7 @@ fn a_budget_raised_by_some_gives_as_many_more_whatever_was_refused() {
                 let budget = &budget;
                 scope.spawn(move || {
                     for _ in 0..1_000 {
-                        budget.pass().unwrap().draw();
+                        let _ = budget.pass().unwrap().draw();
                     }
                 });
             }

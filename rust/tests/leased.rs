@@ -2,14 +2,14 @@
 #![cfg(feature = "leased")]
 
 use hikebox::{retry, BudgetError, Leased, LeasedQuota, Policy, RetryError, StoreError, Usage};
-use std::collections::HashSet;
+use std::collections::{HashMap, HashSet};
 use std::env;
 use std::fs;
 use std::path::{Path, PathBuf};
 use std::process::{Command, Stdio};
 use std::sync::Arc;
 use std::thread;
-use std::time::Duration;
+use std::time::{Duration, Instant};
 
 const LIMIT: u64 = 100_000;
 
@@ -129,18 +129,36 @@ fn a_file_of_the_python_package_goes_on() {
     assert!(text.starts_with("hikebox counts 1 19 2643005063\n{\"budget b\":[\"\",8]}"), "{text}");
 }
 
+/// The answer of a draw, and the window of so many hundredths of a second in which it was made for sure, by the machine's
+/// uptime.
+fn in_window<T>(length: u64, draw: impl FnOnce() -> T) -> (Option<u64>, T) {
+    let uptime = || -> u64 {
+        let text = fs::read_to_string("/proc/uptime").unwrap();
+        text.split(' ').next().unwrap().replace('.', "").parse().unwrap()
+    };
+    let before = uptime() / length;
+    let drawn = draw();
+    let after = (uptime() + 1) / length;
+    ((before == after).then_some(before), drawn)
+}
+
 #[test]
 fn each_window_has_its_own_tickets() {
     let file = Scratch::new("windows");
     let budget = Leased::new(&file.0, "w", 3).in_each(Duration::from_millis(300)).lease(3);
-    let mut drawn = 0;
-    for _ in 0..4 {
-        while budget.draw().unwrap().is_some() {
-            drawn += 1;
+    let (mut drawn, began) = (HashMap::<u64, Vec<u64>>::new(), Instant::now());
+    let whole = |drawn: &HashMap<u64, Vec<u64>>| drawn.values().filter(|tickets| **tickets == [0, 1, 2]).count();
+    while whole(&drawn) < 4 && began.elapsed() < Duration::from_secs(60) {
+        match in_window(30, || budget.draw().unwrap()) {
+            (Some(window), Some(ticket)) => drawn.entry(window).or_default().push(ticket),
+            // a ticket that was drawn while a window ended is left out
+            (None, Some(_)) => {}
+            (_, None) => thread::sleep(Duration::from_millis(5)),
         }
-        thread::sleep(Duration::from_millis(300));
     }
-    assert!((9..=15).contains(&drawn), "{drawn}");
+    assert_eq!(whole(&drawn), 4);
+    assert!(drawn.values().flatten().all(|ticket| *ticket < 3));
+    assert!(drawn.values().all(|tickets| tickets.windows(2).all(|pair| pair[0] < pair[1])));
 }
 
 #[test]
@@ -198,8 +216,8 @@ fn a_lease_of_a_quota_that_dies_is_lost_and_no_more() {
 fn each_window_of_a_quota_has_its_own_requests_and_tickets() {
     let file = Scratch::new("quota-windows");
     let quota = LeasedQuota::new(&file.0, "w", 1, 0.5, Duration::from_millis(300)).unwrap();
-    let mut windows = HashSet::new();
-    for _ in 0..4 {
+    let (mut windows, began) = (HashSet::new(), Instant::now());
+    while windows.len() < 2 && began.elapsed() < Duration::from_secs(60) {
         let before = quota.seen().unwrap();
         (0..4).for_each(|_| quota.deposit());
         let drawn: Vec<_> = std::iter::from_fn(|| quota.draw().unwrap()).collect();
@@ -211,7 +229,7 @@ fn each_window_of_a_quota_has_its_own_requests_and_tickets() {
         }
         thread::sleep(Duration::from_millis(300));
     }
-    assert!(windows.len() >= 2);
+    assert_eq!(windows.len(), 2);
 }
 
 #[test]

@@ -412,3 +412,24 @@ fn values_go_to_other_threads() {
     sends::<hikebox::Pass>();
     sends::<Retrying<'_, io::Error>>();
 }
+
+#[test]
+fn values_are_compared_and_are_keys() {
+    fn keys<T: std::hash::Hash + Eq + Clone + std::fmt::Debug>() {}
+    keys::<RetryError<u8>>();
+    keys::<hikebox::RepeatError<u8, u8>>();
+    keys::<Ended>();
+    keys::<Cause>();
+    keys::<Report>();
+    keys::<Step>();
+    keys::<Unlimited>();
+    keys::<hikebox::Attempt>();
+    keys::<hikebox::BudgetError>();
+    keys::<hikebox::Fold>();
+    keys::<hikebox::Line>();
+    keys::<hikebox::PolicyError>();
+    keys::<hikebox::PolicyFault>();
+    keys::<hikebox::Schedule>();
+    keys::<hikebox::Test>();
+    keys::<hikebox::Usage>();
+}

@@ -7,3 +7,4 @@ mod faults;
 mod policies;
 mod quotas;
 mod retries;
+mod storms;

@@ -1,6 +1,6 @@
 -- What is printed of a text that is there as a whole is printed of the input that it is.
 use Rattle.std.specs.Prelude.{◌⊎◌}
-use Rattle.std.proofs.Common.{◌≡◌, inl, inr, ℕ, ◌+◌, ◌≤◌, List, ◌++◌, length, Option, Some, None, Result, Ok, Err, sym, ap, subst, ◌∙◌, arith, length-append}
+use Rattle.std.proofs.Common.{◌≡◌, inl, inr, Bool, true, false, ℕ, ◌+◌, ◌≤◌, List, ◌++◌, length, Option, Some, None, Result, Ok, Err, sym, ap, subst, ◌∙◌, arith, length-append}
 use Rattle.std.proofs.lemmas.List.{append-nil}
 use Rattle.std.specs.Io.KnownBytes.{Appends, Consumes, IsAtEnd, Keeps}
 use Rattle.sched_plan.specs.Schedule.{Schedule}
@@ -19,7 +19,8 @@ use Rattle.sched_cli_plan.specs.declared.faults.PrintFault.TheVariants.{TooDeep,
 use Rattle.sched_cli_pool.specs.JobsPrinting.{PrintsJobs, SpellsJobs, SpellsNoJobs, WritesPool, count_of_pool_reads}
 use Rattle.sched_cli_pool.specs.declared.faults.PoolFault.{PoolFault}
 use Rattle.sched_cli_pool.specs.declared.faults.PoolFault.TheVariants.{Print, NotStarted, Unfinished, Mixed}
-use Rattle.sched_cli.specs.Answering.{ForInput}
+use Rattle.sched_cli_storm.specs.StormPrinting.{PrintsStorm}
+use Rattle.sched_cli.specs.Answering.{ForInput, AnswersStorm}
 
 -- what is read of a text up to its end is the text
 whole_is : (text read : List ℕ) (m : Option (List ℕ)) → Consumes (Some text) m read → IsAtEnd m → read ≡ text
@@ -113,3 +114,23 @@ module _ (text given : List ℕ) (m : Option (List ℕ)) (same : given ≡ text)
           λ l l' whole. (input_again (λ bytes. SpellsNoJobs bytes (reading.Plan refused.TooDeep)) again.0 l l' whole, again.1)
       jobs_again (Err (Print TooMany)) again reads =
           λ l l' whole. (input_again (λ bytes. SpellsNoJobs bytes (reading.Plan refused.TooMany)) again.0 l l' whole, again.1)
+
+-- how a storm that was printed is answered
+abbrev pub storm_answer : Result Bool PrintFault → Result (Unit {0}) PoolFault
+storm_answer (Ok true) = Err Unfinished
+storm_answer (Ok false) = Ok tt
+storm_answer (Err fault) = Err (Print fault)
+
+pub storm_again : (text : List ℕ) (t t' : Option (List ℕ)) (result : Result Bool PrintFault) → PrintsStorm text t t' result →
+    ForInput text (λ l l'. AnswersStorm l l' t t' (storm_answer result))
+storm_again text t t' (Ok true) prints = λ l l' whole. (text, whole, prints)
+storm_again text t t' (Ok false) prints = λ l l' whole. (text, whole, prints)
+storm_again text t t' (Err ReadFailed) prints = absurd prints.0
+storm_again text t t' (Err TooLong) prints = absurd prints.0
+storm_again text t t' (Err NotJson) prints = λ l l' whole. (text, whole, prints)
+storm_again text t t' (Err NotAPlan) prints = λ l l' whole. (text, whole, prints)
+storm_again text t t' (Err OutOfRange) prints = λ l l' whole. (text, whole, prints)
+storm_again text t t' (Err TooDeep) prints = λ l l' whole. (text, whole, prints)
+storm_again text t t' (Err TooMany) prints = λ l l' whole. (text, whole, prints)
+storm_again text t t' (Err NoMemory) prints = λ l l' whole. prints.1
+storm_again text t t' (Err WriteFailed) prints = λ l l' whole. (text, whole, prints)

@@ -1,5 +1,5 @@
 -- What the program does with a text, and what it tells where it stops.
-use Rattle.std.specs.Prelude.{◌≡◌, ℕ, List, codes, Option, Some, None, Result, Ok, Err, string_bytes}
+use Rattle.std.specs.Prelude.{◌≡◌, ℕ, true, false, List, [], codes, Option, Some, None, Result, Ok, Err, string_bytes}
 use Rattle.std.specs.declared.io.Error.{Error}
 use Rattle.sched_plan_hint.specs.Faults.{told_text}
 use Rattle.sched_plan_hint.specs.Faults as plans
@@ -8,10 +8,12 @@ use Rattle.sched_cli_check.specs.Checking.{PrintsCheck}
 use Rattle.sched_cli_check.specs.JobsFaults as jobs
 use Rattle.sched_cli_plan.specs.Course.{course_of, steady}
 use Rattle.sched_cli_plan.specs.Printing.{Prints, IsInput}
-use Rattle.sched_cli_plan.specs.Whole.{IsWholeInput}
+use Rattle.sched_cli_plan.specs.Whole.{IsWholeInput, StopsReading}
 use Rattle.sched_cli_plan.specs.declared.faults.PrintFault.{PrintFault}
 use Rattle.sched_cli_plan.specs.declared.faults.PrintFault.TheVariants.{ReadFailed, TooLong, NotJson, NotAPlan, OutOfRange}
 use Rattle.sched_cli_plan.specs.declared.faults.PrintFault.TheVariants.{TooDeep, TooMany, NoMemory, WriteFailed}
+use Rattle.std.specs.Io.KnownBytes.{Keeps}
+use Rattle.sched_cli_storm.specs.StormPrinting.{PrintsStorm}
 use Rattle.sched_cli_pool.specs.PoolPrinting.{PrintsPool}
 use Rattle.sched_cli_pool.specs.QuotaPrinting.{PrintsQuotaPool}
 use Rattle.sched_cli_pool.specs.declared.faults.PoolFault.{PoolFault}
@@ -38,6 +40,20 @@ OfPrint P (Err NotStarted) = ⊥
 OfPrint P (Err Unfinished) = ⊥
 OfPrint P (Err Mixed) = ⊥
 
+-- what is answered of a storm, of which `Unfinished` says that it was cut
+abbrev pub AnswersStorm : Option (List ℕ) → Option (List ℕ) → Option (List ℕ) → Option (List ℕ) →
+    Result (Unit {0}) PoolFault → Type 0
+AnswersStorm left left' taken taken' (Ok done) = IsInput left left' (λ bytes. PrintsStorm bytes taken taken' (Ok false))
+AnswersStorm left left' taken taken' (Err Unfinished) =
+    IsInput left left' (λ bytes. PrintsStorm bytes taken taken' (Ok true))
+AnswersStorm left left' taken taken' (Err NotStarted) = ⊥
+AnswersStorm left left' taken taken' (Err Mixed) = ⊥
+AnswersStorm left left' taken taken' (Err (Print ReadFailed)) = StopsReading ReadFailed left left' × Keeps taken taken'
+AnswersStorm left left' taken taken' (Err (Print TooLong)) = StopsReading TooLong left left' × Keeps taken taken'
+AnswersStorm left left' taken taken' (Err (Print NoMemory)) = Keeps taken taken'
+AnswersStorm left left' taken taken' (Err (Print fault)) =
+    IsInput left left' (λ bytes. PrintsStorm bytes taken taken' (Err fault))
+
 -- what is asked for is done
 abbrev pub Answers : Asked → Option (List ℕ) → Option (List ℕ) → Option (List ℕ) → Option (List ℕ) →
     Result (Unit {0}) PoolFault → Type 0
@@ -49,6 +65,8 @@ Answers (asked.Pool options origin) left left' taken taken' result =
     PrintsPool options left left' taken taken' result
 Answers (asked.Quota options origin) left left' taken taken' result =
     PrintsQuotaPool options left left' taken taken' result
+Answers (asked.Storm options origin) left left' taken taken' result =
+    AnswersStorm left left' taken taken' result
 Answers (asked.Check origin) left left' taken taken' result =
     OfPrint (λ r. PrintsCheck left left' taken taken' r) result
 
@@ -68,12 +86,14 @@ IsLineOf (Some fault) (More line) = string_bytes line ≡ told_text fault
 abbrev pub TellsSome : (Option ToldFault → Type 0) → Told → Type 0
 TellsSome P told = (found : Option ToldFault) × P found × IsLineOf found told
 
--- of a text that is refused its first fault is told, as a plan or as jobs; a check has printed it
+-- of a text that is refused its first fault is told, as a plan, where that is the only one, or as jobs; a check has printed it
 abbrev pub TellsText : Asked → List ℕ → Told → Type 0
 TellsText (asked.Plan options origin) bytes told = TellsSome (plans.FindsFault bytes) told
 TellsText (asked.Course course origin) bytes told = TellsSome (plans.FindsFault bytes) told
 TellsText (asked.Pool options origin) bytes told = TellsSome (jobs.FindsFault bytes) told
 TellsText (asked.Quota options origin) bytes told = TellsSome (jobs.FindsFault bytes) told
+TellsText (asked.Storm options origin) bytes told =
+    options.texts.items ≡ [] → TellsSome (plans.FindsFault bytes) told
 TellsText (asked.Check origin) bytes told = told ≡ Alone
 
 -- how a text's origin is named

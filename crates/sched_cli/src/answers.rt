@@ -5,6 +5,7 @@ ghost use Rattle.sched_cli_pool.specs.JobsPrinting.{count_of_pool_reads, count_o
 ghost use Rattle.sched_cli.specs.Answering.{Answers, Tells, TellsFault, TellsStream, TellsText, IsLineOf, name_of, stopped};
 
 use crate::stops::{STANDARD_OUTPUT, Stop, Told, tell_error};
+use crate::storms::tell_storm;
 use crate::texts::print_text;
 use sched_cli_check::jobs_fault;
 use sched_cli_plan::{Counted, PrintFault, read_all};
@@ -28,7 +29,7 @@ struct Failed {
 
 /// Does what is asked for: reads a text to its end, and writes what is printed of it.
 ///
-/// Stops as `print_plan`, `print_course`, `print_pool`, `print_quota_pool` and `print_check` do, with what is told of it:
+/// Stops as `print_plan`, `print_course`, `print_pool`, `print_quota_pool`, `print_storm` and `print_check` do, with what is told of it:
 /// of a read or a write that failed the name of the stream and the system's reason, of a text that is no plan or no jobs
 /// its first fault and the place, and nothing at all where nobody reads what is written.
 #[tactic(auto, using(crate::proofs::Answered::of_answers))]
@@ -144,12 +145,13 @@ fn tell_text(alloc: Global, asked: &Asked, bytes: &[u8]) -> Result<Told, NoMemor
             let found = jobs_fault(alloc, bytes)?;
             tell_found(alloc, &found)
         }
+        Asked::Storm(options, _) => tell_storm(alloc, options, bytes),
         Asked::Check(_) => Ok(Told::Alone),
     }
 }
 
-// The line of this fault, if there is one.
-fn tell_found(alloc: Global, found: &Option<ToldFault>) -> Result<Told, NoMemory>
+/// The line of this fault, if there is one.
+pub(crate) fn tell_found(alloc: Global, found: &Option<ToldFault>) -> Result<Told, NoMemory>
     ensures { IfOk result (IsLineOf found.now) }
 {
     match found {

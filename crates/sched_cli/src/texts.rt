@@ -8,6 +8,7 @@ ghost use Rattle.sched_cli_pool.specs.PoolPrinting.{PrintsPool};
 ghost use Rattle.sched_cli_pool.specs.QuotaPrinting.{PrintsQuotaPool};
 ghost use Rattle.sched_cli.specs.Answering.{ForInput, OfPrint, Answers};
 
+use crate::storms::storm_text;
 use sched_cli_check::print_check;
 use sched_cli_plan::{Given, PlanCourse, PlanOptions, Sink, print_course, print_plan};
 use sched_cli_pool::{PoolFault, print_pool, print_quota_pool};
@@ -36,6 +37,7 @@ where
         Asked::Course(course, _) => course_text(alloc, bytes, writer, course),
         Asked::Pool(options, _) => pool_text(rt, alloc, bytes, writer, options),
         Asked::Quota(options, _) => quota_text(rt, alloc, bytes, writer, options),
+        Asked::Storm(options, _) => storm_text(alloc, bytes, writer, options),
         Asked::Check(_) => check_text(alloc, bytes, writer),
     }
 }

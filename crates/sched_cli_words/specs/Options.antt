@@ -48,6 +48,7 @@ IsAskedInRange (asked.Plan options origin) = AreInRange options
 IsAskedInRange (asked.Course course origin) = IsCourseInRange (course_of course)
 IsAskedInRange (asked.Pool options origin) = PoolIsInRange options
 IsAskedInRange (asked.Quota options origin) = QuotaIsInRange options
+IsAskedInRange (asked.Storm options origin) = Unit {0}
 IsAskedInRange (asked.Check origin) = Unit {0}
 
 -- where the text comes from
@@ -56,4 +57,5 @@ origin_of (asked.Plan options origin) = origin
 origin_of (asked.Course course origin) = origin
 origin_of (asked.Pool options origin) = origin
 origin_of (asked.Quota options origin) = origin
+origin_of (asked.Storm options origin) = origin
 origin_of (asked.Check origin) = origin

@@ -4,6 +4,7 @@ use crate::options::{MOST_TICKETS, MOST_TURNS, MOST_WORKERS};
 use crate::quota_words::quota_option;
 use clap::{Arg, Command, value_parser};
 use sched_cli_plan::MOST_STEPS;
+use sched_cli_storm_words::storm_command;
 use sched_time::FAR;
 use std::alloc::{AllocError, Global};
 
@@ -27,6 +28,7 @@ pub(crate) fn zsched_command<'a>(alloc: Global) -> Result<Command<'a>, AllocErro
         .subcommand_required(true);
     let command = with(command, plan_command(alloc))?;
     let command = with(command, pool_command(alloc))?;
+    let command = with(command, storm_command(alloc))?;
     with(command, check_command(alloc))
 }
 

@@ -9,6 +9,7 @@ mod quota_words;
 mod quotas;
 mod reasons;
 mod seeded;
+mod storms;
 mod words;
 
 pub use faults::WordsFault;

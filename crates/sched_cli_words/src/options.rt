@@ -2,6 +2,7 @@ ghost use Rattle.std.specs.Prelude.{◌≤◌};
 
 use crate::quotas::QuotaOptions;
 use sched_cli_plan::{PlanCourse, PlanOptions};
+use sched_cli_storm_words::StormOptions;
 
 /// The most workers of a pool.
 pub const MOST_WORKERS: u64 = 16;
@@ -23,6 +24,8 @@ pub enum Asked {
     Pool(PoolOptions, Origin),
     /// Run jobs on one quota, and print how each ended.
     Quota(QuotaOptions, Origin),
+    /// Play a storm under one plan or more, and print what it comes to.
+    Storm(StormOptions, Origin),
     /// Say what a text is, a plan or jobs, or where it is wrong.
     Check(Origin),
 }
@@ -40,6 +43,7 @@ impl Asked {
             | Asked::Course(_, origin)
             | Asked::Pool(_, origin)
             | Asked::Quota(_, origin)
+            | Asked::Storm(_, origin)
             | Asked::Check(origin) => origin,
         }
     }

@@ -7,6 +7,7 @@ use crate::options::{Asked, MOST_TICKETS, MOST_TURNS, MOST_WORKERS, Origin, Pool
 use crate::quota_words::{bad_quota, quota_options, terms_in};
 use crate::reasons::reason;
 use crate::seeded::seeded_words;
+use crate::storms::storm;
 use clap::error::ErrorKind;
 use clap::{ArgMatches, Error};
 use sched_cli_plan::{MOST_STEPS, PlanCourse, PlanOptions};
@@ -45,6 +46,7 @@ fn asked(alloc: Global, matches: &ArgMatches<'_>) -> Result<Asked, WordsFault>
     match name {
         "plan" => plan(alloc, options, origin),
         "pool" => pool(alloc, options, origin),
+        "storm" => storm(alloc, options, origin),
         "check" => Ok(Asked::Check(origin)),
         _ => Err(WordsFault::bad(alloc, "there is no such command")),
     }

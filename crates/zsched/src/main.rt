@@ -5,7 +5,7 @@ ghost use Rattle.std.specs.Prelude.{◌≡◌, MatchResult};
 ghost use Rattle.std.specs.Process.{exit_status};
 ghost use Rattle.sched_cli.specs.Stops.{stop_status};
 
-use sched_cli::{Asked, Counted, Origin, Stop, WordsFault, answer, read_words};
+use sched_cli::{Asked, Counted, Origin, Stop, WordsFault, answer, read_words, with_texts};
 use std::alloc::{AllocGlobal, Global};
 use std::env;
 use std::fs::File;
@@ -17,18 +17,21 @@ use std::thread::Threads;
 
 fn main(rt: HostRuntime) -> ExitCode {
     match asked(&rt) {
-        Ok(asked) => match asked.origin() {
-            Origin::StandardInput => ended(
-                &rt,
-                run(&rt, rt.alloc(), rt.stdin(), rt.stdout(), &asked),
-            ),
-            Origin::File(name) => match File::open(&rt, name.as_str()) {
-                Ok(file) => ended(&rt, run(&rt, rt.alloc(), file, rt.stdout(), &asked)),
-                Err(error) => {
-                    let stop = Stop::unopened(rt.alloc(), name.as_str(), error);
-                    ended(&rt, Err(stop))
-                }
+        Ok(asked) => match with_texts(&rt, rt.alloc(), asked) {
+            Ok(asked) => match asked.origin() {
+                Origin::StandardInput => ended(
+                    &rt,
+                    run(&rt, rt.alloc(), rt.stdin(), rt.stdout(), &asked),
+                ),
+                Origin::File(name) => match File::open(&rt, name.as_str()) {
+                    Ok(file) => ended(&rt, run(&rt, rt.alloc(), file, rt.stdout(), &asked)),
+                    Err(error) => {
+                        let stop = Stop::unopened(rt.alloc(), name.as_str(), error);
+                        ended(&rt, Err(stop))
+                    }
+                },
             },
+            Err(stop) => ended(&rt, Err(stop)),
         },
         Err(WordsFault::Help(text)) => match print!(rt; "{text}") {
             Ok(()) => ExitCode::SUCCESS,

@@ -44,6 +44,7 @@ from .errors import (
     ResultRefused,
     StoreError,
     StoreLost,
+    StormError,
     TermsError,
     TryAgain,
 )
@@ -53,6 +54,7 @@ from .quota import Quota, Usage
 from .repeating import AsyncRepeating, Repeating, poll_until, repeat
 from .retrying import AsyncRetrying, Attempt, Retrying, Tickets, retry
 from .state import Ending, Outcome, RetryState, Statistics, code_of, state_of
+from .storm import Storm, StormRow, StormTotals, storm
 from .version import VERSION
 
 __version__ = VERSION
@@ -84,6 +86,10 @@ __all__ = [
     "Step",
     "StoreError",
     "StoreLost",
+    "Storm",
+    "StormError",
+    "StormRow",
+    "StormTotals",
     "TermsError",
     "Tickets",
     "TryAgain",
@@ -113,6 +119,7 @@ __all__ = [
     "spaced",
     "state_of",
     "stop",
+    "storm",
     "unfold",
     "windowed",
 ]

@@ -2,11 +2,13 @@
 
 from __future__ import annotations
 
+from inspect import unwrap
 from types import CoroutineType
 from typing import TYPE_CHECKING, Any, Callable, Tuple, TypeVar, Union
 
 from ._course import Course, Steps
 from ._deadline import enter, leave
+from ._kinds import is_async
 
 if TYPE_CHECKING:
     from .retrying import BaseRetrying
@@ -75,7 +77,7 @@ def run(owner: BaseRetrying, fn: Callable[..., Any], args: Any, kwargs: Any) -> 
                     raise
             else:
                 if type(result) is CoroutineType:
-                    refuse_awaitable(repr(fn), result)
+                    refuse_awaitable(repr(fn), result, settings.repeats)
                 if course is None:
                     owner.counts.add_success()
                     return result
@@ -102,6 +104,7 @@ async def run_async(owner: BaseRetrying, fn: Callable[..., Any], args: Any, kwar
     limit = None if settings.most_millis is None else settings.limit_of(start)
     token = None if limit is None else enter(limit)
     course = None if settings.is_quiet else Course(owner, fn, args, kwargs, start, limit)
+    awaitable = None
     try:
         if course is None and settings.deposit is not None:
             settings.deposit()
@@ -113,12 +116,14 @@ async def run_async(owner: BaseRetrying, fn: Callable[..., Any], args: Any, kwar
             except BaseException as error:
                 if course is None:
                     course = Course(owner, fn, args, kwargs, start, limit)
+                if awaitable is None and course.state.attempt_number == 1 and isinstance(error, Exception):
+                    _refuse_function(fn, settings.repeats, error)
                 judged = course.raised(error)
                 if not (judged if isinstance(judged, bool) else await settle_async(judged)):
                     raise
             else:
                 if result is _NOT_AWAITABLE:
-                    raise TypeError(f"{fn!r} gave nothing that is awaited: a Retrying is for functions")
+                    raise TypeError(f"{fn!r} gave nothing that is awaited: {_plain(settings.repeats)} is for functions")
                 if course is None:
                     owner.counts.add_success()
                     return result
@@ -159,8 +164,20 @@ def not_awaitable(answer: Any) -> Any:
     return answer
 
 
-def refuse_awaitable(what: str, awaitable: Any) -> None:
+def refuse_awaitable(what: str, awaitable: Any, repeats: bool = False) -> None:
     """Refuses something that a call gave, and only a coroutine could await."""
     if type(awaitable) is CoroutineType:
         awaitable.close()
-    raise TypeError(f"{what} gave {type(awaitable).__name__}, which is not awaited here: AsyncRetrying awaits")
+    awaits = "AsyncRepeating" if repeats else "AsyncRetrying"
+    raise TypeError(f"{what} gave {type(awaitable).__name__}, which is not awaited here: {awaits} awaits")
+
+
+def _refuse_function(fn: Any, repeats: bool, error: Exception) -> None:
+    """Refuses a function that raised before it gave anything to await, and is no coroutine function."""
+    if not is_async(unwrap(fn)):
+        plain = _plain(repeats)
+        raise TypeError(f"{fn!r} raised before it gave anything to await: {plain} is for functions") from error
+
+
+def _plain(repeats: bool) -> str:
+    return "a Repeating" if repeats else "a Retrying"

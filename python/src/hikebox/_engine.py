@@ -23,9 +23,13 @@ __all__ = [
     "PolicyHandle",
     "QuotaPass",
     "SIGNATURES",
+    "Storm",
+    "Totals",
+    "Window",
     "give_memory_back",
     "library",
     "library_path",
+    "play_storm",
     "refused",
     "unchecked",
 ]
@@ -53,6 +57,7 @@ MOST_SHARE = 1_000_000
 
 NO_REPORT, WON, LOST = 0, 1, 2
 POLL, RUN, WAIT, OVER = 0, 1, 2, 3
+ON_NOTHING, ON_BUDGET, ON_QUOTA = 0, 1, 2
 
 
 class Handle(Structure):
@@ -81,6 +86,32 @@ class Next(Structure):
 
 class Usage(Structure):
     _fields_ = [("window", c_uint64), ("asked", c_uint64), ("given", c_uint64), ("left", c_uint64)]
+
+
+def _numbers(names: str) -> List[Tuple[str, Any]]:
+    """Fields of these names, each a number."""
+    return [(name, c_uint64) for name in names.split()]
+
+
+class Storm(Structure):
+    _fields_ = _numbers(
+        "rate together seconds capacity patience queue outage_from outage_to slow_from slow_to slow_percent window until "
+        "calls words draws_on limit reserve share period"
+    )
+
+
+class Window(Structure):
+    _fields_ = _numbers("from requests won retries succeeded refused shed late waiting")
+
+
+class Totals(Structure):
+    _fields_ = [
+        *_numbers(
+            "requests won lost denied open calls hundredths most_calls most_from tickets p50 p99 slowest recovered"
+        ),
+        ("recovers", c_bool),
+        ("cut", c_bool),
+    ]
 
 
 Words = c_uint32 * 4
@@ -127,6 +158,7 @@ SIGNATURES: Dict[str, Tuple[Any, ...]] = {
     "hikebox_retry_end": (_HANDLE, _HANDLE),
     "hikebox_retry_end_on_quota": (_HANDLE, _HANDLE),
     "hikebox_retry_free": (_HANDLE,),
+    "hikebox_storm_play": (_HANDLE, POINTER(Storm), POINTER(Window), c_size_t, POINTER(c_size_t), POINTER(Totals)),
 }
 
 
@@ -161,6 +193,10 @@ library = _load()
 _pass_draw = unchecked("hikebox_pass_draw")
 _quota_deposit = unchecked("hikebox_quota_deposit")
 _quota_draw = unchecked("hikebox_quota_draw")
+#: The one call that takes long: it lets go of the interpreter's lock.
+_storm_play = ctypes.CDLL(library_path()).hikebox_storm_play
+_storm_play.argtypes = SIGNATURES["hikebox_storm_play"]
+_storm_play.restype = c_uint32
 #: The call of the C library, where it is one that has it.
 _trim = getattr(ctypes.PyDLL(None), "malloc_trim", None)
 
@@ -250,6 +286,18 @@ class PolicyHandle:
     def __del__(self) -> None:
         if self.handle.held:
             self._free(self.at)
+
+
+def play_storm(policy: PolicyHandle, storm: Storm) -> Tuple[List[Tuple[int, ...]], Totals]:
+    """Plays a storm whose parameters are within their ranges: the fields of each window, and the totals."""
+    room = storm.until // storm.window + 1
+    windows, count, totals = (Window * room)(), c_size_t(), Totals()
+    status = _storm_play(policy.at, byref(storm), windows, room, byref(count), byref(totals))
+    if status != OK:
+        raise refused("hikebox_storm_play", status)
+    wide = len(Window._fields_)
+    numbers = (c_uint64 * (wide * count.value)).from_buffer(windows)[:]
+    return [tuple(numbers[at : at + wide]) for at in range(0, len(numbers), wide)], totals
 
 
 class Driver:

@@ -5,7 +5,7 @@ from __future__ import annotations
 from typing import Any, Iterable, List, NamedTuple, Optional, Union
 
 from ._preview import Step
-from ._svg import Picture, fitted, ticks
+from ._svg import LINE, Picture, headed, ticks, width_of
 from ._time import Duration
 from .policy import Policy
 
@@ -13,7 +13,9 @@ __all__ = ["plan_picture"]
 
 #: So many calls are drawn at most.
 _MOST = 60
-_LEFT, _RIGHT, _TOP, _ROW, _FOOT = 64, 136, 76, 22, 44
+_LEFT, _RIGHT, _ROW, _FOOT = 64, 136, 22, 44
+#: What the band is, in the legend.
+_BAND = "where the least to the most jitter puts it"
 
 
 class _Call(NamedTuple):
@@ -36,6 +38,7 @@ def plan_picture(
     input: Union[int, Iterable[int]] = 0,
     random: Any = None,
     width: int = 760,
+    styled: bool = True,
 ) -> str:
     """The calls of a policy, as `preview` plays it with the same options, as SVG so many units wide."""
     inputs: Union[int, List[int]] = input if isinstance(input, int) else list(input)
@@ -45,9 +48,13 @@ def plan_picture(
     ]
     calls = _calls(*plays)
     last = max([each.most or each.begins for each in calls] + [each.step.at_ms for each in calls], default=0)
-    picture = Picture(width, _TOP + _ROW * len(calls) + _FOOT, f"Calls of {policy!r}", _told(calls))
-    _draw(picture, policy, calls, last)
-    return picture.svg()
+    head = headed(repr(policy), width - 24)
+    top = 60 + LINE * len(head) + LINE * (not _is_one_line(width))
+    picture = Picture(width, top + _ROW * len(calls) + _FOOT, f"Calls of {policy!r}", _told(calls))
+    picture.texts(12, 20, head, "head")
+    _legend(picture, 24 + LINE * len(head))
+    _draw(picture, calls, last, top)
+    return picture.svg(styled)
 
 
 def _calls(middle: List[Step], least: List[Step], most: List[Step]) -> List[_Call]:
@@ -89,22 +96,20 @@ def _time(milliseconds: int) -> str:
     return f"{milliseconds} ms" if milliseconds < 1000 else f"{milliseconds / 1000:.12g} s"
 
 
-def _draw(picture: Picture, policy: Policy, calls: List[_Call], last: int) -> None:
+def _draw(picture: Picture, calls: List[_Call], last: int, top: int) -> None:
     wide = picture.width - _LEFT - _RIGHT
     unit, named = (1000, "seconds") if last >= 2000 else (1, "milliseconds")
     marks = ticks(max(1, last) / unit, max(2, wide // 90))
     scale = wide / (marks[-1] * unit)
-    bottom = _TOP + _ROW * len(calls)
-    picture.text(12, 20, fitted(repr(policy), picture.width - 24), "head")
-    picture.text(_LEFT + wide + 16, _TOP - 8, "after it fails", "soft")
-    _legend(picture)
+    bottom = top + _ROW * len(calls)
+    picture.text(_LEFT + wide + 16, top - 8, "after it fails", "soft")
     for mark in marks:
         x = _LEFT + mark * unit * scale
-        picture.path(f"M{x:.1f} {_TOP}V{bottom}", "line")
+        picture.path(f"M{x:.1f} {top}V{bottom}", "line")
         picture.text(x, bottom + 16, f"{mark:g}", "soft", "middle")
-    picture.text(_LEFT + wide / 2, bottom + 34, f"{named} since the clock's 0", "soft", "middle")
+    picture.text(_LEFT + wide / 2, bottom + 34, f"time in {named}", "soft", "middle")
     for number, call in enumerate(calls, start=1):
-        y = _TOP + _ROW * (number - 0.5)
+        y = top + _ROW * (number - 0.5)
         picture.text(_LEFT - 12, y + 4, f"call {number}", "soft", "end")
         if call.least is not None and call.most is not None and call.least != call.most:
             early, late = sorted((call.least, call.most))
@@ -115,8 +120,15 @@ def _draw(picture: Picture, policy: Policy, calls: List[_Call], last: int) -> No
         picture.text(_LEFT + wide + 16, y + 4, _after(call)[5:].capitalize())
 
 
-def _legend(picture: Picture) -> None:
-    picture.dot(18, 36)
-    picture.text(30, 40, "a call begins", "soft")
-    picture.box(130, 30, 24, 12, "band")
-    picture.text(160, 40, fitted("where the least to the most jitter puts it", picture.width - 172), "soft")
+def _legend(picture: Picture, y: int) -> None:
+    picture.dot(18, y - 4)
+    picture.text(30, y, "a call begins", "soft")
+    x = 130 if _is_one_line(picture.width) else 12
+    y += 0 if x > 12 else LINE
+    picture.box(x, y - 10, 24, 12, "band")
+    picture.text(x + 30, y, _BAND, "soft")
+
+
+def _is_one_line(width: int) -> bool:
+    """Whether the legend has room beside itself."""
+    return 160 + width_of(_BAND) + 12 <= width

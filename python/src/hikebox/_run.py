@@ -12,6 +12,7 @@ import time
 from dataclasses import dataclass
 from typing import Any, FrozenSet, List, Optional, Sequence, Tuple, Union
 
+from ._deadline import seconds_left
 from ._status_line import StatusLine
 from .budget import Budget
 from .errors import StoreError
@@ -28,6 +29,9 @@ logger = logging.getLogger("hikebox")
 TIMED_OUT = 124
 #: The statuses of a command that was not found, and of one that could not be run, as of a shell.
 NOT_FOUND, NOT_RUN = 127, 126
+
+#: What tells a command how many seconds it is until the deadline.
+_LEFT = "HIKEBOX_SECONDS_LEFT"
 
 #: Signals that end the run: no attempt follows.
 _ENDING = (signal.SIGINT, signal.SIGTERM, signal.SIGHUP, signal.SIGQUIT)
@@ -48,6 +52,8 @@ class RunOptions:
     #: Seconds that an attempt may take, and that it is given after SIGTERM before it gets SIGKILL.
     timeout: Optional[float] = None
     grace: float = 5.0
+    #: Seconds after the first attempt's begin past which none begins.
+    deadline: Optional[float] = None
     verbose: bool = False
     #: Tells nothing on a terminal either.
     quiet: bool = False
@@ -78,6 +84,7 @@ def run_command(command: Sequence[str], options: RunOptions) -> int:
         retrying = Retrying(
             options.policy,
             budget=options.budget,
+            deadline=options.deadline,
             on=runner.retries,
             code=lambda error: error.status if isinstance(error, _Failed) else 0,
             before=_tell_request if isinstance(options.budget, LeasedQuota) else None,
@@ -172,10 +179,11 @@ class _Runner:
             os.lseek(self.output, 0, os.SEEK_SET)
             actions.append((os.POSIX_SPAWN_DUP2, self.output, 1))
         sys.stdout.flush()
+        left = seconds_left()
         return os.posix_spawnp(
             self.command[0],
             self.command,
-            os.environ,
+            os.environ if left is None else {**os.environ, _LEFT: f"{left:.3f}"},
             file_actions=actions,
             setsigmask=list(self.mask),
             setsigdef=[signal.SIGPIPE, signal.SIGXFSZ],

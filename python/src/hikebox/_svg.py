@@ -6,18 +6,24 @@ import zlib
 from html import escape
 from typing import List
 
-__all__ = ["Picture", "fitted", "ticks", "width_of"]
+__all__ = ["LEAST_WIDTH", "LINE", "MOST_WIDTH", "STYLE", "Picture", "fitted", "headed", "ticks", "width_of", "wrapped"]
 
 #: (Colours by Okabe and Ito, which nobody confounds; in black and white the hatches tell them apart.)
-_STYLE = """\
-.hb{--ground:#fff;--ink:#1a1a1a;--soft:#595959;--line:#d9d9d9;--shade:#ececec;--a:#0072b2;--b:#e69f00;--c:#56b4e9;--d:#d55e00}
-@media (prefers-color-scheme:dark){.hb{--ground:#15181c;--ink:#f2f2f2;--soft:#b8bcc2;--line:#3a3f46;--shade:#2b2f36;\
+STYLE = """\
+.hb{--ground:#fff;--ink:#1a1a1a;--soft:#595959;--line:#d9d9d9;--shade:#ebebeb;--away:#d2d2d2;--a:#0072b2;--b:#e69f00;--c:#56b4e9;--d:#d55e00}
+@media (prefers-color-scheme:dark){.hb{--ground:#15181c;--ink:#f2f2f2;--soft:#b8bcc2;--line:#3a3f46;--shade:#2b3038;--away:#454c57;\
 --a:#4aa8e0;--b:#f0b43c;--c:#2a6f97;--d:#ef7d3c}}
 .hb text{font:12px system-ui,sans-serif;fill:var(--ink)}.hb .soft{fill:var(--soft)}.hb .head{font-weight:600}
 .hb .ground{fill:var(--ground)}.hb .line{stroke:var(--line);fill:none}.hb .axis{stroke:var(--soft);fill:none}
-.hb .shade{fill:var(--shade)}.hb .a{fill:var(--a)}.hb .c{fill:var(--c)}.hb .edge{stroke:var(--ink);stroke-width:.6}
+.hb .shade{fill:var(--shade)}.hb .away{fill:var(--away)}.hb .a{fill:var(--a)}.hb .c{fill:var(--c)}.hb .edge{stroke:var(--ink);stroke-width:.6}
 .hb .bound{stroke:var(--ink);stroke-width:1.6;stroke-dasharray:6 4;fill:none}.hb .band{fill:var(--c);stroke:var(--ink);stroke-width:.8}
 .hb .dot{fill:var(--ink)}.hb .hb-b{fill:var(--b)}.hb .hb-d{fill:var(--d)}.hb .hatch{stroke:var(--ink);stroke-width:1.1}"""
+
+
+#: How far lines of text are apart.
+LINE = 16
+#: How wide a picture is.
+LEAST_WIDTH, MOST_WIDTH = 280, 4000
 
 
 class Picture:
@@ -36,6 +42,11 @@ class Picture:
         named = f' class="{kind}"' if kind else ""
         self._parts.append(f'<text x="{x:.1f}" y="{y:.1f}" text-anchor="{anchor}"{named}>{escape(words)}</text>')
 
+    def texts(self, x: float, y: float, lines: List[str], kind: str = "") -> None:
+        """Lines one below the other."""
+        for index, line in enumerate(lines):
+            self.text(x, y + LINE * index, line, kind)
+
     def box(self, x: float, y: float, width: float, height: float, kind: str) -> None:
         self._parts.append(f'<rect x="{x:.1f}" y="{y:.1f}" width="{width:.1f}" height="{height:.1f}" {self.paint(kind)}/>')
 
@@ -51,8 +62,8 @@ class Picture:
             return f'fill="url(#{self.mark}{kind})" class="edge"'
         return f'class="{kind}{" edge" if kind in ("a", "c") else ""}"'
 
-    def svg(self) -> str:
-        """The whole text."""
+    def svg(self, styled: bool = True) -> str:
+        """The whole text; without its style where the page that it is put into has that."""
         size = f'width="{self.width}" height="{self.height}" viewBox="0 0 {self.width} {self.height}"'
         named = f'role="img" aria-labelledby="{self.mark}t {self.mark}s"'
         hatches = "".join(
@@ -61,11 +72,12 @@ class Picture:
             f'<path d="M0 0V6" class="hatch"/></pattern>'
             for kind, turn in (("b", 45), ("d", -45))
         )
+        fits = ' style="max-width:100%;height:auto"' if styled else ""
         head = (
-            f'<svg xmlns="http://www.w3.org/2000/svg" {size} class="hb" {named} style="max-width:100%;height:auto">\n'
+            f'<svg xmlns="http://www.w3.org/2000/svg" {size} class="hb" {named}{fits}>\n'
             f'<title id="{self.mark}t">{escape(self.title)}</title>\n'
             f'<desc id="{self.mark}s">{escape(self.description)}</desc>\n'
-            f"<style>{_STYLE}</style>\n<defs>{hatches}</defs>\n"
+            f"{f'<style>{STYLE}</style>' if styled else ''}\n<defs>{hatches}</defs>\n"
             f'<rect width="{self.width}" height="{self.height}" class="ground"/>\n'
         )
         return head + "\n".join(self._parts) + "\n</svg>\n"
@@ -80,6 +92,33 @@ def fitted(words: str, width: float) -> str:
     """The text, shortened where it is wider than this."""
     most = max(4, int(width / 6.8))
     return words if len(words) <= most else words[: most - 1] + "…"
+
+
+def wrapped(words: str, width: float) -> List[str]:
+    """The text in lines, none wider than this where its words allow that.
+
+    >>> wrapped("one two three", 60)
+    ['one two', 'three']
+    """
+    lines: List[str] = []
+    for word in words.split(" "):
+        if lines and width_of(f"{lines[-1]} {word}") <= width:
+            lines[-1] += f" {word}"
+        else:
+            lines.append(word)
+    return lines
+
+
+def headed(words: str, width: float, most: int = 3) -> List[str]:
+    """The text in lines of this width, so many at most: what is too long for them is shortened.
+
+    >>> headed("recurs(3) & spaced(1)", 100, 1), headed("recurs(3) & spaced(1)", 100)
+    (['recurs(3) & s…'], ['recurs(3) &', 'spaced(1)'])
+    """
+    lines = wrapped(words, width)
+    if len(lines) > most:
+        lines = [*lines[: most - 1], " ".join(lines[most - 1 :])]
+    return [fitted(line, width) for line in lines]
 
 
 def ticks(most: float, count: int) -> List[float]:

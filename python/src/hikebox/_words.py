@@ -13,12 +13,12 @@ from .leased import FileStore, Leased, LeasedQuota
 __all__ = ["budget", "duration", "inputs", "number", "quota", "statuses", "terms"]
 
 
-def number(most: int) -> Callable[[str], int]:
-    """A reader of whole numbers up to this one."""
+def number(most: int, least: int = 0) -> Callable[[str], int]:
+    """A reader of whole numbers in this range."""
 
     def read(text: str) -> int:
-        if not (text.isascii() and text.isdigit()) or int(text) > most:
-            raise argparse.ArgumentTypeError(f"{text!r} is not a number from 0 to {most}")
+        if not (text.isascii() and text.isdigit()) or not least <= int(text) <= most:
+            raise argparse.ArgumentTypeError(f"{text!r} is not a number from {least} to {most}")
         return int(text)
 
     return read

@@ -16,6 +16,7 @@ __all__ = [
     "ResultRefused",
     "StoreError",
     "StoreLost",
+    "StormError",
     "TermsError",
     "TryAgain",
 ]
@@ -81,6 +82,18 @@ class StoreError(HikeboxError):
 
 class StoreLost(StoreError):
     """A store of leases has lost its count, or may have: it grants nothing until it is begun anew."""
+
+
+class StormError(HikeboxError, ValueError):
+    """What a storm was to be played with is out of range. `name` is the parameter's."""
+
+    def __init__(self, name: str, hint: str) -> None:
+        super().__init__(f"{name}: {hint}")
+        self.name = name
+        self.hint = hint
+
+    def __reduce__(self) -> Any:
+        return (type(self), (self.name, self.hint))
 
 
 class EngineError(HikeboxError, RuntimeError):

@@ -94,6 +94,11 @@ class Quota(Granting[QuotaPass]):
         self.passes = Passes("quota", partial(QuotaPass.of_quota, *self._terms))
 
     @property
+    def terms(self) -> Terms:
+        """What it was made with, in the engine's units: retries, thousandths and milliseconds."""
+        return self._terms
+
+    @property
     def reserve(self) -> int:
         """The retries of each window that ask for no request."""
         return self._terms.reserve

@@ -4,6 +4,7 @@ from __future__ import annotations
 
 from typing import Any, Callable, Dict, Union, cast
 
+from ._drivers import not_awaitable
 from ._kinds import is_async, look_at_function
 from .policy import Policy
 from .retrying import AsyncRetrying, BaseRetrying, Decorator, Retrying, decorator
@@ -82,7 +83,7 @@ def poll_until(
     look_at_function("accepts", accepts, awaits=True)
 
     def refuses(result: Any) -> Any:
-        return not accepts(result)
+        return not not_awaitable(accepts(result))
 
     async def refuses_later(result: Any) -> Any:
         accepted = accepts(result)
@@ -92,6 +93,7 @@ def poll_until(
         given: Dict[str, Any] = {"on": (), **how}
         inner = fn.__func__ if isinstance(fn, (classmethod, staticmethod)) else fn
         kind, test = (AsyncRetrying, refuses_later) if is_async(inner) else (Retrying, refuses)
+        look_at_function("accepts", accepts, awaits=kind is AsyncRetrying)
         made: BaseRetrying = kind(policy, on_result=test, **given)
         return made.wraps(fn)
 

@@ -4,7 +4,6 @@
 use hikebox::{Budget, Policy, Quota, RetryPolicy};
 use std::convert::Infallible;
 use std::future::{ready, Future, Ready};
-use std::hint::black_box;
 use std::sync::Arc;
 use std::time::Duration;
 use tower::retry::{budget, Retry};
@@ -29,6 +28,13 @@ fn main() {
         }
         other => panic!("there is no case {other}"),
     }
+}
+
+/// The value, of which the compiler knows nothing then. (That of the standard library came after Debian's compiler.)
+fn black_box<T>(value: T) -> T {
+    let value = std::mem::ManuallyDrop::new(value);
+    // SAFETY: the value is there, and is not dropped a second time.
+    unsafe { std::mem::ManuallyDrop::into_inner(std::ptr::read_volatile(&value)) }
 }
 
 fn policy() -> Policy {

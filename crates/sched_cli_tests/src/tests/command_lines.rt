@@ -135,7 +135,7 @@ fn a_pool_with_a_bad_option_is_a_bad_command_line(rt: HostRuntime) {
 const REASONS: [(&str, &str); 6] = [
     (
         "zsched",
-        "'zsched' requires a subcommand but one was not provided; [subcommands: plan, pool, check, help]; \
+        "'zsched' requires a subcommand but one was not provided; [subcommands: plan, pool, storm, check, help]; \
          zsched --help says what there is",
     ),
     (

@@ -1,0 +1,117 @@
+//! Storms: printing them, and the texts of the further plans that they are played under.
+ghost use Rattle.std.specs.Prelude.{◌≡◌, IfOk, []};
+ghost use Rattle.sched_plan_hint.specs.Faults.{FindsFault};
+ghost use Rattle.sched_cli_pool.specs.JobsPrinting.{count_of_pool_reads, count_of_pool_writes};
+ghost use Rattle.sched_cli.specs.Answering.{ForInput, AnswersStorm, TellsSome};
+
+use crate::answers::tell_found;
+use crate::stops::{Stop, Told, tell_error};
+use sched_cli_plan::{Counted, PrintFault, Sink, read_all};
+use sched_cli_pool::PoolFault;
+use sched_cli_storm::print_storm;
+use sched_cli_storm_words::StormOptions;
+use sched_cli_words::Asked;
+use sched_plan_hint::plan_fault;
+use sched_time::NoMemory;
+use std::alloc::Global;
+use std::fs;
+use std::rt::Files;
+
+/// What is asked for, with the texts of the further plans of a storm, which are read from their files.
+///
+/// Stops as reading does, with the name of the file that it stopped at.
+pub fn with_texts<R: Files>(rt: &R, alloc: Global, asked: Asked) -> Result<Asked, Stop> {
+    match asked {
+        Asked::Storm(options, origin) => {
+            let texts = texts_of(rt, alloc, &options.names)?;
+            Ok(Asked::Storm(StormOptions { texts, ..options }, origin))
+        }
+        other => Ok(other),
+    }
+}
+
+// The texts of the files of these names but the first.
+fn texts_of<R: Files>(rt: &R, alloc: Global, names: &[String]) -> Result<Vec<Vec<u8>>, Stop> {
+    let mut texts = Vec::new(alloc);
+    for name in names.iter().skip(1) {
+        let text = text_of(rt, alloc, name.as_str())?;
+        if texts.push(text).is_err() {
+            return Err(Stop {
+                fault: PoolFault::Print(PrintFault::NoMemory),
+                told: Ok(Told::Alone),
+            });
+        }
+    }
+    Ok(texts)
+}
+
+// The text of the file of this name.
+fn text_of<R: Files>(rt: &R, alloc: Global, name: &str) -> Result<Vec<u8>, Stop> {
+    let file = match fs::open(rt, name) {
+        Ok(file) => file,
+        Err(error) => return Err(Stop::unopened(alloc, name, error)),
+    };
+    let mut reader = Counted::new(file);
+    match read_all(alloc, &mut reader) {
+        Ok(text) => Ok(text),
+        Err(unread) => {
+            let told = match (unread, reader.last_error()) {
+                (PrintFault::ReadFailed, Some(error)) => tell_error(alloc, name, error),
+                (PrintFault::TooLong, _) => tell_line(alloc, name, "more than 1048576 bytes"),
+                _ => Ok(Told::Alone),
+            };
+            Err(Stop {
+                fault: PoolFault::Print(unread),
+                told,
+            })
+        }
+    }
+}
+
+/// Prints the storm under the plan that the text spells.
+#[tactic(auto, using(crate::proofs::Again::storm_again))]
+pub(crate) fn storm_text<W: Sink>(
+    alloc: Global,
+    bytes: &[u8],
+    writer: &mut W,
+    options: &StormOptions,
+) -> Result<(), PoolFault>
+    ensures text { ForInput bytes.now (λ l m. AnswersStorm l m (W.taken writer.old) (W.taken writer.new) result) }
+    ensures reads { 0 ≡ count_of_pool_reads result 0 }
+    ensures writes { W.failures writer.new ≡ count_of_pool_writes result (W.failures writer.old) }
+{
+    match print_storm(alloc, bytes, writer, options) {
+        Ok(false) => Ok(()),
+        Ok(true) => Err(PoolFault::Unfinished),
+        Err(fault) => Err(PoolFault::Print(fault)),
+    }
+}
+
+/// What is told of a text that is refused, or else of the first further text that is, with its file's name.
+pub(crate) fn tell_storm(
+    alloc: Global,
+    options: &StormOptions,
+    bytes: &[u8],
+) -> Result<Told, NoMemory>
+    ensures { IfOk result (λ told. options.now.texts.items ≡ [] → TellsSome (FindsFault bytes.now) told) }
+{
+    let found = plan_fault(alloc, bytes)?;
+    if options.texts.is_empty() || found.is_some() {
+        return tell_found(alloc, &found);
+    }
+    for (name, text) in options.names.iter().skip(1).zip(&options.texts) {
+        if let Some(fault) = plan_fault(alloc, text)? {
+            let line = fault.text(alloc)?;
+            return tell_line(alloc, name.as_str(), line.as_str());
+        }
+    }
+    Ok(Told::Alone)
+}
+
+// A line that is told of the file of this name.
+fn tell_line(alloc: Global, name: &str, said: &str) -> Result<Told, NoMemory> {
+    let mut line = String::from_str(alloc, name)?;
+    line.push_str(": ")?;
+    line.push_str(said)?;
+    Ok(Told::More(line))
+}

@@ -1,0 +1,117 @@
+//! Printing storms.
+ghost use Rattle.std.specs.Prelude.{◌≡◌, IfErr};
+ghost use Rattle.sched_cli_plan.specs.Printing.{ReadsPlan};
+ghost use Rattle.sched_cli_plan.specs.Whole.{count_of_writes};
+ghost use Rattle.sched_cli_storm.specs.StormPrinting.{PrintsStorm, IsRefusal};
+
+use crate::lines::push_lines;
+use crate::rows::{push_csv, push_json};
+use crate::side_by_side::push_table;
+use crate::totals::push_words;
+use sched_cli_plan::{PrintFault, Sink, put_all, read_value};
+use sched_cli_storm_words::{Form, StormOptions};
+use sched_plan::{Plan, SharedPlan};
+use sched_plan_json::read_plan;
+use sched_storm::Report;
+use sched_time::NoMemory;
+use std::alloc::Global;
+
+/// Plays the storm under the plan that the bytes spell, and writes what the options ask for; where they have further texts,
+/// it plays the same storm under the plan of each, and writes the totals side by side. Answers whether a storm was cut.
+///
+/// Refused as `NotJson`, `NotAPlan`, `OutOfRange`, `TooDeep`, `TooMany` and `NoMemory` with nothing written, and as
+/// `WriteFailed` with a front of the text written.
+pub fn print_storm<W: Sink>(
+    alloc: Global,
+    bytes: &[u8],
+    writer: &mut W,
+    options: &StormOptions,
+) -> Result<bool, PrintFault>
+    ensures text { PrintsStorm bytes.now (W.taken writer.old) (W.taken writer.new) result }
+    ensures counts { W.failures writer.new ≡ count_of_writes result (W.failures writer.old) }
+{
+    let plan = plan_in(alloc, bytes)?;
+    let others = plans_in(alloc, &options.texts)?;
+    let (text, is_cut) = text_of(alloc, plan, others, options)?;
+    put_all(writer, text.as_bytes())?;
+    Ok(is_cut)
+}
+
+// The plan that the bytes spell.
+fn plan_in(alloc: Global, bytes: &[u8]) -> Result<Plan, PrintFault>
+    ensures { ReadsPlan bytes.now result }
+{
+    let value = read_value(alloc, bytes)?;
+    Ok(read_plan(alloc, &value)?)
+}
+
+// The plans that texts spell.
+fn plans_in(alloc: Global, texts: &[Vec<u8>]) -> Result<Vec<Plan>, PrintFault>
+    ensures { IfErr result IsRefusal }
+{
+    let mut plans = Vec::new(alloc);
+    for text in texts {
+        let plan = plan_in(alloc, text)?;
+        if plans.push(plan).is_err() {
+            return Err(PrintFault::NoMemory);
+        }
+    }
+    Ok(plans)
+}
+
+// What is told of the storm under this plan, or of the storms under these plans, and whether one was cut.
+fn text_of(
+    alloc: Global,
+    plan: Plan,
+    others: Vec<Plan>,
+    options: &StormOptions,
+) -> Result<(String, bool), NoMemory> {
+    let report = played(alloc, options, plan)?;
+    if !others.is_empty() {
+        return compared(alloc, &report, others, options);
+    }
+    let mut text = String::new(alloc);
+    match options.form {
+        Form::Csv => push_csv(&mut text, &report)?,
+        Form::Json => push_json(&mut text, &report)?,
+        Form::Bars => push_told(alloc, &mut text, options, &report, true)?,
+        Form::Plain => push_told(alloc, &mut text, options, &report, false)?,
+    }
+    Ok((text, report.totals.is_cut))
+}
+
+// The storm under this plan.
+fn played(alloc: Global, options: &StormOptions, plan: Plan) -> Result<Report, NoMemory> {
+    let plan = SharedPlan::new(alloc, plan)?;
+    options.storm.play(alloc, plan)
+}
+
+// Adds the lines, and the totals in words.
+fn push_told(
+    alloc: Global,
+    text: &mut String,
+    options: &StormOptions,
+    report: &Report,
+    has_bars: bool,
+) -> Result<(), NoMemory> {
+    push_lines(alloc, text, report, has_bars)?;
+    push_words(text, &options.storm, &report.totals)
+}
+
+// The totals of the storm under the first plan and of those under the others, side by side.
+fn compared(
+    alloc: Global,
+    first: &Report,
+    others: Vec<Plan>,
+    options: &StormOptions,
+) -> Result<(String, bool), NoMemory> {
+    let mut all = Vec::new(alloc);
+    all.push(first.totals)?;
+    for plan in others {
+        let report = played(alloc, options, plan)?;
+        all.push(report.totals)?;
+    }
+    let mut text = String::new(alloc);
+    push_table(alloc, &mut text, &options.names, &all)?;
+    Ok((text, all.iter().any(|totals| totals.is_cut)))
+}

@@ -1,0 +1,89 @@
+//! The totals of several storms, side by side.
+use crate::lines::push_right;
+use crate::totals::push_hundredths;
+use sched_storm::Totals;
+use sched_time::NoMemory;
+use std::alloc::Global;
+use std::fmt::Write;
+
+// What each line tells.
+const LABELS: [&str; 13] = [
+    "requests",
+    "won",
+    "lost",
+    "denied",
+    "open",
+    "calls",
+    "for each",
+    "most calls",
+    "tickets",
+    "50 in 100 ms",
+    "99 in 100 ms",
+    "slowest ms",
+    "recovered ms",
+];
+
+// As wide as the widest of these.
+const LABEL: usize = 12;
+
+/// Adds a line with the names, and a line for each of the totals.
+pub(crate) fn push_table(
+    alloc: Global,
+    text: &mut String,
+    names: &[String],
+    all: &[Totals],
+) -> Result<(), NoMemory> {
+    push_left(text, "")?;
+    for name in names {
+        push_right(text, name.as_str(), LABEL)?;
+    }
+    text.push('\n')?;
+    for (place, label) in LABELS.iter().enumerate() {
+        push_left(text, label)?;
+        for (name, totals) in names.iter().zip(all) {
+            let cell = cell(alloc, totals, place)?;
+            push_right(text, cell.as_str(), name.len().max(LABEL))?;
+        }
+        text.push('\n')?;
+    }
+    Ok(())
+}
+
+// Adds a word at the left of the first column.
+fn push_left(text: &mut String, word: &str) -> Result<(), NoMemory> {
+    text.push_str(word)?;
+    for _ in word.len()..LABEL {
+        text.push(' ')?;
+    }
+    Ok(())
+}
+
+// What a line tells of these totals.
+fn cell(alloc: Global, totals: &Totals, place: usize) -> Result<String, NoMemory> {
+    let mut cell = String::new(alloc);
+    match place {
+        0 => write!(cell, "{}", totals.counts.requests)?,
+        1 => write!(cell, "{}", totals.counts.won)?,
+        2 => write!(cell, "{}", totals.lost)?,
+        3 => write!(cell, "{}", totals.denied)?,
+        4 => write!(cell, "{}", totals.open)?,
+        5 => write!(cell, "{}", totals.calls)?,
+        6 => push_hundredths(&mut cell, totals.hundredths)?,
+        7 => write!(cell, "{}", totals.most_calls)?,
+        8 => write!(cell, "{}", totals.tickets)?,
+        9 => push_known(&mut cell, totals.p50, "-")?,
+        10 => push_known(&mut cell, totals.p99, "-")?,
+        11 => push_known(&mut cell, totals.slowest, "-")?,
+        _ => push_known(&mut cell, totals.recovered, "never")?,
+    }
+    Ok(cell)
+}
+
+// Adds a number where there is one, and else this word.
+fn push_known(text: &mut String, number: Option<u64>, other: &str) -> Result<(), NoMemory> {
+    match number {
+        Some(number) => write!(text, "{number}")?,
+        None => text.push_str(other)?,
+    }
+    Ok(())
+}

@@ -1,0 +1,11 @@
+//! The command line of `zsched storm`: the command as `clap` takes it, and what its options ask for.
+#![tactic(auto)]
+
+mod commands;
+mod faults;
+mod numbers;
+mod options;
+
+pub use commands::storm_command;
+pub use faults::StormFault;
+pub use options::{Form, StormOptions, storm_options};

@@ -1,0 +1,29 @@
+//! Spans of moments, as words spell them.
+use sched_storm::{BrownOut, MOST_MILLIS, Span};
+
+/// The span that a word spells as FROM..TO, in order and in range.
+pub(crate) fn span_in(word: &str) -> Option<Span> {
+    let (from, to) = word.split_once("..")?;
+    let from = number_in(from)?;
+    let to = number_in(to)?;
+    if from > to || to > MOST_MILLIS {
+        return None;
+    }
+    Some(Span { from, to })
+}
+
+/// The brown-out that a word spells as FROM..TO@PERCENT, in order and in range.
+pub(crate) fn brown_out_in(word: &str) -> Option<BrownOut> {
+    let (span, percent) = word.split_once('@')?;
+    let span = span_in(span)?;
+    let percent = number_in(percent)?;
+    if percent < 1 || percent > 100 {
+        return None;
+    }
+    Some(BrownOut { span, percent })
+}
+
+// The number that a word spells.
+fn number_in(word: &str) -> Option<u64> {
+    word.parse::<u64>().ok()
+}

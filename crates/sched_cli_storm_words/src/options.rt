@@ -1,0 +1,190 @@
+//! What the options of the command ask for.
+use crate::faults::StormFault;
+use crate::numbers::{brown_out_in, span_in};
+use clap::ArgMatches;
+use sched_storm::{BrownOut, Draws, MOST_REQUESTS, Parameters, Span, Storm};
+use sched_ticket_quota::Terms;
+use std::alloc::{AllocError, Global};
+
+const SCENARIO_WANTED: &str = "it is one of outage, herd and brown-out";
+
+const OUTAGE_WANTED: &str =
+    "it is spelt as 10000..20000, in milliseconds; FROM is at most TO, and TO at most 3600000";
+
+const SLOW_WANTED: &str =
+    "it is spelt as 10000..20000@50, in milliseconds; FROM is at most TO, TO at most 3600000, \
+     and PERCENT from 1 to 100";
+
+/// How a storm is told.
+#[derive(Clone, Copy, Debug, PartialEq, Eq)]
+pub enum Form {
+    /// A line a window, with a bar, and the totals in words.
+    Bars,
+    /// The same without bars.
+    Plain,
+    /// The lines alone, as comma-separated values.
+    Csv,
+    /// Lines and totals as JSON.
+    Json,
+}
+
+/// What `zsched storm` is asked for.
+#[derive(Debug, Drop)]
+pub struct StormOptions {
+    /// The storm.
+    pub storm: Storm,
+    /// How it is told.
+    pub form: Form,
+    /// The files of the plans that it is played under, of which the first is the program's input.
+    pub names: Vec<String>,
+    /// The texts of the further files, in their order; none before they are read.
+    pub texts: Vec<Vec<u8>>,
+}
+
+/// What the options ask for, where retries draw on this quota, if any. `Bad`, with a line that says why, where a value is
+/// outside its range, is no span, or names no scenario.
+pub fn storm_options(
+    alloc: Global,
+    options: &ArgMatches<'_>,
+    quota: Option<Terms>,
+) -> Result<StormOptions, StormFault> {
+    let parameters = parameters(alloc, options, quota)?;
+    let Some(storm) = Storm::new(parameters) else {
+        return Err(StormFault::bad(alloc, too_many(&parameters)));
+    };
+    Ok(StormOptions {
+        storm,
+        form: form_in(options),
+        names: names(alloc, options)?,
+        texts: Vec::new(alloc),
+    })
+}
+
+// The files of the plans.
+fn names(alloc: Global, options: &ArgMatches<'_>) -> Result<Vec<String>, AllocError> {
+    let mut names = Vec::new(alloc);
+    names.push(String::from_str(alloc, options.get_str("file").unwrap_or("-"))?)?;
+    if let Some(others) = options.get_strs("compare") {
+        for name in others {
+            names.push(String::from_str(alloc, name)?)?;
+        }
+    }
+    Ok(names)
+}
+
+// Why parameters that are each in their range are none of a storm together.
+fn too_many(parameters: &Parameters) -> &'static str {
+    if parameters.rate.saturating_mul(parameters.seconds) > MOST_REQUESTS {
+        "'--rate <N>' times '--seconds <S>' is more than 1048576 requests"
+    } else {
+        "'--until <M>' has more than 65536 times '--window <M>'"
+    }
+}
+
+fn form_in(options: &ArgMatches<'_>) -> Form {
+    if options.get_flag("json") {
+        Form::Json
+    } else if options.get_flag("csv") {
+        Form::Csv
+    } else if options.get_flag("plain") {
+        Form::Plain
+    } else {
+        Form::Bars
+    }
+}
+
+// The parameters that are given, and for the others those of the scenario.
+fn parameters(
+    alloc: Global,
+    options: &ArgMatches<'_>,
+    quota: Option<Terms>,
+) -> Result<Parameters, StormFault> {
+    let base = scenario(alloc, options)?;
+    let seconds = number(options, "seconds", base.seconds);
+    Ok(Parameters {
+        rate: number(options, "rate", base.rate),
+        together: number(options, "together", base.together),
+        seconds,
+        capacity: number(options, "capacity", base.capacity),
+        patience: number(options, "patience", base.patience),
+        queue: number(options, "queue", base.queue),
+        outage: outage(alloc, options, base.outage)?,
+        slow: slow(alloc, options, base.slow)?,
+        window: number(options, "window", base.window),
+        until: number(
+            options,
+            "until",
+            seconds.saturating_mul(1000).saturating_add(60000),
+        ),
+        calls: number(options, "calls", base.calls),
+        words: number(options, "words", base.words),
+        draws: draws(options, quota),
+    })
+}
+
+// The number that is given, or this one.
+fn number(options: &ArgMatches<'_>, name: &str, other: u64) -> u64 {
+    options.get_one::<u64>(name).unwrap_or(other)
+}
+
+// The numbers of the scenario that is named: the defaults are those of the outage.
+fn scenario(alloc: Global, options: &ArgMatches<'_>) -> Result<Parameters, StormFault> {
+    let outage = Parameters::default();
+    let no_outage = Span { from: 0, to: 0 };
+    match options.get_str("scenario") {
+        None | Some("outage") => Ok(outage),
+        Some("herd") => Ok(Parameters {
+            rate: 10000,
+            together: 10000,
+            seconds: 1,
+            patience: 1000,
+            queue: 500,
+            outage: no_outage,
+            ..outage
+        }),
+        Some("brown-out") => Ok(Parameters {
+            outage: no_outage,
+            slow: Some(BrownOut {
+                span: outage.outage,
+                percent: 50,
+            }),
+            ..outage
+        }),
+        Some(name) => Err(StormFault::value(alloc, "--scenario <NAME>", name, SCENARIO_WANTED)),
+    }
+}
+
+// The outage that is given, or this one.
+fn outage(alloc: Global, options: &ArgMatches<'_>, other: Span) -> Result<Span, StormFault> {
+    let Some(word) = options.get_str("outage") else {
+        return Ok(other);
+    };
+    match span_in(word) {
+        Some(span) => Ok(span),
+        None => Err(StormFault::value(alloc, "--outage <FROM..TO>", word, OUTAGE_WANTED)),
+    }
+}
+
+// The brown-out that is given, or this one.
+fn slow(
+    alloc: Global,
+    options: &ArgMatches<'_>,
+    other: Option<BrownOut>,
+) -> Result<Option<BrownOut>, StormFault> {
+    let Some(word) = options.get_str("slow") else {
+        return Ok(other);
+    };
+    match brown_out_in(word) {
+        Some(slow) => Ok(Some(slow)),
+        None => Err(StormFault::value(alloc, "--slow <FROM..TO@PERCENT>", word, SLOW_WANTED)),
+    }
+}
+
+// A quota, or a budget, or nothing.
+fn draws(options: &ArgMatches<'_>, quota: Option<Terms>) -> Draws {
+    match (quota, options.get_one::<u64>("budget")) {
+        (Some(terms), _) => Draws::Quota(terms),
+        (None, Some(limit)) => Draws::Budget(limit),
+        (None, None) => Draws::Nothing,
+    }
+}

@@ -1,0 +1,9 @@
+pub mod Peer
+pub mod Adds
+pub mod Bounds
+pub mod Uses
+pub mod Sums
+pub mod Steps
+pub mod Reports
+pub mod Starts
+pub mod Told

@@ -1,0 +1,58 @@
+-- The peer: one queue, first come first served. Work is counted in units, of which a call is 100,000.
+use Rattle.std.specs.Prelude.{◌≡◌, ℕ, ◌+◌, ◌-◌, ◌*◌, ◌<◌, ◌≤◌, min, max, Bool, ◌==◌, nat_lt, nat_le, if◌then◌else◌, MatchBool, Option, Some, None}
+use Rattle.sched_storm.specs.Parameters.{is_in}
+use Rattle.sched_storm.specs.declared.parameters.Span.{Span}
+use Rattle.sched_storm.specs.declared.parameters.BrownOut.{BrownOut}
+use Rattle.sched_storm.specs.declared.parameters.Parameters.{Parameters}
+use Rattle.sched_storm.specs.declared.calls.CallEnd.TheVariants.{Succeeded, Failed}
+use Rattle.sched_storm.specs.declared.calls.Failure.{Failure}
+use Rattle.sched_storm.specs.declared.calls.Failure.TheVariants.{Refused, Shed, Late}
+use Rattle.sched_storm.specs.declared.calls.Called.{Called}
+
+-- how many milliseconds of the span lie before a moment
+abbrev pub millis_in : Span → ℕ → ℕ
+millis_in s t = min t s.to - s.from
+
+-- the units that a peer of one call a second can have done by a moment: 100 in each millisecond before it, and as many
+-- as the brown-out's percentage in each that lies in it
+abbrev pub work_by : Option BrownOut → ℕ → ℕ
+work_by None t = 100 * t
+work_by (Some b) t = 100 * (t - millis_in b.span t) + b.percent * millis_in b.span t
+
+-- the units that the peer can have done by a moment
+abbrev pub can_be_done : Parameters → ℕ → ℕ
+can_be_done p t = p.capacity * work_by p.slow t
+
+-- the units of work that stand ahead of a call, where all work taken so far is done at the unit `busy`
+abbrev pub ahead : Parameters → ℕ → ℕ → ℕ
+ahead p busy t = busy - can_be_done p t
+
+-- so many units are as much as the queue may have: the call in service counts
+abbrev pub is_full : Parameters → ℕ → Bool
+is_full p units = if p.queue == 0 then nat_lt 0 units else nat_le (p.queue * 100000) units
+
+-- the unit at which all work is done with one call more
+abbrev pub busy_with : Parameters → ℕ → ℕ → ℕ
+busy_with p busy t = max busy (can_be_done p t) + 100000
+
+-- the least moment at which so many units can have been done
+pub record IsDoneAt (p : Parameters) (units m : ℕ) : Type 0 where
+  pub done : units ≤ can_be_done p m
+  pub least : (k : ℕ) → k < m → can_be_done p k < units
+
+-- a call fails as it comes, and the peer takes no work
+abbrev pub Fails : Failure → ℕ → ℕ → Called → Type 0
+Fails failure busy t c = c ≡ record { busy = busy; ends = t; how = Failed failure }
+
+-- A call is taken, and its work is done in any case. Where that is after its client's patience the client gives it up;
+-- else it succeeds when the work is done.
+pub record IsTaken (p : Parameters) (busy t : ℕ) (c : Called) : Type 0 where
+  pub busy_is : c.busy ≡ busy_with p busy t
+  pub late : can_be_done p (t + p.patience) < c.busy → (c.how ≡ Failed Late) × (c.ends ≡ t + p.patience)
+  pub in_time : c.busy ≤ can_be_done p (t + p.patience) → (c.how ≡ Succeeded) × IsDoneAt p c.busy c.ends
+
+-- what becomes of a call that comes at a moment
+abbrev pub IsCalled : Parameters → ℕ → ℕ → Called → Type 0
+IsCalled p busy t c = MatchBool (is_in p.outage t)
+    (Fails Refused busy t c)
+    (MatchBool (is_full p (ahead p busy t)) (Fails Shed busy t c) (IsTaken p busy t c))

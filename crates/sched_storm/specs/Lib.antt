@@ -1,0 +1,12 @@
+pub mod Parameters
+pub mod Calls
+pub mod Tickets
+pub mod Pending
+pub mod Drivers
+pub mod Tally
+pub mod Course
+pub mod Report
+pub use Rattle.sched_plan.specs.Schedule
+pub use Rattle.sched_ticket_quota.specs.Held
+pub use Rattle.sched_ticket_quota.specs.Windows
+pub use Rattle.sched_driver_stepper.specs.Standing

@@ -1,0 +1,70 @@
+-- The parameters of a storm: which are in range, and when each request comes.
+use Rattle.std.specs.Prelude.{ℕ, ◌*◌, ◌/◌, ◌<◌, ◌≤◌, Bool, ◌&&◌, nat_lt, nat_le, Option, Some, None}
+use Rattle.sched_ticket_quota.specs.Held.{AreTerms}
+use Rattle.sched_storm.specs.declared.parameters.Span.{Span}
+use Rattle.sched_storm.specs.declared.parameters.BrownOut.{BrownOut}
+use Rattle.sched_storm.specs.declared.parameters.Draws.{Draws}
+use Rattle.sched_storm.specs.declared.parameters.Draws.TheVariants.{Nothing, Budget, Quota}
+use Rattle.sched_storm.specs.declared.parameters.Parameters.{Parameters}
+
+abbrev pub is_in : Span → ℕ → Bool
+is_in s t = nat_le s.from t && nat_lt t s.to
+
+pub record IsSpan (s : Span) : Type 0 where
+  pub ordered : s.from ≤ s.to
+  pub early : s.to ≤ 3600000
+
+pub record IsBrownOut (b : BrownOut) : Type 0 where
+  pub span : IsSpan b.span
+  pub some : 1 ≤ b.percent
+  pub part : b.percent ≤ 100
+
+abbrev pub IsSlow : Option BrownOut → Type 0
+IsSlow None = Unit {0}
+IsSlow (Some b) = IsBrownOut b
+
+abbrev pub AreDraws : Draws → Type 0
+AreDraws Nothing = Unit {0}
+AreDraws (Budget limit) = limit ≤ 4294967296
+AreDraws (Quota terms) = AreTerms terms
+
+-- how many requests come in all, where `until` allows
+abbrev pub all_requests : Parameters → ℕ
+all_requests p = p.rate * p.seconds
+
+-- the moment at which a request begins its first call
+abbrev pub comes_at : Parameters → ℕ → ℕ
+comes_at p r = r / p.together * p.together * 1000 / p.rate
+
+pub record RequestsAreInRange (p : Parameters) : Type 0 where
+  pub some : 1 ≤ p.rate
+  pub rate : p.rate ≤ 1000000
+  pub herd : 1 ≤ p.together
+  pub together : p.together ≤ 1000000
+  pub one : 1 ≤ p.seconds
+  pub seconds : p.seconds ≤ 3600
+  pub all : all_requests p ≤ 1048576
+
+pub record PeerIsInRange (p : Parameters) : Type 0 where
+  pub some : 1 ≤ p.capacity
+  pub capacity : p.capacity ≤ 1000000
+  pub one : 1 ≤ p.patience
+  pub patience : p.patience ≤ 3600000
+  pub queue : p.queue ≤ 1048576
+  pub outage : IsSpan p.outage
+  pub slow : IsSlow p.slow
+
+pub record ReportIsInRange (p : Parameters) : Type 0 where
+  pub some : 1 ≤ p.window
+  pub window : p.window ≤ 3600000
+  pub few : p.until / p.window ≤ 65536
+  pub until : p.until ≤ 7200000
+  pub one : 1 ≤ p.calls
+  pub calls : p.calls ≤ 4294967296
+
+-- each parameter is in its range
+pub record AreInRange (p : Parameters) : Type 0 where
+  pub requests : RequestsAreInRange p
+  pub peer : PeerIsInRange p
+  pub report : ReportIsInRange p
+  pub draws : AreDraws p.draws

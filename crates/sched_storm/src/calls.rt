@@ -1,0 +1,167 @@
+//! The peer that is called: when it does what, and what becomes of a call.
+ghost use Rattle.std.specs.Prelude.{◌≡◌, ◌+◌, ◌*◌, ◌<◌, ◌≤◌, false};
+ghost use Rattle.sched_storm.specs.Parameters.{IsSlow};
+ghost use Rattle.sched_storm.specs.Calls.{work_by, can_be_done, ahead, is_full, IsDoneAt, IsTaken, IsCalled};
+ghost use Rattle.sched_storm.specs.Tally.{input_of};
+
+use crate::parameters::BrownOut;
+use crate::storm::Storm;
+
+/// The units of work of a call.
+pub(crate) const CALL: u64 = 100000;
+
+/// Why a call failed.
+#[derive(Clone, Copy, Debug, PartialEq, Eq)]
+pub enum Failure {
+    /// The peer was away.
+    Refused,
+    /// The queue was full.
+    Shed,
+    /// Its client gave it up.
+    Late,
+}
+
+/// How a call ends.
+#[derive(Clone, Copy, Debug, PartialEq, Eq)]
+pub(crate) enum CallEnd {
+    /// Its work was done within its client's patience.
+    Succeeded,
+    /// It fails for this reason.
+    Failed(Failure),
+}
+
+/// What becomes of a call: the unit at which all work that was taken is then done, when the call ends, and how.
+#[derive(Clone, Copy, Debug, PartialEq, Eq)]
+pub(crate) struct Called {
+    pub(crate) busy: u64,
+    pub(crate) ends: u64,
+    pub(crate) how: CallEnd,
+}
+
+impl Storm {
+    /// The units of work that the peer can have done by this moment.
+    pub(crate) fn can_be_done(&self, at: u64) -> u64
+        requires { at ≤ 10800000 }
+        ensures value { result ≡ can_be_done self.now at }
+        ensures most { result ≤ 100000000 * at }
+    {
+        let parameters = self.parameters();
+        parameters.capacity * work_by(parameters.slow, at)
+    }
+
+    /// What becomes of a call that comes at this moment, where all work taken so far is done at the unit `busy`.
+    pub(crate) fn call(&self, busy: u64, at: u64) -> Called
+        requires at { at ≤ self.now.until }
+        requires busy { busy ≤ 900000000000000 }
+        ensures called { IsCalled self.now busy at result }
+        ensures busy { result.busy ≤ 900000000000000 }
+        ensures order { at ≤ result.ends }
+    {
+        let parameters = self.parameters();
+        if parameters.outage.has(at) {
+            return Called {
+                busy,
+                ends: at,
+                how: CallEnd::Failed(Failure::Refused),
+            };
+        }
+        if self.is_full(busy, at) {
+            return Called {
+                busy,
+                ends: at,
+                how: CallEnd::Failed(Failure::Shed),
+            };
+        }
+        self.take(busy, at)
+    }
+
+    // Whether as much work stands ahead of a call as the queue may have.
+    fn is_full(&self, busy: u64, at: u64) -> bool
+        requires { at ≤ self.now.until }
+        ensures value { result ≡ is_full self.now (ahead self.now busy at) }
+        ensures room { result ≡ false → busy ≤ can_be_done self.now at + 104857600000 }
+    {
+        let queue = self.parameters().queue;
+        let units = busy.saturating_sub(self.can_be_done(at));
+        if queue == 0 {
+            units > 0
+        } else {
+            units >= queue * CALL
+        }
+    }
+
+    // What becomes of a call that is taken.
+    fn take(&self, busy: u64, at: u64) -> Called
+        requires at { at ≤ self.now.until }
+        requires room { busy ≤ can_be_done self.now at + 104857600000 }
+        ensures taken { IsTaken self.now busy at result }
+        ensures busy { result.busy ≤ 900000000000000 }
+        ensures order { at ≤ result.ends }
+    {
+        let gives_up = at + self.parameters().patience;
+        let busy = busy.max(self.can_be_done(at)) + CALL;
+        if self.can_be_done(gives_up) < busy {
+            return Called {
+                busy,
+                ends: gives_up,
+                how: CallEnd::Failed(Failure::Late),
+            };
+        }
+        Called {
+            busy,
+            ends: self.done_at(busy, at, gives_up),
+            how: CallEnd::Succeeded,
+        }
+    }
+
+    // The least moment at which so many units can have been done, which lies between these two.
+    fn done_at(&self, units: u64, from: u64, to: u64) -> u64
+        requires order { from ≤ to }
+        requires near { to ≤ 10800000 }
+        requires done { units ≤ can_be_done self.now to }
+        requires before { can_be_done self.now from < units }
+        ensures value { IsDoneAt self.now units result }
+        ensures order { from ≤ result }
+    {
+        let mut early = from;
+        let mut late = to;
+        while early < late {
+            let middle = early + (late - early) / 2;
+            if self.can_be_done(middle) >= units {
+                late = middle;
+            } else {
+                early = middle + 1;
+            }
+        }
+        late
+    }
+}
+
+// The units that a peer of one call a second can have done by this moment.
+fn work_by(slow: Option<BrownOut>, at: u64) -> u64
+    requires slow { IsSlow slow }
+    requires at { at ≤ 10800000 }
+    ensures value { result ≡ work_by slow at }
+    ensures most { result ≤ 100 * at }
+{
+    match slow {
+        Some(BrownOut { span, percent }) => {
+            let slowly = at.min(span.to).saturating_sub(span.from);
+            100 * (at - slowly) + percent * slowly
+        }
+        None => 100 * at,
+    }
+}
+
+impl Failure {
+    /// The input that a policy is given of a call that failed so.
+    pub fn input(self) -> u32
+        ensures { result ≡ input_of self }
+    {
+        match self {
+            Failure::Refused => 1,
+            Failure::Shed => 2,
+            Failure::Late => 3,
+        }
+    }
+}

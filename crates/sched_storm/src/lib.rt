@@ -1,0 +1,27 @@
+//! Storms: what a policy does to a peer that fails for a while, when many requests have it.
+//!
+//! A `Storm` is made of `Parameters`, each in its range, and is determined by these and by the plan: it plays the calls of
+//! all requests on a virtual clock, event by event, and counts them window by window. It takes no time of a clock, and
+//! random words by a seed alone.
+#![tactic(auto)]
+
+mod calls;
+mod course;
+mod drivers;
+mod parameters;
+mod pending;
+mod report;
+mod score;
+mod storm;
+mod tally;
+mod tickets;
+
+pub use calls::Failure;
+pub use parameters::{BrownOut, Draws, Parameters, Span};
+pub use report::{Report, Totals};
+pub use score::Counts;
+pub use storm::{
+    MOST_CALLS, MOST_EACH, MOST_MILLIS, MOST_REQUESTS, MOST_SECONDS, MOST_UNTIL, MOST_WINDOWS,
+    Storm,
+};
+pub use tally::Window;

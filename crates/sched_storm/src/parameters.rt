@@ -1,0 +1,94 @@
+//! What a storm is made of.
+use sched_ticket_quota::Terms;
+
+/// A span of moments, in milliseconds: `from` is the first in it, and `to` the first after it.
+#[derive(Clone, Copy, Debug, PartialEq, Eq)]
+pub struct Span {
+    pub from: u64,
+    pub to: u64,
+}
+
+impl Span {
+    ghost use Rattle.std.specs.Prelude.{◌≡◌};
+    ghost use Rattle.sched_storm.specs.Parameters.{is_in};
+
+    /// Whether the moment lies in it.
+    pub fn has(self, at: u64) -> bool
+        ensures { result ≡ is_in self at }
+    {
+        self.from <= at && at < self.to
+    }
+}
+
+/// A brown-out: in the span the peer works at `percent` of its capacity.
+#[derive(Clone, Copy, Debug, PartialEq, Eq)]
+pub struct BrownOut {
+    pub span: Span,
+    pub percent: u64,
+}
+
+/// What retries draw on.
+#[derive(Clone, Copy, Debug, PartialEq, Eq)]
+pub enum Draws {
+    /// Nothing: each retry that the plan goes on to is made.
+    Nothing,
+    /// A budget of so many tickets, at most 4294967296.
+    Budget(u64),
+    /// A quota of these terms, as a quota is made of.
+    Quota(Terms),
+}
+
+/// The parameters of a storm. Moments and durations are in milliseconds, from 0 on.
+#[derive(Clone, Copy, Debug, PartialEq, Eq)]
+pub struct Parameters {
+    /// Requests a second, from 1 to 1,000,000.
+    pub rate: u64,
+    /// Requests that come at one moment, from 1 to 1,000,000.
+    pub together: u64,
+    /// For how many seconds requests come, from 1 to 3,600; `rate` times `seconds` is at most 1,048,576.
+    pub seconds: u64,
+    /// Calls that the peer can do in a second, from 1 to 1,000,000.
+    pub capacity: u64,
+    /// After how long a client gives a call up, from 1 to 3,600,000.
+    pub patience: u64,
+    /// Calls of work that may stand at the peer, at most 1,048,576.
+    pub queue: u64,
+    /// When the peer refuses all calls; it ends at 3,600,000 at the latest.
+    pub outage: Span,
+    /// When the peer works slowly, at 1 to 100 per cent; it ends at 3,600,000 at the latest.
+    pub slow: Option<BrownOut>,
+    /// How long a window of the report is, from 1 to 3,600,000; `until / window` is at most 65,536.
+    pub window: u64,
+    /// What lies after this moment is not played, at most 7,200,000.
+    pub until: u64,
+    /// The storm is cut before the call after so many, from 1 to 4294967296.
+    pub calls: u64,
+    /// The seed of the random words.
+    pub words: u64,
+    /// What retries draw on.
+    pub draws: Draws,
+}
+
+impl Default for Parameters {
+    /// 800 requests a second for a minute, on a peer that does 1,000 and is away from 10 to 20 s.
+    fn default() -> Self {
+        Parameters {
+            rate: 800,
+            together: 1,
+            seconds: 60,
+            capacity: 1000,
+            patience: 500,
+            queue: 5000,
+            outage: Span {
+                from: 10000,
+                to: 20000,
+            },
+            slow: None,
+            window: 1000,
+            until: 120000,
+            calls: 16777216,
+            words: 0,
+            draws: Draws::Nothing,
+        }
+    }
+}

@@ -1,0 +1,171 @@
+ghost use Rattle.std.specs.Prelude.{◌≡◌, ◌<◌, ◌≤◌, ◌↔◌, IsTrue, IsSome, IfSome};
+ghost use Rattle.sched_ticket_quota.specs.Held.{AreTerms};
+ghost use Rattle.sched_storm.specs.Parameters.{AreInRange, AreDraws, IsSpan, IsSlow};
+ghost use Rattle.sched_storm.specs.Parameters.{RequestsAreInRange, PeerIsInRange, ReportIsInRange};
+ghost use Rattle.sched_storm.specs.Parameters.{all_requests, comes_at};
+
+use crate::parameters::{BrownOut, Draws, Parameters, Span};
+use sched_ticket_quota::{MAX_RESERVE, MAX_SHARE, Terms};
+use std::marker::Model;
+
+/// The greatest rate, herd and capacity.
+pub const MOST_EACH: u64 = 1000000;
+
+/// The most seconds for which requests come.
+pub const MOST_SECONDS: u64 = 3600;
+
+/// The most requests, and the longest queue.
+pub const MOST_REQUESTS: u64 = 1048576;
+
+/// The longest patience and window, and the latest end of an outage and of a brown-out, in milliseconds.
+pub const MOST_MILLIS: u64 = 3600000;
+
+/// The last moment that may be played.
+pub const MOST_UNTIL: u64 = 7200000;
+
+/// The greatest number of the last window.
+pub const MOST_WINDOWS: u64 = 65536;
+
+/// The most calls before a storm is cut.
+pub const MOST_CALLS: u64 = 4294967296;
+
+/// A storm: parameters that are in their ranges.
+#[derive(Clone, Copy, Debug)]
+pub struct Storm {
+    parameters: Parameters,
+}
+
+impl Model for Storm {
+    ghost use Rattle.sched_storm.specs.Parameters.{AreInRange};
+    ghost use Rattle.sched_storm.specs.declared.parameters.Parameters.{Parameters};
+
+    ghost Value = { Parameters };
+
+    ghost view = { λ s. s.parameters };
+
+    ghost invariant = { λ s. AreInRange s.parameters };
+
+    ghost inverse = { λ p. record { parameters = p } };
+}
+
+impl Storm {
+    /// The storm of these parameters, or `None` where one is outside its range.
+    pub fn new(parameters: Parameters) -> Option<Storm>
+        ensures in_range { IsSome result ↔ AreInRange parameters }
+        ensures value { IfSome result (λ storm. storm ≡ parameters) }
+    {
+        if are_in_range(&parameters) {
+            Some(Storm { parameters })
+        } else {
+            None
+        }
+    }
+
+    /// What it is made of.
+    pub fn parameters(&self) -> &Parameters
+        ensures value { result.now ≡ self.now }
+        ensures in_range { AreInRange self.now }
+    {
+        &self.parameters
+    }
+
+    /// What retries draw on.
+    pub(crate) fn draws(&self) -> Draws
+        ensures value { result ≡ self.now.draws }
+        ensures in_range { AreDraws result }
+    {
+        self.parameters.draws
+    }
+
+    /// The moment at which a request begins its first call, of requests that are numbered from 0.
+    pub(crate) fn comes_at(&self, request: u64) -> u64
+        requires { request ≤ 1048576 }
+        ensures { result ≡ comes_at self.now request }
+    {
+        let first = request / self.parameters.together * self.parameters.together;
+        first * 1000 / self.parameters.rate
+    }
+
+    /// How many requests come in all, where `until` allows.
+    pub(crate) fn all_requests(&self) -> u64
+        ensures value { result ≡ all_requests self.now }
+        ensures few { result ≤ 1048576 }
+    {
+        self.parameters.rate * self.parameters.seconds
+    }
+}
+
+fn are_in_range(parameters: &Parameters) -> bool
+    ensures { IsTrue result ↔ AreInRange parameters.now }
+{
+    are_requests(parameters)
+        && is_peer(parameters)
+        && is_report(parameters)
+        && are_draws(parameters.draws)
+}
+
+fn are_requests(p: &Parameters) -> bool
+    ensures { IsTrue result ↔ RequestsAreInRange p.now }
+{
+    1 <= p.rate
+        && p.rate <= MOST_EACH
+        && 1 <= p.together
+        && p.together <= MOST_EACH
+        && 1 <= p.seconds
+        && p.seconds <= MOST_SECONDS
+        && p.rate.saturating_mul(p.seconds) <= MOST_REQUESTS
+}
+
+fn is_peer(p: &Parameters) -> bool
+    ensures { IsTrue result ↔ PeerIsInRange p.now }
+{
+    1 <= p.capacity
+        && p.capacity <= MOST_EACH
+        && 1 <= p.patience
+        && p.patience <= MOST_MILLIS
+        && p.queue <= MOST_REQUESTS
+        && is_span(p.outage)
+        && is_slow(p.slow)
+}
+
+fn is_report(p: &Parameters) -> bool
+    ensures { IsTrue result ↔ ReportIsInRange p.now }
+{
+    1 <= p.window
+        && p.window <= MOST_MILLIS
+        && p.until / p.window <= MOST_WINDOWS
+        && p.until <= MOST_UNTIL
+        && 1 <= p.calls
+        && p.calls <= MOST_CALLS
+}
+
+fn is_span(span: Span) -> bool
+    ensures { IsTrue result ↔ IsSpan span }
+{
+    span.from <= span.to && span.to <= MOST_MILLIS
+}
+
+fn is_slow(slow: Option<BrownOut>) -> bool
+    ensures { IsTrue result ↔ IsSlow slow }
+{
+    match slow {
+        Some(BrownOut { span, percent }) => is_span(span) && 1 <= percent && percent <= 100,
+        None => true,
+    }
+}
+
+fn are_draws(draws: Draws) -> bool
+    ensures { IsTrue result ↔ AreDraws draws }
+{
+    match draws {
+        Draws::Nothing => true,
+        Draws::Budget(limit) => limit <= MAX_RESERVE,
+        Draws::Quota(terms) => are_terms(terms),
+    }
+}
+
+fn are_terms(terms: Terms) -> bool
+    ensures { IsTrue result ↔ AreTerms terms }
+{
+    terms.reserve <= MAX_RESERVE && terms.share <= MAX_SHARE && 0 < terms.period.get()
+}

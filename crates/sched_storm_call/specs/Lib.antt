@@ -1,0 +1,4 @@
+pub mod Told
+pub mod Plays
+pub use Rattle.sched_storm.specs.Parameters
+pub use Rattle.sched_storm.specs.Report

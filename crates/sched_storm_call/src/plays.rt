@@ -1,0 +1,79 @@
+//! Playing a storm.
+ghost use Rattle.std.specs.Prelude.{◌≡◌, map, IfOk, IfErr};
+ghost use Rattle.sched_storm.specs.Report.{AddsUp};
+ghost use Rattle.sched_handle.specs.Held.{kind_of, Wants};
+ghost use Rattle.sched_handle.specs.declared.held.Kind.TheVariants as kind;
+ghost use Rattle.sched_storm_call.specs.Told.{window_told};
+ghost use Rattle.sched_storm_call.specs.Plays.{PlaysStorm};
+
+use crate::records::{StormGiven, TotalsTold, WindowTold, room_of};
+use sched_handle::{Handle, Held, Status};
+use sched_storm::{Report, Storm, Window};
+use sched_time::NoMemory;
+use std::alloc::Global;
+
+/// Plays a storm of requests under the policy, and writes its windows, their number and its totals.
+pub fn storm_play(
+    alloc: Global,
+    policy: &mut Handle,
+    storm: &StormGiven,
+    windows: &mut [WindowTold],
+    count: &mut usize,
+    totals: &mut TotalsTold,
+) -> u32
+    ensures kept { policy.new.held ≡ policy.old.held }
+    ensures played { PlaysStorm storm.now policy.old.held
+        (record { windows = windows.old; count = count.old; totals = totals.old }) result
+        (record { windows = windows.new; count = count.new; totals = totals.new }) }
+{
+    let Some(storm) = storm.storm() else {
+        return Status::OutOfRange.code();
+    };
+    let room = room_of(&storm);
+    if windows.len() < room {
+        *count = room;
+        return Status::NoRoom.code();
+    }
+    let Some(held) = policy.take(alloc) else {
+        return Status::Empty.code();
+    };
+    let played = play(alloc, &held, &storm);
+    policy.put(held);
+    match played {
+        Ok((report, told)) => {
+            windows[..told.len()].copy_from_slice(&told);
+            *count = told.len();
+            *totals = TotalsTold::of(&report.totals);
+            0
+        }
+        Err(status) => status.code(),
+    }
+}
+
+// The storm under the policy that a handle holds, and its windows as C is told of them.
+fn play(alloc: Global, held: &Held, storm: &Storm) -> Result<(Report, Vec<WindowTold>), Status>
+    ensures policy { IfOk result (λ _. kind_of held.now ≡ kind.Policy) }
+    ensures sums { IfOk result (λ played. AddsUp storm.now played.0) }
+    ensures told { IfOk result (λ played. played.1.items ≡ map window_told played.0.windows.items) }
+    ensures err { IfErr result (Wants kind.Policy held.now) }
+{
+    let plan = held.plan()?;
+    let Ok(report) = storm.play(alloc, plan) else {
+        return Err(Status::NoMemory);
+    };
+    match windows_told(alloc, &report.windows) {
+        Ok(told) => Ok((report, told)),
+        Err(_) => Err(Status::NoMemory),
+    }
+}
+
+// Windows, as C is told of them.
+fn windows_told(alloc: Global, windows: &Vec<Window>) -> Result<Vec<WindowTold>, NoMemory>
+    ensures { IfOk result (λ told. told.items ≡ map window_told windows.now.items) }
+{
+    let mut told = Vec::with_capacity(alloc, windows.len())?;
+    for window in windows {
+        told.push(WindowTold::of(window))?;
+    }
+    Ok(told)
+}

@@ -1,0 +1,202 @@
+//! What C gives of a storm, and what it is told.
+ghost use Rattle.std.specs.Prelude.{◌≡◌, ◌↔◌, IsTrue, IsSome, IfSome};
+ghost use Rattle.sched_storm_call.specs.Told.{IsGiven, HasItsBrownOut, AreDrawsGiven};
+ghost use Rattle.sched_storm_call.specs.Told.{slow_of, draws_of, parameters_of, room_of, window_told, totals_told};
+
+use sched_storm::{BrownOut, Draws, Parameters, Span, Storm, Totals, Window};
+use sched_ticket_quota::Terms;
+use sched_time::Millis;
+
+/// The parameters of a storm.
+#[repr(C)]
+#[derive(Clone, Copy)]
+pub struct StormGiven {
+    pub rate: u64,
+    pub together: u64,
+    pub seconds: u64,
+    pub capacity: u64,
+    pub patience: u64,
+    pub queue: u64,
+    pub outage_from: u64,
+    pub outage_to: u64,
+    pub slow_from: u64,
+    pub slow_to: u64,
+    pub slow_percent: u64,
+    pub window: u64,
+    pub until: u64,
+    pub calls: u64,
+    pub words: u64,
+    pub draws_on: u64,
+    pub limit: u64,
+    pub reserve: u64,
+    pub share: u64,
+    pub period: u64,
+}
+
+/// A window of a storm.
+#[repr(C)]
+#[derive(Clone, Copy)]
+pub struct WindowTold {
+    pub from: u64,
+    pub requests: u64,
+    pub won: u64,
+    pub retries: u64,
+    pub succeeded: u64,
+    pub refused: u64,
+    pub shed: u64,
+    pub late: u64,
+    pub waiting: u64,
+}
+
+/// What a storm comes to in all.
+#[repr(C)]
+#[derive(Clone, Copy)]
+pub struct TotalsTold {
+    pub requests: u64,
+    pub won: u64,
+    pub lost: u64,
+    pub denied: u64,
+    pub open: u64,
+    pub calls: u64,
+    pub hundredths: u64,
+    pub most_calls: u64,
+    pub most_from: u64,
+    pub tickets: u64,
+    pub p50: u64,
+    pub p99: u64,
+    pub slowest: u64,
+    pub recovered: u64,
+    pub recovers: bool,
+    pub cut: bool,
+}
+
+impl StormGiven {
+    /// The storm, or `None` where a parameter is outside its range.
+    pub(crate) fn storm(&self) -> Option<Storm>
+        ensures in_range { IsSome result ↔ IsGiven self.now }
+        ensures value { IfSome result (λ storm. storm ≡ parameters_of self.now) }
+    {
+        let draws = self.draws()?;
+        if !self.has_its_brown_out() {
+            return None;
+        }
+        Storm::new(self.parameters(draws))
+    }
+
+    fn parameters(&self, draws: Draws) -> Parameters
+        requires { draws ≡ draws_of self.now }
+        ensures { result ≡ parameters_of self.now }
+    {
+        Parameters {
+            rate: self.rate,
+            together: self.together,
+            seconds: self.seconds,
+            capacity: self.capacity,
+            patience: self.patience,
+            queue: self.queue,
+            outage: Span {
+                from: self.outage_from,
+                to: self.outage_to,
+            },
+            slow: self.slow(),
+            window: self.window,
+            until: self.until,
+            calls: self.calls,
+            words: self.words,
+            draws,
+        }
+    }
+
+    // Whether there is a brown-out, or no moment of one.
+    fn has_its_brown_out(&self) -> bool
+        ensures { IsTrue result ↔ HasItsBrownOut self.now }
+    {
+        self.slow_percent > 0 || (self.slow_from == 0 && self.slow_to == 0)
+    }
+
+    fn slow(&self) -> Option<BrownOut>
+        ensures { result ≡ slow_of self.now }
+    {
+        if self.slow_percent == 0 {
+            return None;
+        }
+        Some(BrownOut {
+            span: Span {
+                from: self.slow_from,
+                to: self.slow_to,
+            },
+            percent: self.slow_percent,
+        })
+    }
+
+    fn draws(&self) -> Option<Draws>
+        ensures given { IsSome result ↔ AreDrawsGiven self.now }
+        ensures value { IfSome result (λ draws. draws ≡ draws_of self.now) }
+    {
+        match self.draws_on {
+            0 => Some(Draws::Nothing),
+            1 => Some(Draws::Budget(self.limit)),
+            2 => Some(Draws::Quota(Terms {
+                reserve: self.reserve,
+                share: self.share,
+                period: Millis::new(self.period)?,
+            })),
+            _ => None,
+        }
+    }
+}
+
+/// The most windows that the storm has.
+pub(crate) fn room_of(storm: &Storm) -> usize
+    ensures { result ≡ room_of storm.now }
+{
+    let parameters = storm.parameters();
+    (parameters.until / parameters.window) as usize + 1
+}
+
+impl WindowTold {
+    /// A window, as C is told of it.
+    pub(crate) fn of(window: &Window) -> WindowTold
+        ensures { result ≡ window_told window.now }
+    {
+        let counts = window.counts;
+        WindowTold {
+            from: window.from,
+            requests: counts.requests,
+            won: counts.won,
+            retries: counts.retries,
+            succeeded: counts.succeeded,
+            refused: counts.refused,
+            shed: counts.shed,
+            late: counts.late,
+            waiting: window.waiting,
+        }
+    }
+}
+
+impl TotalsTold {
+    /// Totals, as C is told of them: 0 in the place of what there is none of.
+    pub(crate) fn of(totals: &Totals) -> TotalsTold
+        ensures { result ≡ totals_told totals.now }
+    {
+        let counts = totals.counts;
+        TotalsTold {
+            requests: counts.requests,
+            won: counts.won,
+            lost: totals.lost,
+            denied: totals.denied,
+            open: totals.open,
+            calls: totals.calls,
+            hundredths: totals.hundredths,
+            most_calls: totals.most_calls,
+            most_from: totals.most_from,
+            tickets: totals.tickets,
+            p50: totals.p50.unwrap_or(0),
+            p99: totals.p99.unwrap_or(0),
+            slowest: totals.slowest.unwrap_or(0),
+            recovered: totals.recovered.unwrap_or(0),
+            recovers: totals.recovered.is_some(),
+            cut: totals.is_cut,
+        }
+    }
+}

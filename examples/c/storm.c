@@ -1,0 +1,49 @@
+/*
+ * Plays what a policy does to a peer that is away for ten seconds, without a limit on its retries and under a quota, and
+ * prints what each storm comes to.
+ *
+ *     cc storm.c -I../../include ../../dist/libhikebox.a -o storm && ./storm
+ */
+#include <hikebox.h>
+#include <stdio.h>
+#include <stdlib.h>
+
+/* At most eight retries, 100, 200, 400.. milliseconds apart, each spread from nothing to the whole. */
+static const char policy_json[] = "{\"meet\":[{\"recurs\":8},{\"jitter\":[0,0,1000,{\"cap\":[10000,{\"exponential\":[100,2]}]}]}]}";
+
+static void check(hikebox_status status, const char *call) {
+    if (status == HIKEBOX_OK) return;
+    fprintf(stderr, "%s: %s\n", call, hikebox_status_text(status));
+    exit(1);
+}
+
+static void play(hikebox_policy *policy, const hikebox_storm *storm, const char *name) {
+    static hikebox_window windows[121]; /* until / window, and one more */
+    hikebox_totals totals;
+    size_t count;
+    check(hikebox_storm_play(policy, storm, windows, 121, &count, &totals), "hikebox_storm_play");
+    printf("%s: %llu calls for %llu requests in %zu windows, ", name, (unsigned long long)totals.calls,
+           (unsigned long long)totals.requests, count);
+    if (totals.recovers) {
+        printf("recovered at %llu ms\n", (unsigned long long)totals.recovered);
+    } else {
+        printf("never recovered\n");
+    }
+}
+
+int main(void) {
+    hikebox_policy policy = HIKEBOX_INIT;
+    hikebox_place place;
+    check(hikebox_policy_read(policy_json, sizeof policy_json - 1, &policy, &place), "hikebox_policy_read");
+
+    hikebox_storm storm = HIKEBOX_STORM;
+    play(&policy, &storm, "no limit");
+    storm.draws_on = HIKEBOX_ON_QUOTA; /* 10 tickets a second, and one more for ten requests */
+    storm.reserve = 10;
+    storm.share = 100;
+    storm.period = 1000;
+    play(&policy, &storm, "a quota");
+
+    check(hikebox_policy_free(&policy), "hikebox_policy_free");
+    return 0;
+}

@@ -1,0 +1,103 @@
+"""The options of `hikebox storm`: the parameters of a storm as words of the command line."""
+
+from __future__ import annotations
+
+import argparse
+import re
+from typing import Any, Optional, Tuple, Union
+
+from . import _words
+from ._engine import MOST_TICKETS
+from ._storm_terms import RANGES, SCENARIOS, Parameters, Slow, Span
+from ._svg import fitted
+from .errors import BudgetError
+from .quota import Terms, terms_of
+
+__all__ = ["add_storm_options", "parameters_of", "tickets_of"]
+
+#: So long is the longest text of a budget or a quota.
+_LONGEST = 100
+
+_HELP = {
+    "rate": "requests a second (800)",
+    "together": "requests that come at one moment (1)",
+    "seconds": "for how many seconds requests come (60)",
+    "capacity": "calls that the peer can do in a second (1000)",
+    "patience": "after how many milliseconds a client gives a call up (500)",
+    "queue": "calls of work that may stand at the peer (5000)",
+    "window": "how many milliseconds a line of the report is (1000)",
+    "until": "the moment after which nothing is played (a minute after the last request)",
+    "calls": "cut the storm before the call after so many (16777216)",
+    "words": "the seed of the random words (0)",
+}
+
+
+def add_storm_options(storm: argparse.ArgumentParser) -> None:
+    """Adds the options that say how a storm is played."""
+    story = "begin with the parameters of a story: outage (where none is named), herd or brown-out"
+    storm.add_argument("--scenario", choices=sorted(SCENARIOS), default="outage", help=story)
+    for name, help in _HELP.items():
+        metavar = "SEED" if name == "words" else "M" if name in ("patience", "window", "until") else "N"
+        storm.add_argument(f"--{name}", type=_words.number(RANGES[name][1], RANGES[name][0]), metavar=metavar, help=help)
+    outage = "from when to when the peer refuses all calls, in milliseconds (10000..20000)"
+    storm.add_argument("--outage", type=_span, metavar="FROM..TO", help=outage)
+    slow = "a brown-out: from when to when the peer works at PERCENT of its capacity"
+    storm.add_argument("--slow", type=_slow, metavar="FROM..TO@PERCENT", help=slow)
+    bounds = storm.add_mutually_exclusive_group()
+    budget = "at most N retries of all requests"
+    bounds.add_argument("--budget", type=_words.number(MOST_TICKETS), metavar="N", help=budget)
+    quota = "at most RESERVE retries in each PERIOD (as 1s), and a SHARE of its requests, as 10/10%/1s"
+    bounds.add_argument("--quota", type=_quota, metavar="RESERVE/SHARE%/PERIOD", help=quota.replace("%", "%%"))
+
+
+def parameters_of(given: Any) -> Parameters:
+    """The parameters that were given, or a `StormError`."""
+    told = {name: getattr(given, name) for name in (*RANGES, "outage", "slow")}
+    changed = {name: value for name, value in told.items() if value is not None}
+    tickets = given.budget if given.quota is None else given.quota
+    return SCENARIOS[given.scenario]._replace(tickets=tickets, **changed).checked()
+
+
+def tickets_of(text: str) -> Union[None, int, Terms]:
+    """A budget as `N`, a quota as `RESERVE/SHARE%/PERIOD`, or none where the text is empty.
+
+    >>> tickets_of("100"), tickets_of("10/10%/1s"), tickets_of(" ")
+    (100, Terms(reserve=10, share=100, period=1000), None)
+    """
+    spelt = text.strip()
+    if not spelt:
+        return None
+    if spelt.isascii() and spelt.isdigit() and len(spelt) <= _LONGEST:
+        if int(spelt) > MOST_TICKETS:
+            raise BudgetError(f"a budget is from 0 to {MOST_TICKETS}, not {spelt}")
+        return int(spelt)
+    if "/" not in spelt or len(spelt) > _LONGEST:
+        raise BudgetError(f"{fitted(spelt, 300)!r} is neither N nor RESERVE/SHARE%/PERIOD, as 10/10%/1s")
+    return terms_of(*_words.terms(spelt))
+
+
+def _ends(text: str) -> Optional[Tuple[int, int]]:
+    found = re.fullmatch(r"([0-9]+)\.\.([0-9]+)", text)
+    return (int(found[1]), int(found[2])) if found else None
+
+
+def _span(text: str) -> Span:
+    ends = _ends(text)
+    if ends is None:
+        raise argparse.ArgumentTypeError(f"{text!r} is not FROM..TO in milliseconds, as 10000..20000")
+    return Span(*ends)
+
+
+def _slow(text: str) -> Slow:
+    span, _, percent = text.partition("@")
+    ends = _ends(span)
+    if ends is None or not (percent.isascii() and percent.isdigit()):
+        raise argparse.ArgumentTypeError(f"{text!r} is not FROM..TO@PERCENT, as 10000..20000@50")
+    return Slow(*ends, int(percent))
+
+
+def _quota(text: str) -> Terms:
+    try:
+        return terms_of(*_words.terms(text))
+    except BudgetError as error:
+        raise argparse.ArgumentTypeError(str(error)) from None

@@ -1,0 +1,127 @@
+"""A storm in words: what it comes to, and its rows as a table."""
+
+from __future__ import annotations
+
+from typing import TYPE_CHECKING, Any, List, Tuple
+
+from ._storm_terms import Parameters
+
+if TYPE_CHECKING:
+    from .storm import Storm, StormTotals
+
+__all__ = ["beside", "sentences", "setting", "table", "verdict"]
+
+#: What the totals are called that stand side by side, where that is not their name.
+_LABELS = {
+    "hundredths": "for each",
+    "most_calls": "most calls",
+    "most_from_ms": "from ms",
+    "p50_ms": "50 in 100 ms",
+    "p99_ms": "99 in 100 ms",
+    "slowest_ms": "slowest ms",
+    "recovered_ms": "recovered ms",
+}
+#: So many rows of a table are printed at most; of more, some of the midst are left out.
+_MOST_ROWS = 200
+
+
+def _time(milliseconds: int) -> str:
+    """A time as a person reads it.
+
+    >>> _time(80), _time(1500)
+    ('80 ms', '1.5 s')
+    """
+    return f"{milliseconds} ms" if milliseconds < 1000 else f"{milliseconds / 1000:,.12g} s"
+
+
+def verdict(storm: Storm) -> str:
+    """The numbers that say most."""
+    totals = storm.totals
+    won = f"{totals.won:,} of {totals.requests:,} won"
+    return f"{totals.calls_per_request:.2f} calls for each request, {won}, {_recovery(storm)}"
+
+
+def _recovery(storm: Storm) -> str:
+    recovered = storm.totals.recovered_ms
+    if recovered is None:
+        return "never recovered"
+    begins = -(-storm.parameters.over // storm.parameters.window) * storm.parameters.window
+    return "recovered at once" if recovered == begins else f"recovered from {_time(recovered)} on"
+
+
+def sentences(storm: Storm) -> List[str]:
+    """What a storm comes to, line by line."""
+    totals = storm.totals
+    ended = f"{totals.won:,} won, {totals.lost:,} lost, {totals.denied:,} denied a retry, {totals.open:,} left open"
+    lines = [
+        f"{totals.requests:,} requests: {ended}",
+        f"{totals.calls:,} calls, {totals.calls_per_request:.2f} for each request; the most in a window "
+        f"{totals.most_calls:,}, from {_time(totals.most_from_ms)} on",
+        _took(totals),
+        _recovery(storm).capitalize(),
+    ]
+    if storm.parameters.tickets is not None:
+        lines.insert(2, f"{totals.tickets:,} tickets given for retries")
+    if totals.cut:
+        lines.append(f"Cut before the call after {storm.parameters.calls:,}")
+    return lines
+
+
+def _took(totals: StormTotals) -> str:
+    if totals.p50_ms is None or totals.p99_ms is None or totals.slowest_ms is None:
+        return "None was won"
+    times = f"half within {_time(totals.p50_ms)}, 99 in 100 within {_time(totals.p99_ms)}"
+    return f"Won {times}, the slowest after {_time(totals.slowest_ms)}"
+
+
+def setting(parameters: Parameters) -> str:
+    """What a storm is played with, in a sentence."""
+    come = f"{parameters.rate:,} requests a second for {parameters.seconds:,} s"
+    if parameters.together > 1:
+        come += f", {parameters.together:,} at a time"
+    peer = f"a peer that does {parameters.capacity:,} calls a second"
+    outage, slow = parameters.outage, parameters.slow
+    if outage.begins < outage.ends:
+        peer += f", is away from {_time(outage.begins)} to {_time(outage.ends)}"
+    if slow is not None and slow.begins < slow.ends:
+        peer += f", works at {slow.percent} % from {_time(slow.begins)} to {_time(slow.ends)}"
+    return f"{come} on {peer}; each call is given up after {_time(parameters.patience)}"
+
+
+def table(storm: Storm) -> str:
+    """The rows in columns, and then what they come to."""
+    names = ("from", *storm.rows[0]._fields[1:]) if storm.rows else ()
+    lines = [names, *(tuple(map(str, row)) for row in storm.rows)]
+    if len(lines) > _MOST_ROWS + 1:
+        half = _MOST_ROWS // 2
+        lines = [*lines[: half + 1], ("..",) * len(names), *lines[-half:]]
+    return "".join(f"{line}\n" for line in [*_columns(lines), "", *sentences(storm)]).rstrip("\n")
+
+
+def beside(storms: List[Storm], names: List[str]) -> str:
+    """The totals of several storms side by side, each under its name's number."""
+    heads = [f"{number}: {name}" for number, name in enumerate(names, start=1)]
+    lines = [("", *(str(number) for number in range(1, len(storms) + 1)))]
+    for field in storms[0].totals.__dataclass_fields__:
+        values = [getattr(storm.totals, field) for storm in storms]
+        lines.append((_LABELS.get(field, field), *(_value(field, value) for value in values)))
+    return "\n".join([*heads, "", *_columns(lines)])
+
+
+def _value(field: str, value: Any) -> str:
+    if field == "hundredths":
+        return f"{value / 100:.2f}"
+    if isinstance(value, bool):
+        return "yes" if value else "no"
+    if value is None:
+        return "never" if field == "recovered_ms" else "-"
+    return str(value)
+
+
+def _columns(lines: List[Tuple[str, ...]]) -> List[str]:
+    """The lines with their words in columns, the first one to the left and the others to the right."""
+    first, *wide = [max(map(len, column)) for column in zip(*lines)]
+    return [
+        "  ".join([head.ljust(first), *(word.rjust(width) for word, width in zip(words, wide))]).rstrip()
+        for head, *words in lines
+    ]

@@ -1,0 +1,444 @@
+"""The server of `hikebox lab`: whom it answers, and what; tests/lab_page.py looks at the page in a browser."""
+
+from __future__ import annotations
+
+import contextlib
+import http.client
+import io
+import json
+import os
+import re
+import resource
+import signal
+import socket
+import subprocess
+import sys
+import threading
+import time
+from pathlib import Path
+from typing import Any, Dict, Iterator, List, Optional, Tuple
+
+import pytest
+from conftest import TOP, heed_signals, python_environment
+
+from hikebox import Policy, Quota, recurs, storm
+from hikebox._lab import Lab
+from hikebox._lab_cookbook import COOKBOOK
+from hikebox._lab_players import BrokenOff, Players
+from hikebox._storm_code import in_python
+from hikebox._storm_terms import SCENARIOS, Parameters, Slow, Span
+from hikebox.quota import Terms
+
+FULL = "recurs(8) & exponential(0.1, 2).cap(10).jittered(0, 1)"
+#: A storm that is played for many seconds.
+LONG: Dict[str, Any] = {"rate": 17_000, "capacity": 1, "queue": 0, "calls": 2**32}
+LONG_SIDE = {"text": "recurs(10000) & spaced(0.01)", "limit": ""}
+
+
+@pytest.fixture(scope="module")
+def lab() -> Iterator[Lab]:
+    made = Lab()
+    thread = threading.Thread(target=made.serve_forever, kwargs={"poll_interval": 0.01})
+    thread.start()
+    yield made
+    made.shutdown()
+    made.server_close()
+    thread.join()
+
+
+class Answer:
+    def __init__(self, found: http.client.HTTPResponse) -> None:
+        self.status = found.status
+        self.headers = found.headers
+        self.text = found.read().decode()
+
+    def json(self) -> Any:
+        assert self.status == 200, self.text
+        return json.loads(self.text)
+
+
+def ask(lab: Lab, method: str, path: str, body: Optional[bytes] = None, **headers: str) -> Answer:
+    """What is answered; a header that is empty is not sent."""
+    connection = http.client.HTTPConnection("127.0.0.1", lab.port, timeout=60)
+    given = {"Content-Type": "application/json", **{name.replace("_", "-"): value for name, value in headers.items()}}
+    try:
+        connection.request(method, path, body, {name: value for name, value in given.items() if value})
+        return Answer(connection.getresponse())
+    finally:
+        connection.close()
+
+
+def post(lab: Lab, name: str, asked: Any) -> Answer:
+    return ask(lab, "POST", f"/{lab.token}/{name}", json.dumps(asked).encode())
+
+
+def storm_of(*sides: Tuple[str, str], page: str = "p", **given: Any) -> Dict[str, Any]:
+    return {"page": page, "sides": [{"text": text, "limit": limit} for text, limit in sides], "storm": given, "width": 500}
+
+
+# Whom it answers
+
+
+def test_it_listens_on_this_machine_alone(lab: Lab) -> None:
+    assert lab.server_address[0] == "127.0.0.1"
+    assert re.fullmatch(r"http://127\.0\.0\.1:\d+/[\w-]{24}/", lab.address)
+
+
+def test_each_run_has_another_token() -> None:
+    labs = [Lab() for _ in range(3)]
+    assert len({each.token for each in labs}) == 3
+    for each in labs:
+        each.server_close()
+
+
+@pytest.mark.parametrize("path", ["/", "/x/", "/{token}", "/{token}x/", "/{half}/", "/favicon.ico", "/%2e/{token}/", "/../{token}/"])
+def test_a_wrong_token_is_forbidden(lab: Lab, path: str) -> None:
+    path = path.format(token=lab.token, half=lab.token[:12])
+    for method in ("GET", "POST"):
+        answer = ask(lab, method, path, b"{}")
+        assert answer.status == 403 and "each run has another one" in answer.text
+        assert lab.token not in answer.text
+
+
+@pytest.mark.parametrize("host", ["evil.example", "127.0.0.1", "127.0.0.1:1", "localhost", "evil.example:{port}", "[::1]:{port}"])
+def test_another_host_is_forbidden(lab: Lab, host: str) -> None:
+    answer = ask(lab, "GET", f"/{lab.token}/", Host=host.format(port=lab.port))
+    assert answer.status == 403 and "own machine" in answer.text
+
+
+@pytest.mark.parametrize("origin", ["https://evil.example", "null", "http://127.0.0.1", "https://127.0.0.1:{port}", "http://localhost.evil:{port}"])
+def test_another_origin_is_forbidden(lab: Lab, origin: str) -> None:
+    for method, name in (("GET", ""), ("POST", "start")):
+        assert ask(lab, method, f"/{lab.token}/{name}", b"{}", Origin=origin.format(port=lab.port)).status == 403
+
+
+def test_its_own_host_and_origin_are_answered(lab: Lab) -> None:
+    for host in ("127.0.0.1", "localhost"):
+        own = f"{host}:{lab.port}"
+        assert ask(lab, "POST", f"/{lab.token}/start", b"{}", Host=own, Origin=f"http://{own}").status == 200
+
+
+def test_other_names_and_methods_are_none(lab: Lab) -> None:
+    for name in ("x", "page.html", "../_lab.py", "%2e%2e/_lab.py", "lab.js/", "start"):
+        assert ask(lab, "GET", f"/{lab.token}/{name}").status == 404
+    assert post(lab, "x", {}).status == 404
+    assert ask(lab, "PUT", f"/{lab.token}/start", b"{}").status == 501
+
+
+def test_what_is_no_json_object_is_refused(lab: Lab) -> None:
+    path = f"/{lab.token}/plan"
+    for body in (b"", b"x", b"[]", b"1", b"[" * 100_000, b'"' + b"x" * (1 << 21) + b'"'):
+        with contextlib.suppress(ConnectionError):
+            assert ask(lab, "POST", path, body).status == 400
+    assert ask(lab, "POST", path, b"{}", Content_Type="text/plain").status == 400
+    assert ask(lab, "POST", path, b"{}", Content_Type="").status == 400
+    assert ask(lab, "POST", path, b"{}", Content_Length="x").status == 400
+
+
+@pytest.mark.parametrize(
+    "name, asked",
+    [
+        ("plan", {"text": 1}),
+        ("plan", {"text": "recurs(1)", "limit": 7}),
+        ("plan", {"text": "recurs(1)", "width": "wide"}),
+        ("storm", {}),
+        ("storm", {"page": 1}),
+        ("storm", {"page": "x" * 65}),
+        ("storm", {"page": "p", "sides": {}, "storm": {}}),
+        ("storm", {"page": "p", "sides": [1], "storm": {}}),
+        ("storm", {"page": "p", "sides": [{}] * 5, "storm": {}}),
+        ("storm", {"page": "p", "sides": [], "storm": []}),
+        ("storm", {"page": "p", "sides": [], "storm": {"rate": "1"}}),
+        ("storm", {"page": "p", "sides": [], "storm": {"rate": 1.5}}),
+        ("storm", {"page": "p", "sides": [], "storm": {"rate": True}}),
+        ("storm", {"page": "p", "sides": [], "storm": {"outage": [1]}}),
+        ("storm", {"page": "p", "sides": [], "storm": {"slow": [1, 2, "3"]}}),
+    ],
+    ids=str,
+)
+def test_what_the_page_never_asks_is_refused(lab: Lab, name: str, asked: Any) -> None:
+    assert post(lab, name, asked).status == 400
+
+
+# What it answers
+
+
+def test_the_page_has_its_parts_from_here_alone(lab: Lab) -> None:
+    texts = [ask(lab, "GET", f"/{lab.token}/{name}") for name in ("", "lab.css", "lab.js")]
+    kinds = [answer.headers["Content-Type"] for answer in texts]
+    assert kinds == ["text/html; charset=utf-8", "text/css; charset=utf-8", "text/javascript; charset=utf-8"]
+    for answer in texts:
+        assert answer.status == 200 and not re.search(r"https?://|//\w+\.|@import|url\(", answer.text)
+        policy = answer.headers["Content-Security-Policy"]
+        assert policy.startswith("default-src 'none'; script-src 'self'; style-src 'self'; connect-src 'self'")
+        assert "frame-ancestors 'none'" in policy and "unsafe" not in policy
+        assert answer.headers["Cache-Control"] == "no-store" and answer.headers["X-Content-Type-Options"] == "nosniff"
+        assert "Access-Control-Allow-Origin" not in answer.headers
+
+
+def test_it_begins_with_the_stories_and_the_cookbook(lab: Lab) -> None:
+    told = post(lab, "start", {}).json()
+    assert told["cookbook"] == [list(entry) for entry in COOKBOOK]
+    assert told["stories"]["herd"]["outage"] == [0, 0] and told["stories"]["brown-out"]["slow"] == [10_000, 20_000, 50]
+    assert set(told["stories"]) == set(SCENARIOS)
+    assert told["ranges"]["rate"] == [1, 1_000_000]
+
+
+def test_the_cookbook_has_the_policies_of_the_pages() -> None:
+    here = {Policy.parse(spelt) for _, spelt in COOKBOOK}
+    page = (TOP / "docs" / "COOKBOOK.md").read_text()
+    plans = {Policy.from_file(file) for file in (TOP / "plans").glob("*.json") if f"plans/{file.name}" in page}
+    assert plans <= here
+    titles = re.findall(r"^##+ (.*)$", page, flags=re.M)
+    for title, spelt in COOKBOOK:
+        assert repr(Policy.parse(spelt)) == spelt
+    assert [title for title, _ in COOKBOOK if title in titles]
+
+
+def test_a_plan_is_shown_or_its_fault_marked(lab: Lab) -> None:
+    told = post(lab, "plan", {"text": FULL, "limit": "10/10%/1s", "width": 500}).json()
+    assert "fault" not in told
+    assert told["picture"].startswith("<svg ") and 'width="500"' in told["picture"] and "<style" not in told["picture"]
+    assert told["limit_fault"] is None
+    told = post(lab, "plan", {"text": "recurs(3) & spced(1)", "limit": "x"}).json()
+    assert told["fault"] == {
+        "begins": 12,
+        "ends": 20,
+        "said": "not a plan",
+        "hint": "no builder is called 'spced'; did you mean 'spaced'?",
+    }
+    assert told["limit_fault"] == "'x' is neither N nor RESERVE/SHARE%/PERIOD, as 10/10%/1s"
+
+
+def test_storms_are_shown_side_by_side(lab: Lab) -> None:
+    told = post(lab, "storm", storm_of((FULL, ""), (FULL, "10/10%/1s"), ("recurs(", ""), ("recurs(0)", "x"))).json()
+    first, second, *none = told["sides"]
+    assert none == [None, None]
+    assert first["lines"][1].startswith("365,567 calls, 7.62 for each request")
+    assert second["lines"][1].startswith("48,900 calls, 1.02 for each request")
+    assert ">10,000<" in first["picture"] and ">10,000<" in second["picture"]
+    assert first["json"] == Policy.parse(FULL).to_json()
+
+
+def test_a_parameter_out_of_range_is_named(lab: Lab) -> None:
+    told = post(lab, "storm", storm_of((FULL, ""), rate=0)).json()
+    assert told == {"fault": {"name": "rate", "said": "0 is not from 1 to 1000000"}}
+    told = post(lab, "storm", storm_of((FULL, ""), outage=[5, 3])).json()
+    assert told["fault"] == {"name": "outage", "said": "it ends at 3 ms, before it begins at 5 ms"}
+
+
+PROGRAMS: List[Tuple[str, Parameters]] = [
+    (FULL, Parameters()),
+    ("forever()", Parameters(seconds=1, calls=500, words=7, outage=Span(0, 0), until=1500)),
+    ("recurs(3)", SCENARIOS["herd"]._replace(tickets=100)),
+    ('unfold(1, 2, 3).gather("max").then(milliseconds_free) | fixed(1)'.replace("milliseconds_free", "lone(0.25)"), Parameters(seconds=2)),
+    ("recurs(3)", SCENARIOS["brown-out"]._replace(tickets=Terms(10, 100, 1000), patience=250, window=500, rate=400)),
+    ("recurs(1) & spaced(milliseconds(4611686018427387903))", Parameters(seconds=1, slow=Slow(1, 2, 29))),
+]
+
+
+@pytest.mark.parametrize("spelt, parameters", PROGRAMS, ids=[spelt for spelt, _ in PROGRAMS])
+def test_the_program_in_python_plays_the_storm_of_the_page(spelt: str, parameters: Parameters) -> None:
+    from hikebox.storm import play
+
+    policy = Policy.parse(spelt)
+    told = io.StringIO()
+    with contextlib.redirect_stdout(told):
+        exec(in_python(policy, parameters), {})
+    assert told.getvalue() == f"{play(policy, parameters)}\n"
+
+
+# How long it works
+
+
+def test_ten_storms_of_a_million_requests_at_once_leave_it_answering(lab: Lab) -> None:
+    answers: List[Answer] = []
+    asked = storm_of(("recurs(0)", ""), rate=17_000, capacity=1)
+
+    def wait(number: int) -> None:
+        answers.append(post(lab, "storm", {**asked, "page": f"page {number}"}))
+
+    threads = [threading.Thread(target=wait, args=(number,)) for number in range(10)]
+    for thread in threads:
+        thread.start()
+    slowest = 0.0
+    for _ in range(10):
+        begun = time.monotonic()
+        assert post(lab, "plan", {"text": "recurs(1)"}).status == 200
+        assert ask(lab, "GET", f"/{lab.token}/").status == 200
+        slowest = max(slowest, time.monotonic() - begun)
+        time.sleep(0.02)
+    assert slowest < 2
+    for thread in threads:
+        thread.join()
+    assert [answer.status for answer in answers] == [200] * 10
+    assert {answer.json()["sides"][0]["lines"][0].split(":")[0] for answer in answers} == {"1,020,000 requests"}
+
+
+def test_the_next_storm_of_a_page_breaks_the_one_before_off(lab: Lab) -> None:
+    broken: List[Answer] = []
+    thread = threading.Thread(target=lambda: broken.append(post(lab, "storm", {"page": "q", "sides": [LONG_SIDE], "storm": LONG})))
+    thread.start()
+    time.sleep(0.5)
+    begun = time.monotonic()
+    assert post(lab, "storm", storm_of(("recurs(0)", ""), page="q", seconds=1)).status == 200
+    thread.join()
+    assert time.monotonic() - begun < 5
+    assert (broken[0].status, broken[0].text) == (409, "the storm was broken off\n")
+
+
+def children() -> List[int]:
+    """The processes that this one has started and of which a thread is at work."""
+    found = []
+    for told in processes_of(os.getpid()):
+        number = int(told.split()[0])
+        with contextlib.suppress(OSError):
+            states = [(task / "stat").read_text().rpartition(")")[2].split()[0] for task in Path(f"/proc/{number}/task").iterdir()]
+            if "R" in states:
+                found.append(number)
+    return found
+
+
+def processes_of(parent: int) -> List[str]:
+    """What the system tells of each process that this one started."""
+    found = []
+    for folder in Path("/proc").glob("[0-9]*"):
+        with contextlib.suppress(OSError):
+            told = (folder / "stat").read_text()
+            if int(told.rpartition(")")[2].split()[1]) == parent:
+                found.append(told)
+    return found
+
+
+def test_a_closed_connection_ends_the_work(lab: Lab) -> None:
+    body = json.dumps({"page": "gone", "sides": [LONG_SIDE], "storm": LONG}).encode()
+    with socket.create_connection(("127.0.0.1", lab.port)) as wire:
+        head = f"POST /{lab.token}/storm HTTP/1.1\r\nHost: 127.0.0.1:{lab.port}\r\nContent-Type: application/json\r\n"
+        wire.sendall(f"{head}Content-Length: {len(body)}\r\n\r\n".encode() + body)
+        deadline = time.monotonic() + 10
+        while not children() and time.monotonic() < deadline:
+            time.sleep(0.05)
+        assert children()
+    deadline = time.monotonic() + 10
+    while children() and time.monotonic() < deadline:
+        time.sleep(0.05)
+    assert not children()
+
+
+def test_players_are_used_again_and_ended() -> None:
+    players = Players(1)
+    asked = storm_of(("recurs(0)", ""), seconds=1)
+    first = players.play(asked, lambda: True)
+    begun = time.monotonic()
+    assert players.play(asked, lambda: True) == first
+    assert time.monotonic() - begun < 2
+    with pytest.raises(BrokenOff):
+        players.play({"sides": [LONG_SIDE], "storm": LONG}, lambda: False)
+    assert players.play(asked, lambda: True) == first
+    players.close()
+    with pytest.raises(BrokenOff):
+        players.play(asked, lambda: True)
+
+
+# The program
+
+
+def start(*words: str, memory: int = resource.RLIM_INFINITY, **how: Any) -> "subprocess.Popen[str]":
+    """The program, with so much memory for each of its processes."""
+
+    def prepare() -> None:
+        heed_signals()
+        resource.setrlimit(resource.RLIMIT_AS, (memory, memory))
+
+    command = [sys.executable, "-c", "import sys; from hikebox_program import main; sys.exit(main())", "lab", *words]
+    given: Any = {"preexec_fn": prepare, "env": {**python_environment(), **how}}
+    return subprocess.Popen(command, stdout=subprocess.PIPE, stderr=subprocess.PIPE, text=True, **given)
+
+
+def connected(process: "subprocess.Popen[str]") -> Tuple[http.client.HTTPConnection, str]:
+    """A connection to it, and the path of its page."""
+    assert process.stdout is not None
+    address = process.stdout.readline()[len("hikebox lab: ") :].split(" ")[0]
+    found = re.fullmatch(r"http://127\.0\.0\.1:(\d+)(/[\w-]+/)", address)
+    assert found is not None
+    return http.client.HTTPConnection("127.0.0.1", int(found[1]), timeout=60), found[2]
+
+
+@pytest.mark.parametrize("number", [signal.SIGINT, signal.SIGTERM])
+def test_a_signal_ends_it_with_all_that_it_started(number: signal.Signals) -> None:
+    process = start("--no-browser")
+    connection, path = connected(process)
+    body = json.dumps({"page": "p", "sides": [LONG_SIDE], "storm": LONG})
+    connection.request("POST", f"{path}storm", body, {"Content-Type": "application/json"})
+    time.sleep(0.7)
+    group = [int(found.split()[0]) for found in processes_of(process.pid)]
+    assert group
+    process.send_signal(number)
+    assert (*process.communicate(timeout=10), process.returncode) == ("", "", 0)
+    assert not [each for each in group if Path(f"/proc/{each}").exists()]
+    connection.close()
+
+
+def test_a_storm_too_large_for_the_memory_is_told() -> None:
+    process = start("--no-browser", memory=300 << 20)
+    connection, path = connected(process)
+    # (a million requests that wait for their second call)
+    asked = storm_of(("recurs(3) & spaced(30).jittered()", ""), rate=17_000, capacity=1, queue=0)
+    for given, wanted in [(asked, "there is no memory for a storm of this size"), (storm_of(("recurs(0)", "")), None)]:
+        connection.request("POST", f"{path}storm", json.dumps(given), {"Content-Type": "application/json"})
+        answer = json.load(connection.getresponse())
+        assert answer.get("fault", {}).get("said") == wanted
+    connection.close()
+    process.send_signal(signal.SIGINT)
+    assert (*process.communicate(timeout=10), process.returncode) == ("", "", 0)
+
+
+def test_a_reader_that_goes_away_does_not_end_it() -> None:
+    process = start("--no-browser")
+    connection, path = connected(process)
+    for _ in range(20):
+        with socket.create_connection((connection.host, connection.port)) as wire:
+            wire.sendall(f"GET {path}lab.js HTTP/1.1\r\nHost: 127.0.0.1:{connection.port}\r\n\r\n".encode())
+            wire.setsockopt(socket.SOL_SOCKET, socket.SO_LINGER, b"\1\0\0\0\0\0\0\0")
+    connection.request("GET", path)
+    assert connection.getresponse().status == 200
+    connection.close()
+    process.send_signal(signal.SIGINT)
+    assert (*process.communicate(timeout=10), process.returncode) == ("", "", 0)
+
+
+def test_the_browser_is_opened_where_one_is_named(tmp_path: Path) -> None:
+    browser = tmp_path / "browser"
+    browser.write_text(f'#!/bin/sh\necho "$1" > {tmp_path}/opened.new; mv {tmp_path}/opened.new {tmp_path}/opened\n')
+    browser.chmod(0o755)
+    process = start("http://127.0.0.1:9/old/#story=herd&a=recurs%283%29 `x`", BROWSER=f"{browser} %s")
+    assert process.stdout is not None
+    address = process.stdout.readline()[len("hikebox lab: ") :].split(" (")[0]
+    assert address.endswith("/#story=herd&a=recurs%283%29%20%60x%60")
+    deadline = time.monotonic() + 10
+    while not (tmp_path / "opened").exists() and time.monotonic() < deadline:
+        time.sleep(0.05)
+    process.send_signal(signal.SIGINT)
+    process.communicate(timeout=10)
+    assert (tmp_path / "opened").read_text() == f"{address}\n"
+
+
+def test_a_port_that_is_taken_is_told() -> None:
+    with socket.socket() as taken:
+        taken.bind(("127.0.0.1", 0))
+        taken.listen()
+        port = taken.getsockname()[1]
+        process = start("--no-browser", "--port", str(port))
+        told = process.communicate(timeout=10)
+    assert (process.returncode, *told) == (4, "", f"hikebox: lab: port {port}: Address already in use\n")
+    process = start("--no-browser", "--port", "65536")
+    assert process.communicate(timeout=10)[1].splitlines()[-1] == (
+        "hikebox lab: error: argument --port: '65536' is not a number from 0 to 65535"
+    )
+    assert process.returncode == 2
+
+
+def test_a_quota_of_the_page_is_one_of_the_package() -> None:
+    spelt = in_python(recurs(3), Parameters(tickets=Terms(10, 100, 1000)))
+    assert "from hikebox import Quota, recurs, storm" in spelt and "budget=Quota(10, 0.1, per=1)" in spelt
+    assert storm(recurs(3), budget=Quota(10, 0.1, per=1)).parameters.tickets == Terms(10, 100, 1000)

@@ -1,0 +1,346 @@
+"""Storms: what is played, beside tests/storms.py of the repository, which plays them by their rules alone."""
+
+from __future__ import annotations
+
+import importlib
+import json
+import pickle
+import random
+import resource
+import signal
+import subprocess
+import sys
+import time
+from datetime import timedelta
+from pathlib import Path
+from typing import Any, Dict, List, Tuple
+
+import pytest
+from conftest import TOP, heed_signals, python_environment
+
+from hikebox import Budget, Policy, Quota, Storm, StormError, exponential, milliseconds, recurs, spaced, storm
+from hikebox._storm_options import parameters_of, tickets_of
+from hikebox._storm_terms import Parameters, Slow, Span
+from hikebox.errors import BudgetError
+from hikebox.quota import Terms
+from hikebox.storm import play
+
+sys.path.insert(0, str(TOP / "tests"))
+storms: Any = importlib.import_module("storms")
+check_storms: Any = importlib.import_module("check_storms")
+
+FULL = recurs(8) & exponential(0.1, 2).cap(10).jittered(0, 1)
+
+
+def parsed(options: Dict[str, Any]) -> Dict[str, Any]:
+    """The options of the program, as its twin in tests/ takes them."""
+    readers: Dict[str, Any] = {"outage": storms._span, "slow": storms._slow, "quota": storms._quota}
+    return {name: readers[name](value) if name in readers else value for name, value in options.items()}
+
+
+def played(plan: Any, options: Dict[str, Any]) -> Storm:
+    """The storm of a plan by the options of the program."""
+    told = parsed(options)
+    tickets: Any = told.pop("budget", None)
+    if "quota" in told:
+        tickets = Terms(*told.pop("quota"))
+    if "slow" in told:
+        told["slow"] = Slow(*told["slow"])
+    if "outage" in told:
+        told["outage"] = Span(*told["outage"])
+    parameters: Parameters = Parameters(tickets=tickets, **told).checked()
+    return play(Policy.from_dict(plan), parameters)
+
+
+@pytest.mark.parametrize("case", check_storms.WORKED, ids=[case.name for case in check_storms.WORKED])
+def test_storms_that_were_worked_out_by_hand(case: Any) -> None:
+    got = json.loads(played(case.plan, case.options).to_json())
+    assert got["windows"] == case.windows
+    assert {name: got["totals"][name] for name in case.totals} == case.totals
+
+
+@pytest.mark.parametrize("seed", range(60))
+def test_random_storms_are_those_of_the_rules(seed: int) -> None:
+    plan, options = check_storms.some_storm(random.Random(f"python {seed}"))
+    rows, totals = storms.report(storms.Storm(plan, **parsed(options)))
+    got = played(plan, options)
+    assert got.to_json() + "\n" == storms.json_text(rows, totals)
+    assert got.to_csv() == storms.csv_text(rows)
+
+
+def test_the_storm_that_never_ends_and_the_one_that_a_quota_ends() -> None:
+    quota = Quota(reserve=10, share=0.1, per=1)
+    never, ends = storm(FULL), storm(FULL, budget=quota)
+    assert (never.totals.calls_per_request, never.totals.recovered_ms) == (7.62, None)
+    assert (ends.totals.calls_per_request, ends.totals.recovered_ms) == (1.02, 20_000)
+    assert quota.granted == 0 and quota.seen().asked == 0
+    totals = ends.totals
+    assert totals.requests == 48_000 == totals.won + totals.lost + totals.denied + totals.open
+    assert sum(row.retries for row in ends.rows) == totals.calls - totals.requests
+    # each window of a second has 800 requests, and so at most 10 + 80 tickets
+    assert max(row.retries for row in ends.rows) <= 2 * 90
+
+
+def test_times_are_those_of_the_package() -> None:
+    by_seconds = storm(recurs(1), patience=0.25, outage=(1, 2.5), slow=(2, 3, 0.29), window=0.5, until=4, seconds=3)
+    spans: Any = {"outage": (milliseconds(1000), 2.5), "slow": (timedelta(seconds=2), 3, 0.29)}
+    by_others = storm(recurs(1), patience=milliseconds(250), window=milliseconds(500), until=timedelta(seconds=4), seconds=3, **spans)
+    assert by_seconds == by_others
+    assert by_seconds.parameters == Parameters(
+        seconds=3, patience=250, outage=Span(1000, 2500), slow=Slow(2000, 3000, 29), window=500, until=4000
+    )
+    assert storm(recurs(0), outage=None, seconds=1).totals.won == 800
+
+
+def test_a_policy_is_as_for_the_other_calls() -> None:
+    assert storm('{"recurs":1}', seconds=1) == storm({"recurs": 1}, seconds=1) == storm(recurs(1), seconds=1)
+
+
+def test_the_budget_is_a_number_or_one_of_the_package() -> None:
+    budget = Budget(100)
+    by_number = storm(recurs(3), budget=100)
+    assert by_number == storm(recurs(3), budget=budget)
+    assert by_number.totals.tickets == 100 and budget.granted == 0
+    assert storm(recurs(3), budget=0).totals.calls == 48_000
+
+
+def test_a_seed_gives_the_same_storm_and_another_one_another() -> None:
+    assert storm(FULL, seconds=5, seed=7) == storm(FULL, seconds=5, seed=7)
+    assert storm(FULL, seconds=15, seed=7).rows != storm(FULL, seconds=15, seed=8).rows
+
+
+WRONG: List[Tuple[Dict[str, Any], str]] = [
+    ({"rate": 0}, "rate: 0 is not from 1 to 1000000"),
+    ({"together": 1_000_001}, "together: 1000001 is not from 1 to 1000000"),
+    ({"seconds": 3601}, "seconds: 3601 is not from 1 to 3600"),
+    ({"rate": 20_000}, "rate: 20000 a second for 60 s are 1200000 requests, and a storm has at most 1048576"),
+    ({"capacity": 0}, "capacity: 0 is not from 1 to 1000000"),
+    ({"patience": 0}, "patience: 0 is not from 1 to 3600000 ms"),
+    ({"patience": -1}, "patience: -1 is not from 0 to 4611686018427387903 milliseconds"),
+    ({"queue": -1}, "queue: -1 is not from 0 to 1048576"),
+    ({"outage": (2, 1)}, "outage: it ends at 1000 ms, before it begins at 2000 ms"),
+    ({"outage": (0, 3601)}, "outage: 3601000 is not from 0 to 3600000 ms"),
+    ({"slow": (0, 1, 50)}, "slow: a share of the capacity is from 0.01 to 1, not 50"),
+    ({"slow": (2, 1, 0.5)}, "slow: it ends at 1000 ms, before it begins at 2000 ms"),
+    ({"window": 0}, "window: 0 is not from 1 to 3600000 ms"),
+    ({"window": 0.001}, "window: 120000 ms by windows of 1 ms are 120001 lines, and a report has at most 65537"),
+    ({"until": 7201}, "until: 7201000 is not from 0 to 7200000 ms"),
+    ({"calls": 0}, "calls: 0 is not from 1 to 4294967296"),
+    ({"seed": 2**64}, "seed: 18446744073709551616 is not from 0 to 18446744073709551615"),
+    ({"budget": 2**32 + 1}, "budget: 4294967297 is not from 0 to 4294967296"),
+]
+
+
+@pytest.mark.parametrize("given, line", WRONG, ids=lambda value: str(value)[:40])
+def test_what_is_out_of_range_is_named(given: Dict[str, Any], line: str) -> None:
+    with pytest.raises(StormError) as caught:
+        storm(recurs(1), **given)
+    assert str(caught.value) == line
+    assert caught.value.name == next(iter(given))
+    assert str(pickle.loads(pickle.dumps(caught.value))) == line
+
+
+@pytest.mark.parametrize(
+    "given",
+    [{"rate": 1.5}, {"rate": True}, {"patience": "1"}, {"outage": 5}, {"outage": (1, 2, 3)}, {"slow": (1, 2)}, {"slow": (1, 2, "x")}]
+    + [{"budget": 1.5}, {"window": None}],
+    ids=str,
+)
+def test_what_has_the_wrong_type_is_a_type_error(given: Dict[str, Any]) -> None:
+    with pytest.raises(TypeError) as caught:
+        storm(recurs(1), **given)
+    assert str(caught.value).startswith(f"{next(iter(given))}: ")
+
+
+def test_the_bounds_themselves_are_taken() -> None:
+    ends = storm(recurs(1), rate=1, together=1_000_000, seconds=1, capacity=1_000_000, queue=1_048_576, patience=3600)
+    assert ends.totals.won == 1
+    assert len(storm(spaced(1), rate=1, seconds=1, window=0.001, until=65.536, outage=(0, 3600)).rows) == 65_001
+    assert storm(recurs(1), rate=1, seconds=1, until=0, calls=1, seed=2**64 - 1).totals.open == 1
+
+
+def test_a_storm_is_cut() -> None:
+    cut = storm(Policy.from_json('"forever"'), rate=2, together=2, seconds=1, calls=5, outage=(0, 1))
+    assert cut.totals.cut and (cut.totals.requests, cut.totals.calls) == (1, 5)
+    assert str(cut).endswith("Cut before the call after 5")
+
+
+def test_it_is_told_as_a_table_and_in_words() -> None:
+    told = str(storm(recurs(2), seconds=3, outage=(1, 2)))
+    assert told == "\n".join(
+        [
+            "from  requests  won  retries  succeeded  refused  shed  late  waiting",
+            "0          800  800        0        800        0     0     0        0",
+            "1000       800    0     1600          0     2400     0     0        0",
+            "2000       800  800        0        800        0     0     0        0",
+            "",
+            "2,400 requests: 1,600 won, 800 lost, 0 denied a retry, 0 left open",
+            "4,000 calls, 1.67 for each request; the most in a window 2,400, from 1 s on",
+            "Won half within 1 ms, 99 in 100 within 1 ms, the slowest after 1 ms",
+            "Recovered at once",
+        ]
+    )
+    brief = repr(storm(recurs(2), seconds=3, outage=(1, 2)))
+    assert brief == "<Storm of 2400 requests, 4000 calls, recovered at 2000 ms: recurs(2)>"
+
+
+def test_matplotlib_draws_it() -> None:
+    matplotlib = pytest.importorskip("matplotlib")
+    matplotlib.use("svg")
+    drawn = storm(FULL, slow=(30, 40, 0.5))
+    axes = drawn.plot()
+    assert axes.get_xlabel() == "seconds since the first request" and axes.get_ylabel() == "calls per second"
+    names = axes.get_legend_handles_labels()[1]
+    assert {"requests", "retries", "calls that succeed", "the peer is away", "it works at 50 %", "what the peer can do"} == set(names)
+    assert axes.get_legend() is not None and axes.get_xlim()[1] == len(drawn.rows)
+    high, low = matplotlib.pyplot.figure().subplots(2, 1, sharex=True)
+    assert drawn.plot(high) is high and storm(recurs(0)).plot(low) is low
+    assert high.get_legend() is None and low.get_xlim() == high.get_xlim() == axes.get_xlim()
+
+
+# The program
+
+
+def hikebox(*words: str, text: str = "") -> Tuple[int, str, str]:
+    command = [sys.executable, "-m", "hikebox", "storm", *words]
+    done = subprocess.run(command, input=text, capture_output=True, text=True, env=python_environment(), timeout=60)
+    return done.returncode, done.stdout, done.stderr
+
+
+def test_the_program_prints_it() -> None:
+    known = storm(recurs(2), seconds=3, outage=(1, 2))
+    options = ["--seconds", "3", "--outage", "1000..2000"]
+    assert hikebox(*options, "recurs(2)") == (0, f"{known}\n", "")
+    assert hikebox(*options, "--csv", text='{"recurs":2}') == (0, known.to_csv(), "")
+    assert hikebox(*options, "--json", "-", text='{"recurs":2}') == (0, f"{known.to_json()}\n", "")
+
+
+def test_the_program_plays_the_three_stories() -> None:
+    status, told, _ = hikebox("--scenario", "herd", "--json", "recurs(8) & exponential(0.1, 2).cap(10)")
+    assert status == 0 and json.loads(told)["totals"]["won"] == 3700
+    _, told, _ = hikebox("--scenario", "brown-out", "--json", "recurs(3)")
+    assert json.loads(told)["totals"]["recovered"] is None
+    assert hikebox("--scenario", "outage", "--json", "recurs(3)") == hikebox("--json", "recurs(3)")
+
+
+def test_the_program_has_totals_side_by_side() -> None:
+    status, told, errors = hikebox("--quota", "10/10%/1s", "--without", "recurs(0)", repr(FULL))
+    assert (status, errors) == (0, "")
+    lines = told.splitlines()
+    assert lines[0] == "1: recurs(0), no limit"
+    assert lines[3] == f"4: {FULL!r}, a quota: 10 and 10 % of the requests in each 1 s"
+    assert [line.split() for line in lines if line.startswith(("for each", "recovered"))] == [
+        ["for", "each", "1.00", "1.00", "7.62", "1.02"],
+        ["recovered", "ms", "20000", "20000", "never", "20000"],
+    ]
+
+
+def test_a_policy_to_compare_is_one_more() -> None:
+    options = ["--seconds", "3", "--outage", "1000..2000"]
+    beside = hikebox(*options, "recurs(2)", "recurs(0)", "spaced(1)")
+    assert beside[0] == 0 and hikebox(*options, "recurs(2)", "--compare", "recurs(0)", "--compare", "spaced(1)") == beside
+    assert hikebox(*options, "--compare", "recurs(0)", "--compare", "spaced(1)", text='{"recurs":2}') == beside
+
+
+def test_a_cut_storm_has_a_status_of_its_own() -> None:
+    status, told, errors = hikebox("--calls", "100", "--json", "recurs(3)")
+    assert (status, errors) == (6, "hikebox: not finished\n")
+    assert json.loads(told)["totals"]["cut"] is True
+
+
+@pytest.mark.parametrize(
+    "words, line",
+    [
+        (["--rate", "0"], "argument --rate: '0' is not a number from 1 to 1000000"),
+        (["--together", "x"], "argument --together: 'x' is not a number from 1 to 1000000"),
+        (["--seconds", "3601"], "argument --seconds: '3601' is not a number from 1 to 3600"),
+        (["--capacity", "-1"], "argument --capacity: '-1' is not a number from 1 to 1000000"),
+        (["--patience", "0"], "argument --patience: '0' is not a number from 1 to 3600000"),
+        (["--queue", "1048577"], "argument --queue: '1048577' is not a number from 0 to 1048576"),
+        (["--window", "0"], "argument --window: '0' is not a number from 1 to 3600000"),
+        (["--until", "7200001"], "argument --until: '7200001' is not a number from 0 to 7200000"),
+        (["--calls", "0"], "argument --calls: '0' is not a number from 1 to 4294967296"),
+        (["--words", str(2**64)], f"argument --words: '{2**64}' is not a number from 0 to {2**64 - 1}"),
+        (["--outage", "5"], "argument --outage: '5' is not FROM..TO in milliseconds, as 10000..20000"),
+        (["--outage", "5..3"], "outage: it ends at 3 ms, before it begins at 5 ms"),
+        (["--outage", "0..3600001"], "outage: 3600001 is not from 0 to 3600000 ms"),
+        (["--slow", "1..2"], "argument --slow: '1..2' is not FROM..TO@PERCENT, as 10000..20000@50"),
+        (["--slow", "1..2@0"], "slow: 0 is not from 1 to 100 % of the capacity"),
+        (["--slow", "1..2@101"], "slow: 101 is not from 1 to 100 % of the capacity"),
+        (["--rate", "20000"], "rate: 20000 a second for 60 s are 1200000 requests, and a storm has at most 1048576"),
+        (["--window", "1"], "window: 120000 ms by windows of 1 ms are 120001 lines, and a report has at most 65537"),
+        (["--budget", "4294967297"], "argument --budget: '4294967297' is not a number from 0 to 4294967296"),
+        (["--quota", "1/1%/0s"], "argument --quota: the window of a quota is at least a millisecond long, not 0.0"),
+        (["--budget", "1", "--quota", "1/1%/1s"], "argument --quota: not allowed with argument --budget"),
+        (["--csv", "--json"], "argument --json: not allowed with argument --csv"),
+        (["--csv", "recurs(1)", "recurs(2)"], "storm: --csv and --json are of one policy"),
+        (["--json", "--compare", "recurs(2)"], "storm: --csv and --json are of one policy"),
+        (["--width", "4001"], "argument --width: '4001' is not a number from 280 to 4000"),
+        (["--scenario", "x"], "argument --scenario: invalid choice: 'x' (choose from 'brown-out', 'herd', 'outage')"),
+    ],
+    ids=str,
+)
+def test_a_bad_command_line_is_told_before_the_policy_is_read(words: List[str], line: str) -> None:
+    status, told, errors = hikebox(*words, text="no policy")
+    assert (status, told) == (2, "")
+    assert errors.splitlines()[-1] in (f"hikebox storm: error: {line}", f"hikebox: {line}")
+
+
+def test_want_of_memory_is_told(monkeypatch: pytest.MonkeyPatch, capsys: pytest.CaptureFixture[str]) -> None:
+    from hikebox import _engine
+    from hikebox._cli import main
+
+    monkeypatch.setattr(_engine, "_storm_play", lambda *_: _engine.NO_MEMORY)
+    with pytest.raises(MemoryError):
+        storm(recurs(1))
+    assert main(["storm", "recurs(1)"]) == 5
+    assert capsys.readouterr() == ("", "hikebox: no memory\n")
+
+
+def test_a_storm_too_large_for_the_memory_is_told() -> None:
+    # (a million requests that wait for their second call)
+    words = ["--rate", "17000", "--capacity", "1", "--queue", "0", "recurs(1) & spaced(30)"]
+    command = [sys.executable, "-m", "hikebox", "storm", *words]
+    how: Any = {"capture_output": True, "text": True, "env": python_environment()}
+    done = subprocess.run(command, preexec_fn=lambda: resource.setrlimit(resource.RLIMIT_AS, (200 << 20, 200 << 20)), **how)
+    assert (done.returncode, done.stdout, done.stderr) == (5, "", "hikebox: no memory\n")
+
+
+def test_an_interrupt_ends_it_in_the_midst_of_a_storm() -> None:
+    words = ["storm", "--rate", "17000", "--capacity", "1", "--queue", "0", "--calls", str(2**32), "recurs(10000) & spaced(0.01)"]
+    command = [sys.executable, "-m", "hikebox", *words]
+    process = subprocess.Popen(command, stdout=subprocess.PIPE, env=python_environment(), preexec_fn=heed_signals)
+    time.sleep(1.5)
+    assert process.poll() is None
+    process.send_signal(signal.SIGINT)
+    assert (process.wait(timeout=5), process.communicate()[0]) == (-signal.SIGINT, b"")
+
+
+def test_a_bad_policy_is_told() -> None:
+    assert hikebox(text="{}")[0] == 3
+    assert hikebox("recurs(3")[0] == 3
+    assert hikebox("no/such/file")[0] == 4
+    assert hikebox("recurs(-1)") == (3, "", "hikebox: number out of range: recurs: -1 is not from 0 to 4611686018427387903\n")
+
+
+def test_a_quota_without_units_is_told_what_it_would_be() -> None:
+    with pytest.raises(BudgetError, match="has no units"):
+        tickets_of("10/100/1000")
+    for text in ("ten", "9" * 9000, "9" * 9000 + "/1%/1s"):
+        with pytest.raises(BudgetError, match="is neither N nor RESERVE/SHARE%/PERIOD"):
+            tickets_of(text)
+    with pytest.raises(BudgetError, match="a budget is from 0 to 4294967296"):
+        tickets_of("4294967297")
+
+
+def test_the_options_begin_with_the_story(tmp_path: Path) -> None:
+    import argparse
+
+    from hikebox._storm_options import add_storm_options
+
+    parser = argparse.ArgumentParser()
+    add_storm_options(parser)
+    herd = parameters_of(parser.parse_args(["--scenario", "herd", "--queue", "7", "--budget", "5"]))
+    assert herd == Parameters(10_000, 10_000, 1, 1000, 1000, 7, Span(0, 0), tickets=5)
+    brown = parameters_of(parser.parse_args(["--scenario", "brown-out", "--quota", "1/0.5%/100ms"]))
+    assert brown == Parameters(outage=Span(0, 0), slow=Slow(10_000, 20_000, 50), tickets=Terms(1, 5, 100))

@@ -1,0 +1,479 @@
+//! Storms: many requests under one policy, on a peer that fails for a while.
+
+use crate::budget::BudgetError;
+use crate::clock::whole_millis;
+use crate::engine::{self, Handle, PassKind, PolicyKind, QuotaKind, Status, ON_BUDGET, ON_NOTHING, ON_QUOTA};
+use crate::policy::Policy;
+use crate::quota::Terms;
+use std::error::Error;
+use std::fmt::{self, Write as _};
+use std::ops::Range;
+use std::time::Duration;
+
+const HOUR: u64 = 3_600_000;
+const MOST_REQUESTS: u64 = 1_048_576;
+const MOST_WINDOWS: u64 = 65_536;
+
+/// Many requests under one policy, on a peer that fails for a while: what a policy does to a peer when thousands of
+/// calls fail together. No call is made, and no time passes; two storms with the same parameters are the same.
+///
+/// A storm begins with 800 requests a second for a minute, on a peer that does 1,000 calls a second and is away from
+/// 10 to 20 s. Under eight retries with full jitter that peer never comes back; under a quota of a tenth it does at
+/// once:
+///
+/// ```
+/// use hikebox::{Policy, Schedule, Storm};
+/// use std::time::Duration;
+///
+/// let back_off = Schedule::exponential(Duration::from_millis(100), 2).cap(Duration::from_secs(10));
+/// let policy = Policy::new(&(Schedule::recurs(8) & back_off.jittered(0.0..1.0)))?;
+/// let totals = Storm::new(&policy).play()?.totals;
+/// assert_eq!((totals.calls_per_request(), totals.recovered), (7.62, None));
+/// let totals = Storm::new(&policy).quota(10, 0.1, Duration::from_secs(1)).play()?.totals;
+/// assert_eq!((totals.calls_per_request(), totals.recovered), (1.02, Some(Duration::from_secs(20))));
+/// # Ok::<(), Box<dyn std::error::Error>>(())
+/// ```
+///
+/// A storm goes by whole milliseconds: a duration is rounded down.
+#[derive(Clone, Debug)]
+#[must_use]
+pub struct Storm {
+    policy: Policy,
+    storm: engine::Storm,
+    until: Option<u64>,
+    /// Why what the retries draw on is no budget, or no quota.
+    fault: Option<BudgetError>,
+}
+
+/// What a storm was, window by window and in all.
+#[derive(Clone, Debug, PartialEq, Eq)]
+#[non_exhaustive]
+pub struct StormReport {
+    /// Each window, from the first moment to that of the last event.
+    pub windows: Vec<StormWindow>,
+    /// What it came to.
+    pub totals: StormTotals,
+}
+
+/// A window of a storm. Calls count in the window in which they begin, or end.
+#[derive(Clone, Copy, Debug, PartialEq, Eq, Hash)]
+#[non_exhaustive]
+pub struct StormWindow {
+    /// Its first moment, since the first request.
+    pub from: Duration,
+    /// The requests that began in it.
+    pub requests: u64,
+    /// How many of these were won in the end.
+    pub won: u64,
+    /// The retries that began in it.
+    pub retries: u64,
+    /// The calls that succeeded in it.
+    pub succeeded: u64,
+    /// Those that the peer refused, in its outage.
+    pub refused: u64,
+    /// Those that the peer shed, since its queue was full.
+    pub shed: u64,
+    /// Those that their clients gave up.
+    pub late: u64,
+    /// The calls of work that stand at the peer at its end.
+    pub waiting: u64,
+}
+
+/// What a storm comes to: `requests` is the sum of `won`, `lost`, `denied` and `open`.
+#[derive(Clone, Copy, Debug, PartialEq, Eq, Hash)]
+#[non_exhaustive]
+pub struct StormTotals {
+    /// The requests that began.
+    pub requests: u64,
+    /// Those whose last call succeeded.
+    pub won: u64,
+    /// Those whose last call failed, and whose policy was done.
+    pub lost: u64,
+    /// Those whose policy went on, and for which there was no ticket.
+    pub denied: u64,
+    /// Those that had not ended when the storm did.
+    pub open: u64,
+    /// The requests and retries that began.
+    pub calls: u64,
+    /// Calls for each request, in hundredths, to the nearest.
+    pub hundredths: u64,
+    /// The most calls that began in a window.
+    pub most_calls: u64,
+    /// The first moment of the first such window.
+    pub most_from: Duration,
+    /// The tickets that were given.
+    pub tickets: u64,
+    /// How long half of the requests that were won took at most; `None` where none was won.
+    pub p50: Option<Duration>,
+    /// How long 99 in 100 of them took at most.
+    pub p99: Option<Duration>,
+    /// How long the slowest of them took.
+    pub slowest: Option<Duration>,
+    /// The first moment of the first window after outage and brown-out from which on 99 in 100 of the requests of each
+    /// window were won, where there is one.
+    pub recovered: Option<Duration>,
+    /// Whether the storm was cut: one call more was to begin than [`Storm::calls`] allows.
+    pub cut: bool,
+}
+
+/// Why a storm is not played.
+#[derive(Clone, Copy, Debug, PartialEq, Eq, Hash)]
+#[non_exhaustive]
+pub enum StormError {
+    /// A parameter is outside its range; times are in milliseconds.
+    OutOfRange {
+        /// The builder that was called with it.
+        parameter: &'static str,
+        /// The least that it may be.
+        least: u64,
+        /// The most that it may be.
+        most: u64,
+    },
+    /// The rate times the seconds is above 1,048,576.
+    TooManyRequests,
+    /// An outage or a brown-out ends before it begins.
+    EndsEarly {
+        /// The builder that was called with it.
+        parameter: &'static str,
+    },
+    /// The report would have more than 65,537 windows.
+    TooManyWindows,
+    /// The limit of the budget, or a term of the quota, is out of range.
+    Tickets(BudgetError),
+    /// Memory is wanting.
+    NoMemory,
+}
+
+impl Storm {
+    /// The storm of an outage: 800 requests a second for a minute, on a peer that does 1,000 calls a second, and that
+    /// refuses all from 10 to 20 s.
+    pub fn new(policy: &Policy) -> Self {
+        let storm = engine::Storm {
+            rate: 800,
+            together: 1,
+            seconds: 60,
+            capacity: 1000,
+            patience: 500,
+            queue: 5000,
+            outage_from: 10_000,
+            outage_to: 20_000,
+            slow_from: 0,
+            slow_to: 0,
+            slow_percent: 0,
+            window: 1000,
+            until: 0,
+            calls: 16_777_216,
+            words: 0,
+            draws_on: ON_NOTHING,
+            limit: 0,
+            reserve: 0,
+            share: 0,
+            period: 1,
+        };
+        Self { policy: policy.clone(), storm, until: None, fault: None }
+    }
+
+    /// A herd: 10,000 clients lose one connection at one moment, and the peer takes 500 at a time.
+    pub fn herd(policy: &Policy) -> Self {
+        let herd = Self::new(policy).rate(10_000).together(10_000).seconds(1).queue(500).no_outage();
+        herd.patience(Duration::from_secs(1))
+    }
+
+    /// A brown-out: the storm of the outage, but that the peer works at half its capacity from 10 to 20 s.
+    pub fn brown_out(policy: &Policy) -> Self {
+        Self::new(policy).no_outage().slow(Duration::from_secs(10)..Duration::from_secs(20), 50)
+    }
+
+    /// So many requests a second come: 1 to 1,000,000.
+    pub fn rate(mut self, requests: u64) -> Self {
+        self.storm.rate = requests;
+        self
+    }
+
+    /// So many requests come at one moment: 1 to 1,000,000.
+    pub fn together(mut self, requests: u64) -> Self {
+        self.storm.together = requests;
+        self
+    }
+
+    /// Requests come for so many seconds, 1 to 3,600; there are at most 1,048,576 in all.
+    pub fn seconds(mut self, seconds: u64) -> Self {
+        self.storm.seconds = seconds;
+        self
+    }
+
+    /// The peer can do so many calls in a second: 1 to 1,000,000.
+    pub fn capacity(mut self, calls: u64) -> Self {
+        self.storm.capacity = calls;
+        self
+    }
+
+    /// A client gives a call up after this, a millisecond to an hour. The peer does the call's work all the same.
+    pub fn patience(mut self, patience: Duration) -> Self {
+        self.storm.patience = whole_millis(patience);
+        self
+    }
+
+    /// So many calls may stand at the peer, 0 to 1,048,576; what is more it sheds.
+    pub fn queue(mut self, calls: u64) -> Self {
+        self.storm.queue = calls;
+        self
+    }
+
+    /// The peer refuses all calls from the range's start to before its end, within the first hour.
+    pub fn outage(mut self, when: Range<Duration>) -> Self {
+        (self.storm.outage_from, self.storm.outage_to) = (whole_millis(when.start), whole_millis(when.end));
+        self
+    }
+
+    /// The peer refuses nothing.
+    pub fn no_outage(self) -> Self {
+        self.outage(Duration::ZERO..Duration::ZERO)
+    }
+
+    /// A brown-out: in this range, within the first hour, the peer works at `percent` of its capacity, 1 to 100.
+    pub fn slow(mut self, when: Range<Duration>, percent: u64) -> Self {
+        (self.storm.slow_from, self.storm.slow_to) = (whole_millis(when.start), whole_millis(when.end));
+        // (0 stands for no brown-out, and is refused as what is above 100)
+        self.storm.slow_percent = if percent == 0 { u64::MAX } else { percent };
+        self
+    }
+
+    /// How long a window of the report is: a millisecond to an hour.
+    pub fn window(mut self, window: Duration) -> Self {
+        self.storm.window = whole_millis(window);
+        self
+    }
+
+    /// What lies after this moment is not played, at most two hours: a minute after the last request, where nothing is
+    /// said.
+    pub fn until(mut self, until: Duration) -> Self {
+        self.until = Some(whole_millis(until));
+        self
+    }
+
+    /// The storm is cut before the call after so many, 1 to 4,294,967,296; 16,777,216 where nothing is said.
+    pub fn calls(mut self, calls: u64) -> Self {
+        self.storm.calls = calls;
+        self
+    }
+
+    /// The seed of the random words by which jitter is picked.
+    pub fn seed(mut self, seed: u64) -> Self {
+        self.storm.words = seed;
+        self
+    }
+
+    /// The retries draw on a budget of so many tickets, at most 4,294,967,296.
+    pub fn budget(mut self, limit: u64) -> Self {
+        (self.storm.draws_on, self.storm.limit) = (ON_BUDGET, limit);
+        self.fault = Handle::<PassKind>::fixed(limit).err().map(BudgetError::of);
+        self
+    }
+
+    /// The retries draw on a quota, with terms as [`Quota::new`](crate::Quota::new) takes them.
+    pub fn quota(mut self, reserve: u64, share: f64, per: Duration) -> Self {
+        self.fault = match Terms::new(reserve, share, per) {
+            Ok(Terms { reserve, share, period }) => {
+                self.storm = engine::Storm { draws_on: ON_QUOTA, reserve, share, period, ..self.storm };
+                Handle::<QuotaKind>::new(reserve, share, period).err().map(BudgetError::of)
+            }
+            Err(fault) => Some(fault),
+        };
+        self
+    }
+
+    /// Plays it. It takes a second for some millions of calls, and a lot of memory only where a million requests are
+    /// under way at once.
+    ///
+    /// # Errors
+    ///
+    /// [`StormError`] names the first parameter that is out of its range.
+    pub fn play(&self) -> Result<StormReport, StormError> {
+        let storm = self.checked()?;
+        // (a handle of its own, so that nobody waits for the policy's)
+        let read = Handle::<PolicyKind>::read(self.policy.as_json());
+        let mut policy = read.map_err(|(status, _)| StormError::of(status))?;
+        let room = usize::try_from(storm.until / storm.window + 1).map_err(|_| StormError::NoMemory)?;
+        let (windows, totals) = policy.play(&storm, room).map_err(StormError::of)?;
+        let windows = windows.into_iter().map(StormWindow::of).collect();
+        Ok(StormReport { windows, totals: StormTotals::of(&totals) })
+    }
+
+    /// The parameters, where all are within their ranges.
+    fn checked(&self) -> Result<engine::Storm, StormError> {
+        let until = self.until.unwrap_or_else(|| self.storm.seconds.saturating_mul(1000).saturating_add(60_000));
+        let storm = engine::Storm { until, ..self.storm };
+        within("rate", storm.rate, 1, 1_000_000)?;
+        within("together", storm.together, 1, 1_000_000)?;
+        within("seconds", storm.seconds, 1, 3600)?;
+        within("capacity", storm.capacity, 1, 1_000_000)?;
+        within("patience", storm.patience, 1, HOUR)?;
+        within("queue", storm.queue, 0, 1_048_576)?;
+        within("window", storm.window, 1, HOUR)?;
+        within("until", storm.until, 0, 2 * HOUR)?;
+        within("calls", storm.calls, 1, 1 << 32)?;
+        if storm.rate * storm.seconds > MOST_REQUESTS {
+            return Err(StormError::TooManyRequests);
+        }
+        span("outage", storm.outage_from, storm.outage_to)?;
+        span("slow", storm.slow_from, storm.slow_to)?;
+        if storm.slow_percent > 100 {
+            return Err(StormError::OutOfRange { parameter: "slow", least: 1, most: 100 });
+        }
+        if storm.until / storm.window > MOST_WINDOWS {
+            return Err(StormError::TooManyWindows);
+        }
+        match self.fault {
+            Some(fault) => Err(StormError::Tickets(fault)),
+            None => Ok(storm),
+        }
+    }
+}
+
+fn within(parameter: &'static str, number: u64, least: u64, most: u64) -> Result<(), StormError> {
+    if (least..=most).contains(&number) { Ok(()) } else { Err(StormError::OutOfRange { parameter, least, most }) }
+}
+
+fn span(parameter: &'static str, from: u64, to: u64) -> Result<(), StormError> {
+    within(parameter, from, 0, HOUR)?;
+    within(parameter, to, 0, HOUR)?;
+    if from > to { Err(StormError::EndsEarly { parameter }) } else { Ok(()) }
+}
+
+impl StormWindow {
+    fn of(found: engine::Window) -> Self {
+        let engine::Window { from, requests, won, retries, succeeded, refused, shed, late, waiting } = found;
+        let from = Duration::from_millis(from);
+        Self { from, requests, won, retries, succeeded, refused, shed, late, waiting }
+    }
+
+    /// The numbers of a line of `zsched storm --csv`.
+    fn numbers(&self) -> [u64; 9] {
+        let Self { requests, won, retries, succeeded, refused, shed, late, waiting, .. } = *self;
+        [whole_millis(self.from), requests, won, retries, succeeded, refused, shed, late, waiting]
+    }
+}
+
+impl StormTotals {
+    fn of(found: &engine::Totals) -> Self {
+        let took = |millis| (found.won > 0).then_some(Duration::from_millis(millis));
+        Self {
+            requests: found.requests,
+            won: found.won,
+            lost: found.lost,
+            denied: found.denied,
+            open: found.open,
+            calls: found.calls,
+            hundredths: found.hundredths,
+            most_calls: found.most_calls,
+            most_from: Duration::from_millis(found.most_from),
+            tickets: found.tickets,
+            p50: took(found.p50),
+            p99: took(found.p99),
+            slowest: took(found.slowest),
+            recovered: found.recovers.then_some(Duration::from_millis(found.recovered)),
+            cut: found.cut,
+        }
+    }
+
+    /// Calls for each request, to the nearest hundredth.
+    pub fn calls_per_request(&self) -> f64 {
+        self.hundredths as f64 / 100.0
+    }
+}
+
+impl StormReport {
+    /// The windows as CSV with a line of names, as `zsched storm --csv` prints them.
+    pub fn to_csv(&self) -> String {
+        let mut text = "from,requests,won,retries,succeeded,refused,shed,late,waiting\n".to_owned();
+        for window in &self.windows {
+            text += &listed(&window.numbers());
+            text.push('\n');
+        }
+        text
+    }
+
+    /// The windows and the totals as JSON on one line, as `zsched storm --json` prints it.
+    pub fn to_json(&self) -> String {
+        let totals = &self.totals;
+        let window = |window: &StormWindow| format!("[{}]", listed(&window.numbers()));
+        let windows: Vec<String> = self.windows.iter().map(window).collect();
+        let number = |time: Option<Duration>| match time {
+            Some(time) => whole_millis(time).to_string(),
+            None => "null".to_owned(),
+        };
+        let mut text = format!("{{\"windows\":[{}],\"totals\":{{", windows.join(","));
+        for (name, value) in [
+            ("requests", totals.requests),
+            ("won", totals.won),
+            ("lost", totals.lost),
+            ("denied", totals.denied),
+            ("open", totals.open),
+            ("calls", totals.calls),
+            ("hundredths", totals.hundredths),
+            ("most_calls", totals.most_calls),
+            ("most_from", whole_millis(totals.most_from)),
+            ("tickets", totals.tickets),
+        ] {
+            let _ = write!(text, "\"{name}\":{value},");
+        }
+        let (p50, p99, slowest) = (number(totals.p50), number(totals.p99), number(totals.slowest));
+        let recovered = number(totals.recovered);
+        let _ = write!(text, "\"p50\":{p50},\"p99\":{p99},\"slowest\":{slowest},\"recovered\":{recovered},");
+        let _ = write!(text, "\"cut\":{}}}}}", totals.cut);
+        text
+    }
+}
+
+fn listed(numbers: &[u64]) -> String {
+    let texts: Vec<String> = numbers.iter().map(ToString::to_string).collect();
+    texts.join(",")
+}
+
+/// What it comes to, in words.
+impl fmt::Display for StormReport {
+    fn fmt(&self, f: &mut fmt::Formatter<'_>) -> fmt::Result {
+        let StormTotals { requests, won, lost, denied, open, calls, .. } = self.totals;
+        writeln!(f, "{requests} requests: {won} won, {lost} lost, {denied} denied a retry, {open} left open")?;
+        let most = self.totals.most_from;
+        write!(f, "{calls} calls, {:.2} for each request; ", self.totals.calls_per_request())?;
+        writeln!(f, "the most in a window {}, from {most:?} on", self.totals.most_calls)?;
+        match self.totals.recovered {
+            Some(moment) => write!(f, "recovered from {moment:?} on")?,
+            None => f.write_str("never recovered")?,
+        }
+        if self.totals.cut { f.write_str("\ncut before one call more") } else { Ok(()) }
+    }
+}
+
+impl StormError {
+    fn of(status: Status) -> Self {
+        match status {
+            Status::NoMemory => Self::NoMemory,
+            status => unreachable!("the engine's status {status:?}"),
+        }
+    }
+}
+
+impl fmt::Display for StormError {
+    fn fmt(&self, f: &mut fmt::Formatter<'_>) -> fmt::Result {
+        match self {
+            Self::OutOfRange { parameter, least, most } => write!(f, "{parameter} is from {least} to {most}"),
+            Self::TooManyRequests => f.write_str("rate times seconds is at most 1048576"),
+            Self::EndsEarly { parameter } => write!(f, "{parameter} ends before it begins"),
+            Self::TooManyWindows => f.write_str("until divided by window is at most 65536"),
+            Self::Tickets(error) => error.fmt(f),
+            Self::NoMemory => f.write_str("no memory"),
+        }
+    }
+}
+
+impl Error for StormError {
+    fn source(&self) -> Option<&(dyn Error + 'static)> {
+        match self {
+            Self::Tickets(error) => Some(error),
+            _ => None,
+        }
+    }
+}

@@ -1,0 +1,172 @@
+//! Storms: that they are those of `zsched storm`, their numbers, and what is refused.
+
+use hikebox::{BudgetError, Policy, Schedule, Storm, StormError, StormReport};
+use std::io::Write;
+use std::process::{Command, Stdio};
+use std::time::Duration;
+
+const SECOND: Duration = Duration::from_secs(1);
+
+fn seconds(count: u64) -> Duration {
+    Duration::from_secs(count)
+}
+
+fn millis(count: u64) -> Duration {
+    Duration::from_millis(count)
+}
+
+fn policy(schedule: Schedule) -> Policy {
+    Policy::new(&schedule).unwrap()
+}
+
+fn back_off() -> Schedule {
+    Schedule::exponential(millis(100), 2).cap(seconds(10))
+}
+
+fn full() -> Policy {
+    policy(Schedule::recurs(8) & back_off().jittered(0.0..1.0))
+}
+
+/// What the program prints that the engine's crates build: the one that `HIKEBOX_ZSCHED` names, or that of `dist/`.
+fn zsched(form: &str, options: &str, policy: &Policy) -> String {
+    let of_dist = concat!(env!("CARGO_MANIFEST_DIR"), "/../dist/zsched");
+    let mut child = Command::new(std::env::var_os("HIKEBOX_ZSCHED").unwrap_or_else(|| of_dist.into()))
+        .args(["storm", form])
+        .args(options.split_whitespace())
+        .arg("-")
+        .stdin(Stdio::piped())
+        .stdout(Stdio::piped())
+        .stderr(Stdio::null())
+        .spawn()
+        .unwrap();
+    child.stdin.take().unwrap().write_all(policy.as_json().as_bytes()).unwrap();
+    let output = child.wait_with_output().unwrap();
+    assert!(matches!(output.status.code(), Some(0 | 6)), "{options}");
+    String::from_utf8(output.stdout).unwrap()
+}
+
+#[test]
+fn a_storm_is_what_the_program_prints() {
+    let three = policy(Schedule::recurs(3));
+    let spaced = policy(Schedule::recurs(2) & Schedule::spaced(millis(10)));
+    let cases: [(Storm, &Policy, &str); 8] = [
+        (Storm::new(&three).seconds(15), &three, "--seconds 15"),
+        (Storm::new(&full()).rate(90).seconds(12).seed(7), &full(), "--rate 90 --seconds 12 --words 7"),
+        (Storm::new(&three).seconds(1).budget(5).outage(SECOND / 10..SECOND), &three, "--seconds 1 --budget 5 --outage 100..1000"),
+        (
+            Storm::new(&spaced).rate(40).together(2).seconds(2).no_outage().quota(1, 0.1, millis(100)).capacity(20),
+            &spaced,
+            "--rate 40 --together 2 --seconds 2 --outage 0..0 --quota 1/100/100 --capacity 20",
+        ),
+        (
+            Storm::new(&three).rate(100).seconds(3).slow(SECOND..seconds(2), 29).window(millis(250)).capacity(110),
+            &three,
+            "--rate 100 --seconds 3 --slow 1000..2000@29 --window 250 --capacity 110",
+        ),
+        (Storm::new(&three).seconds(20).until(millis(10_500)), &three, "--seconds 20 --until 10500"),
+        (Storm::new(&three).seconds(20).calls(9000), &three, "--seconds 20 --calls 9000"),
+        (Storm::new(&three).seconds(1).rate(1).queue(0).patience(millis(1)), &three, "--seconds 1 --rate 1 --queue 0 --patience 1"),
+    ];
+    for (storm, policy, options) in cases {
+        let report = storm.play().unwrap();
+        assert_eq!(report.to_json() + "\n", zsched("--json", options, policy), "{options}");
+        assert_eq!(report.to_csv(), zsched("--csv", options, policy), "{options}");
+    }
+}
+
+#[test]
+fn the_storm_that_never_ends_and_the_one_that_a_quota_ends() {
+    let never = Storm::new(&full()).play().unwrap().totals;
+    assert_eq!((never.calls_per_request(), never.recovered, never.cut), (7.62, None, false));
+    let ends = Storm::new(&full()).quota(10, 0.1, SECOND).play().unwrap().totals;
+    assert_eq!((ends.hundredths, ends.recovered), (102, Some(seconds(20))));
+    assert_eq!(ends.requests, ends.won + ends.lost + ends.denied + ends.open);
+    assert_eq!(ends.tickets, ends.calls - ends.requests);
+    let three = policy(Schedule::recurs(3));
+    assert_eq!(Storm::new(&three).play().unwrap().totals.hundredths, 150);
+    assert_eq!(Storm::brown_out(&three).play().unwrap().totals.recovered, None);
+}
+
+#[test]
+fn the_herd_is_won_by_jitter() {
+    let won = |schedule: Schedule| Storm::herd(&policy(schedule)).play().unwrap().totals.won;
+    assert_eq!(won(Schedule::recurs(8) & back_off()), 3700);
+    assert_eq!(won(Schedule::recurs(8) & back_off().jittered(0.0..1.0)), 9885);
+    assert_eq!(won(Schedule::recurs(8) & back_off().jittered(0.5..1.0)), 10_000);
+}
+
+#[test]
+fn one_request_by_hand() {
+    let report = Storm::new(&policy(Schedule::recurs(3))).rate(1).seconds(1).no_outage().play().unwrap();
+    assert_eq!(report.windows.len(), 1);
+    let window = report.windows[0];
+    assert_eq!((window.from, window.requests, window.won, window.succeeded), (Duration::ZERO, 1, 1, 1));
+    assert_eq!((window.retries, window.refused, window.shed, window.late, window.waiting), (0, 0, 0, 0, 0));
+    let totals = report.totals;
+    assert_eq!((totals.p50, totals.p99, totals.slowest), (Some(millis(1)), Some(millis(1)), Some(millis(1))));
+    assert_eq!((totals.most_calls, totals.most_from), (1, Duration::ZERO));
+    assert_eq!(
+        report.to_string(),
+        "1 requests: 1 won, 0 lost, 0 denied a retry, 0 left open\n\
+         1 calls, 1.00 for each request; the most in a window 1, from 0ns on\nrecovered from 0ns on"
+    );
+}
+
+#[test]
+fn none_is_won_and_the_storm_is_cut() {
+    let forever = policy(Schedule::forever());
+    let storm = Storm::new(&forever).rate(2).together(2).seconds(1).calls(5).outage(Duration::ZERO..SECOND);
+    let report = storm.play().unwrap();
+    assert_eq!((report.totals.requests, report.totals.calls, report.totals.open, report.totals.cut), (1, 5, 1, true));
+    assert_eq!((report.totals.p50, report.totals.p99, report.totals.slowest), (None, None, None));
+    assert!(report.to_string().ends_with("never recovered\ncut before one call more"));
+    assert!(report.to_json().contains("\"p50\":null,\"p99\":null,\"slowest\":null,\"recovered\":null,\"cut\":true"));
+}
+
+#[test]
+fn what_is_out_of_range_is_named() {
+    let once = policy(Schedule::recurs(1));
+    let told = |storm: Storm| storm.play().map(|report: StormReport| report.totals.requests).unwrap_err().to_string();
+    let storm = || Storm::new(&once);
+    let cases = [
+        (told(storm().rate(0)), "rate is from 1 to 1000000"),
+        (told(storm().together(1_000_001)), "together is from 1 to 1000000"),
+        (told(storm().seconds(3601)), "seconds is from 1 to 3600"),
+        (told(storm().capacity(0)), "capacity is from 1 to 1000000"),
+        (told(storm().patience(Duration::from_micros(999))), "patience is from 1 to 3600000"),
+        (told(storm().queue(1_048_577)), "queue is from 0 to 1048576"),
+        (told(storm().window(Duration::ZERO)), "window is from 1 to 3600000"),
+        (told(storm().until(Duration::MAX)), "until is from 0 to 7200000"),
+        (told(storm().calls(0)), "calls is from 1 to 4294967296"),
+        (told(storm().budget(u64::MAX)), "the limit is above 4294967296"),
+        (told(storm().outage(SECOND..Duration::MAX)), "outage is from 0 to 3600000"),
+        (told(storm().outage(seconds(2)..SECOND)), "outage ends before it begins"),
+        (told(storm().slow(seconds(2)..SECOND, 50)), "slow ends before it begins"),
+        (told(storm().slow(SECOND..seconds(2), 0)), "slow is from 1 to 100"),
+        (told(storm().slow(SECOND..seconds(2), 101)), "slow is from 1 to 100"),
+        (told(storm().rate(20_000)), "rate times seconds is at most 1048576"),
+        (told(storm().window(millis(1))), "until divided by window is at most 65536"),
+        (told(storm().quota(1, 20.0, SECOND)), "the share is not 0, nor from 0.001 to 10 retries a request (0.2 is one for every five)"),
+        (told(storm().quota(1, 0.1, Duration::ZERO)), "the window is shorter than a millisecond"),
+    ];
+    for (told, wanted) in cases {
+        assert_eq!(told, wanted);
+    }
+    let error = storm().quota(u64::MAX, 0.1, SECOND).play().unwrap_err();
+    assert_eq!(error, StormError::Tickets(BudgetError::ReserveTooLarge));
+    assert!(std::error::Error::source(&error).is_some());
+    assert!(storm().quota(1, 20.0, SECOND).quota(1, 0.1, SECOND).play().is_ok());
+    assert!(storm().quota(1, 20.0, SECOND).budget(1).play().is_ok());
+}
+
+#[test]
+fn threads_play_storms_of_one_policy_at_once() {
+    let policy = full();
+    let alone = Storm::new(&policy).seconds(15).play().unwrap();
+    std::thread::scope(|scope| {
+        let others: Vec<_> = (0..4).map(|_| scope.spawn(|| Storm::new(&policy).seconds(15).play().unwrap())).collect();
+        for other in others {
+            assert_eq!(other.join().unwrap(), alone);
+        }
+    });
+}
