@@ -26,3 +26,23 @@ per_unit() {
 instructions() {
     valgrind --tool=callgrind --callgrind-out-file=/dev/null "$@" 2>&1 > /dev/null | awk '/Collected/ { print $NF }'
 }
+
+# per_call COMMAND..: instructions of one of the calls that the command makes, of which it takes the number as its last word
+per_call() {
+    per_unit 10000 "$(instructions "$@" 1000)" "$(instructions "$@" 11000)"
+}
+
+# calls_by NAME COMMAND..: the rows of bench_call's words by this command: what a call alone takes, and then, by what its retries
+# draw on, what a success takes more, what a granted retry does, and what a call that is refused does
+calls_by() {
+    local name=$1 on alone
+    shift
+    alone=$(per_call "$@" call nothing)
+    for on in nothing budget quota; do
+        awk -v n="$name" -v o="$on" -v a="$alone" -v s="$(per_call "$@" success "$on")" -v g="$(per_call "$@" granted "$on")" \
+            -v r="$([ "$on" = nothing ] || per_call "$@" refused "$on")" 'BEGIN {
+                printf "%s, on %s: a call alone %.0f instructions, a success at once %.0f more, ", n, o, a, s - a
+                printf "a granted retry %.0f, a refused call %s\n", g, r == "" ? "-" : sprintf("%.0f", r)
+            }'
+    done
+}

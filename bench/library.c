@@ -3,7 +3,11 @@
 //   retry PLAN ROUNDS     a round is a retry whose run fails each time and is granted again, a thousand times: two polls each
 //   step PLAN ROUNDS      a round is a thousand steps of a driver of the plan
 //   wait PLAN ROUNDS      a round is a thousand polls of a retry that waits
-// PLAN is spaced or pair, as theirs. It prints a count and no time; a script measures it from outside.
+//   call ON CALLS         a function called with no retry
+//   success ON CALLS      calls that succeed at once
+//   granted ON CALLS      one call whose retries are granted, with no wait
+//   refused ON CALLS      calls that fail, and are refused a retry
+// PLAN is spaced or pair, as theirs; ON is nothing, budget or quota, as bench_call's. It prints a count and no time; a script measures it from outside.
 #include <hikebox.h>
 #include <stdio.h>
 #include <stdlib.h>
@@ -42,7 +46,7 @@ static uint64_t retry(hikebox_policy *policy) {
     hikebox_next next;
     uint64_t tickets;
     check(hikebox_budget_fixed(ROUND, &pass));
-    check(hikebox_retry_new(policy, &pass, &machine));
+    check(hikebox_retry_new(policy, &pass, HIKEBOX_NO_DEADLINE, &machine));
     for (uint64_t now = 0; now < ROUND; now++) {
         check(hikebox_retry_poll(&machine, now, words, HIKEBOX_NO_REPORT, 0, &next));
         check(hikebox_retry_poll(&machine, now, words, HIKEBOX_LOST, CODE, &next));
@@ -69,7 +73,7 @@ static uint64_t wait_for_it(hikebox_policy *policy) {
     hikebox_next next;
     uint64_t waits = 0;
     check(hikebox_budget_fixed(1, &pass));
-    check(hikebox_retry_new(policy, &pass, &machine));
+    check(hikebox_retry_new(policy, &pass, HIKEBOX_NO_DEADLINE, &machine));
     check(hikebox_retry_poll(&machine, 0, words, HIKEBOX_NO_REPORT, 0, &next));
     check(hikebox_retry_poll(&machine, 0, words, HIKEBOX_LOST, CODE, &next));
     for (uint64_t turn = 0; turn < ROUND; turn++) {
@@ -81,10 +85,75 @@ static uint64_t wait_for_it(hikebox_policy *policy) {
     return waits;
 }
 
+// What calls are retried by.
+struct on {
+    hikebox_policy policy;
+    hikebox_pass pass;
+    hikebox_quota quota;
+};
+
+// An attempt: it succeeds where none is to fail any more.
+__attribute__((noinline)) static bool attempt(uint64_t *state, uint64_t left) {
+    *state = *state * UINT64_C(6364136223846793005) + UINT64_C(1442695040888963407);
+    return left == 0;
+}
+
+static void begin(struct on *on, hikebox_retry *machine) {
+    if (on->pass.held) check(hikebox_retry_new(&on->policy, &on->pass, HIKEBOX_NO_DEADLINE, machine));
+    else if (on->quota.held) check(hikebox_retry_on_quota(&on->policy, &on->quota, HIKEBOX_NO_DEADLINE, machine));
+    else check(hikebox_retry_unlimited(&on->policy, HIKEBOX_NO_DEADLINE, machine));
+}
+
+static void end(struct on *on, hikebox_retry *machine) {
+    if (on->pass.held) check(hikebox_retry_end(machine, &on->pass));
+    else if (on->quota.held) check(hikebox_retry_end_on_quota(machine, &on->quota));
+    else check(hikebox_retry_free(machine));
+}
+
+// The retry of a call whose first run has failed, which began at moment 0: it fails so often more. How many were granted.
+__attribute__((noinline)) static uint64_t retried(struct on *on, uint64_t *state, uint64_t left) {
+    hikebox_retry machine = HIKEBOX_INIT;
+    hikebox_next next;
+    begin(on, &machine);
+    check(hikebox_retry_poll(&machine, 0, words, HIKEBOX_NO_REPORT, 0, &next));
+    do check(hikebox_retry_poll(&machine, 0, words, HIKEBOX_LOST, CODE, &next));
+    while (next.what == HIKEBOX_RUN && !attempt(state, left--));
+    end(on, &machine);
+    return next.granted;
+}
+
+// A call that fails so often and then succeeds: the retry is begun where the first run fails. How many were granted.
+static uint64_t call(struct on *on, uint64_t *state, uint64_t failures) {
+    if (on->quota.held) check(hikebox_quota_deposit(&on->quota, 0));
+    return attempt(state, failures) ? 0 : retried(on, state, failures - 1);
+}
+
+static uint64_t calls(const char *what, const char *name, uint64_t many) {
+    struct on on = {HIKEBOX_INIT, HIKEBOX_INIT, HIKEBOX_INIT};
+    uint64_t state = 1, done = 0, tickets = what[0] == 'r' ? 0 : HIKEBOX_MOST_TICKETS;
+    hikebox_place place;
+    check(hikebox_policy_read("\"forever\"", 9, &on.policy, &place));
+    if (name[0] == 'b') check(hikebox_budget_fixed(tickets, &on.pass));
+    if (name[0] == 'q') check(hikebox_quota_new(tickets, 0, 1000, &on.quota));
+    if (what[0] == 'c') for (uint64_t turn = 0; turn < many; turn++) done += attempt(&state, 0);
+    else if (what[0] == 'g') done = call(&on, &state, many);
+    else for (uint64_t turn = 0; turn < many; turn++) done += call(&on, &state, what[0] == 'r');
+    if (on.pass.held) check(hikebox_pass_free(&on.pass));
+    if (on.quota.held) check(hikebox_quota_free(&on.quota));
+    check(hikebox_policy_free(&on.policy));
+    return done + (state == 0);
+}
+
+static bool is_one_of(const char *word, const char *names) {
+    return strstr(names, word) != NULL;
+}
+
 int main(int count, char **arguments) {
     uint64_t done = 0;
     if (count == 3 && strcmp(arguments[1], "draw") == 0) {
         done = draw(strtoull(arguments[2], 0, 10));
+    } else if (count == 4 && is_one_of(arguments[2], "nothing budget quota")) {
+        done = calls(arguments[1], arguments[2], strtoull(arguments[3], 0, 10));
     } else if (count == 4) {
         hikebox_policy policy = HIKEBOX_INIT;
         const char *what = arguments[1];

@@ -1,7 +1,9 @@
 #!/usr/bin/env bash
 # What a draw of a budget, a granted retry, a step and a poll that waits take through the C library, beside the same inside
-# (bench_draw, bench_retry): instructions, which other work does not change, and nanoseconds. Then what an attempt takes by
-# the Python package beside tenacity, and by the Rust crate beside the crates retry and backoff.
+# (bench_draw, bench_retry): instructions, which other work does not change, and nanoseconds. Then, in instructions, what
+# calls take in C that succeed at once, are retried and are refused a retry, and what a retry of ten million failures holds.
+# Then what an attempt takes by the Python package beside tenacity, and by the Rust crate beside the crates retry and
+# backoff.
 # Started by hand at the top of the repository: bench/library.sh. It needs rt, cc, valgrind, what tests/rust.sh and
 # tests/python.sh install, and librust-backoff-dev and librust-retry-dev of Debian; for the times a machine with nothing
 # else to do. HIKEBOX_LIB_DIR names the library's folder; where it does not, the library is built first.
@@ -59,6 +61,10 @@ for plan in spaced pair; do
     row "retry $plan" 1000 2 200 "$work/bench_retry" retry "$plan"
     row "step $plan" 1000 2 200 "$work/bench_retry" step "$plan"
     row "wait $plan" 1000 2 2000 "$work/bench_retry" wait "$plan"
+done
+calls_by "in C" "$work/library"
+for failures in 1000 10000000; do
+    echo "a retry of $failures failures: $(/usr/bin/time -f %M "$work/library" granted nothing "$failures" 2>&1 > /dev/null) KB"
 done
 HIKEBOX_LIBRARY=$HIKEBOX_LIB_DIR/libhikebox.so PYTHONPATH=python/src /usr/bin/python3 bench/python.py
 (cd rust && cargo run --release --offline --quiet --manifest-path ../bench/rust/Cargo.toml)

@@ -1,7 +1,9 @@
 #!/usr/bin/env bash
 # How long a granted retry of an effect that fails at once takes, beside a step of its driver alone, and how long a poll
-# that only waits takes. Started by hand at the top of the repository: bench/retry.sh. It needs rt and a machine with
-# nothing else to do.
+# that only waits takes. Then what calls take by retry_call that succeed at once, are retried and are refused a retry, beside
+# the same by hand in Rust and by the crate backoff, in instructions, and what a poll without a last event holds.
+# Started by hand at the top of the repository: bench/retry.sh. It needs rt, rustc, valgrind, /usr/bin/time and what
+# bench/crates.sh does; for the times a machine with nothing else to do.
 set -euo pipefail
 cd "$(dirname "$0")/.."
 source bench/least.sh
@@ -26,3 +28,10 @@ for plan in spaced pair; do
     awk -v p="$plan" -v r="$retry" -v s="$step" -v w="$wait" \
         'BEGIN { printf "%s: a retry %s ns, a step %s ns, ratio %.2f; a poll that waits %s ns\n", p, r, s, r / s, w }'
 done
+
+bin/build bench_call > /dev/null
+cp crates/bench_call/out/bench_call "$work/call"
+rustc -O -C target-cpu=x86-64 -o "$work/plain" bench/plain_retry.rs
+calls_by retry_call "$work/call"
+calls_by "by hand" "$work/plain"
+bench/crates.sh | grep -E '^(hikebox|backoff):'

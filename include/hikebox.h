@@ -69,6 +69,9 @@ extern "C" {
 /* The last moment, the longest duration and the greatest code: 2^62 - 1. */
 #define HIKEBOX_FAR UINT64_C(4611686018427387903)
 
+/* The deadline of a retry that has none. */
+#define HIKEBOX_NO_DEADLINE UINT64_MAX
+
 /* The most tickets of a budget, and the greatest reserve of a quota: 2^32. */
 #define HIKEBOX_MOST_TICKETS UINT64_C(4294967296)
 
@@ -92,7 +95,7 @@ enum {
     HIKEBOX_FULL = 3,
     /* The system gave no memory. */
     HIKEBOX_NO_MEMORY = 4,
-    /* A moment, an input, a code or a period is above HIKEBOX_FAR. */
+    /* A moment, an input, a code or a period is above HIKEBOX_FAR; or a deadline is, and is not HIKEBOX_NO_DEADLINE. */
     HIKEBOX_TOO_LARGE = 5,
     /* There are more bytes than room for them. */
     HIKEBOX_NO_ROOM = 6,
@@ -425,7 +428,9 @@ enum {
     HIKEBOX_ENDED_CANCELLED = 4,
     /* It could not go on: there was no memory, or the clock went back. */
     HIKEBOX_ENDED_NO_MEMORY = 5,
-    HIKEBOX_ENDED_BACKWARDS = 7
+    HIKEBOX_ENDED_BACKWARDS = 7,
+    /* The last run failed, and the policy goes on with a start that is past the deadline. */
+    HIKEBOX_ENDED_DEADLINE = 8
 };
 
 /* What a retry is at. */
@@ -446,21 +451,30 @@ typedef struct {
 /*
  * Puts a retry into `retry`, which has not begun. It has the policy, which is not copied, and a pass of its own, which is
  * split off `pass`; both handles stay as they are. It keeps none of its runs: there may be any number of failures, and it
- * takes no more memory for them (save where an output of the policy grows, as that of `gather`). HIKEBOX_FULL; _EMPTY, of
- * either; _WRONG_KIND, of the policy; _NO_MEMORY; _WRONG_KIND, of the pass; _TOO_MANY_PASSES.
+ * takes no more memory for them (save where an output of the policy grows, as that of `gather`).
+ *
+ * `deadline` is a moment, past which it has no run wait, or HIKEBOX_NO_DEADLINE: where the policy plans a later start, the
+ * retry is over, as HIKEBOX_ENDED_DEADLINE, and draws no ticket for it; a start at the deadline is in time. The first run
+ * is made in any case, and so is one for which the program wakes late.
+ *
+ * HIKEBOX_TOO_LARGE, of the deadline; _FULL; _EMPTY, of either; _WRONG_KIND, of the policy; _NO_MEMORY; _WRONG_KIND, of the
+ * pass; _TOO_MANY_PASSES.
  */
-HIKEBOX_CHECKED hikebox_status hikebox_retry_new(hikebox_policy *policy, hikebox_pass *pass, hikebox_retry *retry);
+HIKEBOX_CHECKED hikebox_status hikebox_retry_new(hikebox_policy *policy, hikebox_pass *pass, uint64_t deadline,
+                                                 hikebox_retry *retry);
 
 /*
  * The same with a pass that is split off a quota's. The retry draws at the moment of the poll, and deposits nothing.
- * HIKEBOX_FULL; _EMPTY, of either; _WRONG_KIND, of the policy; _NO_MEMORY; _WRONG_KIND, of the pass; _TOO_MANY_PASSES.
+ * HIKEBOX_TOO_LARGE, of the deadline; _FULL; _EMPTY, of either; _WRONG_KIND, of the policy; _NO_MEMORY; _WRONG_KIND, of the
+ * pass; _TOO_MANY_PASSES.
  */
-HIKEBOX_CHECKED hikebox_status hikebox_retry_on_quota(hikebox_policy *policy, hikebox_quota *quota,
+HIKEBOX_CHECKED hikebox_status hikebox_retry_on_quota(hikebox_policy *policy, hikebox_quota *quota, uint64_t deadline,
                                                       hikebox_retry *retry);
 
 /* The same with no pass: each retry that the policy goes on to is granted. It is freed by hikebox_retry_free.
- * HIKEBOX_FULL; _EMPTY; _WRONG_KIND; _NO_MEMORY. */
-HIKEBOX_CHECKED hikebox_status hikebox_retry_unlimited(hikebox_policy *policy, hikebox_retry *retry);
+ * HIKEBOX_TOO_LARGE, of the deadline; _FULL; _EMPTY; _WRONG_KIND; _NO_MEMORY. */
+HIKEBOX_CHECKED hikebox_status hikebox_retry_unlimited(hikebox_policy *policy, uint64_t deadline,
+                                                       hikebox_retry *retry);
 
 /*
  * Steps the retry at the moment `now`, with these random words, and writes what to do next. With HIKEBOX_WON
@@ -477,6 +491,11 @@ HIKEBOX_CHECKED hikebox_status hikebox_retry_poll(hikebox_retry *retry, uint64_t
 
 /* What to do next, without a step. HIKEBOX_EMPTY; _WRONG_KIND. */
 HIKEBOX_CHECKED hikebox_status hikebox_retry_see(hikebox_retry *retry, hikebox_next *next);
+
+/* Writes how many milliseconds it is from the moment `now` to the deadline of the retry, as the time that a run may be
+ * given: 0 where that is past, and HIKEBOX_NO_DEADLINE where there is none. HIKEBOX_TOO_LARGE, of the moment; _EMPTY;
+ * _WRONG_KIND. */
+HIKEBOX_CHECKED hikebox_status hikebox_retry_left(hikebox_retry *retry, uint64_t now, uint64_t *left);
 
 /* Ends a retry that is not over as HIKEBOX_ENDED_CANCELLED, whatever run is under way. HIKEBOX_EMPTY; _WRONG_KIND. */
 hikebox_status hikebox_retry_cancel(hikebox_retry *retry);

@@ -36,7 +36,8 @@ def constants_of_header(header):
     """The numbers of the enums and of the limits."""
     enums = re.findall(r"\b(HIKEBOX_\w+) = (\d+)", header)
     limits = re.findall(r"#define (HIKEBOX_\w+) (?:UINT64_C\()?(\d+)", header)
-    return {name: int(number) for name, number in enums + limits}
+    most = [(name, 2**64 - 1) for name in re.findall(r"#define (HIKEBOX_\w+) UINT64_MAX", header)]
+    return {name: int(number) for name, number in enums + limits + most}
 
 
 def structs_of_header(header):
@@ -52,7 +53,7 @@ def structs_of_header(header):
 def constants_of_rust(source):
     """The constants, by the names of the header."""
     found = re.findall(r"const (\w+): u(?:32|64) = ([^;]+);", source)
-    numbers = {"(1 << 62) - 1": (1 << 62) - 1, "1 << 32": 1 << 32}
+    numbers = {"(1 << 62) - 1": (1 << 62) - 1, "1 << 32": 1 << 32, "u64::MAX": 2**64 - 1}
     return {NAMES.get(name, f"HIKEBOX_{name}"): numbers.get(value) or int(value) for name, value in found}
 
 

@@ -4,6 +4,7 @@
 //                                     (won:1, lost:7, the last one repeated), and prints `zsched pool`'s line of it
 //   handles                           empty handles, full ones, those of another kind, and second frees
 //   budgets                           passes of budgets without end, and limits that are raised after refusals
+//   deadlines                         retries with a deadline, which the plan or the deadline ends
 //   quotas                            quotas: windows, their borders and passes, and retries on a quota and on nothing
 //   fault                             says what is wrong with the policy on standard input, as `zsched check` does
 //   faults                            texts that are no policy, each with its fault, its place and what is wanted there
@@ -99,7 +100,7 @@ static int retry(char **words, int count) {
     read_input();
     wants(read_policy(input, &policy), HIKEBOX_OK);
     wants(hikebox_budget_fixed(strtoull(words[0], 0, 10), &pass), HIKEBOX_OK);
-    wants(hikebox_retry_new(&policy, &pass, &machine), HIKEBOX_OK);
+    wants(hikebox_retry_new(&policy, &pass, HIKEBOX_NO_DEADLINE, &machine), HIKEBOX_OK);
     for (;;) {
         wants(hikebox_retry_poll(&machine, now, no_words, report, code, &next), HIKEBOX_OK);
         report = HIKEBOX_NO_REPORT;
@@ -203,8 +204,8 @@ static void past_the_journal(void) {
     uint64_t number, before = 0;
     wants(read_policy("\"forever\"", &policy), HIKEBOX_OK);
     wants(hikebox_budget_fixed(100000, &pass), HIKEBOX_OK);
-    wants(hikebox_retry_new(&policy, &pass, &machine), HIKEBOX_OK);
-    wants(hikebox_retry_unlimited(&policy, &other), HIKEBOX_OK);
+    wants(hikebox_retry_new(&policy, &pass, HIKEBOX_NO_DEADLINE, &machine), HIKEBOX_OK);
+    wants(hikebox_retry_unlimited(&policy, HIKEBOX_NO_DEADLINE, &other), HIKEBOX_OK);
     wants(hikebox_policy_free(&policy), HIKEBOX_OK);
     wants(hikebox_retry_poll(&machine, 0, no_words, HIKEBOX_NO_REPORT, 0, &next), HIKEBOX_OK);
     wants(hikebox_retry_poll(&other, 0, no_words, HIKEBOX_NO_REPORT, 0, &next), HIKEBOX_OK);
@@ -300,13 +301,13 @@ static int handles(void) {
     wants(read_policy("{\"recurs\":2}", &policy), HIKEBOX_OK);
     wants(hikebox_driver_new(&policy, &driver), HIKEBOX_OK);
     wants(hikebox_budget_rising(3, &pass), HIKEBOX_OK);
-    wants(hikebox_retry_new(&policy, &pass, &machine), HIKEBOX_OK);
+    wants(hikebox_retry_new(&policy, &pass, HIKEBOX_NO_DEADLINE, &machine), HIKEBOX_OK);
     wants(hikebox_policy_share(&policy, &other_policy), HIKEBOX_OK);
     wants(hikebox_pass_split(&pass, &other_pass), HIKEBOX_OK);
-    wants(hikebox_retry_new(&policy, &other_pass, &other_machine), HIKEBOX_OK);
+    wants(hikebox_retry_new(&policy, &other_pass, HIKEBOX_NO_DEADLINE, &other_machine), HIKEBOX_OK);
     wants(hikebox_quota_new(1, 0, 10, &quota), HIKEBOX_OK);
     wants(hikebox_quota_split(&quota, &other_quota), HIKEBOX_OK);
-    wants(hikebox_retry_on_quota(&policy, &quota, &quota_machine), HIKEBOX_OK);
+    wants(hikebox_retry_on_quota(&policy, &quota, HIKEBOX_NO_DEADLINE, &quota_machine), HIKEBOX_OK);
     void *kinds[] = {&policy, &driver, &pass, &quota, &machine, &part};
     enum { POLICY, DRIVER, PASS, QUOTA, RETRY, NOTHING, KINDS };
     for (int kind = 0; kind < KINDS; kind++) {
@@ -317,9 +318,9 @@ static int handles(void) {
             wants(hikebox_policy_share(handle, &spare), refused);
             wants(hikebox_policy_size(handle, &number, &other), refused);
             wants(hikebox_driver_new(handle, (hikebox_driver *)&spare), refused);
-            wants(hikebox_retry_new(handle, &other_pass, (hikebox_retry *)&spare), refused);
-            wants(hikebox_retry_on_quota(handle, &other_quota, (hikebox_retry *)&spare), refused);
-            wants(hikebox_retry_unlimited(handle, (hikebox_retry *)&spare), refused);
+            wants(hikebox_retry_new(handle, &other_pass, HIKEBOX_NO_DEADLINE, (hikebox_retry *)&spare), refused);
+            wants(hikebox_retry_on_quota(handle, &other_quota, HIKEBOX_NO_DEADLINE, (hikebox_retry *)&spare), refused);
+            wants(hikebox_retry_unlimited(handle, HIKEBOX_NO_DEADLINE, (hikebox_retry *)&spare), refused);
             wants(hikebox_policy_free(handle), refused);
         }
         if (kind != DRIVER) {
@@ -341,7 +342,7 @@ static int handles(void) {
             wants(hikebox_pass_count(handle, &number), refused);
             wants(hikebox_pass_close(handle, &number), refused);
             wants(hikebox_pass_free(handle), refused);
-            wants(hikebox_retry_new(&other_policy, handle, (hikebox_retry *)&spare), refused);
+            wants(hikebox_retry_new(&other_policy, handle, HIKEBOX_NO_DEADLINE, (hikebox_retry *)&spare), refused);
             wants(hikebox_retry_end(&other_machine, handle), refused);
         }
         if (kind != QUOTA) {
@@ -354,12 +355,13 @@ static int handles(void) {
             wants(hikebox_quota_count(handle, &number), refused);
             wants(hikebox_quota_close(handle, &number), refused);
             wants(hikebox_quota_free(handle), refused);
-            wants(hikebox_retry_on_quota(&other_policy, handle, (hikebox_retry *)&spare), refused);
+            wants(hikebox_retry_on_quota(&other_policy, handle, HIKEBOX_NO_DEADLINE, (hikebox_retry *)&spare), refused);
             wants(hikebox_retry_end_on_quota(&quota_machine, handle), refused);
         }
         if (kind != RETRY) {
             wants(hikebox_retry_poll(handle, 0, no_words, HIKEBOX_NO_REPORT, 0, &next), refused);
             wants(hikebox_retry_see(handle, &next), refused);
+            wants(hikebox_retry_left(handle, 0, &number), refused);
             wants(hikebox_retry_cancel(handle), refused);
             wants(hikebox_retry_end(handle, &other_pass), refused);
             wants(hikebox_retry_end_on_quota(handle, &other_quota), refused);
@@ -374,11 +376,11 @@ static int handles(void) {
         wants(hikebox_budget_fixed(1, handle), HIKEBOX_FULL);
         wants(hikebox_budget_rising(1, handle), HIKEBOX_FULL);
         wants(hikebox_pass_split(&other_pass, handle), HIKEBOX_FULL);
-        wants(hikebox_retry_new(&other_policy, &other_pass, handle), HIKEBOX_FULL);
+        wants(hikebox_retry_new(&other_policy, &other_pass, HIKEBOX_NO_DEADLINE, handle), HIKEBOX_FULL);
         wants(hikebox_quota_new(1, 0, 0, handle), HIKEBOX_FULL);
         wants(hikebox_quota_split(&other_quota, handle), HIKEBOX_FULL);
-        wants(hikebox_retry_on_quota(&other_policy, &other_quota, handle), HIKEBOX_FULL);
-        wants(hikebox_retry_unlimited(&other_policy, handle), HIKEBOX_FULL);
+        wants(hikebox_retry_on_quota(&other_policy, &other_quota, HIKEBOX_NO_DEADLINE, handle), HIKEBOX_FULL);
+        wants(hikebox_retry_unlimited(&other_policy, HIKEBOX_NO_DEADLINE, handle), HIKEBOX_FULL);
         holds(place.line == 0 && place.column == 0);
     }
     wants(hikebox_retry_end(&other_machine, &other_pass), HIKEBOX_OK);
@@ -498,10 +500,10 @@ static int budgets(void) {
             wants(hikebox_pass_draw(&part, &number), HIKEBOX_OK);
             holds(number == times);
             wants(hikebox_pass_join(&pass, &part), HIKEBOX_OK);
-            wants(hikebox_retry_new(&policy, &pass, &machine), HIKEBOX_OK);
+            wants(hikebox_retry_new(&policy, &pass, HIKEBOX_NO_DEADLINE, &machine), HIKEBOX_OK);
             wants(hikebox_retry_end(&machine, &pass), HIKEBOX_OK);
         }
-        wants(hikebox_retry_new(&policy, &pass, &machine), HIKEBOX_OK);
+        wants(hikebox_retry_new(&policy, &pass, HIKEBOX_NO_DEADLINE, &machine), HIKEBOX_OK);
         wants(hikebox_retry_poll(&machine, 0, no_words, HIKEBOX_NO_REPORT, 0, &next), HIKEBOX_OK);
         wants(hikebox_retry_poll(&machine, 0, no_words, HIKEBOX_LOST, 7, &next), HIKEBOX_OK);
         holds(next.granted == 1);
@@ -691,7 +693,7 @@ static void drawings(void) {
     wants(read_policy("{\"meet\":[{\"recurs\":3},{\"spaced\":60}]}", &policy), HIKEBOX_OK);
     wants(read_policy("{\"recurs\":3}", &often), HIKEBOX_OK);
     wants(hikebox_quota_new(1, 0, 100, &quota), HIKEBOX_OK);
-    wants(hikebox_retry_on_quota(&policy, &quota, &machine), HIKEBOX_OK);
+    wants(hikebox_retry_on_quota(&policy, &quota, HIKEBOX_NO_DEADLINE, &machine), HIKEBOX_OK);
     fails(&machine, 0, 99, HIKEBOX_WAIT, 1);
     fails(&machine, 159, 160, HIKEBOX_WAIT, 2);
     fails(&machine, 220, 230, HIKEBOX_WAIT, 3);
@@ -702,16 +704,16 @@ static void drawings(void) {
     wants(hikebox_quota_count(&quota, &tickets), HIKEBOX_OK);
     holds(machine.held == NULL && tickets == 3);
     // A second one is refused in the window that has given its ticket, and a later one draws again.
-    wants(hikebox_retry_on_quota(&often, &quota, &machine), HIKEBOX_OK);
+    wants(hikebox_retry_on_quota(&often, &quota, HIKEBOX_NO_DEADLINE, &machine), HIKEBOX_OK);
     fails(&machine, 290, 290, HIKEBOX_OVER, 0);
     ended(&machine, HIKEBOX_ENDED_REFUSED, 1);
     wants(hikebox_retry_end_on_quota(&machine, &quota), HIKEBOX_OK);
-    wants(hikebox_retry_on_quota(&often, &quota, &machine), HIKEBOX_OK);
+    wants(hikebox_retry_on_quota(&often, &quota, HIKEBOX_NO_DEADLINE, &machine), HIKEBOX_OK);
     fails(&machine, 300, 300, HIKEBOX_RUN, 1);
     // Ends into what a retry does not draw on.
     wants(hikebox_budget_fixed(1, &pass), HIKEBOX_OK);
-    wants(hikebox_retry_new(&often, &pass, &on_budget), HIKEBOX_OK);
-    wants(hikebox_retry_unlimited(&often, &free_machine), HIKEBOX_OK);
+    wants(hikebox_retry_new(&often, &pass, HIKEBOX_NO_DEADLINE, &on_budget), HIKEBOX_OK);
+    wants(hikebox_retry_unlimited(&often, HIKEBOX_NO_DEADLINE, &free_machine), HIKEBOX_OK);
     wants(hikebox_retry_end(&machine, &no_pass), HIKEBOX_EMPTY);
     wants(hikebox_retry_end(&machine, (hikebox_pass *)&quota), HIKEBOX_WRONG_KIND);
     wants(hikebox_retry_end(&machine, &pass), HIKEBOX_DRAWS_ELSEWHERE);
@@ -730,12 +732,128 @@ static void drawings(void) {
     wants(hikebox_retry_free(&free_machine), HIKEBOX_OK);
     // A retry that is freed keeps its pass.
     wants(hikebox_quota_new(1, 0, 100, &quota), HIKEBOX_OK);
-    wants(hikebox_retry_on_quota(&often, &quota, &machine), HIKEBOX_OK);
+    wants(hikebox_retry_on_quota(&often, &quota, HIKEBOX_NO_DEADLINE, &machine), HIKEBOX_OK);
     wants(hikebox_retry_free(&machine), HIKEBOX_OK);
     wants(hikebox_quota_close(&quota, &tickets), HIKEBOX_PASSES_OUT);
     wants(hikebox_quota_free(&quota), HIKEBOX_OK);
     wants(hikebox_policy_free(&often), HIKEBOX_OK);
     wants(hikebox_policy_free(&policy), HIKEBOX_OK);
+}
+
+// What a retry has left at a moment.
+static void has_left_at(int line, hikebox_retry *machine, uint64_t now, uint64_t wanted) {
+    uint64_t left;
+    wants_at(line, hikebox_retry_left(machine, now, &left), HIKEBOX_OK);
+    holds_at(line, left == wanted);
+}
+#define has_left(machine, now, wanted) has_left_at(__LINE__, machine, now, wanted)
+
+// Runs that fail at once, 450 ms apart. The rows are worked out by hand.
+static void spaced_deadlines(void) {
+    static const struct { const char *json; uint64_t deadline, runs; uint32_t how; } rows[] = {
+        // starts at 450 and 900, and the one at 1350 is too late
+        {"{\"spaced\":450}", 1000, 3, HIKEBOX_ENDED_DEADLINE},
+        // a start at the deadline is in time, and one a millisecond later isn't
+        {"{\"spaced\":450}", 900, 3, HIKEBOX_ENDED_DEADLINE},
+        {"{\"spaced\":450}", 899, 2, HIKEBOX_ENDED_DEADLINE},
+        // the first run is made, and no more
+        {"{\"spaced\":450}", 0, 1, HIKEBOX_ENDED_DEADLINE},
+        // the plan is done before it, and at the failure at which the next start would be too late
+        {"{\"meet\":[{\"recurs\":1},{\"spaced\":450}]}", 1000, 2, HIKEBOX_ENDED_DONE},
+        {"{\"meet\":[{\"recurs\":2},{\"spaced\":450}]}", 1000, 3, HIKEBOX_ENDED_DONE},
+        {"{\"meet\":[{\"recurs\":3},{\"spaced\":450}]}", 1000, 3, HIKEBOX_ENDED_DEADLINE},
+        {"{\"meet\":[{\"recurs\":3},{\"spaced\":450}]}", HIKEBOX_FAR, 4, HIKEBOX_ENDED_DONE},
+        {"{\"meet\":[{\"recurs\":3},{\"spaced\":450}]}", HIKEBOX_NO_DEADLINE, 4, HIKEBOX_ENDED_DONE},
+    };
+    for (size_t row = 0; row < sizeof rows / sizeof *rows; row++) {
+        hikebox_policy policy = HIKEBOX_INIT;
+        hikebox_pass pass = HIKEBOX_INIT;
+        hikebox_retry machine = HIKEBOX_INIT;
+        hikebox_next next = {0, 0, 0, 0, 0};
+        uint64_t now = 0, tickets;
+        wants(read_policy(rows[row].json, &policy), HIKEBOX_OK);
+        wants(hikebox_budget_fixed(9, &pass), HIKEBOX_OK);
+        wants(hikebox_retry_new(&policy, &pass, rows[row].deadline, &machine), HIKEBOX_OK);
+        for (uint64_t run = 1; run < rows[row].runs; run++) {
+            fails(&machine, now, now, HIKEBOX_WAIT, run);
+            wants(hikebox_retry_see(&machine, &next), HIKEBOX_OK);
+            now += 450;
+            holds(next.until == now);
+        }
+        fails(&machine, now, now, HIKEBOX_OVER, rows[row].runs - 1);
+        ended(&machine, rows[row].how, rows[row].runs);
+        wants(hikebox_retry_end(&machine, &pass), HIKEBOX_OK);
+        wants(hikebox_pass_close(&pass, &tickets), HIKEBOX_OK);
+        holds(tickets == rows[row].runs - 1);
+        wants(hikebox_policy_free(&policy), HIKEBOX_OK);
+    }
+}
+
+static int deadlines(void) {
+    hikebox_policy policy = HIKEBOX_INIT, at_once = HIKEBOX_INIT, no_policy = HIKEBOX_INIT;
+    hikebox_quota quota = HIKEBOX_INIT;
+    hikebox_pass pass = HIKEBOX_INIT;
+    hikebox_retry machine = HIKEBOX_INIT, empty = HIKEBOX_INIT;
+    hikebox_next next;
+    uint64_t left = 77;
+    spaced_deadlines();
+    wants(read_policy("{\"spaced\":450}", &policy), HIKEBOX_OK);
+    wants(read_policy("\"forever\"", &at_once), HIKEBOX_OK);
+    wants(hikebox_quota_new(9, 0, 1000, &quota), HIKEBOX_OK);
+    wants(hikebox_budget_fixed(9, &pass), HIKEBOX_OK);
+    // On a quota, from 5000 on: runs that take 60 fail at 5060 and 5570, and the next start would be 6020. What is left is
+    // the same whatever the retry does.
+    wants(hikebox_retry_on_quota(&policy, &quota, 6019, &machine), HIKEBOX_OK);
+    has_left(&machine, 5000, 1019);
+    fails(&machine, 5000, 5060, HIKEBOX_WAIT, 1);
+    has_left(&machine, 5510, 509);
+    fails(&machine, 5510, 5570, HIKEBOX_OVER, 1);
+    ended(&machine, HIKEBOX_ENDED_DEADLINE, 2);
+    has_left(&machine, 6018, 1);
+    has_left(&machine, 6019, 0);
+    has_left(&machine, HIKEBOX_FAR, 0);
+    wants(hikebox_retry_end_on_quota(&machine, &quota), HIKEBOX_OK);
+    closes(&quota, 1);
+    // On nothing: runs at once, of which one fails past the deadline.
+    wants(hikebox_retry_unlimited(&at_once, 100, &machine), HIKEBOX_OK);
+    fails(&machine, 0, 60, HIKEBOX_RUN, 1);
+    fails(&machine, 60, 100, HIKEBOX_RUN, 2);
+    fails(&machine, 100, 101, HIKEBOX_OVER, 2);
+    ended(&machine, HIKEBOX_ENDED_DEADLINE, 3);
+    wants(hikebox_retry_cancel(&machine), HIKEBOX_OK);
+    ended(&machine, HIKEBOX_ENDED_DEADLINE, 3);
+    wants(hikebox_retry_free(&machine), HIKEBOX_OK);
+    // A program that wakes late makes its run, and it may succeed.
+    wants(hikebox_retry_new(&policy, &pass, 500, &machine), HIKEBOX_OK);
+    fails(&machine, 0, 0, HIKEBOX_WAIT, 1);
+    wants(hikebox_retry_poll(&machine, 700, no_words, HIKEBOX_NO_REPORT, 0, &next), HIKEBOX_OK);
+    holds(next.what == HIKEBOX_RUN);
+    has_left(&machine, 700, 0);
+    wants(hikebox_retry_poll(&machine, 700, no_words, HIKEBOX_WON, 0, &next), HIKEBOX_OK);
+    ended(&machine, HIKEBOX_ENDED_WON, 2);
+    wants(hikebox_retry_end(&machine, &pass), HIKEBOX_OK);
+    // One that is cancelled while it waits; and what is refused.
+    wants(hikebox_retry_new(&policy, &pass, 500, &machine), HIKEBOX_OK);
+    fails(&machine, 0, 0, HIKEBOX_WAIT, 1);
+    wants(hikebox_retry_cancel(&machine), HIKEBOX_OK);
+    ended(&machine, HIKEBOX_ENDED_CANCELLED, 1);
+    wants(hikebox_retry_new(&policy, &pass, HIKEBOX_FAR + 1, &machine), HIKEBOX_TOO_LARGE);
+    wants(hikebox_retry_on_quota(&policy, &quota, HIKEBOX_NO_DEADLINE - 1, &empty), HIKEBOX_TOO_LARGE);
+    wants(hikebox_retry_unlimited(&no_policy, HIKEBOX_FAR + 1, &empty), HIKEBOX_TOO_LARGE);
+    wants(hikebox_retry_left(&empty, HIKEBOX_FAR + 1, &left), HIKEBOX_TOO_LARGE);
+    wants(hikebox_retry_left(&empty, 0, &left), HIKEBOX_EMPTY);
+    wants(hikebox_retry_left((hikebox_retry *)&policy, 0, &left), HIKEBOX_WRONG_KIND);
+    holds(left == 77 && empty.held == NULL);
+    wants(hikebox_retry_end(&machine, &pass), HIKEBOX_OK);
+    // Without one there is none.
+    wants(hikebox_retry_unlimited(&policy, HIKEBOX_NO_DEADLINE, &machine), HIKEBOX_OK);
+    has_left(&machine, 0, HIKEBOX_NO_DEADLINE);
+    wants(hikebox_retry_free(&machine), HIKEBOX_OK);
+    wants(hikebox_pass_close(&pass, &left), HIKEBOX_OK);
+    holds(left == 2);
+    wants(hikebox_policy_free(&at_once), HIKEBOX_OK);
+    wants(hikebox_policy_free(&policy), HIKEBOX_OK);
+    return wrong;
 }
 
 static int quotas(void) {
@@ -761,7 +879,7 @@ static void *retry_by_share(void *given) {
         hikebox_next next;
         uint32_t report = HIKEBOX_NO_REPORT;
         wants(hikebox_policy_share(&worker->policy, &second), HIKEBOX_OK);
-        wants(hikebox_retry_new(&second, &worker->pass, &machine), HIKEBOX_OK);
+        wants(hikebox_retry_new(&second, &worker->pass, HIKEBOX_NO_DEADLINE, &machine), HIKEBOX_OK);
         wants(hikebox_policy_free(&second), HIKEBOX_OK);
         do {
             wants(hikebox_retry_poll(&machine, 0, no_words, report, 7, &next), HIKEBOX_OK);
@@ -956,7 +1074,7 @@ static void run_once(hikebox_policy *policy, hikebox_pass *pass) {
     hikebox_next next;
     uint64_t now = 0;
     uint32_t report = HIKEBOX_NO_REPORT;
-    again(hikebox_retry_new(policy, pass, &machine));
+    again(hikebox_retry_new(policy, pass, HIKEBOX_NO_DEADLINE, &machine));
     for (;;) {
         wants(hikebox_retry_poll(&machine, now, no_words, report, 7, &next), HIKEBOX_OK);
         report = next.what == HIKEBOX_RUN ? HIKEBOX_LOST : HIKEBOX_NO_REPORT;
@@ -1017,8 +1135,9 @@ static int calls(void) {
     again(hikebox_pass_join(&pass, &part));
     run_once(&policy, &pass);
     run_once(&second, &pass);
-    again(hikebox_retry_new(&policy, &pass, &machine));
+    again(hikebox_retry_new(&policy, &pass, HIKEBOX_NO_DEADLINE, &machine));
     again(hikebox_retry_see(&machine, &next));
+    again(hikebox_retry_left(&machine, 0, &number));
     again(hikebox_retry_cancel(&machine));
     again(hikebox_retry_see(&machine, &next));
     holds(next.what == HIKEBOX_OVER && next.how == HIKEBOX_ENDED_CANCELLED);
@@ -1032,20 +1151,20 @@ static int calls(void) {
     again(hikebox_quota_draw(&quota_part, 0, &number));
     again(hikebox_quota_seen(&quota_part, 0, &usage));
     holds(number == 0 && usage.asked == 1 && usage.given == 1 && usage.left == 1);
-    again(hikebox_retry_on_quota(&policy, &quota, &machine));
+    again(hikebox_retry_on_quota(&policy, &quota, HIKEBOX_NO_DEADLINE, &machine));
     again(hikebox_retry_end_on_quota(&machine, &quota));
     again(hikebox_quota_join(&quota, &quota_part));
     again(hikebox_quota_count(&quota, &number));
     again(hikebox_quota_close(&quota, &other));
     holds(number == 1 && other == 1);
     again(hikebox_quota_new(1, 0, 10, &quota));
-    again(hikebox_retry_on_quota(&policy, &quota, &machine));
+    again(hikebox_retry_on_quota(&policy, &quota, HIKEBOX_NO_DEADLINE, &machine));
     again(hikebox_retry_free(&machine));
     again(hikebox_quota_free(&quota));
-    again(hikebox_retry_unlimited(&policy, &machine));
+    again(hikebox_retry_unlimited(&policy, HIKEBOX_NO_DEADLINE, &machine));
     again(hikebox_retry_free(&machine));
     again(hikebox_budget_fixed(1, &sole));
-    again(hikebox_retry_new(&policy, &sole, &machine));
+    again(hikebox_retry_new(&policy, &sole, HIKEBOX_NO_DEADLINE, &machine));
     again(hikebox_retry_free(&machine));
     again(hikebox_pass_free(&sole));
     again(hikebox_driver_free(&driver));
@@ -1061,6 +1180,7 @@ int main(int count, char **words) {
     if (!strcmp(what, "retry") && count > 3) return retry(words + 2, count - 2);
     if (!strcmp(what, "handles")) return handles();
     if (!strcmp(what, "budgets")) return budgets();
+    if (!strcmp(what, "deadlines")) return deadlines();
     if (!strcmp(what, "quotas")) return quotas();
     if (!strcmp(what, "fault")) return fault();
     if (!strcmp(what, "faults")) return faults();

@@ -77,7 +77,7 @@ int main(int count, char **words) {
     hikebox_place place;
     hikebox_next next = {0};
     check(hikebox_policy_read(policy_json, strlen(policy_json), &policy, &place));
-    check(hikebox_retry_unlimited(&policy, &retry));
+    check(hikebox_retry_unlimited(&policy, HIKEBOX_NO_DEADLINE, &retry));
 
     struct pollfd fds[2] = {{.fd = 0, .events = POLLIN}, {.fd = -1, .events = POLLOUT}};
     uint32_t report = HIKEBOX_NO_REPORT;

@@ -60,7 +60,7 @@ int main(void) {
     hikebox_place place;
     check(hikebox_policy_read(policy_json, strlen(policy_json), &policy, &place), "hikebox_policy_read");
     check(hikebox_budget_fixed(1000, &pass), "hikebox_budget_fixed");
-    check(hikebox_retry_new(&policy, &pass, &retry), "hikebox_retry_new");
+    check(hikebox_retry_new(&policy, &pass, HIKEBOX_NO_DEADLINE, &retry), "hikebox_retry_new");
 
     hikebox_next next;
     uint32_t report = HIKEBOX_NO_REPORT;

@@ -16,7 +16,6 @@ from hikebox import (
     AsyncRetrying,
     Budget,
     Ending,
-    Fault,
     Policy,
     PolicyError,
     Quota,
@@ -284,19 +283,34 @@ def test_what_is_given_is_looked_at(clock: VirtualClock) -> None:
         Retrying(recurs(1), deadline=0.0004)
     with pytest.raises(TypeError, match="deadline: seconds or a timedelta are wanted, not 'soon'"):
         Retrying(recurs(1), deadline="soon")  # type: ignore[arg-type]
-    deep = recurs(1)
-    for _ in range(31):
-        deep = deep.nothing()
-    assert deep.depth == 32
-    with pytest.raises(PolicyError) as refused:
-        Retrying(deep, deadline=1)
-    assert refused.value.fault is Fault.TOO_DEEP
-
     retrying = Retrying(exponential(1), deadline=3, clock=clock, sleep=clock.sleep, fallback=lambda state: clock())
     assert retrying.deadline == 3 and retrying.copy().deadline == 3
     assert retrying(Failing(clock, 0.0)) == 3
     retrying.deadline = 1
     assert retrying(Failing(clock, 0.0)) == 4
+
+
+def test_a_policy_of_any_size_has_one(clock: VirtualClock) -> None:
+    deep = spaced(0.1)
+    for _ in range(31):
+        deep = deep.nothing()
+    assert deep.depth == 32
+    assert len(runs("blocking", clock, deep, 0.03, deadline=0.259)[0]) == 2
+
+
+def test_a_quota_by_the_machines_clock_ends_by_it_too() -> None:
+    # the engine's moments are then those of the clock, far from 0
+    quota = Quota(reserve=9, share=0, per=3600)
+    failing: List[float] = []
+
+    def fails() -> None:
+        failing.append(time.monotonic())
+        raise ConnectionError()
+
+    with pytest.raises(ConnectionError):
+        Retrying(spaced(0.05), budget=quota, deadline=0.12)(fails)
+    # at 0, 0.05 and 0.1 s, or once less where the machine is slow
+    assert 1 <= len(failing) <= 3 and quota.close() == len(failing) - 1
 
 
 def test_tenacitys_retries_end_by_it() -> None:

@@ -85,6 +85,7 @@ def test_the_numbers_are_those_of_the_header() -> None:
     numbers = dict(re.findall(r"HIKEBOX_(\w+) = (\d+)", text))
     most = dict(re.findall(r"#define HIKEBOX_MOST_(\w+) (?:UINT64_C\()?(\d+)", text))
     assert (int(most["TICKETS"]), int(most["SHARE"])) == (_engine.MOST_TICKETS, _engine.MOST_SHARE)
+    assert "#define HIKEBOX_NO_DEADLINE UINT64_MAX" in text and _engine.NO_DEADLINE == 2**64 - 1
     for name in (
         ["OK", "NO_MEMORY", "TOO_LARGE", "NOT_JSON", "NOT_A_POLICY", "OUT_OF_RANGE", "TOO_DEEP", "TOO_MANY"]
         + ["BACKWARDS", "JOURNAL_FULL", "LIMIT_TOO_LARGE", "FIXED", "NO_TICKET", "TOO_MANY_PASSES", "PASSES_OUT"]
@@ -101,6 +102,7 @@ def test_the_numbers_are_those_of_the_header() -> None:
         endings["ENDED_CANCELLED"]: Ending.CANCELLED,
         endings["ENDED_NO_MEMORY"]: Ending.NO_MEMORY,
         endings["ENDED_BACKWARDS"]: Ending.CLOCK_WENT_BACK,
+        endings["ENDED_DEADLINE"]: Ending.SCHEDULE_DONE,
     }
 
 
@@ -180,6 +182,28 @@ def test_a_retry_on_a_quota_as_a_machine() -> None:
     machine.end(drawn)
     assert drawn.draw(5_999) is None and drawn.draw(6_000) == 6 * 2**32
     assert drawn.count() == 2 == drawn.close()
+
+
+def test_a_retry_with_a_deadline_as_a_machine() -> None:
+    # starts at 450 and 900, and the one at 1350 is too late: it ends so, and draws nothing for it
+    machine, policy = Machine(), read(b'{"spaced":450}')
+    budget, quota = Pass.of_budget(9, False), QuotaPass.of_quota(9, 0, 60_000)
+    for drawn in (budget, quota, None):
+        if drawn is None:
+            machine.begin_unlimited(policy, 1000)
+        else:
+            assert machine.begin(policy, drawn, 1000)
+        for retries in (1, 2):
+            start = 450 * (retries - 1)
+            assert machine.poll(start, _engine.NO_REPORT, 0)[0] == _engine.RUN
+            assert machine.poll(start, _engine.LOST, 7) == (_engine.WAIT, start + 450, retries)
+        assert machine.poll(900, _engine.NO_REPORT, 0)[0] == _engine.RUN
+        assert machine.poll(900, _engine.LOST, 7) == (_engine.OVER, 8, 2)
+        if drawn is None:
+            machine.free()
+        else:
+            machine.end(drawn)
+    assert (budget.close(), quota.close()) == (2, 2)
 
 
 def test_a_retry_on_nothing_as_a_machine() -> None:

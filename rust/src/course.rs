@@ -1,11 +1,11 @@
 //! A retry under way, whoever drives it.
 
 use crate::clock::whole_millis;
-use crate::engine::FAR;
+use crate::engine::{FAR, NO_DEADLINE};
 use crate::error::RetryError;
 use crate::grants::DrawnOn;
 use crate::machine::{Cause, Ended, Machine, Report};
-use crate::policy::{Policy, PolicyFault};
+use crate::policy::Policy;
 use std::time::{Duration, Instant};
 
 /// What a retry goes by.
@@ -46,6 +46,9 @@ struct Begun {
     latest: u64,
     /// When the next run is due, where the engine has not begun it yet.
     due: Option<u64>,
+    /// Whether it has a deadline. Moments are rounded up then, so that a run which is due by it in whole milliseconds is
+    /// so by the clock.
+    rounds_up: bool,
 }
 
 /// The random words of a step at which the schedule is not asked.
@@ -67,12 +70,12 @@ impl Course {
     pub(crate) fn lost(&mut self, terms: Terms<'_>, lost: Lost) -> Result<Duration, Ended> {
         let passed = self.passed(lost.now);
         let asked = lost.asked.unwrap_or(Duration::ZERO);
-        if terms.deadline.map_or(false, |deadline| passed.saturating_add(asked) > deadline) {
+        if !asked.is_zero() && terms.deadline.map_or(false, |deadline| passed.saturating_add(asked) > deadline) {
             return Err(Ended::ScheduleDone);
         }
         let begun = match &mut self.begun {
             Some(begun) => begun,
-            None => self.begun.insert(Begun::new(terms, self.began, passed)?),
+            None => self.begun.insert(Begun::new(terms, self.began)?),
         };
         begun.due = begun.step(passed, Some(Report::Lost(lost.code)), &lost.words)?;
         Ok(match begun.due {
@@ -106,17 +109,14 @@ impl Course {
 }
 
 impl Begun {
-    /// A retry whose first run began then, and failed after so long.
-    fn new(terms: Terms<'_>, began: Instant, passed: Duration) -> Result<Self, Ended> {
-        let source = terms.budget.source();
-        let machine = match terms.deadline {
-            None => Machine::on(terms.policy, source),
-            Some(deadline) => Machine::on(&policy_until(terms.policy, deadline, passed)?, source),
-        };
+    /// A retry whose first run began then.
+    fn new(terms: Terms<'_>, began: Instant) -> Result<Self, Ended> {
+        let origin = terms.budget.origin(began);
+        let after = |deadline| origin.saturating_add(whole_millis(deadline)).min(FAR);
+        let machine = Machine::on(terms.policy, terms.budget.source(), terms.deadline.map_or(NO_DEADLINE, after));
         // (for want of passes 2^42 of them would have to be alive)
         let machine = machine.map_err(|_| Ended::Broken(Cause::NoMemory))?;
-        let origin = terms.budget.origin(began);
-        let mut begun = Self { machine, origin, latest: origin, due: None };
+        let mut begun = Self { machine, origin, latest: origin, due: None, rounds_up: terms.deadline.is_some() };
         begun.step(Duration::ZERO, None, &NO_WORDS)?;
         Ok(begun)
     }
@@ -133,19 +133,11 @@ impl Begun {
     /// A step so long after the first run began, and not before the latest: when the next run is due, or `None` where it
     /// is under way.
     fn step(&mut self, passed: Duration, report: Option<Report>, words: &[u32; 4]) -> Result<Option<u64>, Ended> {
-        let now = self.origin.saturating_add(whole_millis(passed)).min(FAR);
+        let rounding = if self.rounds_up { Duration::from_nanos(999_999) } else { Duration::ZERO };
+        let now = self.origin.saturating_add(whole_millis(passed.saturating_add(rounding))).min(FAR);
         self.latest = self.latest.max(now);
         self.machine.step_at(self.latest, report, words)
     }
-}
-
-/// The policy of a retry that ends by its deadline, where its first run failed after so long.
-fn policy_until(policy: &Policy, deadline: Duration, passed: Duration) -> Result<Policy, Ended> {
-    let until = policy.until(deadline, passed).map_err(|error| match error.fault() {
-        PolicyFault::TooDeep | PolicyFault::TooMany => Ended::Broken(Cause::PolicyTooLarge),
-        _ => Ended::Broken(Cause::NoMemory),
-    });
-    until?.ok_or(Ended::ScheduleDone)
 }
 
 /// The moment after so long, or after a century where the system's clock can't tell it.

@@ -115,7 +115,6 @@ const NOT_A_POLICY: u32 = 11;
 const OUT_OF_RANGE: u32 = 12;
 const TOO_DEEP: u32 = 13;
 const TOO_MANY: u32 = 14;
-const JOURNAL_FULL: u32 = 21;
 const LIMIT_TOO_LARGE: u32 = 30;
 const FIXED: u32 = 31;
 const NO_TICKET: u32 = 32;
@@ -136,6 +135,7 @@ pub(crate) const ENDED_DONE: u32 = 2;
 pub(crate) const ENDED_REFUSED: u32 = 3;
 pub(crate) const ENDED_CANCELLED: u32 = 4;
 pub(crate) const ENDED_NO_MEMORY: u32 = 5;
+pub(crate) const ENDED_DEADLINE: u32 = 8;
 
 pub(crate) const ON_NOTHING: u64 = 0;
 pub(crate) const ON_BUDGET: u64 = 1;
@@ -143,6 +143,8 @@ pub(crate) const ON_QUOTA: u64 = 2;
 
 /// The greatest moment, length of a window, and code.
 pub(crate) const FAR: u64 = (1 << 62) - 1;
+/// The deadline of a retry that has none.
+pub(crate) const NO_DEADLINE: u64 = u64::MAX;
 /// The most tickets of a budget, and of a window of a quota.
 #[cfg(feature = "leased")]
 pub(crate) const MOST_TICKETS: u64 = 1 << 32;
@@ -190,9 +192,9 @@ extern "C" {
     fn hikebox_quota_close(quota: *mut Raw, tickets: *mut u64) -> u32;
     fn hikebox_quota_free(quota: *mut Raw) -> u32;
 
-    fn hikebox_retry_new(policy: *mut Raw, pass: *mut Raw, retry: *mut Raw) -> u32;
-    fn hikebox_retry_on_quota(policy: *mut Raw, quota: *mut Raw, retry: *mut Raw) -> u32;
-    fn hikebox_retry_unlimited(policy: *mut Raw, retry: *mut Raw) -> u32;
+    fn hikebox_retry_new(policy: *mut Raw, pass: *mut Raw, deadline: u64, retry: *mut Raw) -> u32;
+    fn hikebox_retry_on_quota(policy: *mut Raw, quota: *mut Raw, deadline: u64, retry: *mut Raw) -> u32;
+    fn hikebox_retry_unlimited(policy: *mut Raw, deadline: u64, retry: *mut Raw) -> u32;
     fn hikebox_retry_poll(
         retry: *mut Raw,
         now: u64,
@@ -202,6 +204,7 @@ extern "C" {
         next: *mut Next,
     ) -> u32;
     fn hikebox_retry_see(retry: *mut Raw, next: *mut Next) -> u32;
+    fn hikebox_retry_left(retry: *mut Raw, now: u64, left: *mut u64) -> u32;
     fn hikebox_retry_cancel(retry: *mut Raw) -> u32;
     fn hikebox_retry_end(retry: *mut Raw, pass: *mut Raw) -> u32;
     fn hikebox_retry_end_on_quota(retry: *mut Raw, quota: *mut Raw) -> u32;
@@ -228,7 +231,6 @@ pub(crate) enum Status {
     OutOfRange,
     TooDeep,
     TooMany,
-    JournalFull,
     LimitTooLarge,
     Fixed,
     NoTicket,
@@ -253,7 +255,6 @@ impl Status {
             OUT_OF_RANGE => Self::OutOfRange,
             TOO_DEEP => Self::TooDeep,
             TOO_MANY => Self::TooMany,
-            JOURNAL_FULL => Self::JournalFull,
             LIMIT_TOO_LARGE => Self::LimitTooLarge,
             FIXED => Self::Fixed,
             NO_TICKET => Self::NoTicket,
@@ -493,16 +494,33 @@ impl Handle<QuotaKind> {
 }
 
 impl Handle<RetryKind> {
-    pub(crate) fn on_budget(policy: &mut Handle<PolicyKind>, pass: &mut Handle<PassKind>) -> Result<Self, Status> {
-        Self::filled(|retry| unsafe { hikebox_retry_new(policy.raw(), pass.raw(), retry) })
+    /// A retry with a pass of its own, and a deadline up to [`FAR`], or [`NO_DEADLINE`].
+    pub(crate) fn on_budget(
+        policy: &mut Handle<PolicyKind>,
+        pass: &mut Handle<PassKind>,
+        deadline: u64,
+    ) -> Result<Self, Status> {
+        Self::filled(|retry| unsafe { hikebox_retry_new(policy.raw(), pass.raw(), deadline, retry) })
     }
 
-    pub(crate) fn on_quota(policy: &mut Handle<PolicyKind>, quota: &mut Handle<QuotaKind>) -> Result<Self, Status> {
-        Self::filled(|retry| unsafe { hikebox_retry_on_quota(policy.raw(), quota.raw(), retry) })
+    pub(crate) fn on_quota(
+        policy: &mut Handle<PolicyKind>,
+        quota: &mut Handle<QuotaKind>,
+        deadline: u64,
+    ) -> Result<Self, Status> {
+        Self::filled(|retry| unsafe { hikebox_retry_on_quota(policy.raw(), quota.raw(), deadline, retry) })
     }
 
-    pub(crate) fn unlimited(policy: &mut Handle<PolicyKind>) -> Result<Self, Status> {
-        Self::filled(|retry| unsafe { hikebox_retry_unlimited(policy.raw(), retry) })
+    pub(crate) fn unlimited(policy: &mut Handle<PolicyKind>, deadline: u64) -> Result<Self, Status> {
+        Self::filled(|retry| unsafe { hikebox_retry_unlimited(policy.raw(), deadline, retry) })
+    }
+
+    /// How many milliseconds it has at this moment up to its deadline, or [`NO_DEADLINE`].
+    pub(crate) fn left(&mut self, now: u64) -> u64 {
+        let mut left = 0;
+        let status = unsafe { hikebox_retry_left(self.raw(), now, &mut left) };
+        debug_assert_eq!(status, OK);
+        left
     }
 
     pub(crate) fn poll(&mut self, now: u64, words: &[u32; 4], report: u32, code: u64) -> Result<Next, Status> {

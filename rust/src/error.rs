@@ -70,7 +70,6 @@ impl fmt::Display for Cause {
             Self::NoMemory => "no memory",
             Self::Backwards => "the clock went back",
             Self::StoreFailed => "the store of tickets failed",
-            Self::PolicyTooLarge => "the policy has 256 nodes or is 32 deep, and a deadline takes one more",
         })
     }
 }

@@ -2,7 +2,7 @@
 
 use crate::budget::{Budget, BudgetError};
 use crate::clock::whole_millis;
-use crate::engine::{self, Handle, Next, RetryKind, FAR};
+use crate::engine::{self, Handle, Next, RetryKind, FAR, NO_DEADLINE};
 use crate::grants::{Grants, Source, StoreFailure, Tickets};
 use crate::policy::Policy;
 use crate::quota::Quota;
@@ -87,7 +87,7 @@ pub enum Step {
 pub enum Ended {
     /// The last run succeeded.
     Won,
-    /// The last run failed, and the schedule does not go on.
+    /// The last run failed, and the schedule does not go on, or not before the deadline.
     ScheduleDone,
     /// The last run failed, the schedule goes on, and the budget or the quota has no ticket.
     BudgetRefused,
@@ -107,8 +107,6 @@ pub enum Cause {
     Backwards,
     /// The store of tickets failed: [`Machine::store_failure`] says how.
     StoreFailed,
-    /// The retry has a deadline, which takes a node more, and its policy has 256 or is 32 deep.
-    PolicyTooLarge,
 }
 
 impl Machine {
@@ -118,14 +116,39 @@ impl Machine {
     ///
     /// [`BudgetError::NoMemory`].
     pub fn new(policy: &Policy, budget: &impl Grants) -> Result<Self, BudgetError> {
-        Self::on(policy, budget.source())
+        Self::on(policy, budget.source(), NO_DEADLINE)
     }
 
-    pub(crate) fn on(policy: &Policy, source: Source) -> Result<Self, BudgetError> {
+    /// The same with a moment past which it plans no run: where the schedule does, it is over as
+    /// [`Ended::ScheduleDone`], and draws no ticket for that.
+    ///
+    /// ```
+    /// use hikebox::{Ended, Machine, Policy, Report, Step, Unlimited};
+    /// use std::time::Duration;
+    ///
+    /// let at = Duration::from_millis;
+    /// let policy: Policy = r#"{"spaced":450}"#.parse()?;
+    /// let mut machine = Machine::until(&policy, &Unlimited, at(600))?;
+    /// assert_eq!(machine.step(at(0), None), Step::Run);
+    /// assert_eq!(machine.step(at(0), Some(Report::Lost(7))), Step::Wait(at(450)));
+    /// assert_eq!(machine.left(at(450)), Some(at(150)));
+    /// assert_eq!(machine.step(at(450), None), Step::Run);
+    /// assert_eq!(machine.step(at(450), Some(Report::Lost(7))), Step::Over(Ended::ScheduleDone));
+    /// # Ok::<(), Box<dyn std::error::Error>>(())
+    /// ```
+    ///
+    /// # Errors
+    ///
+    /// [`BudgetError::NoMemory`].
+    pub fn until(policy: &Policy, budget: &impl Grants, deadline: Duration) -> Result<Self, BudgetError> {
+        Self::on(policy, budget.source(), whole_millis(deadline))
+    }
+
+    pub(crate) fn on(policy: &Policy, source: Source, deadline: u64) -> Result<Self, BudgetError> {
         let handle = policy.with(|policy| match &source {
-            Source::Budget(budget) => budget.with(|root| Handle::on_budget(policy, root)),
-            Source::Quota(quota) => quota.with(|root| Handle::on_quota(policy, root)),
-            Source::Store(_) | Source::Unlimited => Handle::unlimited(policy),
+            Source::Budget(budget) => budget.with(|root| Handle::on_budget(policy, root, deadline)),
+            Source::Quota(quota) => quota.with(|root| Handle::on_quota(policy, root, deadline)),
+            Source::Store(_) | Source::Unlimited => Handle::unlimited(policy, deadline),
         });
         Ok(Self { handle: Some(handle.map_err(BudgetError::of)?), draws_on: DrawsOn::of(source) })
     }
@@ -182,6 +205,15 @@ impl Machine {
     /// How many runs were reported.
     pub fn runs(&mut self) -> u64 {
         self.see().runs
+    }
+
+    /// How long it is from a moment to the deadline, as the time that a run may be given: none where that is past. `None`
+    /// where there is no deadline.
+    pub fn left(&mut self, now: Duration) -> Option<Duration> {
+        match self.handle().left(whole_millis(now)) {
+            NO_DEADLINE => None,
+            left => Some(Duration::from_millis(left)),
+        }
     }
 
     /// Why the store of tickets failed, where it did.
@@ -268,7 +300,7 @@ impl fmt::Debug for DrawsOn {
 fn ended_of(how: u32) -> Ended {
     match how {
         engine::ENDED_WON => Ended::Won,
-        engine::ENDED_DONE => Ended::ScheduleDone,
+        engine::ENDED_DONE | engine::ENDED_DEADLINE => Ended::ScheduleDone,
         engine::ENDED_REFUSED => Ended::BudgetRefused,
         engine::ENDED_CANCELLED => Ended::Cancelled,
         engine::ENDED_NO_MEMORY => Ended::Broken(Cause::NoMemory),

@@ -1,13 +1,11 @@
 //! Policies: schedules that were read and are right.
 
-use crate::clock::whole_millis;
 use crate::engine::{self, DriverKind, Handle, Place, PolicyKind, Status};
 use crate::schedule::Schedule;
 use std::error::Error;
 use std::fmt;
 use std::str::FromStr;
 use std::sync::{Arc, Mutex, PoisonError};
-use std::time::Duration;
 
 /// The most events that a driver keeps.
 const MOST_EVENTS: usize = 65_536;
@@ -69,8 +67,6 @@ pub enum PolicyFault {
     TooDeep,
     /// It has more than 256 nodes.
     TooMany,
-    /// It made 65,536 steps.
-    JournalFull,
     /// Memory is wanting.
     NoMemory,
 }
@@ -145,16 +141,6 @@ impl Policy {
         Ok(lines)
     }
 
-    /// The policy of calls that end by a deadline, of which the first event comes after so long: that event is the
-    /// schedule's first, so what is left of the time is what it has. `None` where nothing is.
-    pub(crate) fn until(&self, deadline: Duration, passed: Duration) -> Result<Option<Self>, PolicyError> {
-        let rounded_up = passed.saturating_add(Duration::from_nanos(999_999));
-        match whole_millis(deadline).checked_sub(whole_millis(rounded_up)) {
-            Some(left) => Self::from_json(&format!(r#"{{"ends_by":[{left},{}]}}"#, self.json)).map(Some),
-            None => Ok(None),
-        }
-    }
-
     /// Lends the handle to one call.
     pub(crate) fn with<T>(&self, call: impl FnOnce(&mut Handle<PolicyKind>) -> T) -> T {
         call(&mut self.handle.lock().unwrap_or_else(PoisonError::into_inner))
@@ -162,12 +148,12 @@ impl Policy {
 }
 
 /// A policy that is stepped by hand.
-pub(crate) struct Driver {
+struct Driver {
     handle: Handle<DriverKind>,
 }
 
 impl Driver {
-    pub(crate) fn new(policy: &Policy) -> Result<Self, PolicyError> {
+    fn new(policy: &Policy) -> Result<Self, PolicyError> {
         Ok(Self { handle: policy.with(Handle::<DriverKind>::new).map_err(PolicyError::of)? })
     }
 
@@ -178,7 +164,7 @@ impl Driver {
     }
 
     /// One event: the planned start, or `None` where the policy is done.
-    pub(crate) fn step(&mut self, now: u64, words: [u32; 4], input: u64) -> Result<Option<u64>, PolicyError> {
+    fn step(&mut self, now: u64, words: [u32; 4], input: u64) -> Result<Option<u64>, PolicyError> {
         let decision = self.handle.next(now, &words, input).map_err(PolicyError::of)?;
         Ok(decision.goes_on.then_some(decision.start))
     }
@@ -204,6 +190,11 @@ impl PolicyError {
     /// What is wanted there and was found, or why it is not JSON, in the words of `zsched check`, or nothing.
     pub fn hint(&self) -> &str {
         &self.hint
+    }
+
+    /// That memory is wanting.
+    pub(crate) fn no_memory() -> Self {
+        Self::of(Status::NoMemory)
     }
 
     /// The error of a call on what is a policy.
@@ -243,7 +234,6 @@ impl PolicyFault {
             Status::OutOfRange => Self::OutOfRange,
             Status::TooDeep => Self::TooDeep,
             Status::TooMany => Self::TooMany,
-            Status::JournalFull => Self::JournalFull,
             Status::NoMemory => Self::NoMemory,
             status => unreachable!("the engine's status {status:?}"),
         }
@@ -258,7 +248,6 @@ impl fmt::Display for PolicyFault {
             Self::OutOfRange => "number out of range",
             Self::TooDeep => "too deep",
             Self::TooMany => "too many nodes",
-            Self::JournalFull => "the journal is full",
             Self::NoMemory => "no memory",
         })
     }

@@ -1,10 +1,12 @@
 //! Repeats of calls that succeed, and polls until an answer is there.
 
 use crate::asynchronous::AsyncSleep;
-use crate::clock::whole_millis;
+use crate::course::{Course, Lost, Terms};
 use crate::engine::FAR;
+use crate::grants::Unlimited;
 use crate::host::{Host, Random, Sleep, SystemHost};
-use crate::policy::{Driver, Policy, PolicyError};
+use crate::machine::Ended;
+use crate::policy::{Policy, PolicyError};
 use std::error::Error;
 use std::fmt;
 use std::future::Future;
@@ -138,7 +140,7 @@ impl<'a, T> Repeating<'a, T> {
 
 impl<'a, T, C, M> Repeating<'a, T, C, M> {
     /// No run is planned to begin later than this (whole milliseconds) after the first one began: where it would be, the
-    /// schedule is done. It takes a node of the policy: one of 256 nodes, or 32 deep, has no room for it.
+    /// schedule is done.
     pub fn deadline(mut self, deadline: Duration) -> Self {
         self.deadline = Some(deadline);
         self
@@ -199,13 +201,13 @@ impl<T, C: FnMut(&T) -> u64, K: FnMut() -> Instant, S: Sleep, R: Random> Repeati
         mut wanted: impl FnMut(&T) -> bool,
         mut call: impl FnMut() -> Result<T, E>,
     ) -> Result<T, RepeatError<T, E>> {
-        let mut rounds = self.begin();
+        let mut course = self.begin();
         loop {
             let value = call().map_err(RepeatError::Failed)?;
             if wanted(&value) {
                 return Ok(value);
             }
-            match self.after(&mut rounds, &value)? {
+            match self.after(&mut course, &value)? {
                 Some(wait) if wait.is_zero() => (),
                 Some(wait) => self.host.sleep.sleep(wait),
                 None => return Err(RepeatError::ScheduleDone(value)),
@@ -240,13 +242,13 @@ impl<T, C: FnMut(&T) -> u64, K: FnMut() -> Instant, S: AsyncSleep, R: Random> Re
     where
         F: Future<Output = Result<T, E>>,
     {
-        let mut rounds = self.begin();
+        let mut course = self.begin();
         loop {
             let value = call().await.map_err(RepeatError::Failed)?;
             if wanted(&value) {
                 return Ok(value);
             }
-            match self.after(&mut rounds, &value)? {
+            match self.after(&mut course, &value)? {
                 Some(wait) if wait.is_zero() => (),
                 Some(wait) => self.host.sleep.sleep(wait).await,
                 None => return Err(RepeatError::ScheduleDone(value)),
@@ -256,44 +258,23 @@ impl<T, C: FnMut(&T) -> u64, K: FnMut() -> Instant, S: AsyncSleep, R: Random> Re
 }
 
 impl<T, C: FnMut(&T) -> u64, K: FnMut() -> Instant, S, R: Random> Repeating<'_, T, C, Host<K, S, R>> {
-    fn begin(&mut self) -> Rounds {
-        Rounds { began: (self.host.clock)(), driver: None, latest: 0 }
+    fn begin(&mut self) -> Course {
+        Course::new((self.host.clock)())
     }
 
-    /// How long it is waited after a run that gave this value now, or `None` where the schedule is done.
-    fn after<E>(&mut self, rounds: &mut Rounds, value: &T) -> Result<Option<Duration>, RepeatError<T, E>> {
-        let passed = (self.host.clock)().saturating_duration_since(rounds.began);
-        let driver = match &mut rounds.driver {
-            Some(driver) => driver,
-            None => match begun(self.policy, self.deadline, passed).map_err(RepeatError::Broken)? {
-                Some(driver) => rounds.driver.insert(driver),
-                None => return Ok(None),
-            },
-        };
-        let now = whole_millis(passed).max(rounds.latest);
-        let code = (self.code)(value).min(FAR);
-        let start = driver.step(now, self.host.words.draw(), code).map_err(RepeatError::Broken)?;
-        rounds.latest = start.unwrap_or(now);
-        Ok(start.map(|start| Duration::from_millis(start.saturating_sub(now))))
-    }
-}
-
-/// A repetition under way. The schedule is begun by the end of the first run, whose value was not wanted.
-struct Rounds {
-    began: Instant,
-    driver: Option<Driver>,
-    /// The moment of the latest event, or the start that was planned at it: a clock that did not move is taken to have.
-    latest: u64,
-}
-
-/// The schedule, of which the first run ended after so long; `None` where the deadline is past.
-fn begun(policy: &Policy, deadline: Option<Duration>, passed: Duration) -> Result<Option<Driver>, PolicyError> {
-    match deadline {
-        None => Driver::new(policy).map(Some),
-        Some(deadline) => match policy.until(deadline, passed)? {
-            Some(policy) => Driver::new(&policy).map(Some),
-            None => Ok(None),
-        },
+    /// How long it is waited after a run that gave this value now, or `None` where the schedule is done. To the engine each
+    /// run whose value is not wanted is one that failed, on nothing that could refuse a retry.
+    fn after<E>(&mut self, course: &mut Course, value: &T) -> Result<Option<Duration>, RepeatError<T, E>> {
+        let now = (self.host.clock)();
+        let broken = || RepeatError::Broken(PolicyError::no_memory());
+        course.resume(|| now).map_err(|_| broken())?;
+        let lost = Lost { now, code: (self.code)(value).min(FAR), words: self.host.words.draw(), asked: None };
+        let terms = Terms { policy: self.policy, budget: &Unlimited, deadline: self.deadline };
+        match course.lost(terms, lost) {
+            Ok(wait) => Ok(Some(wait)),
+            Err(Ended::Broken(_)) => Err(broken()),
+            Err(_) => Ok(None),
+        }
     }
 }
 

@@ -179,9 +179,6 @@ impl<'a, E, F, H, M> Retrying<'a, E, F, H, M> {
     /// assert!(runs <= 3); // at 0, 20 and 40 ms
     /// # Ok::<(), hikebox::PolicyError>(())
     /// ```
-    ///
-    /// The deadline takes a node of the policy: one of 256 nodes, or 32 deep, has no room for it, and a retry by it ends
-    /// at its first failure as [`Cause::PolicyTooLarge`].
     pub fn deadline(mut self, deadline: Duration) -> Self {
         self.terms.deadline = Some(deadline);
         self

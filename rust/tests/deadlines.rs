@@ -1,6 +1,6 @@
 //! Deadlines: worked by hand, on a clock that the sleeps and the calls move.
 
-use hikebox::{Attempt, Budget, Cause, Policy, Quota, RetryError, Retrying, Unlimited};
+use hikebox::{Attempt, Budget, Ended, Machine, Policy, Quota, Report, RetryError, Retrying, Step, Unlimited};
 use std::cell::Cell;
 use std::time::{Duration, Instant};
 
@@ -147,21 +147,44 @@ fn without_one_nothing_is_left_to_tell() {
 }
 
 #[test]
-fn a_policy_with_no_room_for_it_is_told_at_the_first_failure() {
-    let meets = |count: usize| {
-        let leaves: Vec<String> = (0..count).map(|_| r#"{"recurs":1}"#.to_owned()).collect();
-        leaves.into_iter().reduce(|both, leaf| format!(r#"{{"meet":[{leaf},{both}]}}"#)).unwrap()
-    };
-    let ended = |json: &str| {
-        let policy = policy(json);
-        Retrying::new(&policy, &Unlimited).deadline(micros(1000)).call(|| Err::<(), _>("no"))
-    };
-    assert_eq!(ended(&meets(31)), Err(RetryError::ScheduleDone("no")));
-    assert_eq!(ended(&meets(32)), Err(RetryError::Broken(Cause::PolicyTooLarge, "no")));
-    let text = "no (the retry could not go on: the policy has 256 nodes or is 32 deep, and a deadline takes one more)";
-    assert_eq!(ended(&meets(32)).unwrap_err().to_string(), text);
-    let deep = policy(&meets(32));
-    assert_eq!(Retrying::new(&deep, &Unlimited).deadline(micros(1000)).call(|| Ok::<_, ()>(7)), Ok(7));
+fn a_policy_of_any_size_has_one() {
+    // 32 deep: as deep as a policy may be
+    let leaves = (0..31).map(|_| r#"{"recurs":9}"#.to_owned());
+    let deep = leaves.fold(r#"{"spaced":100}"#.to_owned(), |both, leaf| format!(r#"{{"meet":[{leaf},{both}]}}"#));
+    assert_eq!(policy(&deep).depth(), 32);
+    assert_eq!(runs(&deep, 259_000, 30_000), (vec![(0, 259_000), (130_000, 129_000)], 1));
+}
+
+#[test]
+fn each_failure_counts_by_the_part_of_a_millisecond_at_which_it_was() {
+    // failures at 0.9, 101.8 and 202.7 ms; the engine is told 1, 102 and 203, and plans 101, 202 and 303
+    let starts = vec![(0, 203_000), (100_900, 102_100), (201_800, 1_200)];
+    assert_eq!(runs(r#"{"spaced":100}"#, 203_000, 900), (starts.clone(), 2));
+    // a run at 201.8 is not past 202, and one at 201.8 is past 201.7
+    assert_eq!(runs(r#"{"spaced":100}"#, 202_000, 900).0.len(), 3);
+    assert_eq!(runs(r#"{"spaced":100}"#, 201_700, 900).0.len(), 2);
+}
+
+#[test]
+fn a_machine_ends_by_it_at_the_moments_of_its_host() {
+    let (at, policy) = (Duration::from_millis, policy(r#"{"spaced":450}"#));
+    let (budget, quota) = (Budget::new(9).unwrap(), Quota::new_at(Instant::now(), 9, 0.0, at(60_000)).unwrap());
+    let machines =
+        [Machine::until(&policy, &budget, at(1000)), Machine::until(&policy, &quota, at(1000)), Machine::until(&policy, &Unlimited, at(1000))];
+    for machine in machines {
+        let mut machine = machine.unwrap();
+        assert_eq!(machine.left(at(0)), Some(at(1000)));
+        for start in [0, 450] {
+            assert_eq!(machine.step(at(start), None), Step::Run);
+            assert_eq!(machine.step(at(start), Some(Report::Lost(5))), Step::Wait(at(start + 450)));
+        }
+        assert_eq!(machine.step(at(900), None), Step::Run);
+        assert_eq!(machine.step(at(900), Some(Report::Lost(5))), Step::Over(Ended::ScheduleDone));
+        assert_eq!((machine.granted(), machine.runs()), (2, 3));
+        assert_eq!((machine.left(at(999)), machine.left(at(1001))), (Some(at(1)), Some(at(0))));
+    }
+    assert_eq!((budget.close().unwrap(), quota.close().unwrap()), (2, 2));
+    assert_eq!(Machine::new(&policy, &Unlimited).unwrap().left(at(7)), None);
 }
 
 #[cfg(feature = "tower")]

@@ -82,10 +82,22 @@ fn a_repetition_goes_by_a_clock_of_ones_own_and_ends_by_its_deadline() {
     assert_eq!(runs(r#"{"spaced":100}"#, 30, Some(259)), (vec![0, 130], Ok(2)));
     assert_eq!(runs(r#"{"spaced":100}"#, 30, Some(260)), (vec![0, 130, 260], Ok(3)));
     assert_eq!(runs("\"forever\"", 30, Some(29)), (vec![0], Ok(1)));
-    let mut deep = r#"{"recurs":1}"#.to_owned();
+    let mut deep = r#"{"spaced":4}"#.to_owned();
     (0..31).for_each(|_| deep = format!(r#"{{"nothing":{deep}}}"#));
-    let broken = runs(&deep, 1, Some(9)).1.unwrap_err();
-    assert!(broken.to_string().starts_with("the repeat could not go on: too deep"), "{broken}");
+    assert_eq!(runs(&deep, 1, Some(9)), (vec![0, 5], Ok(2)));
+}
+
+#[test]
+fn a_poll_has_no_last_run() {
+    let (policy, mut runs) = (policy(r#"{"spaced":1000}"#), 0);
+    let polled = Repeating::new(&policy).sleep(|_| ()).until(
+        |run| *run == 70_000,
+        || {
+            runs += 1;
+            Ok::<_, ()>(runs)
+        },
+    );
+    assert_eq!(polled, Ok(70_000));
 }
 
 #[test]

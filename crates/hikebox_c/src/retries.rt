@@ -4,13 +4,13 @@ ghost use Rattle.sched_time.specs.declared.numbers.TheConstants.{FAR};
 ghost use Rattle.sched_handle.specs.Fills.{Frees};
 ghost use Rattle.sched_handle.specs.Passes.{Joins};
 ghost use Rattle.sched_handle.specs.Quotas.{JoinsQuota};
-ghost use Rattle.sched_handle.specs.Retries.{Retries, RetriesOnQuota, RetriesUnlimited};
-ghost use Rattle.sched_handle.specs.Retries.{Sees, Cancels, IsOfItsBudget, IsOfItsQuota};
+ghost use Rattle.sched_handle.specs.Retries.{Retries, RetriesOnQuota};
+ghost use Rattle.sched_handle.specs.Retries.{Sees, Leaves, Cancels, IsOfItsBudget, IsOfItsQuota};
 ghost use Rattle.sched_reply.specs.Status.{told};
 ghost use Rattle.sched_handle.specs.declared.held.Kind.TheVariants as kind;
 ghost use Rattle.sched_reply.specs.declared.status.Status.TheVariants as status;
-ghost use Rattle.sched_calls.specs.Calls.{Tells, Kept, OnHeld, MakesWith};
-ghost use Rattle.sched_calls.specs.Retries.{NewRetry, PollsAt, EndsHeld};
+ghost use Rattle.sched_calls.specs.Calls.{Tells, Kept, OnHeld};
+ghost use Rattle.sched_calls.specs.Retries.{deadline_of, NewRetryBy, NewUnlimited, PollsAt, EndsHeld};
 
 use sched_handle::{Handle, Reply};
 use std::alloc::Global;
@@ -20,13 +20,14 @@ pub extern "C" fn hikebox_retry_new(
     alloc: Global,
     policy: &mut Handle,
     pass: &mut Handle,
+    deadline: u64,
     retry: &mut Handle,
 ) -> u32
-    ensures retry { NewRetry Retries policy.old.held pass.old.held pass.new.held
+    ensures retry { NewRetryBy Retries (deadline_of deadline) policy.old.held pass.old.held pass.new.held
         retry.old.held result retry.new.held }
     ensures policy { policy.new.held ≡ policy.old.held }
 {
-    sched_calls::retry_new(alloc, policy, pass, retry)
+    sched_calls::retry_new(alloc, policy, pass, deadline, retry)
 }
 
 #[unsafe(no_mangle)]
@@ -34,25 +35,27 @@ pub extern "C" fn hikebox_retry_on_quota(
     alloc: Global,
     policy: &mut Handle,
     quota: &mut Handle,
+    deadline: u64,
     retry: &mut Handle,
 ) -> u32
-    ensures retry { NewRetry RetriesOnQuota policy.old.held quota.old.held quota.new.held
+    ensures retry { NewRetryBy RetriesOnQuota (deadline_of deadline) policy.old.held quota.old.held quota.new.held
         retry.old.held result retry.new.held }
     ensures policy { policy.new.held ≡ policy.old.held }
 {
-    sched_calls::retry_on_quota(alloc, policy, quota, retry)
+    sched_calls::retry_on_quota(alloc, policy, quota, deadline, retry)
 }
 
 #[unsafe(no_mangle)]
 pub extern "C" fn hikebox_retry_unlimited(
     alloc: Global,
     policy: &mut Handle,
+    deadline: u64,
     retry: &mut Handle,
 ) -> u32
-    ensures { MakesWith (Kept RetriesUnlimited) policy.old.held policy.new.held
+    ensures { NewUnlimited (deadline_of deadline) policy.old.held policy.new.held
         retry.old.held result retry.new.held }
 {
-    sched_calls::retry_unlimited(alloc, policy, retry)
+    sched_calls::retry_unlimited(alloc, policy, deadline, retry)
 }
 
 #[unsafe(no_mangle)]
@@ -78,6 +81,20 @@ pub extern "C" fn hikebox_retry_see(alloc: Global, retry: &mut Handle, next: &mu
     ensures { OnHeld (Kept Sees) retry.old.held retry.new.held (Tells result next.old next.new) }
 {
     sched_calls::retry_see(alloc, retry, next)
+}
+
+#[unsafe(no_mangle)]
+pub extern "C" fn hikebox_retry_left(
+    alloc: Global,
+    retry: &mut Handle,
+    now: u64,
+    left: &mut u64,
+) -> u32
+    ensures left { now ≤ FAR → OnHeld (Kept (Leaves now)) retry.old.held retry.new.held (Tells result left.old left.new) }
+    ensures too_large { FAR < now → (retry.new.held ≡ retry.old.held)
+        × Tells result left.old left.new (Err status.TooLarge) }
+{
+    sched_calls::retry_left(alloc, retry, now, left)
 }
 
 #[unsafe(no_mangle)]

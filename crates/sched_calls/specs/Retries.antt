@@ -1,19 +1,19 @@
 -- What the calls on retries do.
-use Rattle.std.specs.Prelude.{◌≡◌, ◌≢◌, ◌⊎◌, ℕ, ◌<◌, ◌≤◌, List, Option, Some, None, is_some, MatchBool, Result, Ok, Err}
+use Rattle.std.specs.Prelude.{◌≡◌, ◌≢◌, ◌⊎◌, ℕ, ◌<◌, ◌≤◌, if◌then◌else◌, nat_eq, nat_le, List, Option, Some, None, is_some, MatchBool, Result, Ok, Err}
 use Rattle.std.specs.Global.{Global}
 use Rattle.std_alloc.specs.declared.boxed.Box.{Box}
 use Rattle.sched_time.specs.declared.numbers.TheConstants.{FAR}
 use Rattle.sched_time.specs.declared.numbers.Tick.{Tick}
 use Rattle.sched_effect.specs.declared.ran.Ran.{Ran}
 use Rattle.sched_effect.specs.declared.ran.Ran.TheVariants.{Won, Lost}
-use Rattle.sched_handle.specs.Retries.{Polls, drawn_on, GivesBack}
+use Rattle.sched_handle.specs.Retries.{RetriesUnlimited, Polls, drawn_on, GivesBack}
 use Rattle.sched_handle.specs.declared.held.Held.{Held}
 use Rattle.sched_handle.specs.declared.held.Kind.{Kind}
 use Rattle.sched_handle.specs.declared.held.Kind.TheVariants as kind
 use Rattle.sched_reply.specs.declared.replies.Reply.{Reply}
 use Rattle.sched_reply.specs.declared.status.Status.{Status}
 use Rattle.sched_reply.specs.declared.status.Status.TheVariants.{Empty, Full, TooLarge, NoSuchReport, DrawsElsewhere}
-use Rattle.sched_calls.specs.Calls.{Puts, OnHeld, MakesWith, OfKind}
+use Rattle.sched_calls.specs.Calls.{Puts, Kept, OnHeld, MakesWith, OfKind}
 use Rattle.sched_calls.specs.Shared.{NoneJoined}
 
 -- a retry of what the first handle holds is made with what the second holds; the policy is asked for before the pass
@@ -23,6 +23,21 @@ NewRetry retries None pass left u code v = MatchBool (is_some u)
     ((left ≡ pass) × Puts u code v (Err Full))
     ((left ≡ pass) × Puts u code v (Err Empty))
 NewRetry retries (Some policy) pass left u code v = MakesWith (retries policy) pass left u code v
+
+-- the deadline that a number means: 2^64 - 1 is none, and another one past the last moment is refused
+abbrev pub deadline_of : ℕ → Result (Option ℕ) Status
+deadline_of number =
+    if nat_eq number 18446744073709551615 then Ok None else if nat_le number FAR then Ok (Some number) else Err TooLarge
+
+-- the same by this deadline, which is looked at first
+abbrev pub NewRetryBy : (Option ℕ → Held → Held → Result (Box Held Global) Status → Held → Type 0) →
+    Result (Option ℕ) Status → Option Held → Option Held → Option Held → Option Held → ℕ → Option Held → Type 0
+NewRetryBy retries (Ok deadline) policy pass left u code v = NewRetry (retries deadline) policy pass left u code v
+NewRetryBy retries (Err s) policy pass left u code v = (left ≡ pass) × Puts u code v (Err s)
+
+abbrev pub NewUnlimited : Result (Option ℕ) Status → Option Held → Option Held → Option Held → ℕ → Option Held → Type 0
+NewUnlimited (Ok deadline) policy left u code v = MakesWith (Kept (RetriesUnlimited deadline)) policy left u code v
+NewUnlimited (Err s) policy left u code v = (left ≡ policy) × Puts u code v (Err s)
 
 -- the run that a number and a code report, if any
 abbrev pub Reports : ℕ → ℕ → Result (Option Ran) Status → Type 0

@@ -24,6 +24,6 @@ pub use quotas::{
     quota_seen, quota_split,
 };
 pub use retries::{
-    retry_cancel, retry_end, retry_end_on_quota, retry_free, retry_new, retry_on_quota, retry_poll,
-    retry_see, retry_unlimited,
+    retry_cancel, retry_end, retry_end_on_quota, retry_free, retry_left, retry_new, retry_on_quota,
+    retry_poll, retry_see, retry_unlimited,
 };

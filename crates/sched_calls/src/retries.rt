@@ -5,21 +5,45 @@ ghost use Rattle.sched_handle.specs.Fills.{Frees};
 ghost use Rattle.sched_handle.specs.Passes.{Joins};
 ghost use Rattle.sched_handle.specs.Quotas.{JoinsQuota};
 ghost use Rattle.sched_handle.specs.Retries.{Retries, RetriesOnQuota, RetriesUnlimited};
-ghost use Rattle.sched_handle.specs.Retries.{Sees, Cancels, IsOfItsBudget, IsOfItsQuota};
+ghost use Rattle.sched_handle.specs.Retries.{Sees, Leaves, Cancels, IsOfItsBudget, IsOfItsQuota};
 ghost use Rattle.sched_reply.specs.Status.{told};
 ghost use Rattle.sched_handle.specs.declared.held.Kind.TheVariants as kind;
 ghost use Rattle.sched_reply.specs.declared.status.Status.TheVariants as status;
 ghost use Rattle.sched_calls.specs.Calls.{Tells, Kept, OnHeld, MakesWith};
-ghost use Rattle.sched_calls.specs.Retries.{NewRetry, Reports, PollsAt, EndsHeld};
+ghost use Rattle.sched_calls.specs.Retries.{deadline_of, NewRetry, NewRetryBy, NewUnlimited, Reports, PollsAt, EndsHeld};
 
 use sched_effect::Ran;
 use sched_handle::{Handle, Held, Kind, Reply, Status, tell, tick_at};
-use sched_time::Millis;
+use sched_time::{Millis, Moment};
 use std::alloc::Global;
 
-/// Puts a retry that has not begun into `retry`, with the policy and a pass split off `pass`.
-pub fn retry_new(alloc: Global, policy: &mut Handle, pass: &mut Handle, retry: &mut Handle) -> u32
-    ensures retry { NewRetry Retries policy.old.held pass.old.held pass.new.held
+/// Puts a retry that has not begun into `retry`, with the policy and a pass split off `pass`. It plans no run past the
+/// deadline, and 2^64 - 1 is none.
+pub fn retry_new(
+    alloc: Global,
+    policy: &mut Handle,
+    pass: &mut Handle,
+    deadline: u64,
+    retry: &mut Handle,
+) -> u32
+    ensures retry { NewRetryBy Retries (deadline_of deadline) policy.old.held pass.old.held pass.new.held
+        retry.old.held result retry.new.held }
+    ensures policy { policy.new.held ≡ policy.old.held }
+{
+    match deadline_at(deadline) {
+        Ok(deadline) => new_retry(alloc, policy, pass, deadline, retry),
+        Err(status) => status.code(),
+    }
+}
+
+fn new_retry(
+    alloc: Global,
+    policy: &mut Handle,
+    pass: &mut Handle,
+    deadline: Option<Moment>,
+    retry: &mut Handle,
+) -> u32
+    ensures retry { NewRetry (Retries deadline) policy.old.held pass.old.held pass.new.held
         retry.old.held result retry.new.held }
     ensures policy { policy.new.held ≡ policy.old.held }
 {
@@ -33,7 +57,7 @@ pub fn retry_new(alloc: Global, policy: &mut Handle, pass: &mut Handle, retry: &
         policy.put(plan);
         return Status::Empty.code();
     };
-    let made = Held::retry(alloc, &plan, &mut held);
+    let made = Held::retry(alloc, &plan, &mut held, deadline);
     policy.put(plan);
     pass.put(held);
     retry.fill(made)
@@ -44,9 +68,27 @@ pub fn retry_on_quota(
     alloc: Global,
     policy: &mut Handle,
     quota: &mut Handle,
+    deadline: u64,
     retry: &mut Handle,
 ) -> u32
-    ensures retry { NewRetry RetriesOnQuota policy.old.held quota.old.held quota.new.held
+    ensures retry { NewRetryBy RetriesOnQuota (deadline_of deadline) policy.old.held quota.old.held quota.new.held
+        retry.old.held result retry.new.held }
+    ensures policy { policy.new.held ≡ policy.old.held }
+{
+    match deadline_at(deadline) {
+        Ok(deadline) => new_retry_on_quota(alloc, policy, quota, deadline, retry),
+        Err(status) => status.code(),
+    }
+}
+
+fn new_retry_on_quota(
+    alloc: Global,
+    policy: &mut Handle,
+    quota: &mut Handle,
+    deadline: Option<Moment>,
+    retry: &mut Handle,
+) -> u32
+    ensures retry { NewRetry (RetriesOnQuota deadline) policy.old.held quota.old.held quota.new.held
         retry.old.held result retry.new.held }
     ensures policy { policy.new.held ≡ policy.old.held }
 {
@@ -60,15 +102,30 @@ pub fn retry_on_quota(
         policy.put(plan);
         return Status::Empty.code();
     };
-    let made = Held::retry_on_quota(alloc, &plan, &mut held);
+    let made = Held::retry_on_quota(alloc, &plan, &mut held, deadline);
     policy.put(plan);
     quota.put(held);
     retry.fill(made)
 }
 
 /// The same with no pass: each retry that the policy goes on to is granted.
-pub fn retry_unlimited(alloc: Global, policy: &mut Handle, retry: &mut Handle) -> u32
-    ensures { MakesWith (Kept RetriesUnlimited) policy.old.held policy.new.held
+pub fn retry_unlimited(alloc: Global, policy: &mut Handle, deadline: u64, retry: &mut Handle) -> u32
+    ensures { NewUnlimited (deadline_of deadline) policy.old.held policy.new.held
+        retry.old.held result retry.new.held }
+{
+    match deadline_at(deadline) {
+        Ok(deadline) => new_retry_unlimited(alloc, policy, deadline, retry),
+        Err(status) => status.code(),
+    }
+}
+
+fn new_retry_unlimited(
+    alloc: Global,
+    policy: &mut Handle,
+    deadline: Option<Moment>,
+    retry: &mut Handle,
+) -> u32
+    ensures { MakesWith (Kept (RetriesUnlimited deadline)) policy.old.held policy.new.held
         retry.old.held result retry.new.held }
 {
     if retry.is_full(alloc) {
@@ -77,9 +134,22 @@ pub fn retry_unlimited(alloc: Global, policy: &mut Handle, retry: &mut Handle) -
     let Some(plan) = policy.take(alloc) else {
         return Status::Empty.code();
     };
-    let made = Held::retry_unlimited(alloc, &plan);
+    let made = Held::retry_unlimited(alloc, &plan, deadline);
     policy.put(plan);
     retry.fill(made)
+}
+
+// The deadline that is meant, if any.
+fn deadline_at(deadline: u64) -> Result<Option<Moment>, Status>
+    ensures { result ≡ deadline_of deadline }
+{
+    if deadline == u64::MAX {
+        return Ok(None);
+    }
+    match Moment::new(deadline) {
+        Some(deadline) => Ok(Some(deadline)),
+        None => Err(Status::TooLarge),
+    }
 }
 
 /// Steps the retry at `now`, with what is reported of its run, and writes what is to be done.
@@ -142,6 +212,24 @@ pub fn retry_see(alloc: Global, retry: &mut Handle, next: &mut Reply) -> u32
     let answer = held.see();
     retry.put(held);
     tell(answer, next)
+}
+
+/// Writes how many milliseconds the retry has at `now` up to its deadline: 0 where that is past, and 2^64 - 1 where it has
+/// none.
+pub fn retry_left(alloc: Global, retry: &mut Handle, now: u64, left: &mut u64) -> u32
+    ensures left { now ≤ FAR → OnHeld (Kept (Leaves now)) retry.old.held retry.new.held (Tells result left.old left.new) }
+    ensures too_large { FAR < now → (retry.new.held ≡ retry.old.held)
+        × Tells result left.old left.new (Err status.TooLarge) }
+{
+    let Some(now) = Moment::new(now) else {
+        return Status::TooLarge.code();
+    };
+    let Some(held) = retry.take(alloc) else {
+        return Status::Empty.code();
+    };
+    let answer = held.left(now);
+    retry.put(held);
+    tell(answer, left)
 }
 
 /// Ends a retry that is not over as cancelled, whatever run is under way.

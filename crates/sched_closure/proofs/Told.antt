@@ -1,7 +1,8 @@
--- What a turn of a retry leaves.
-use Rattle.std.proofs.Common.{◌≡◌, ◌⊎◌, inl, inr, ℕ, Bool, true, false, List, [], ◌∷◌, ◌++◌, Option, Some, None, Result, Ok, Err, refl, sym, ap, ◌∙◌, subst}
+-- What turns of a machine leave of what it may stand for.
+use Rattle.std.proofs.Common.{◌≡◌, ◌⊎◌, inl, inr, ℕ, Bool, true, false, List, [], ◌∷◌, ◌++◌, Option, Some, None, is_some, Result, Ok, Err, refl, sym, ap, ◌∙◌, subst}
 use Rattle.std.specs.List.{FoldsTo}
 use Rattle.std.proofs.lemmas.Fn.{FoldsTo-push}
+use Rattle.std.proofs.lemmas.List.{append-nil}
 use Rattle.rand_core.specs.Stream.{Stream}
 use Rattle.sched_time.specs.declared.numbers.Tick.{Tick}
 use Rattle.sched_plan.specs.Schedule.{Schedule}
@@ -11,137 +12,164 @@ use Rattle.sched_effect.specs.Runs.{ran_by}
 use Rattle.sched_effect.specs.declared.ran.Ran.{Ran}
 use Rattle.sched_task.specs.Course.{Answered}
 use Rattle.sched_task.specs.Words.{next_four}
-use Rattle.sched_task_law.specs.Kind.{a_retry}
+use Rattle.sched_task.specs.declared.endings.How.{How}
+use Rattle.sched_task_law.specs.Kind.{Kind, a_retry, a_repeat, falls_back}
 use Rattle.sched_task_law.specs.Lists.{last_element}
 use Rattle.sched_task_law.specs.Past.{Past, is_under_way, schedule_is_done, waits_for}
 use Rattle.sched_task_law.specs.Law.{Law}
 use Rattle.sched_task_law.proofs.Lists.{by_test, last_element-push}
 use Rattle.sched_task_law.proofs.Law.{or_false}
-use Rattle.sched_retry.specs.Retrying.{Retrying}
-use Rattle.sched_retry.specs.Ending.{how_of, EndingFits}
-use Rattle.sched_retry.specs.declared.endings.Ending.{Ending}
-use Rattle.sched_retry.specs.declared.endings.Ending.TheVariants as ending
-use Rattle.sched_run_machine.specs.Machine.{Machine, StandsFor, Polls, Finds}
+use Rattle.sched_run_machine.specs.Machine.{Machine, StandsFor, Finds as FindsOf}
 use Rattle.sched_run_machine.specs.Next.{next_of, next_by_start}
 use Rattle.sched_run_machine.specs.declared.next.Next.{Next}
-use Rattle.sched_run_machine.specs.declared.next.Next.TheVariants.{Poll, Wait}
+use Rattle.sched_run_machine.specs.declared.next.Next.TheVariants.{Poll, Run, Wait, Over}
 use Rattle.sched_run_machine.proofs.Calls.{plan_after}
-use Rattle.sched_closure.specs.Calls.{calling, start_in, Finishes, HandsOut, Turn}
+use Rattle.sched_retry.specs.Retrying.{Retrying}
+use Rattle.sched_repeat.specs.Machine.{RepeatMachine, Finds, StandsFor as StandsForRepeat}
+use Rattle.sched_repeat.proofs.Calls.{plan_told}
+use Rattle.sched_closure.specs.Turns.{Turning, Calling, calling, Finishes, Turn, start_in}
+use Rattle.sched_closure.specs.Calls.{retry_turning, machine_turning, repeat_turning, repeat_machine_turning}
 
 -- a start is waited for, or none
 start_by : (start : Option ℕ) → start_in (next_by_start start) ≡ start
 start_by None = refl
 start_by (Some start) = refl
 
--- the moment to wait for is that for which the retry waits
-waited : (keeps : Bool) (v : Past) → Law (a_retry keeps) v → v.over ≡ None → start_in (next_of v) ≡ waits_for v
-waited keeps v law unended =
-    let ended = law.ended in
-    let live = (rw unended at ended) refl in
-    let undenied = (or_false v.denied (schedule_is_done v.driver) live).0 in
-    by_test (is_under_way v.runs v.begun)
-    (λ running. rw (unended, undenied, running) refl)
-    (λ idle. rw (unended, undenied, idle) (start_by (next_start_of v.driver)))
+-- the moment to wait for is that for which the task waits
+pub waited : (kind : Kind) (v : Past) → falls_back kind ≡ false → Law kind v → start_in (next_of v) ≡ waits_for v
+waited kind v falls law =
+    elim v.over as (λ over. v.over ≡ over → start_in (next_of v) ≡ waits_for v) [
+      | None ↦ λ unended.
+          let live = (rw unended at law.ended) falls in
+          let undenied = (or_false v.denied (schedule_is_done v.driver) live).0 in
+          by_test (is_under_way v.runs v.begun)
+          (λ running. rw (unended, undenied, running) refl)
+          (λ idle. rw (unended, undenied, idle) (start_by (next_start_of v.driver)))
+      | Some how ↦ λ over. rw over refl
+    ] refl
 
--- the ending of a run that a call gave fits the retry that ended with it
-module _ {I F : Type 0} (item_code : I → ℕ) (fault_code : F → ℕ) where
-  outcome_is : (outcome given : Result I F) → Some outcome ≡ Some given → outcome ≡ given
-  outcome_is outcome given same = cc
-
-  coded_as : (v : Past) (outcome given : Result I F) → last_element v.runs ≡ Some (ran_by item_code fault_code outcome) →
-      Some outcome ≡ Some given → last_element v.runs ≡ Some (ran_by item_code fault_code given)
-  coded_as v outcome given last gave =
-      last ∙ ap (λ (o : Result I F). Some (ran_by item_code fault_code o)) (outcome_is outcome given gave)
-
-  pub ending_fits : (v : Past) (outcome : Result I F) (e : Ending I F) → HandsOut (Some outcome) e → v.over ≡ Some (how_of e) →
-      last_element v.runs ≡ Some (ran_by item_code fault_code outcome) → EndingFits item_code fault_code v.over v.runs e
-  ending_fits v outcome (ending.Won item) gave over last = (over, coded_as v outcome (Ok item) last gave)
-  ending_fits v outcome (ending.ScheduleDone fault) gave over last = (over, coded_as v outcome (Err fault) last gave)
-  ending_fits v outcome (ending.BudgetRefused fault) gave over last = (over, coded_as v outcome (Err fault) last gave)
-  ending_fits v outcome ending.Cancelled gave over last = absurd gave
-  ending_fits v outcome (ending.Broken fault) gave over last = over
+-- what is found of a machine of a retry
+pub found : {R D : Type 0} (m : Machine R D) (next : Next) → FindsOf m next → Finds m.over m.under_way next
+found m (Over how) finds = finds
+found m Run finds = finds
+found m Poll finds = finds
+found m (Wait start) finds = finds
 
 -- where nothing is to be run, no run is under way
-pub idle_found : {R D : Type 0} (m : Machine R D) (next : Next) → Finds m next →
-    (next ≡ Poll) ⊎ ((moment : ℕ) × (next ≡ Wait moment)) → m.under_way ≡ false
-idle_found m next found which = elim which [
-  | inl polls ↦ (subst (λ (next : Next). Finds m next) polls found).1
-  | inr waits ↦ (subst (λ (next : Next). Finds m next) waits.1 found).1
+pub idle_found : (over : Option How) (running : Bool) (next : Next) → Finds over running next →
+    (next ≡ Poll) ⊎ ((moment : ℕ) × (next ≡ Wait moment)) → running ≡ false
+idle_found over running next found which = elim which [
+  | inl polls ↦ (subst (λ (next : Next). Finds over running next) polls found).1
+  | inr waits ↦ (subst (λ (next : Next). Finds over running next) waits.1 found).1
 ]
 
--- Turns of each retry that a machine may stand for.
-module _ {R D K C I F : Type 0} (stands : R → Driven → Type 0) (keeps : Bool) (goes_by : R → Schedule → Type 0)
-    (grants : Grants D) (tells : K → ℕ → K → Type 0) (waits : K → ℕ → ℕ → K → Type 0) (gives : C → Result I F → C → Type 0)
+-- What a machine tells of each task that it may stand for, whose finished runs are these: a poll of it is one of the task.
+-- Some polls leave a machine fewer tasks that it may be of; of those that it still is they lead to one.
+pub record Follows {M T : Type 0} (on_m : Turning M) (on_t : Turning T) (stands : M → T → Type 0) (may : M → T → Type 0)
+    (runs : T → List Ran) : Type 0 where
+  pub running : (m : M) (v : T) → stands m v → on_m.running m ≡ on_t.running v
+  pub due : (m : M) (v : T) (start : Option ℕ) → stands m v → on_m.due m start → on_t.due v start
+  pub narrows : (m n : M) (v : T) (t : Tick) (told : List Ran) → on_m.polls m t told n → may n v → may m v
+  pub polls : (m n : M) (v : T) (t : Tick) (told : List Ran) → stands m v → on_m.polls m t told n → may n v →
+      (u : T) × on_t.polls v t told u × stands n u × ((p : M) → may p v → may p u)
+  pub adds : (v u : T) (t : Tick) (told : List Ran) → on_t.polls v t told u → runs u ≡ runs v ++ told
+
+module _ {K C I F : Type 0} (tells : K → ℕ → K → Type 0) (waits : K → ℕ → ℕ → K → Type 0) (gives : C → Result I F → C → Type 0)
     (item_code : I → ℕ) (fault_code : F → ℕ) where
-  -- these turns led from each retry of the machine m, by a schedule that n may go by, to one of the machine n
-  abbrev pub Leads : Machine R D → K → Stream → C → List Tick → Machine R D → K → Stream → C → Option (Result I F) → Type 0
-  Leads m clock words call ticks n clock' words' call' last = (v : Retrying D) → StandsFor stands keeps grants m v →
-      goes_by n.driver v.past.driver.plan → (u : Retrying D)
-      × FoldsTo (Turn grants (a_retry keeps) tells waits gives item_code fault_code) (calling v clock words call None) ticks
-      (calling u clock' words' call' last)
-      × StandsFor stands keeps grants n u
-      × (u.past.driver.plan ≡ v.past.driver.plan)
+  -- one more turn
+  pub one_more : {T : Type 0} (on : Turning T) (s m n : Calling T K C (Result I F)) (ticks : List Tick) (tick : Tick) (told : List Ran)
+      (start : Option ℕ) → FoldsTo (Turn on tells waits gives item_code fault_code) s ticks m → on.due m.task start →
+      Finishes item_code fault_code gives (on.running m.task) m.call m.last told n.call n.last →
+      Answered tells waits start m.clock tick.now n.clock → (tick.words, n.words) ≡ next_four m.words →
+      on.polls m.task tick told n.task → FoldsTo (Turn on tells waits gives item_code fault_code) s (ticks ++ tick ∷ []) n
+  one_more on s m n ticks tick told start was due finishes moment lanes poll =
+      FoldsTo-push (Turn on tells waits gives item_code fault_code) s ticks m tick n was (record {
+        told = told;
+        start = start;
+        due = due;
+        finishes = finishes;
+        moment = moment;
+        lanes = lanes;
+        poll = poll;
+      })
 
-  -- and the turns with one more, in which these runs finished
-  abbrev pub LeadsOn : Machine R D → K → Stream → C → List Tick → List Ran → Machine R D → K → Stream → C → Option (Result I F) → Type 0
-  LeadsOn m clock words call ticks told n clock' words' call' last = (v : Retrying D) → StandsFor stands keeps grants m v →
-      goes_by n.driver v.past.driver.plan → (u : Retrying D)
-      × FoldsTo (Turn grants (a_retry keeps) tells waits gives item_code fault_code) (calling v clock words call None) ticks
-      (calling u clock' words' call' last)
-      × StandsFor stands keeps grants n u
-      × (u.past.driver.plan ≡ v.past.driver.plan)
-      × ((before : List Ran) × (u.past.runs ≡ before ++ told))
+  -- the last call gave the last run
+  abbrev pub LastIs : List Ran → Option (Result I F) → Type 0
+  LastIs runs None = Unit {0}
+  LastIs runs (Some outcome) = last_element runs ≡ Some (ran_by item_code fault_code outcome)
 
-  pub leads : (m n : Machine R D) (clock clock' : K) (words words' : Stream) (call call' : C) (ticks : List Tick) (told : List Ran)
-      (last : Option (Result I F)) → LeadsOn m clock words call ticks told n clock' words' call' last →
-      Leads m clock words call ticks n clock' words' call' last
-  leads m n clock clock' words words' call call' ticks told last on v st by = let was = on v st by in (was.0, was.1, was.2, was.3)
+  last_then : (running : Bool) (before after : List Ran) (call called : C) (last gave : Option (Result I F)) (told : List Ran) →
+      Finishes item_code fault_code gives running call last told called gave → after ≡ before ++ told → LastIs before last → LastIs after gave
+  last_then true before after call called last gave told finishes grown was =
+      subst (λ (gave : Option (Result I F)). LastIs after gave) (sym finishes.3)
+      (ap last_element (grown ∙ ap (λ (told : List Ran). before ++ told) finishes.2)
+      ∙ last_element-push before (ran_by item_code fault_code finishes.0))
+  last_then false before after call called last gave told finishes grown was =
+      subst (λ (gave : Option (Result I F)). LastIs after gave) (sym finishes.2)
+      (subst (λ (runs : List Ran). LastIs runs last)
+      (sym (grown ∙ ap (λ (told : List Ran). before ++ told) finishes.0 ∙ append-nil before)) was)
 
-  module _ (m n p : Machine R D) (clock clock' clock'' : K) (words words' words'' : Stream) (call call' call'' : C)
-      (ticks : List Tick) (last last' : Option (Result I F)) (tick : Tick) (told : List Ran) where
-    -- one more turn, by what is next
-    pub one_more : Leads m clock words call ticks n clock' words' call' last → n.over ≡ None → (next : Next) →
-        ((v : Retrying D) → StandsFor stands keeps grants n v → next ≡ next_of v.past) →
-        Answered tells waits (start_in next) clock' tick.now clock'' → (tick.words, words'') ≡ next_four words' →
-        Finishes item_code fault_code gives n.under_way call' last told call'' last' →
-        Polls stands keeps goes_by grants n tick told p →
-        LeadsOn m clock words call (ticks ++ tick ∷ []) told p clock'' words'' call'' last'
-    one_more led unended next is moment lanes finishes polls v st by =
-        let was = led v st (polls.narrows v.past.driver.plan by) in
-        let polled = polls.leads was.0 was.2 (subst (λ (s : Schedule). goes_by p.driver s) (sym was.3) by) in
-        let none = sym was.2.over ∙ unended in
-        let turn : Turn grants (a_retry keeps) tells waits gives item_code fault_code (calling was.0 clock' words' call' last) tick
-        (calling polled.0 clock'' words'' call'' last') = record {
-          told = told;
-          finishes = subst (λ (running : Bool). Finishes item_code fault_code gives running call' last told call'' last')
-              was.2.under_way finishes;
-          moment = subst (λ (due : Option ℕ). Answered tells waits due clock' tick.now clock'')
-              (ap start_in (is was.0 was.2) ∙ waited keeps was.0.past was.2.law.law none) moment;
-          lanes = lanes;
-          poll = polled.1;
-        } in (
-          polled.0,
-          FoldsTo-push _ _ ticks _ tick _ was.1 turn,
-          polled.2,
-          plan_after grants (a_retry keeps) was.0 tick told polled.0 polled.1 ∙ was.3,
-          (was.0.past.runs, polled.1.runs),
-        )
+  module _ {M T : Type 0} (on_m : Turning M) (on_t : Turning T) (stands : M → T → Type 0) (may : M → T → Type 0) (runs : T → List Ran)
+      (follows : Follows on_m on_t stands may runs) where
+    -- this task in the place of the machine
+    abbrev pub with_task : Calling M K C (Result I F) → T → Calling T K C (Result I F)
+    with_task s v = calling v s.clock s.words s.call s.last
 
-  -- where a run ended the retry, the ending fits it
-  pub ends_with : (m n : Machine R D) (clock clock' : K) (words words' : Stream) (call call' : C) (ticks : List Tick)
-      (outcome : Result I F) (e : Ending I F) →
-      LeadsOn m clock words call ticks (ran_by item_code fault_code outcome ∷ []) n clock' words' call' (Some outcome) →
-      n.over ≡ Some (how_of e) → HandsOut (Some outcome) e → (v : Retrying D) → StandsFor stands keeps grants m v →
-      goes_by n.driver v.past.driver.plan → (u : Retrying D)
-      × FoldsTo (Turn grants (a_retry keeps) tells waits gives item_code fault_code) (calling v clock words call None) ticks
-      (calling u clock' words' call' (Some outcome))
-      × EndingFits item_code fault_code u.past.over u.past.runs e
-      × StandsFor stands keeps grants n u
-  ends_with m n clock clock' words words' call call' ticks outcome e on over gave v st by =
-      let was = on v st by in
-      let last = ap last_element was.4.1 ∙ last_element-push was.4.0 (ran_by item_code fault_code outcome) in (
-        was.0,
-        was.1,
-        ending_fits item_code fault_code was.0.past outcome e gave (sym was.2.over ∙ over) last,
-        was.2,
-      )
+    -- what it may be of after turns it may be of before them
+    narrowed : (s : Calling M K C (Result I F)) (ticks : List Tick) (n : Calling M K C (Result I F)) →
+        FoldsTo (Turn on_m tells waits gives item_code fault_code) s ticks n → (v : T) → may n.task v → may s.task v
+    narrowed s [] n turns v by = subst (λ (k : Calling M K C (Result I F)). may k.task v) (sym turns) by
+    narrowed s (tick ∷ ticks) n turns v by =
+        follows.narrows s.task turns.0.task v tick turns.1.told turns.1.poll (narrowed turns.0 ticks n turns.2 v by)
+
+    -- turns of the machine are turns of each task that it may stand for
+    pub through : (s : Calling M K C (Result I F)) (ticks : List Tick) (n : Calling M K C (Result I F)) →
+        FoldsTo (Turn on_m tells waits gives item_code fault_code) s ticks n → (v : T) → stands s.task v → may n.task v →
+        LastIs (runs v) s.last → (u : T) × FoldsTo (Turn on_t tells waits gives item_code fault_code) (with_task s v) ticks (with_task n u)
+        × stands n.task u × LastIs (runs u) n.last
+    through s [] n turns v st by was =
+        subst (λ (n : Calling M K C (Result I F)). (u : T) × (with_task s v ≡ with_task n u) × stands n.task u × LastIs (runs u) n.last)
+        turns (v, refl, st, was)
+    through s (tick ∷ ticks) n turns v st by was =
+        let turn = turns.1 in
+        let one = follows.polls s.task turns.0.task v tick turn.told st turn.poll (narrowed turns.0 ticks n turns.2 v by) in
+        let on_then = last_then (on_m.running s.task) (runs v) (runs one.0) s.call turns.0.call s.last turns.0.last turn.told turn.finishes
+        (follows.adds v one.0 tick turn.told one.1) was in
+        let rest = through turns.0 ticks n turns.2 one.0 one.2 (one.3 n.task by) on_then in
+        let here : Turn on_t tells waits gives item_code fault_code (with_task s v) tick (with_task turns.0 one.0) = record {
+          told = turn.told;
+          start = turn.start;
+          due = follows.due s.task v turn.start st turn.due;
+          finishes = subst (λ (running : Bool). Finishes item_code fault_code gives running s.call s.last turn.told turns.0.call turns.0.last)
+              (follows.running s.task v st) turn.finishes;
+          moment = turn.moment;
+          lanes = turn.lanes;
+          poll = one.1;
+        } in
+        (rest.0, (with_task turns.0 one.0, here, rest.1), rest.2, rest.3)
+
+-- a machine of a retry, and one of a repeat
+module _ {R : Type 0} (stands : R → Driven → Type 0) (keeps : Bool) (goes_by : R → Schedule → Type 0) where
+  pub retry_follows : {D : Type 0} (grants : Grants D) → Follows (machine_turning grants keeps stands goes_by) (retry_turning grants keeps)
+      (StandsFor stands keeps grants) (λ m v. goes_by m.driver v.past.driver.plan) (λ (v : Retrying D). v.past.runs)
+  retry_follows grants = record {
+    running = λ m v st. st.under_way;
+    due = λ m v start st due. due v st;
+    narrows = λ m n v t told polls by. polls.narrows v.past.driver.plan by;
+    polls = λ m n v t told st polls by.
+        let was = polls.leads v st by in
+        (was.0, was.1, was.2, λ p by. subst (λ (s : Schedule). goes_by p.driver s) (sym (plan_after grants (a_retry keeps) v t told was.0 was.1)) by);
+    adds = λ v u t told poll. poll.runs;
+  }
+
+  pub repeat_follows : Follows (repeat_machine_turning keeps stands goes_by) (repeat_turning keeps)
+      (StandsForRepeat stands keeps) (λ m v. goes_by m.driver v.driver.plan) (λ (v : Past). v.runs)
+  repeat_follows = record {
+    running = λ m v st. st.under_way;
+    due = λ m v start st due. due v st;
+    narrows = λ m n v t told polls by. polls.narrows v.driver.plan by;
+    polls = λ m n v t told st polls by.
+        let was = polls.leads v st by in
+        (was.0, was.1, was.2, λ p by. subst (λ (s : Schedule). goes_by p.driver s) (sym (plan_told (a_repeat keeps) v t told was.0 was.1)) by);
+    adds = λ v u t told poll. poll.runs;
+  }

@@ -1,75 +1,52 @@
--- How a closure is called until it succeeds: turns of a retry by a clock and a generator of random words.
-use Rattle.std.specs.Prelude.{◌≡◌, ℕ, Bool, true, false, List, [], ◌∷◌, Option, Some, None, Result, Ok, Err}
-use Rattle.rand_core.specs.Stream.{Stream}
-use Rattle.sched_time.specs.declared.numbers.Tick.{Tick}
+-- What takes turns where a closure is called: retries and repeats, and the machines that stand for them.
+use Rattle.std.specs.Prelude.{◌≡◌, ℕ, Bool, Option, Some, Result, Ok, Err}
+use Rattle.sched_plan.specs.Schedule.{Schedule}
+use Rattle.sched_driver.specs.Driven.{Driven}
 use Rattle.sched_ticket_draws.specs.Grants.{Grants}
-use Rattle.sched_effect.specs.Runs.{ran_by}
-use Rattle.sched_effect.specs.declared.ran.Ran.{Ran}
-use Rattle.sched_task.specs.Course.{Answered}
-use Rattle.sched_task.specs.Words.{next_four}
-use Rattle.sched_task.specs.declared.endings.How.{How}
-use Rattle.sched_task_law.specs.Kind.{Kind}
-use Rattle.sched_task_law.specs.Past.{is_under_way, waits_for}
-use Rattle.sched_retry.specs.Ending.{how_of}
+use Rattle.sched_task_law.specs.Kind.{a_retry, a_repeat}
+use Rattle.sched_task_law.specs.Past.{Past, is_under_way, waits_for}
 use Rattle.sched_retry.specs.Retrying.{Retrying}
 use Rattle.sched_retry.specs.declared.endings.Ending.{Ending}
 use Rattle.sched_retry.specs.declared.endings.Ending.TheVariants as ending
+use Rattle.sched_run_machine.specs.Machine.{Machine, StandsFor, Polls}
 use Rattle.sched_run_machine.specs.Next.{HostPoll}
-use Rattle.sched_run_machine.specs.declared.next.Next.{Next}
-use Rattle.sched_run_machine.specs.declared.next.Next.TheVariants.{Poll, Run, Wait, Over}
+use Rattle.sched_repeat.specs.Machine.{RepeatMachine, ToldPoll, StandsFor as StandsForRepeat, Polls as PollsRepeat}
+use Rattle.sched_closure.specs.Turns.{Turning}
 
--- A retry with what it is run by.
-pub record Calling (D K C O : Type 0) : Type 0 where
-  pub retry : Retrying D
-  pub clock : K
-  -- what its generator will answer
-  pub words : Stream
-  -- the closure
-  pub call : C
-  -- what the last call gave
-  pub last : Option O
+module _ {D : Type 0} (grants : Grants D) (keeps : Bool) where
+  abbrev pub retry_turning : Turning (Retrying D)
+  retry_turning = record {
+    running = λ v. is_under_way v.past.runs v.past.begun;
+    due = λ v start. start ≡ waits_for v.past;
+    polls = HostPoll grants (a_retry keeps);
+  }
 
-abbrev pub calling : {D K C O : Type 0} → Retrying D → K → Stream → C → Option O → Calling D K C O
-calling retry clock words call last = record { retry = retry; clock = clock; words = words; call = call; last = last }
+  abbrev pub machine_turning : {R : Type 0} → (R → Driven → Type 0) → (R → Schedule → Type 0) → Turning (Machine R D)
+  machine_turning stands goes_by = record {
+    running = λ m. m.under_way;
+    due = λ m start. (v : Retrying D) → StandsFor stands keeps grants m v → start ≡ waits_for v.past;
+    polls = Polls stands keeps goes_by grants;
+  }
 
--- the moment to wait for, if any
-abbrev pub start_in : Next → Option ℕ
-start_in (Wait start) = Some start
-start_in Poll = None
-start_in Run = None
-start_in (Over how) = None
+module _ (keeps : Bool) where
+  abbrev pub repeat_turning : Turning Past
+  repeat_turning = record {
+    running = λ v. is_under_way v.runs v.begun;
+    due = λ v start. start ≡ waits_for v;
+    polls = ToldPoll (a_repeat keeps);
+  }
 
-module _ {I F : Type 0} (item_code : I → ℕ) (fault_code : F → ℕ) where
-  -- The runs that finish: where one is under way the closure is called, once, and that one finishes as the call gave.
-  -- Elsewhere it is not called, and none finishes.
-  abbrev pub Finishes : {C : Type 0} → (C → Result I F → C → Type 0) → Bool → C → Option (Result I F) → List Ran →
-      C → Option (Result I F) → Type 0
-  Finishes gives true call last told called gave =
-      (outcome : Result I F) × gives call outcome called × (told ≡ ran_by item_code fault_code outcome ∷ [])
-      × (gave ≡ Some outcome)
-  Finishes gives false call last told called gave = (told ≡ []) × (called ≡ call) × (gave ≡ last)
+  abbrev pub repeat_machine_turning : {R : Type 0} → (R → Driven → Type 0) → (R → Schedule → Type 0) → Turning (RepeatMachine R)
+  repeat_machine_turning stands goes_by = record {
+    running = λ m. m.under_way;
+    due = λ m start. (v : Past) → StandsForRepeat stands keeps m v → start ≡ waits_for v;
+    polls = PollsRepeat stands keeps goes_by;
+  }
 
--- how a retry is over by the ending that a run came to, or that it goes on
-abbrev pub over_by : {I F : Type 0} → Option (Ending I F) → Option How
-over_by None = None
-over_by (Some ending) = Some (how_of ending)
-
--- what an ending hands out is the very value that the last call gave
+-- what an ending of a retry hands out is the very value that the last call gave
 abbrev pub HandsOut : {I F : Type 0} → Option (Result I F) → Ending I F → Type 0
 HandsOut last (ending.Won item) = last ≡ Some (Ok item)
 HandsOut last (ending.ScheduleDone fault) = last ≡ Some (Err fault)
 HandsOut last (ending.BudgetRefused fault) = last ≡ Some (Err fault)
 HandsOut last ending.Cancelled = ⊥
 HandsOut last (ending.Broken fault) = Unit {0}
-
--- One turn: a poll of the retry with the moment that the clock answers, after the call where one is made, and the next
--- four words in lanes 0 to 3.
-pub record Turn {D K C I F : Type 0} (grants : Grants D) (kind : Kind) (tells : K → ℕ → K → Type 0) (waits : K → ℕ → ℕ → K → Type 0)
-    (gives : C → Result I F → C → Type 0) (item_code : I → ℕ) (fault_code : F → ℕ)
-    (s : Calling D K C (Result I F)) (tick : Tick) (t : Calling D K C (Result I F)) : Type 0 where
-  pub told : List Ran
-  pub finishes : Finishes item_code fault_code gives (is_under_way s.retry.past.runs s.retry.past.begun)
-      s.call s.last told t.call t.last
-  pub moment : Answered tells waits (waits_for s.retry.past) s.clock tick.now t.clock
-  pub lanes : (tick.words, t.words) ≡ next_four s.words
-  pub poll : HostPoll grants kind s.retry tick told t.retry

@@ -1,9 +1,12 @@
-//! Closures that are called until they succeed.
+//! Closures that are called again and again: until they succeed, or after each success.
 #![tactic(auto)]
 
+mod machines;
+mod repeats;
 mod retries;
 #[cfg(test)]
 mod tests;
 mod turns;
 
+pub use repeats::repeat_call;
 pub use retries::retry_call;

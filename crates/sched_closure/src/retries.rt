@@ -1,19 +1,20 @@
 //! A closure that is called until it succeeds.
-ghost use Rattle.std.specs.Prelude.{◌≡◌, List, Option, Some, None, Result};
+ghost use Rattle.std.specs.Prelude.{◌≡◌, List, Option, Some, None, true, is_some, Result};
 ghost use Rattle.std.specs.List.{FoldsTo};
 ghost use Rattle.sched_time.specs.declared.numbers.Tick.{Tick as Ticked};
-ghost use Rattle.sched_task_law.specs.Kind.{a_retry};
+ghost use Rattle.sched_effect.specs.Runs.{ran_by};
 ghost use Rattle.sched_retry.specs.Ending.{how_of, EndingFits};
 ghost use Rattle.sched_retry.specs.Retrying.{Retrying};
-ghost use Rattle.sched_run_machine.specs.Machine.{StandsFor};
-ghost use Rattle.sched_closure.specs.Calls.{calling, Turn, HandsOut};
+ghost use Rattle.sched_run_machine.specs.Machine.{StandsFor, EndsAs};
+ghost use Rattle.sched_closure.specs.Turns.{calling, Turn};
+ghost use Rattle.sched_closure.specs.Calls.{retry_turning, HandsOut};
 
-use crate::turns::{end_run, next_tick};
+use crate::turns::call_on;
 use rand_core::Rng;
 use sched_effect::Coded;
 use sched_retry::Ending;
-use sched_run_machine::{Drives, Machine, Next};
-use sched_task::Clock;
+use sched_run_machine::{Drives, Machine};
+use sched_task::{Clock, How};
 use sched_ticket_draws::Draws;
 use std::alloc::AllocGlobal;
 use std::sync::Wait;
@@ -32,7 +33,7 @@ pub fn retry_call<I, F, R, S, D, K, G, C>(
     retry: &mut Machine<S, D>,
     clock: &mut K,
     words: &mut G,
-    mut call: C,
+    call: C,
 ) -> Ending<I, F>
 where
     I: Coded + Drop,
@@ -48,7 +49,7 @@ where
     ensures turns { (ticks : List Ticked) × (called : C) × (last : Option (Result I F)) × HandsOut last result
         × ((v : Retrying D) → StandsFor S.stands S.keeps D.grants retry.old v →
         S.goes_by retry.new.driver v.past.driver.plan → (u : Retrying D)
-        × FoldsTo (Turn D.grants (a_retry S.keeps) K.tells K.waits C.step I.coded F.coded)
+        × FoldsTo (Turn (retry_turning D.grants S.keeps) K.tells K.waits C.step I.coded F.coded)
         (calling v clock.old (G.stream words.old) call None)
         ticks
         (calling u clock.new (G.stream words.new) called last)
@@ -56,23 +57,24 @@ where
         × StandsFor S.stands S.keeps D.grants retry.new u) }
     ensures over { retry.new.over ≡ Some (how_of result) }
 {
-    let alloc = rt.alloc();
-    for _ in rt.forever() {
-        let next = retry.next();
-        match next {
-            Next::Run => {
-                let outcome = call();
-                let tick = next_tick(&next, clock, words);
-                if let Some(ending) = end_run(alloc, retry, &tick, outcome) {
-                    return ending;
-                }
-            }
-            Next::Poll | Next::Wait(_) => {
-                let tick = next_tick(&next, clock, words);
-                retry.poll(&tick);
-            }
-            Next::Over(_) => unreachable!(),
-        }
+    let outcome = call_on(rt, retry, clock, words, call);
+    ending_of(outcome, retry.over())
+}
+
+// The ending of a retry whose last run gave this, and which is over so.
+fn ending_of<I: Coded + Drop, F: Coded + Drop>(run: Result<I, F>, over: Option<How>) -> Ending<I, F>
+    requires over { is_some over ≡ true }
+    requires ends { EndsAs (ran_by I.coded F.coded run) over }
+    ensures over { over ≡ Some (how_of result) }
+    ensures value { HandsOut (Some run) result }
+{
+    match run {
+        Ok(item) => Ending::Won(item),
+        Err(fault) => match over {
+            Some(How::ScheduleDone) => Ending::ScheduleDone(fault),
+            Some(How::BudgetRefused) => Ending::BudgetRefused(fault),
+            Some(How::Broken(cause)) => Ending::Broken(cause),
+            None | Some(How::Won | How::Failed | How::Cancelled) => unreachable!(),
+        },
     }
-    unreachable!()
 }

@@ -5,7 +5,7 @@ ghost use Rattle.sched_driver_stepper.specs.Standing.{standing_after};
 use super::retry_call;
 use sched_driver::Driver;
 use sched_driver_stepper::Stepper;
-use sched_plan::{Plan, PlanFault};
+use sched_plan::{Plan, PlanFault, Side, Test};
 use sched_retry::Ending;
 use sched_run_machine::Machine;
 use sched_task::{Clock, MidWords, RunFault, VirtualClock};
@@ -17,6 +17,7 @@ use std::cell::Cell;
 use std::process::Abort;
 
 mod deadlines;
+mod repeats;
 
 fn moment(rt: &impl Abort, at: u64) -> Moment {
     Moment::new(at).expect(rt, "the moment is in range")

@@ -1,23 +1,103 @@
-//! One turn of a retry: its tick, and what a run comes to.
-ghost use Rattle.std.specs.Prelude.{◌≡◌, [], ◌∷◌, Some, None, true, IfSome};
+//! Turns: a closure is called wherever a run is under way, by a clock.
+ghost use Rattle.std.specs.Prelude.{◌≡◌, List, [], ◌∷◌, Option, Some, None, true, is_some};
+ghost use Rattle.std.specs.List.{FoldsTo};
+ghost use Rattle.sched_time.specs.declared.numbers.Tick.{Tick as Ticked};
+ghost use Rattle.sched_effect.specs.Runs.{ran_by};
+ghost use Rattle.sched_effect.specs.declared.ran.Ran.{Ran as Finished};
 ghost use Rattle.sched_task.specs.Course.{Answered};
 ghost use Rattle.sched_task.specs.Words.{next_four};
-ghost use Rattle.sched_effect.specs.Runs.{ran_by};
-ghost use Rattle.sched_run_machine.specs.Machine.{Polls, EndsAs};
-ghost use Rattle.sched_closure.specs.Calls.{start_in, over_by, HandsOut};
+ghost use Rattle.sched_task.specs.declared.endings.How.{How as Ended};
+ghost use Rattle.sched_repeat.specs.Machine.{Finds};
+ghost use Rattle.sched_closure.specs.Turns.{Turning, Turn, calling, start_in};
 
 use rand_core::Rng;
-use sched_effect::{Coded, ran_of};
-use sched_retry::Ending;
-use sched_run_machine::{Drives, Machine, Next};
+use sched_effect::{Coded, Ran, ran_of};
+use sched_run_machine::Next;
 use sched_task::{Clock, How, four_words};
-use sched_ticket_draws::Draws;
 use sched_time::Tick;
-use std::alloc::Global;
+use std::alloc::{AllocGlobal, Global};
+use std::sync::Wait;
 
-/// The tick of the next turn: the moment that the clock answers, where the retry waits for one after it waited, and
-/// the generator's next four words.
-pub(crate) fn next_tick<K: Clock, G: Rng>(next: &Next, clock: &mut K, words: &mut G) -> Tick
+/// What says when a closure is called, and is told how each call went: the machine of a retry or of a repeat.
+pub(crate) trait Turns {
+    // How it ended, where it is over.
+    ghost ended: { Self → Option Ended };
+
+    // Its turns.
+    ghost turning: { Turning Self };
+
+    // Holds of a run and how it may end all, or that it goes on.
+    ghost may_end: { Finished → Option Ended → Type 0 };
+
+    /// What is to be done.
+    fn next(&self) -> Next
+        ensures finds { Finds (ended self.now) (turning.running self.now) result }
+        ensures due { turning.due self.now (start_in result) };
+
+    /// Begins a run at the tick, where one is to be begun.
+    fn poll(&mut self, tick: &Tick)
+        ensures polls { turning.polls self.old tick.entry.now [] self.new }
+        ensures unbroken { ended self.new ≡ ended self.old };
+
+    /// Ends the run under way as it went, and answers how this ended all, or `None` where it goes on.
+    fn tell(&mut self, alloc: Global, tick: &Tick, ran: Ran) -> Option<How>
+        requires unended { ended self.old ≡ None }
+        requires running { turning.running self.old ≡ true }
+        ensures polls { turning.polls self.old tick.entry.now (ran ∷ []) self.new }
+        ensures over { ended self.new ≡ result }
+        ensures ends { may_end ran result };
+}
+
+/// Calls this closure wherever a run is under way, until one ends all, and answers what that one gave.
+pub(crate) fn call_on<I, F, R, M, K, G, C>(
+    rt: &R,
+    machine: &mut M,
+    clock: &mut K,
+    words: &mut G,
+    mut call: C,
+) -> Result<I, F>
+where
+    I: Coded + Drop,
+    F: Coded + Drop,
+    R: Wait + AllocGlobal,
+    M: Turns,
+    K: Clock,
+    G: Rng,
+    C: FnMut() -> Result<I, F>,
+    requires unended { M.ended machine.old ≡ None }
+    requires callable { C.IsAlwaysCallable call }
+    ensures turns { (ticks : List Ticked) × (called : C)
+        × FoldsTo (Turn M.turning K.tells K.waits C.step I.coded F.coded)
+        (calling machine.old clock.old (G.stream words.old) call None)
+        ticks
+        (calling machine.new clock.new (G.stream words.new) called (Some result)) }
+    ensures over { is_some (M.ended machine.new) ≡ true }
+    ensures ends { M.may_end (ran_by I.coded F.coded result) (M.ended machine.new) }
+{
+    let alloc = rt.alloc();
+    for _ in rt.forever() {
+        let next = machine.next();
+        match next {
+            Next::Run => {
+                let outcome = call();
+                let tick = next_tick(&next, clock, words);
+                if machine.tell(alloc, &tick, ran_of(&outcome)).is_some() {
+                    return outcome;
+                }
+            }
+            Next::Poll | Next::Wait(_) => {
+                let tick = next_tick(&next, clock, words);
+                machine.poll(&tick);
+            }
+            Next::Over(_) => unreachable!(),
+        }
+    }
+    unreachable!()
+}
+
+// The tick of the next turn: the moment that the clock answers, where one is to be waited for after it waited, and the
+// generator's next four words.
+fn next_tick<K: Clock, G: Rng>(next: &Next, clock: &mut K, words: &mut G) -> Tick
     ensures moment { Answered K.tells K.waits (start_in next.now) clock.old result.now clock.new }
     ensures lanes { (result.words, G.stream words.new) ≡ next_four (G.stream words.old) }
 {
@@ -29,48 +109,4 @@ pub(crate) fn next_tick<K: Clock, G: Rng>(next: &Next, clock: &mut K, words: &mu
         now,
         words: four_words(words),
     }
-}
-
-/// Ends the run under way with what its call gave. Answers the ending that this comes to, or `None` where the retry
-/// goes on.
-pub(crate) fn end_run<I: Coded + Drop, F: Coded + Drop, S: Drives, D: Draws>(
-    alloc: Global,
-    retry: &mut Machine<S, D>,
-    tick: &Tick,
-    outcome: Result<I, F>,
-) -> Option<Ending<I, F>>
-    requires unended { retry.old.over ≡ None }
-    requires running { retry.old.under_way ≡ true }
-    ensures polls { Polls S.stands S.keeps S.goes_by D.grants retry.old tick.entry.now
-        (ran_by I.coded F.coded outcome ∷ []) retry.new }
-    ensures over { retry.new.over ≡ over_by result }
-    ensures value { IfSome result (HandsOut (Some outcome)) }
-{
-    tell_run(alloc, retry, tick, &outcome);
-    match outcome {
-        Ok(item) => Some(Ending::Won(item)),
-        Err(fault) => match retry.over() {
-            None => None,
-            Some(How::ScheduleDone) => Some(Ending::ScheduleDone(fault)),
-            Some(How::BudgetRefused) => Some(Ending::BudgetRefused(fault)),
-            Some(How::Broken(cause)) => Some(Ending::Broken(cause)),
-            Some(How::Won | How::Failed | How::Cancelled) => unreachable!(),
-        },
-    }
-}
-
-// Tells how the run under way went.
-fn tell_run<I: Coded, F: Coded, S: Drives, D: Draws>(
-    alloc: Global,
-    retry: &mut Machine<S, D>,
-    tick: &Tick,
-    outcome: &Result<I, F>,
-)
-    requires unended { retry.old.over ≡ None }
-    requires running { retry.old.under_way ≡ true }
-    ensures polls { Polls S.stands S.keeps S.goes_by D.grants retry.old tick.entry.now
-        (ran_by I.coded F.coded outcome.now ∷ []) retry.new }
-    ensures ends { EndsAs (ran_by I.coded F.coded outcome.now) retry.new.over }
-{
-    let _ = retry.report(alloc, tick, ran_of(outcome));
 }

@@ -1,9 +1,10 @@
 -- What the calls on a retry do.
-use Rattle.std.specs.Prelude.{◌≡◌, ℕ, false, List, [], ◌∷◌, length, min, Option, Some, None, Result, Ok, Err}
+use Rattle.std.specs.Prelude.{◌≡◌, ℕ, ◌-◌, Bool, false, if◌then◌else◌, nat_eq, List, [], ◌∷◌, length, min, Option, Some, None, is_some, option_map, Result, Ok, Err}
 use Rattle.std.specs.Global.{Global}
 use Rattle.std_alloc.specs.declared.boxed.Box.{Box}
 use Rattle.sched_time.specs.declared.numbers.Tick.{Tick}
 use Rattle.sched_plan.specs.Schedule.{Schedule}
+use Rattle.sched_driver.specs.Driven.{next_start_of}
 use Rattle.sched_driver_stepper.specs.Standing.{Standing, standing_after}
 use Rattle.sched_effect.specs.declared.ran.Ran.{Ran}
 use Rattle.sched_task.specs.declared.endings.How.{How}
@@ -13,11 +14,13 @@ use Rattle.sched_ticket_draws.specs.Budgets.{OfBudget}
 use Rattle.sched_ticket_draws.specs.Quotas.{OfQuota}
 use Rattle.sched_ticket.specs.View.{part_of, with_split}
 use Rattle.sched_ticket_quota.specs.View.{part_of as quota_part_of, without_part}
-use Rattle.sched_task_law.specs.Past.{Past}
+use Rattle.sched_task_law.specs.Past.{Past, schedule_is_done}
 use Rattle.sched_retry.specs.Retrying.{Retrying, gives_up}
+use Rattle.sched_run_machine.specs.Deadline.{is_past, late, until_from}
 use Rattle.sched_run_machine.specs.Drives.{IsStepped, GoesByPlan}
 use Rattle.sched_run_machine.specs.Machine.{Machine, begins, unbegun, is_told, cancelled, StandsFor, Polls as PollsMachine}
 use Rattle.sched_run_machine.specs.Next.{next_of}
+use Rattle.sched_run_machine.specs.Until.{Until, unstepped_until, beneath, StandsUntil, GoesUntil}
 use Rattle.sched_host.specs.Drawing.{drawing_grants}
 use Rattle.sched_host.specs.declared.drawing.Drawing.{Drawing}
 use Rattle.sched_host.specs.declared.drawing.Drawing.TheVariants as by
@@ -34,56 +37,74 @@ use Rattle.sched_reply.specs.declared.replies.Reply.{Reply}
 use Rattle.sched_reply.specs.declared.status.Status.{Status}
 use Rattle.sched_reply.specs.declared.status.Status.TheVariants.{WrongKind, NoMemory, NoRun}
 
--- A retry as its handle holds it: a machine whose driver keeps no journal, so that it may stand for many lists of runs.
+-- A retry as its handle holds it: a machine whose driver keeps no journal, so that it may stand for many lists of runs,
+-- and has a deadline or none.
 abbrev pub Hosted : Type 0
-Hosted = Machine Standing Drawing
+Hosted = Machine (Until Standing) Drawing
 
--- it may stand for this retry
+-- it may stand for this retry, whose schedule is that of the deadline
 abbrev pub MayBe : Hosted → Retrying Drawing → Type 0
-MayBe m u = StandsFor IsStepped false drawing_grants m u
+MayBe m u = StandsFor (StandsUntil IsStepped) false drawing_grants m u
 
--- the number by which C knows how a retry ended
-abbrev pub how_number : How → ℕ
-how_number how.Won = 1
-how_number how.ScheduleDone = 2
-how_number how.BudgetRefused = 3
-how_number how.Cancelled = 4
-how_number (how.Broken fault.NoMemory) = 5
-how_number (how.Broken fault.JournalFull) = 6
-how_number (how.Broken fault.Backwards) = 7
-how_number how.Failed = 8
+-- the number by which C knows how a retry ended: of one that is done, by its deadline or by its plan
+abbrev pub how_number : How → Bool → ℕ
+how_number how.Won is_late = 1
+how_number how.ScheduleDone is_late = if is_late then 8 else 2
+how_number how.BudgetRefused is_late = 3
+how_number how.Cancelled is_late = 4
+how_number (how.Broken fault.NoMemory) is_late = 5
+how_number (how.Broken fault.JournalFull) is_late = 6
+how_number (how.Broken fault.Backwards) is_late = 7
+how_number how.Failed is_late = 9
 
 -- what is to be done: what, how it ended, the moment to wait for, the tickets granted and the runs reported
-abbrev pub reply_to : Next → ℕ → ℕ → Reply
-reply_to next.Poll granted runs = record { what = 0; how = 0; until = 0; granted = granted; runs = runs }
-reply_to next.Run granted runs = record { what = 1; how = 0; until = 0; granted = granted; runs = runs }
-reply_to (next.Wait start) granted runs = record { what = 2; how = 0; until = start; granted = granted; runs = runs }
-reply_to (next.Over h) granted runs = record { what = 3; how = how_number h; until = 0; granted = granted; runs = runs }
+abbrev pub reply_to : Next → Bool → ℕ → ℕ → Reply
+reply_to next.Poll is_late granted runs =
+    record { what = 0; how = 0; until = 0; granted = granted; runs = runs }
+reply_to next.Run is_late granted runs = record { what = 1; how = 0; until = 0; granted = granted; runs = runs }
+reply_to (next.Wait start) is_late granted runs =
+    record { what = 2; how = 0; until = start; granted = granted; runs = runs }
+reply_to (next.Over h) is_late granted runs =
+    record { what = 3; how = how_number h is_late; until = 0; granted = granted; runs = runs }
+
+-- whether the plan of a retry, without its deadline, is done; and whether it has a start that is past the deadline
+abbrev pub plan_is_done : Option ℕ → Past → Bool
+plan_is_done deadline v = schedule_is_done (beneath deadline v.driver)
+
+abbrev pub is_late : Option ℕ → Past → Bool
+is_late deadline v = is_some (late deadline (next_start_of (beneath deadline v.driver)))
 
 -- of runs past 2^64 - 1 that many are told
-abbrev pub reply_of : Past → Reply
-reply_of v = reply_to (next_of v) v.granted (min (length v.runs) 18446744073709551615)
+abbrev pub reply_of : Option ℕ → Past → Reply
+reply_of deadline v = reply_to (next_of v) (is_late deadline v) v.granted (min (length v.runs) 18446744073709551615)
 
--- What a retry is at: there is a retry that it may stand for, and of each such one this is told.
+-- What a retry is at: there is a retry that it may stand for, and of each such one this is told. It waits for no moment
+-- past its deadline, has ended as done exactly where its plan is done, and as late where that has a start past the
+-- deadline.
 pub record Shows (m : Hosted) (x : Reply) : Type 0 where
   pub stands : (u : Retrying Drawing) × MayBe m u
-  pub tells : (u : Retrying Drawing) → MayBe m u → x ≡ reply_of u.past
+  pub tells : (u : Retrying Drawing) → MayBe m u → x ≡ reply_of m.driver.deadline u.past
+  pub in_time : x.what ≡ 2 → is_past m.driver.deadline x.until ≡ false
+  pub done : (u : Retrying Drawing) → MayBe m u → plan_is_done m.driver.deadline u.past ≡ nat_eq x.how 2
+  pub late : (u : Retrying Drawing) → MayBe m u → is_late m.driver.deadline u.past ≡ nat_eq x.how 8
 
--- A retry that has not begun, of this policy: the one that has done nothing yet is among those that it may stand for.
-pub record IsUnbegun (plan : Schedule) (m : Hosted) : Type 0 where
-  pub begins_so : m ≡ begins drawing_grants (standing_after plan []) m.drawing
-  pub stands : MayBe m (unbegun drawing_grants plan m.drawing)
+-- A retry that has not begun, of this policy, with this deadline or none: the one that has done nothing yet is among
+-- those that it may stand for, by the schedule that the deadline makes of the policy whichever the first step's moment.
+pub record IsUnbegun (plan : Schedule) (deadline : Option ℕ) (m : Hosted) : Type 0 where
+  pub begins_so : m ≡ begins drawing_grants (unstepped_until (standing_after plan []) deadline) m.drawing
+  pub stands : (first : ℕ) → MayBe m (unbegun drawing_grants (until_from first deadline plan) m.drawing)
 
 -- and one that draws by this
-abbrev pub IsFresh : Schedule → Drawing → Held → Type 0
-IsFresh plan d v = (m : Hosted) × (v ≡ Retry m) × (m.drawing ≡ d) × IsUnbegun plan m
+abbrev pub IsFresh : Schedule → Option ℕ → Drawing → Held → Type 0
+IsFresh plan deadline d v = (m : Hosted) × (v ≡ Retry m) × (m.drawing ≡ d) × IsUnbegun plan deadline m
 
 -- a retry of a policy is made with a part of a pass, which has no ticket
-abbrev pub PassRetries : Schedule → OfBudget → Result (Box Held Global) Status → Held → Type 0
-PassRetries plan s (Ok b) v =
+abbrev pub PassRetries : Option ℕ → Schedule → OfBudget → Result (Box Held Global) Status → Held → Type 0
+PassRetries deadline plan s (Ok b) v =
     IsPassOf s v (λ t. t.pass.has ≡ with_split s.pass.has)
-    × (d : OfBudget) × IsFresh plan (by.Budget d) b.value × (d.budget ≡ s.budget) × (d.pass.has ≡ part_of s.pass.has)
-PassRetries plan s (Err e) v = IsPassOf s v (λ t. NoSplit s t e)
+    × (d : OfBudget) × IsFresh plan deadline (by.Budget d) b.value × (d.budget ≡ s.budget)
+    × (d.pass.has ≡ part_of s.pass.has)
+PassRetries deadline plan s (Err e) v = IsPassOf s v (λ t. NoSplit s t e)
 
 -- with what is no pass, a retry is refused for this reason
 abbrev pub OtherRetries : Held → Result (Box Held Global) Status → Held → Type 0
@@ -92,32 +113,34 @@ OtherRetries u (Err NoMemory) v = v ≡ u
 OtherRetries u (Err _) v = ⊥
 OtherRetries u (Ok b) v = ⊥
 
-abbrev pub Retries : Held → Held → Result (Box Held Global) Status → Held → Type 0
-Retries (Policy plan) (Pass s) r v = PassRetries plan s r v
-Retries (Policy plan) u r v = OtherRetries u r v
-Retries policy u r v = OtherKind u r v
+abbrev pub Retries : Option ℕ → Held → Held → Result (Box Held Global) Status → Held → Type 0
+Retries deadline (Policy plan) (Pass s) r v = PassRetries deadline plan s r v
+Retries deadline (Policy plan) u r v = OtherRetries u r v
+Retries deadline policy u r v = OtherKind u r v
 
 -- the same with a part of a pass of a quota
-abbrev pub QuotaRetries : Schedule → OfQuota → Result (Box Held Global) Status → Held → Type 0
-QuotaRetries plan s (Ok b) v =
+abbrev pub QuotaRetries : Option ℕ → Schedule → OfQuota → Result (Box Held Global) Status → Held → Type 0
+QuotaRetries deadline plan s (Ok b) v =
     IsQuotaOf s v (λ t. t.pass.has ≡ without_part s.pass.has)
-    × (d : OfQuota) × IsFresh plan (by.Quota d) b.value × (d.quota ≡ s.quota)
+    × (d : OfQuota) × IsFresh plan deadline (by.Quota d) b.value × (d.quota ≡ s.quota)
     × (d.pass.has ≡ quota_part_of s.pass.has)
-QuotaRetries plan s (Err e) v = (v ≡ Quota s) × NoQuotaSplit s e
+QuotaRetries deadline plan s (Err e) v = (v ≡ Quota s) × NoQuotaSplit s e
 
-abbrev pub RetriesOnQuota : Held → Held → Result (Box Held Global) Status → Held → Type 0
-RetriesOnQuota (Policy plan) (Quota s) r v = QuotaRetries plan s r v
-RetriesOnQuota (Policy plan) u r v = OtherRetries u r v
-RetriesOnQuota policy u r v = OtherKind u r v
+abbrev pub RetriesOnQuota : Option ℕ → Held → Held → Result (Box Held Global) Status → Held → Type 0
+RetriesOnQuota deadline (Policy plan) (Quota s) r v = QuotaRetries deadline plan s r v
+RetriesOnQuota deadline (Policy plan) u r v = OtherRetries u r v
+RetriesOnQuota deadline policy u r v = OtherKind u r v
 
 -- a retry of a policy is made that draws on nothing, or none for this reason
-abbrev pub RetriesUnlimited : Held → Result (Box Held Global) Status → Type 0
-RetriesUnlimited u (Ok b) = (plan : Schedule) × (u ≡ Policy plan) × IsFresh plan (by.Unlimited 0) b.value
-RetriesUnlimited u (Err s) = Wants kind.Policy u s
+abbrev pub RetriesUnlimited : Option ℕ → Held → Result (Box Held Global) Status → Type 0
+RetriesUnlimited deadline u (Ok b) =
+    (plan : Schedule) × (u ≡ Policy plan) × IsFresh plan deadline (by.Unlimited 0) b.value
+RetriesUnlimited deadline u (Err s) = Wants kind.Policy u s
 
--- one poll, in which the runs that finish are those told, of each retry that it may stand for
-abbrev pub IsPoll : Hosted → Tick → List Ran → Hosted → Type 0
-IsPoll m t told n = PollsMachine IsStepped false GoesByPlan drawing_grants m t told n
+-- One poll, in which the runs that finish are those told, of each retry that it may stand for; its deadline stays.
+pub record IsPoll (m : Hosted) (t : Tick) (told : List Ran) (n : Hosted) : Type 0 where
+  pub polls : PollsMachine (StandsUntil IsStepped) false (GoesUntil GoesByPlan) drawing_grants m t told n
+  pub deadline : n.driver.deadline ≡ m.driver.deadline
 
 -- the run under way ends as it is reported, and then one begins where it may
 abbrev pub Ends : Hosted → Tick → Ran → Hosted → Type 0
@@ -138,6 +161,18 @@ Polls t report u x v = OtherKind u x v
 abbrev pub Sees : Held → Result Reply Status → Type 0
 Sees u (Ok x) = (m : Hosted) × (u ≡ Retry m) × Shows m x
 Sees u (Err s) = IsOther kind.Retry u s
+
+-- how long a retry has at a moment up to its deadline: 0 where that is past, and 2^64 - 1 without one
+abbrev pub left_number : Option ℕ → ℕ
+left_number None = 18446744073709551615
+left_number (Some left) = left
+
+abbrev pub left_at : Option ℕ → ℕ → ℕ
+left_at deadline now = left_number (option_map (λ end. end - now) deadline)
+
+abbrev pub Leaves : ℕ → Held → Result ℕ Status → Type 0
+Leaves now u (Ok n) = (m : Hosted) × (u ≡ Retry m) × (n ≡ left_at m.driver.deadline now)
+Leaves now u (Err s) = IsOther kind.Retry u s
 
 -- a retry that is not over ends as cancelled, whichever it is
 pub record GivesUp (m n : Hosted) : Type 0 where

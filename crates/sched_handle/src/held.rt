@@ -8,7 +8,7 @@ use sched_driver_stepper::Stepper;
 use sched_host::{Drawing, QuotaWorker, Worker};
 use sched_plan::SharedPlan;
 use sched_reply::Status;
-use sched_run_machine::Machine;
+use sched_run_machine::{Machine, Until};
 use std::alloc::Global;
 use std::mem;
 
@@ -25,8 +25,8 @@ pub enum Held {
     Pass(Worker),
     /// A pass of a quota, with its quota.
     Quota(QuotaWorker),
-    /// A retry, which keeps no journal.
-    Retry(Machine<Stepper, Drawing>),
+    /// A retry, which keeps no journal, and has a deadline or none.
+    Retry(Machine<Until<Stepper>, Drawing>),
 }
 
 /// Which kind of thing a handle holds.

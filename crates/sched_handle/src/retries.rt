@@ -3,8 +3,8 @@ ghost use Rattle.std.specs.Prelude.{◌≡◌, []};
 ghost use Rattle.sched_driver_stepper.specs.Standing.{standing_after};
 ghost use Rattle.sched_handle.specs.Held.{kind_of};
 ghost use Rattle.sched_handle.specs.Retries.{IsFresh, Retries, RetriesOnQuota, RetriesUnlimited};
-ghost use Rattle.sched_handle.specs.Retries.{IsPoll, RetryPolls, Polls, Shows, Sees, Cancels, drawn_on, GivesBack};
-ghost use Rattle.sched_handle.specs.Retries.{reply_to, how_number};
+ghost use Rattle.sched_handle.specs.Retries.{IsPoll, RetryPolls, Polls, Shows, Sees, Leaves, Cancels, drawn_on, GivesBack};
+ghost use Rattle.sched_handle.specs.Retries.{reply_to, how_number, left_number};
 ghost use Rattle.sched_handle.specs.declared.held.Kind.TheVariants as kind;
 
 use crate::held::{Held, Kind};
@@ -14,22 +14,28 @@ use sched_driver_stepper::Stepper;
 use sched_effect::Ran;
 use sched_host::{Drawing, QuotaWorker, Worker};
 use sched_reply::{Reply, Status};
-use sched_run_machine::{Machine, Next};
+use sched_run_machine::{Machine, Next, Until};
 use sched_task::{How, RunFault};
 use sched_ticket_draws::Unlimited;
-use sched_time::Tick;
+use sched_time::{Millis, Moment, Tick};
 use std::alloc::Global;
 
 impl Held {
-    /// A retry that has not begun, of the policy, with a pass that is split off.
-    pub fn retry(alloc: Global, policy: &Held, pass: &mut Held) -> Result<Box<Held>, Status>
-        ensures { Retries policy.now pass.old result pass.new }
+    /// A retry that has not begun, of the policy, with a pass that is split off. Past the deadline, where there is one, it
+    /// plans no run.
+    pub fn retry(
+        alloc: Global,
+        policy: &Held,
+        pass: &mut Held,
+        deadline: Option<Moment>,
+    ) -> Result<Box<Held>, Status>
+        ensures { Retries deadline policy.now pass.old result pass.new }
     {
         let stepper = policy.stepper(alloc)?;
         let worker = pass.pass_mut()?;
         let (part, room) = split_off(alloc, worker)?;
         let drawing = Drawing::Budget(part.into_drawing());
-        Ok(fresh(stepper, drawing).within(room))
+        Ok(fresh(stepper, deadline, drawing).within(room))
     }
 
     /// The same with a pass that is split off a quota's.
@@ -37,22 +43,27 @@ impl Held {
         alloc: Global,
         policy: &Held,
         quota: &mut Held,
+        deadline: Option<Moment>,
     ) -> Result<Box<Held>, Status>
-        ensures { RetriesOnQuota policy.now quota.old result quota.new }
+        ensures { RetriesOnQuota deadline policy.now quota.old result quota.new }
     {
         let stepper = policy.stepper(alloc)?;
         let worker = quota.quota_mut()?;
         let (part, room) = split_off_quota(alloc, worker)?;
         let drawing = Drawing::Quota(part.into_drawing());
-        Ok(fresh(stepper, drawing).within(room))
+        Ok(fresh(stepper, deadline, drawing).within(room))
     }
 
     /// The same, drawing on nothing.
-    pub fn retry_unlimited(alloc: Global, policy: &Held) -> Result<Box<Held>, Status>
-        ensures { RetriesUnlimited policy.now result }
+    pub fn retry_unlimited(
+        alloc: Global,
+        policy: &Held,
+        deadline: Option<Moment>,
+    ) -> Result<Box<Held>, Status>
+        ensures { RetriesUnlimited deadline policy.now result }
     {
         let stepper = policy.stepper(alloc)?;
-        fresh(stepper, Drawing::Unlimited(Unlimited::new())).boxed(alloc)
+        fresh(stepper, deadline, Drawing::Unlimited(Unlimited::new())).boxed(alloc)
     }
 
     /// Ends the run under way as it is reported, where one is, and begins one where one may begin.
@@ -75,6 +86,17 @@ impl Held {
     {
         match self {
             Held::Retry(retry) => Ok(reply(retry)),
+            _ => Err(Status::WrongKind),
+        }
+    }
+
+    /// How many milliseconds the retry has at this moment up to its deadline: 0 where that is past, and 2^64 - 1 where
+    /// there is none.
+    pub fn left(&self, now: Moment) -> Result<u64, Status>
+        ensures { Leaves now self.now result }
+    {
+        match self {
+            Held::Retry(retry) => Ok(left_of(retry.driver().left(now))),
             _ => Err(Status::WrongKind),
         }
     }
@@ -138,17 +160,19 @@ impl Held {
 }
 
 // A retry that has not begun.
-fn fresh(stepper: Stepper, drawing: Drawing) -> Held
+fn fresh(stepper: Stepper, deadline: Option<Moment>, drawing: Drawing) -> Held
     requires { stepper ≡ standing_after stepper.plan [] }
-    ensures { IsFresh stepper.plan drawing result }
+    ensures { IsFresh stepper.plan deadline drawing result }
 {
-    Held::Retry(Machine::new(stepper, drawing))
+    let until = Until::new(stepper, deadline);
+    let retry = Machine::new(until, drawing);
+    Held::Retry(retry)
 }
 
 // Ends the run under way as it is reported, where one is, and begins one where one may begin.
 fn poll_retry(
     alloc: Global,
-    retry: &mut Machine<Stepper, Drawing>,
+    retry: &mut Machine<Until<Stepper>, Drawing>,
     tick: &Tick,
     report: Option<Ran>,
 ) -> Result<Reply, Status>
@@ -166,7 +190,7 @@ fn poll_retry(
 }
 
 // Begins a run where one may begin, and answers what the retry is at then.
-fn poll_at(retry: &mut Machine<Stepper, Drawing>, tick: &Tick) -> Reply
+fn poll_at(retry: &mut Machine<Until<Stepper>, Drawing>, tick: &Tick) -> Reply
     ensures polls { IsPoll retry.old tick.entry.now [] retry.new }
     ensures shows { Shows retry.new result }
 {
@@ -175,23 +199,24 @@ fn poll_at(retry: &mut Machine<Stepper, Drawing>, tick: &Tick) -> Reply
 }
 
 // What the retry is at, as C sees it.
-fn reply(retry: &Machine<Stepper, Drawing>) -> Reply
+fn reply(retry: &Machine<Until<Stepper>, Drawing>) -> Reply
     ensures { Shows retry.now result }
 {
     let next = retry.next();
+    let late = retry.driver().late_start();
     let granted = retry.granted();
     let runs = retry.told();
-    reply_to(next, granted, runs)
+    reply_to(next, late.is_some(), granted, runs)
 }
 
-fn reply_to(next: Next, granted: u64, runs: u64) -> Reply
-    ensures { result ≡ reply_to next granted runs }
+fn reply_to(next: Next, is_late: bool, granted: u64, runs: u64) -> Reply
+    ensures { result ≡ reply_to next is_late granted runs }
 {
     let (what, how, until) = match next {
         Next::Poll => (0, 0, 0),
         Next::Run => (1, 0, 0),
         Next::Wait(start) => (2, 0, start.get()),
-        Next::Over(how) => (3, how_code(how), 0),
+        Next::Over(how) => (3, how_code(how, is_late), 0),
     };
     Reply {
         what,
@@ -202,18 +227,28 @@ fn reply_to(next: Next, granted: u64, runs: u64) -> Reply
     }
 }
 
-// The number by which C knows how a retry ended.
-fn how_code(how: How) -> u32
-    ensures { result ≡ how_number how }
+// The number by which C knows how a retry ended, where the start that its plan has is past its deadline or not.
+fn how_code(how: How, is_late: bool) -> u32
+    ensures { result ≡ how_number how is_late }
 {
     match how {
         How::Won => 1,
-        How::ScheduleDone => 2,
+        How::ScheduleDone => { if is_late { 8 } else { 2 } }
         How::BudgetRefused => 3,
         How::Cancelled => 4,
         How::Broken(RunFault::NoMemory) => 5,
         How::Broken(RunFault::JournalFull) => 6,
         How::Broken(RunFault::Backwards) => 7,
-        How::Failed => 8,
+        How::Failed => 9,
+    }
+}
+
+// The number by which C knows what is left up to a deadline, or that there is none.
+fn left_of(left: Option<Millis>) -> u64
+    ensures { result ≡ left_number left }
+{
+    match left {
+        Some(left) => left.get(),
+        None => u64::MAX,
     }
 }

@@ -1,3 +1,4 @@
+pub mod Machine
+pub mod Runner
 pub mod Repeating
 pub mod Ending
-pub mod Comes

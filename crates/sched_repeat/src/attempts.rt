@@ -1,35 +1,51 @@
-//! One poll of an attempt.
-ghost use Rattle.futures.specs.Task.{Keeps};
-ghost use Rattle.sched_repeat.specs.Comes.{Comes};
+//! What a poll of a run comes to.
+ghost use Rattle.std.specs.Prelude.{◌≡◌, false, None};
+ghost use Rattle.sched_repeat.specs.Machine.{Looks, Polls};
+ghost use Rattle.sched_repeat.specs.Ending.{over_by, HasCode};
+ghost use Rattle.sched_repeat.specs.Runner.{polls_run, leaves_run, told_by};
 
-use crate::endings::RepeatEnding;
-use futures::task::{Context, Poll};
-use sched_effect::{Coded, Effect};
+use crate::endings::{RepeatEnding, ending_of};
+use crate::machine::RepeatMachine;
+use sched_effect::{Coded, ran_of};
+use sched_run_machine::Drives;
 use sched_task::RunFault;
-use sched_task_law::{Polled, Runner};
+use sched_task_law::Polled;
 use sched_time::Tick;
 use std::alloc::Global;
 
-// Polls the run under way, or begins one; a success steps the schedule. Answers the ending that this comes to, or
-// `None` where the repeat goes on.
-pub(crate) fn poll_attempt<X: Effect>(
+// Tells the machine what a poll of its run gave. Answers the ending that this comes to, or `None` where the repeat goes
+// on.
+pub(crate) fn tell<I: Coded + Drop, F: Coded + Drop, R: Drives>(
     alloc: Global,
-    runner: &mut Runner<X>,
+    machine: &mut RepeatMachine<R>,
     tick: &Tick,
-    cx: &mut Context<'_>,
-) -> Option<RepeatEnding<X::Fault>>
-    ensures comes { Comes X.Fault.coded runner.old tick.entry.now result runner.new }
-    ensures kept { Keeps cx.old cx.new }
+    polled: Polled<I, F>,
+) -> Option<RepeatEnding<F>>
+    requires looks { Looks R.stands R.keeps machine.old tick.now false }
+    requires unended { machine.old.over ≡ None }
+    requires idle { polls_run polled ≡ false → machine.old.under_way ≡ false }
+    ensures polls { Polls R.stands R.keeps R.goes_by machine.old tick.entry.now
+        (told_by I.coded F.coded polled) machine.new }
+    ensures under_way { machine.new.under_way ≡ leaves_run polled }
+    ensures over { machine.new.over ≡ over_by result }
+    ensures code { HasCode F.coded (told_by I.coded F.coded polled) result }
 {
-    match runner.poll_run(tick, cx) {
-        Polled::Pending => None,
-        Polled::CannotBegin => Some(RepeatEnding::Broken(RunFault::NoMemory)),
-        Polled::CannotRun => Some(RepeatEnding::Broken(RunFault::NoMemory)),
-        Polled::Finished(Err(fault)) => Some(RepeatEnding::Failed(fault)),
-        Polled::Finished(Ok(item)) => match runner.step(alloc, tick, item.code()) {
-            Err(cause) => Some(RepeatEnding::Broken(cause)),
-            Ok(None) => Some(RepeatEnding::ScheduleDone),
-            Ok(Some(_)) => None,
-        },
+    match polled {
+        Polled::Pending => {
+            machine.begin(tick);
+            None
+        }
+        Polled::CannotBegin => {
+            machine.break_off(tick, false);
+            Some(RepeatEnding::Broken(RunFault::NoMemory))
+        }
+        Polled::CannotRun => {
+            machine.break_off(tick, true);
+            Some(RepeatEnding::Broken(RunFault::NoMemory))
+        }
+        Polled::Finished(run) => {
+            machine.report(alloc, tick, ran_of(&run));
+            ending_of(run, machine.over())
+        }
     }
 }

@@ -1,7 +1,10 @@
 //! What a repeat hands out once it is over.
-ghost use Rattle.std.specs.Prelude.{◌≡◌};
-ghost use Rattle.sched_repeat.specs.Ending.{how_of};
+ghost use Rattle.std.specs.Prelude.{◌≡◌, Some, IfSome};
+ghost use Rattle.sched_effect.specs.Runs.{ran_by};
+ghost use Rattle.sched_repeat.specs.Machine.{EndsAs};
+ghost use Rattle.sched_repeat.specs.Ending.{how_of, over_by, HandsOut};
 
+use sched_effect::Coded;
 use sched_task::{How, RunFault};
 
 /// How a repeat ended. The answer of one whose schedule is done is its driver's last output.
@@ -28,5 +31,25 @@ impl<F: Drop> RepeatEnding<F> {
             RepeatEnding::Cancelled => How::Cancelled,
             RepeatEnding::Broken(cause) => How::Broken(*cause),
         }
+    }
+}
+
+/// The ending of a repeat whose last run gave this and which is over so, or `None` where it goes on.
+pub fn ending_of<I: Coded + Drop, F: Coded + Drop>(
+    run: Result<I, F>,
+    over: Option<How>,
+) -> Option<RepeatEnding<F>>
+    requires { EndsAs (ran_by I.coded F.coded run) over }
+    ensures over { over ≡ over_by result }
+    ensures value { IfSome result (HandsOut (Some run)) }
+{
+    match run {
+        Err(fault) => Some(RepeatEnding::Failed(fault)),
+        Ok(_) => match over {
+            None => None,
+            Some(How::ScheduleDone) => Some(RepeatEnding::ScheduleDone),
+            Some(How::Broken(cause)) => Some(RepeatEnding::Broken(cause)),
+            Some(How::Won | How::BudgetRefused | How::Failed | How::Cancelled) => unreachable!(),
+        },
     }
 }

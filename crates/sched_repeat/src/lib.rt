@@ -3,7 +3,10 @@
 
 mod attempts;
 mod endings;
+mod machine;
 mod repeat;
+mod runner;
 
-pub use endings::RepeatEnding;
+pub use endings::{RepeatEnding, ending_of};
+pub use machine::RepeatMachine;
 pub use repeat::Repeat;

@@ -1,19 +1,19 @@
 //! Repeats.
-ghost use Rattle.std.specs.Prelude.{◌≡◌, ◌<◌, ◌≤◌, false, [], is_some, IfSome, IsSomeAnd, MatchBool};
+ghost use Rattle.std.specs.Prelude.{◌≡◌, false, [], is_some, IfSome};
 ghost use Rattle.futures.specs.Task.{Keeps};
 ghost use Rattle.sched_task.specs.Polls.{is_ready};
 ghost use Rattle.sched_task_law.specs.Past.{nothing_yet, waits_for};
-ghost use Rattle.sched_task_law.specs.Poll.{CanRun};
 ghost use Rattle.sched_repeat.specs.Repeating.{RepeatLaw, RepeatPoll, gives_up};
 ghost use Rattle.sched_repeat.specs.Ending.{RepeatFits};
 
-use crate::attempts::poll_attempt;
+use crate::attempts::tell;
 use crate::endings::RepeatEnding;
+use crate::machine::RepeatMachine;
+use crate::runner::Runner;
 use futures::task::{Context, Poll};
 use sched_driver::Driver;
 use sched_effect::{Coded, Effect};
 use sched_task::{How, Task};
-use sched_task_law::Runner;
 use sched_time::{Moment, Tick};
 use std::alloc::Global;
 use std::marker::Model;
@@ -23,13 +23,13 @@ use std::marker::Model;
 #[derive(Drop)]
 pub struct Repeat<X: Effect> {
     runner: Runner<X>,
-    over: Option<How>,
+    machine: RepeatMachine<Driver>,
     ending: Option<RepeatEnding<X::Fault>>,
 }
 
 impl<X: Effect> Model for Repeat<X> {
     ghost use Rattle.std.specs.Prelude.{is_some, IfSome};
-    ghost use Rattle.sched_repeat.specs.Repeating.{Repeating, coded_repeating, repeating, RepeatLaw};
+    ghost use Rattle.sched_repeat.specs.Repeating.{Repeating, coded_repeating, repeating, RepeatLaw, IsOf};
 
     ghost Value = { Repeating };
 
@@ -37,10 +37,11 @@ impl<X: Effect> Model for Repeat<X> {
 
     ghost use Rattle.sched_repeat.specs.Ending.{RepeatFits};
 
-    ghost view = { λ r. repeating r.runner r.over (is_some r.ending) };
+    ghost view = { λ r. repeating r.machine r.runner (is_some r.ending) };
 
-    ghost invariant = { λ r. RepeatLaw (repeating r.runner r.over (is_some r.ending))
-        × IfSome r.ending (RepeatFits X.Fault.coded r.over r.runner.runs) };
+    ghost invariant = { λ r. RepeatLaw (repeating r.machine r.runner (is_some r.ending))
+        × IsOf r.machine r.runner
+        × IfSome r.ending (RepeatFits X.Fault.coded r.machine.over r.runner.runs) };
 }
 
 impl<X: Effect> Repeat<X> {
@@ -52,8 +53,8 @@ impl<X: Effect> Repeat<X> {
         ensures untaken { result.untaken ≡ false }
     {
         Repeat {
-            runner: Runner::new(alloc, effect, driver),
-            over: None,
+            runner: Runner::new(alloc, effect),
+            machine: RepeatMachine::new(driver),
             ending: None,
         }
     }
@@ -68,53 +69,19 @@ impl<X: Effect> Repeat<X> {
         ensures answers { is_ready result ≡ is_some self.new.past.over }
         ensures kept { Keeps cx.old cx.new }
     {
-        if self.over.is_some() {
-            return Poll::Ready(());
+        if self.machine.stays(tick) {
+            return ready_where(self.machine.over());
         }
-        if self.rests(tick.now) {
-            return Poll::Pending;
-        }
-        self.poll_now(alloc, tick, cx)
-    }
-
-    // The same where it is not over and waits for no later moment.
-    fn poll_now(&mut self, alloc: Global, tick: &Tick, cx: &mut Context<'_>) -> Poll<()>
-        requires { CanRun self.old.past tick.now }
-        ensures poll { RepeatPoll self.old tick.entry.now (is_ready result) self.new }
-        ensures answers { is_ready result ≡ is_some self.new.past.over }
-        ensures kept { Keeps cx.old cx.new }
-    {
-        match poll_attempt(alloc, &mut self.runner, tick, cx) {
-            None => Poll::Pending,
-            Some(ending) => {
-                self.over = Some(ending.how());
-                self.ending = Some(ending);
-                Poll::Ready(())
-            }
-        }
-    }
-
-    // Whether it waits for a moment after this one.
-    fn rests(&self, now: Moment) -> bool
-        ensures { MatchBool result
-            (IsSomeAnd (waits_for self.now.past) (λ m. now < m))
-            (IfSome (waits_for self.now.past) (λ m. m ≤ now)) }
-    {
-        match self.due() {
-            Some(start) => now.get() < start.get(),
-            None => false,
-        }
+        let polled = self.runner.poll_run(tick, cx);
+        self.ending = tell(alloc, &mut self.machine, tick, polled);
+        ready_where(self.machine.over())
     }
 
     /// The moment that it waits for, or `None` where it waits for none.
     pub fn due(&self) -> Option<Moment>
         ensures { result ≡ waits_for self.now.past }
     {
-        if self.over.is_some() {
-            None
-        } else {
-            self.runner.due()
-        }
+        self.machine.due()
     }
 
     /// How it ended, or `None` where it is not over. Whenever it is asked, the law of a repeat holds.
@@ -122,17 +89,18 @@ impl<X: Effect> Repeat<X> {
         ensures over { result ≡ self.now.past.over }
         ensures law { RepeatLaw self.now }
     {
-        self.over
+        self.machine.over()
     }
 
     /// Ends a repeat that is not over as `Cancelled`; one that is over stays as it is.
     pub fn cancel(&mut self)
         ensures { self.new ≡ gives_up self.old }
     {
-        if self.over.is_none() {
-            self.over = Some(How::Cancelled);
-            self.ending = Some(RepeatEnding::Cancelled);
+        if self.machine.over().is_some() {
+            return;
         }
+        self.machine.cancel();
+        self.ending = Some(RepeatEnding::Cancelled);
     }
 
     /// The ending, once, where the repeat is over; `None` before that and after it was taken.
@@ -148,7 +116,7 @@ impl<X: Effect> Repeat<X> {
     pub fn driver(&self) -> &Driver
         ensures { result.now ≡ self.now.past.driver }
     {
-        self.runner.driver()
+        self.machine.driver()
     }
 
     /// The effect, with its finished runs.
@@ -172,11 +140,20 @@ impl<X: Effect> Repeat<X> {
     {
         let Repeat {
             runner,
-            over: _,
+            machine,
             ending: _,
         } = self;
-        let (effect, driver, _) = runner.into_parts();
-        (effect, driver)
+        (runner.into_effect(), machine.into_driver())
+    }
+}
+
+// Ready where it is over.
+fn ready_where(over: Option<How>) -> Poll<()>
+    ensures { is_ready result ≡ is_some over }
+{
+    match over {
+        Some(_) => Poll::Ready(()),
+        None => Poll::Pending,
     }
 }
 

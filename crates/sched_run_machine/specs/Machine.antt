@@ -13,6 +13,7 @@ use Rattle.sched_task_law.specs.Kind.{a_retry}
 use Rattle.sched_task_law.specs.Past.{nothing_yet, is_under_way}
 use Rattle.sched_task_law.specs.Codes.{coded_how}
 use Rattle.sched_retry.specs.Retrying.{Retrying, RetryLaw}
+use Rattle.sched_run_machine.specs.Deadline.{is_past}
 use Rattle.sched_run_machine.specs.Drives.{Stepped, Refused}
 use Rattle.sched_run_machine.specs.Next.{HostPoll}
 use Rattle.sched_run_machine.specs.declared.next.Next.{Next}
@@ -56,6 +57,11 @@ Finds m (Over ended) = m.over ≡ Some ended
 Finds m Run = (m.over ≡ None) × (m.under_way ≡ true)
 Finds m Poll = (m.over ≡ None) × (m.under_way ≡ false)
 Finds m (Wait start) = (m.over ≡ None) × (m.under_way ≡ false)
+
+-- where it waits, it is for no moment past the deadline
+abbrev pub WaitsInTime : Option ℕ → Next → Type 0
+WaitsInTime deadline (Wait start) = is_past deadline start ≡ false
+WaitsInTime deadline _ = Unit {0}
 
 -- how a run that is told may end a machine: a success does, and a failure does not as one, nor as cancelled
 abbrev pub EndsAs : Ran → Option How → Type 0

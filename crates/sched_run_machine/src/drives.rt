@@ -1,7 +1,8 @@
 //! Drivers of machines.
-ghost use Rattle.std.specs.Prelude.{◌≡◌, Bool, true, is_none, IfOk, IfErr};
+ghost use Rattle.std.specs.Prelude.{◌≡◌, ℕ, Bool, true, false, Option, is_none, IfSome, IfOk, IfErr};
 ghost use Rattle.sched_driver.specs.Driven.{Driven, next_start_of};
 ghost use Rattle.sched_plan.specs.Schedule.{Schedule};
+ghost use Rattle.sched_run_machine.specs.Deadline.{is_past};
 ghost use Rattle.sched_run_machine.specs.Drives.{unstepped, Stepped, Refused};
 
 use sched_driver::Driver;
@@ -29,9 +30,13 @@ pub trait Drives: Drop {
     // Whether it has made no step.
     ghost fresh: { Self → Type 0 };
 
+    // The moment past which it plans no start, if there is one.
+    ghost ends: { Self → Option ℕ };
+
     /// The start planned last, or `None` where there was no step or the plan was done.
     fn next_start(&self) -> Option<Moment>
-        ensures { (d : Driven) → stands self.now d → result ≡ next_start_of d };
+        ensures start { (d : Driven) → stands self.now d → result ≡ next_start_of d }
+        ensures in_time { IfSome result (λ start. is_past (ends self.now) start ≡ false) };
 
     /// Steps the plan with a run's code, and answers the start that it plans, or `None` where it is done.
     /// A refused step changes nothing.
@@ -39,6 +44,7 @@ pub trait Drives: Drop {
         ensures stepped { IfOk result (λ start.
             Stepped stands keeps goes_by self.old tick.entry.now code (is_none start) self.new) }
         ensures narrows { (s : Schedule) → goes_by self.new s → goes_by self.old s }
+        ensures deadline { ends self.new ≡ ends self.old }
         ensures refused { IfErr result (λ fault. Refused stands keeps self.old tick.entry.now fault) }
         ensures unchanged { IfErr result (λ _. self.new ≡ self.old) };
 
@@ -51,7 +57,7 @@ pub trait Drives: Drop {
 }
 
 impl Drives for Driver {
-    ghost use Rattle.std.specs.Prelude.{◌≡◌, [], true, refl};
+    ghost use Rattle.std.specs.Prelude.{◌≡◌, [], true, None, refl};
     ghost use Rattle.sched_run_machine.specs.Drives.{unstepped_driver};
 
     ghost keeps = { true };
@@ -63,6 +69,8 @@ impl Drives for Driver {
     ghost plan = { λ v. v.plan };
 
     ghost fresh = { λ v. v.journal ≡ [] };
+
+    ghost ends = { λ _. None };
 
     ghost begins = { unstepped_driver };
 
@@ -83,7 +91,7 @@ impl Drives for Driver {
 }
 
 impl Drives for Stepper {
-    ghost use Rattle.std.specs.Prelude.{◌≡◌, [], false, refl};
+    ghost use Rattle.std.specs.Prelude.{◌≡◌, [], false, None, refl};
     ghost use Rattle.sched_driver_stepper.specs.Standing.{standing_after};
     ghost use Rattle.sched_run_machine.specs.Drives.{IsStepped, GoesByPlan};
 
@@ -96,6 +104,8 @@ impl Drives for Stepper {
     ghost plan = { λ v. v.plan };
 
     ghost fresh = { λ v. v ≡ standing_after v.plan [] };
+
+    ghost ends = { λ _. None };
 
     ghost begins = { λ v fresh _ by. (by, record { in_order = tt; is = fresh }) };
 

@@ -2,7 +2,7 @@
 ghost use Rattle.std.specs.Prelude.{◌≡◌, ◌+◌, [], ◌∷◌, true, false, None};
 ghost use Rattle.sched_plan.specs.Schedule.{Schedule};
 ghost use Rattle.sched_retry.specs.Retrying.{Retrying, gives_up};
-ghost use Rattle.sched_run_machine.specs.Machine.{begins, unbegun, is_told, cancelled, StandsFor, IsMachine, Polls, Finds, Ends, EndsAs};
+ghost use Rattle.sched_run_machine.specs.Machine.{begins, unbegun, is_told, cancelled, StandsFor, IsMachine, Polls, Finds, WaitsInTime, Ends, EndsAs};
 ghost use Rattle.sched_run_machine.specs.Next.{next_of, Rests};
 
 use crate::drives::Drives;
@@ -77,6 +77,7 @@ impl<R: Drives, D: Draws> Machine<R, D> {
     pub fn poll(&mut self, tick: &Tick)
         ensures polls { Polls R.stands R.keeps R.goes_by D.grants self.old tick.entry.now [] self.new }
         ensures unbroken { self.new.over ≡ self.old.over }
+        ensures deadline { R.ends self.new.driver ≡ R.ends self.old.driver }
     {
         if self.over.is_some() {
             return;
@@ -97,6 +98,7 @@ impl<R: Drives, D: Draws> Machine<R, D> {
         ensures told { result ≡ true →
             Polls R.stands R.keeps R.goes_by D.grants self.old tick.entry.now (ran ∷ []) self.new }
         ensures ends { result ≡ true → EndsAs ran self.new.over }
+        ensures deadline { R.ends self.new.driver ≡ R.ends self.old.driver }
         ensures unchanged { result ≡ false → self.new ≡ self.old }
     {
         if self.over.is_some() {
@@ -113,9 +115,10 @@ impl<R: Drives, D: Draws> Machine<R, D> {
         true
     }
 
-    /// What the host is to do.
+    /// What the host is to do. It waits for no moment past the deadline of its driver, where that has one.
     pub fn next(&self) -> Next
         ensures finds { Finds self.now result }
+        ensures in_time { WaitsInTime (R.ends self.now.driver) result }
         ensures next { (v : Retrying D) → StandsFor R.stands R.keeps D.grants self.now v → result ≡ next_of v.past }
     {
         if let Some(how) = self.over {
@@ -224,6 +227,7 @@ fn end_run<R: Drives, D: Draws>(
     requires stands { D.grants.stands drawing.old }
     ensures stands { D.grants.stands drawing.new }
     ensures narrows { (s : Schedule) → R.goes_by driver.new s → R.goes_by driver.old s }
+    ensures deadline { R.ends driver.new ≡ R.ends driver.old }
     ensures ends { Ends R.stands R.keeps R.goes_by D.grants
         driver.old drawing.old tick.entry.now ran result driver.new drawing.new }
 {

@@ -1,9 +1,9 @@
 //! Drivers with a deadline.
-ghost use Rattle.std.specs.Prelude.{◌≡◌, ◌-◌, ◌≤◌, ◌||◌, Some, is_some, IfSome, option_map, unwrap_or};
+ghost use Rattle.std.specs.Prelude.{◌≡◌, ◌-◌, ◌≤◌, false, ◌||◌, Some, is_some, IfSome, option_map, unwrap_or};
 ghost use Rattle.sched_time.specs.declared.numbers.TheConstants.{FAR};
 ghost use Rattle.sched_driver.specs.Driven.{Driven, next_start_of};
 ghost use Rattle.sched_task_law.specs.Past.{schedule_is_done};
-ghost use Rattle.sched_run_machine.specs.Deadline.{in_time, late};
+ghost use Rattle.sched_run_machine.specs.Deadline.{is_past, in_time, late};
 ghost use Rattle.sched_run_machine.specs.Until.{unstepped_until, beneath, StandsUntil, FreshUntil};
 
 use crate::drives::Drives;
@@ -109,6 +109,8 @@ impl<R: Drives> Drives for Until<R> {
 
     ghost fresh = { FreshUntil R.fresh };
 
+    ghost ends = { λ v. v.deadline };
+
     ghost begins = { begins_until R.stands R.goes_by R.fresh R.begins };
 
     ghost goes = { λ v. goes_until R.goes_by v (R.plan v.driver) (R.goes v.driver) };
@@ -136,6 +138,7 @@ impl<R: Drives> Drives for Until<R> {
 // The start planned, where it is not past the deadline.
 fn starts_in_time(deadline: Option<Moment>, start: Option<Moment>) -> Option<Moment>
     ensures in_time { result ≡ in_time deadline start }
+    ensures none_past { IfSome result (λ moment. is_past deadline moment ≡ false) }
     ensures in_range { IfSome deadline (λ moment. moment ≤ FAR) }
 {
     match deadline {

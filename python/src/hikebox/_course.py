@@ -12,7 +12,7 @@ from math import ceil
 from typing import TYPE_CHECKING, Any, Callable, Generator, List, Mapping, Optional, Tuple, TypeVar, Union
 
 from ._deadline import Limit
-from ._engine import LOST, NO_REPORT, OVER, RUN, WAIT, PolicyHandle
+from ._engine import LOST, NO_DEADLINE, NO_REPORT, OVER, RUN, WAIT
 from ._machine import Machine, lend_machine, take_machine_back
 from ._passes import NO_BUDGET, DrawnOn
 from ._preview import word_of
@@ -373,13 +373,7 @@ class Course:
         """Whether the policy goes on, and the engine's retry drew a ticket where it does that itself."""
         settings, state = self.settings, self.state
         seconds = state.seconds_since_start or 0.0
-        machine = self._machine
-        if machine is None:
-            policy = self._policy(self._moment(seconds))
-            if policy is None:
-                state.ending = Ending.SCHEDULE_DONE
-                return False
-            machine = self._begin(policy)
+        machine = self._machine or self._begin()
         words = {lane: word_of(settings.random()) for lane in settings.lanes} if settings.lanes else None
         code = settings.code_for(outcome) if settings.reads_codes else 0
         what, detail, granted = machine.poll(self._origin + self._moment(seconds), LOST, code, words)
@@ -392,27 +386,19 @@ class Course:
             state.granted = granted
         return True
 
-    def _policy(self, moment: int) -> Optional[PolicyHandle]:
-        """The policy of a retry whose first attempt failed at this moment, or None where its deadline was before that.
-        The policy's first event is that failure, so it has what is left of the time."""
-        settings = self.settings
-        plan, most = settings.policy.plan, settings.most_millis
-        if most is None:
-            return plan.lend()
-        return plan.until(most - moment) if moment <= most else None
-
-    def _begin(self, policy: PolicyHandle) -> Machine:
+    def _begin(self) -> Machine:
         """A retry of the engine, whose first attempt began at the start."""
         settings = self.settings
         machine = lend_machine()
-        drawn_on = settings.drawn_on
-        try:
-            drawn_on.begin_retry(machine, policy)
-        finally:
-            if settings.most_millis is None:
-                settings.policy.plan.give_back(policy)
-        self._drawn_on, self._generation = drawn_on, drawn_on.generation
+        drawn_on, plan, most = settings.drawn_on, settings.policy.plan, settings.most_millis
         self._origin = drawn_on.moment_of(self.state.start_time)
+        deadline = NO_DEADLINE if most is None else min(FAR, self._origin + most)
+        policy = plan.lend()
+        try:
+            drawn_on.begin_retry(machine, policy, deadline)
+        finally:
+            plan.give_back(policy)
+        self._drawn_on, self._generation = drawn_on, drawn_on.generation
         self._machine = machine
         self._logs = logger.isEnabledFor(logging.DEBUG)
         if machine.poll(self._origin, NO_REPORT, 0)[0] != RUN:

@@ -55,6 +55,9 @@ MOST_TICKETS = 2**32
 #: The most thousandths of a ticket that a request gives.
 MOST_SHARE = 1_000_000
 
+#: The deadline of a retry that has none.
+NO_DEADLINE = 2**64 - 1
+
 NO_REPORT, WON, LOST = 0, 1, 2
 POLL, RUN, WAIT, OVER = 0, 1, 2, 3
 ON_NOTHING, ON_BUDGET, ON_QUOTA = 0, 1, 2
@@ -150,9 +153,9 @@ SIGNATURES: Dict[str, Tuple[Any, ...]] = {
     "hikebox_quota_count": (_HANDLE, _NUMBER),
     "hikebox_quota_close": (_HANDLE, _NUMBER),
     "hikebox_quota_free": (_HANDLE,),
-    "hikebox_retry_new": (_HANDLE, _HANDLE, _HANDLE),
-    "hikebox_retry_on_quota": (_HANDLE, _HANDLE, _HANDLE),
-    "hikebox_retry_unlimited": (_HANDLE, _HANDLE),
+    "hikebox_retry_new": (_HANDLE, _HANDLE, c_uint64, _HANDLE),
+    "hikebox_retry_on_quota": (_HANDLE, _HANDLE, c_uint64, _HANDLE),
+    "hikebox_retry_unlimited": (_HANDLE, c_uint64, _HANDLE),
     "hikebox_retry_poll": (_HANDLE, c_uint64, _WORDS, c_uint32, c_uint64, POINTER(Next)),
     "hikebox_retry_cancel": (_HANDLE,),
     "hikebox_retry_end": (_HANDLE, _HANDLE),

@@ -69,13 +69,13 @@ class Granting(Generic[AnyPass]):
 
     # Retries that draw on it
 
-    def begin_retry(self, machine: Machine, policy: PolicyHandle) -> None:
+    def begin_retry(self, machine: Machine, policy: PolicyHandle, deadline: int) -> None:
         """Begins a retry in this machine, with a pass of its own."""
         lent = self.passes.lend()
         try:
-            if not machine.begin(policy, lent):
+            if not machine.begin(policy, lent, deadline):
                 lent = self.passes.exchange(lent)
-                machine.begin(policy, lent)
+                machine.begin(policy, lent, deadline)
         finally:
             self.passes.give_back(lent)
 

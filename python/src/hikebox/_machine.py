@@ -7,6 +7,7 @@ from ctypes import byref, c_uint64
 from typing import Dict, List, Optional, Tuple
 
 from ._engine import (
+    NO_DEADLINE,
     OK,
     OVER,
     TOO_MANY_PASSES,
@@ -59,14 +60,14 @@ class Machine:
         self.handle = Handle()
         self.at = byref(self.handle)
 
-    def begin(self, policy: PolicyHandle, drawn: BasePass) -> bool:
-        """Begins a retry with a pass split off this one; False where that has a single part. On a quota it draws at the
-        moments of its polls."""
-        return _begun(drawn.BEGIN.__name__, drawn.BEGIN(policy.at, drawn.at, self.at))
+    def begin(self, policy: PolicyHandle, drawn: BasePass, deadline: int = NO_DEADLINE) -> bool:
+        """Begins a retry with a pass split off this one, and a moment past which it plans no attempt; False where the pass
+        has a single part. On a quota it draws at the moments of its polls."""
+        return _begun(drawn.BEGIN.__name__, drawn.BEGIN(policy.at, drawn.at, deadline, self.at))
 
-    def begin_unlimited(self, policy: PolicyHandle) -> None:
+    def begin_unlimited(self, policy: PolicyHandle, deadline: int = NO_DEADLINE) -> None:
         """Begins a retry that draws on nothing. `free` ends it."""
-        _begun("hikebox_retry_unlimited", _retry_unlimited(policy.at, self.at))
+        _begun("hikebox_retry_unlimited", _retry_unlimited(policy.at, deadline, self.at))
 
     def poll(self, now: int, report: int, code: int, words: Optional[Dict[int, int]] = None) -> Polled:
         """One step: what is to be done. `words` are the random words of the lanes that the policy reads."""

@@ -137,8 +137,8 @@ class DrawnOn(Protocol):
     def generation(self) -> int:
         """How often it began anew, as in a forked child: a retry that began before is not its own any more."""
 
-    def begin_retry(self, machine: Machine, policy: PolicyHandle) -> None:
-        """Begins a retry in this machine, with a pass of its own."""
+    def begin_retry(self, machine: Machine, policy: PolicyHandle, deadline: int) -> None:
+        """Begins a retry in this machine, with a pass of its own, and a moment past which it plans no attempt."""
 
     def end_retry(self, machine: Machine) -> None:
         """Takes the pass of the machine's retry back, with its tickets."""
@@ -154,8 +154,8 @@ class NoBudget:
 
     generation = 0
 
-    def begin_retry(self, machine: Machine, policy: PolicyHandle) -> None:
-        machine.begin_unlimited(policy)
+    def begin_retry(self, machine: Machine, policy: PolicyHandle, deadline: int) -> None:
+        machine.begin_unlimited(policy, deadline)
 
     def end_retry(self, machine: Machine) -> None:
         machine.free()

@@ -91,11 +91,6 @@ class Plan:
             self._handles.append(handle.share())
         return handle
 
-    def until(self, millis: int) -> _engine.PolicyHandle:
-        """A handle of its own to the same policy, but done where the next call would start later than so many
-        milliseconds after the first event."""
-        return _read(b'{"ends_by":[%d,%s]}' % (millis, self.text.encode()))
-
     def give_back(self, handle: _engine.PolicyHandle) -> None:
         """Takes a handle back that was lent."""
         if len(self._handles) < _IDLE:

@@ -117,7 +117,7 @@ class Settings:
             object.__setattr__(self, name, value)
         given_policy: Policy = given["policy"]  # type: ignore[assignment]
         given_policy.plan.is_used()
-        object.__setattr__(self, "most_millis", _deadline_of(self.deadline, given_policy))
+        object.__setattr__(self, "most_millis", None if self.deadline is None else seconds(self.deadline, "deadline"))
         lanes, reads_codes = given_policy.plan.reads
         object.__setattr__(self, "lanes", lanes)
         object.__setattr__(self, "reads_codes", reads_codes)
@@ -178,14 +178,6 @@ def _longest_of(longest: Any) -> float:
     if isinstance(longest, bool) or not isinstance(longest, (int, float)) or not longest >= 0:
         raise TypeError(f"longest: a number of seconds is wanted, or None, not {longest!r}")
     return float(longest)
-
-
-def _deadline_of(deadline: Any, policy: Policy) -> Optional[int]:
-    if deadline is None:
-        return None
-    millis = seconds(deadline, "deadline")
-    policy.plan.until(millis)  # which is refused where the policy has no room for one more node
-    return millis
 
 
 def _drawn_on(budget: Any, clock: Any, awaits: bool) -> Tuple[DrawnOn, Optional[Callable[[], Any]]]:

@@ -49,6 +49,7 @@ ENDINGS: Tuple[Optional[Ending], ...] = (
     Ending.NO_MEMORY,
     None,
     Ending.CLOCK_WENT_BACK,
+    Ending.SCHEDULE_DONE,
 )
 
 

@@ -3,8 +3,9 @@ ghost use Rattle.sched_driver_stepper.specs.Standing.{standing_after};
 ghost use Rattle.sched_run_machine.specs.Until.{FreshUntil};
 
 use super::{budget, moment, stepper};
-use crate::retry_call;
+use crate::{repeat_call, retry_call};
 use sched_driver_stepper::Stepper;
+use sched_repeat::{RepeatEnding, RepeatMachine};
 use sched_retry::Ending;
 use sched_run_machine::{Machine, Until};
 use sched_task::{Clock, MidWords, VirtualClock};
@@ -145,6 +146,29 @@ fn no_deadline_ends_nothing(rt: HostRuntime) {
     assert_eq!(rt; clock.now().get(), 1200);
     assert_eq!(rt; retry.driver().late_start().map(Moment::get), None);
     assert_eq!(rt; retry.driver().left(moment(&rt, 0)).map(Millis::get), None);
+}
+
+// Calls at 1000, 1100 and 1200; the next one would be at 1300.
+#[test]
+fn no_call_of_a_repeat_is_planned_past_the_deadline(rt: HostRuntime) {
+    let alloc = rt.alloc();
+    let mut repeat = RepeatMachine::new(until(&rt, alloc, 50, 1250));
+    let mut clock = VirtualClock::at(moment(&rt, 1000));
+    let mut calls = 0u32;
+    let ending = repeat_call(
+        &rt,
+        &mut repeat,
+        &mut clock,
+        &mut MidWords,
+        || -> Result<u32, ()> {
+            calls = calls.saturating_add(1);
+            Ok(calls)
+        },
+    );
+    assert!(rt; matches!(ending, RepeatEnding::ScheduleDone));
+    assert_eq!(rt; calls, 3);
+    assert_eq!(rt; clock.now().get(), 1200);
+    assert_eq!(rt; repeat.driver().late_start().map(Moment::get), Some(1300));
 }
 
 // A clock that wakes 200 milliseconds late.

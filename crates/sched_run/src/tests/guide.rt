@@ -31,3 +31,53 @@ fn retry_a_call(rt: HostRuntime) {
     let (_, _, drawing, _) = retry.into_parts();
     assert_eq!(rt; drawing.granted(), 4);
 }
+
+// Goes on while the status is 202, a second after it.
+fn while_accepted(alloc: Global) -> Result<Plan, PlanFault> {
+    Plan::gate(
+        alloc,
+        Side::Input,
+        true,
+        Test::Equal,
+        202,
+        Plan::spaced(1000)?,
+    )
+}
+
+// Statuses of a job that is done after so many questions.
+#[derive(Drop)]
+struct Statuses {
+    left: u32,
+}
+
+impl Statuses {
+    fn ask(&mut self) -> Result<u32, ()> {
+        match self.left.checked_sub(1) {
+            Some(left) => {
+                self.left = left;
+                Ok(202)
+            }
+            None => Ok(200),
+        }
+    }
+}
+
+// Asked at 0, 1000, 2000 and 3000: the last answer is 200.
+#[test]
+fn repeat_a_call(rt: HostRuntime) {
+    let alloc = rt.alloc();
+    let mut statuses = Statuses { left: 3 };
+    let mut clock = VirtualClock::at(moment(&rt, 0));
+    let plan = while_accepted(alloc).expect(&rt, "the plan is built");
+    let stepper = Stepper::new(alloc, plan).expect(&rt, "there is memory");
+    let mut repeat = RepeatMachine::new(stepper);
+    let ending = repeat_call(
+        &rt,
+        &mut repeat,
+        &mut clock,
+        &mut MidWords,
+        || statuses.ask(),
+    );
+    assert!(rt; matches!(ending, RepeatEnding::ScheduleDone));
+    assert_eq!(rt; clock.now().get(), 3000);
+}

@@ -3,4 +3,11 @@ use Rattle.sched_handle.proofs.retries.poll_retry.Goals as goal
 pub returns-else-not-report : goal.returns-else-not-report
 returns-else-not-report c =
     let after = c.poll_at-in-Some in
-    rw c.in-Some.is ((c.report.new.self, c.report.ensures.told c.if-not-report.false, after.ensures.polls), after.ensures.shows)
+    rw c.in-Some.is (
+      (
+        c.report.new.self,
+        record { polls = c.report.ensures.told c.if-not-report.false; deadline = c.report.ensures.deadline },
+        after.ensures.polls,
+      ),
+      after.ensures.shows,
+    )

@@ -10,7 +10,7 @@ returns c =
     let part = c.in_ok-part in
     let is_policy : c.args.policy.now ≡ Policy stepper.plan = c.in_ok-stepper.ensures.ok.0 in
     let is_pass : c.args.pass.now ≡ Pass c.in_ok-worker.worker.now = c.in_ok-worker.ensures.ok in
-    let fresh : IsFresh stepper.plan (Budget c.into_drawing.result) c.within.result.value = rw c.within.ensures c.fresh.ensures in
+    let fresh : IsFresh stepper.plan c.args.deadline (Budget c.into_drawing.result) c.within.result.value = rw c.within.ensures c.fresh.ensures in
     rw (is_policy, is_pass) (
       (c.split_off.new.worker, refl, c.split_off.ensures.budget, part.ensures.kept),
       c.into_drawing.result,

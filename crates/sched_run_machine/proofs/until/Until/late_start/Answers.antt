@@ -7,10 +7,10 @@ returns-clause-late g c =
     rw (← c.self.view_is) (λ d st.
     c.starts_late.ensures.late
     ∙ late_is g.R.Drives.stands (record { driver = c.self.inside.driver; deadline = c.self.inside.deadline; first = c.self.inside.first })
-    c.next_start.result c.next_start.ensures d st)
+    c.next_start.result c.next_start.ensures.start d st)
 
 pub returns-clause-done : goal.returns-clause-done
 returns-clause-done g c =
     rw (← c.self.view_is, c.starts_late.ensures.late) (λ d st.
     done_by g.R.Drives.stands (record { driver = c.self.inside.driver; deadline = c.self.inside.deadline; first = c.self.inside.first })
-    c.next_start.result c.starts_late.ensures.in_range c.next_start.ensures d st)
+    c.next_start.result c.starts_late.ensures.in_range c.next_start.ensures.start d st)

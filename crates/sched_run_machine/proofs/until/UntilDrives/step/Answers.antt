@@ -6,4 +6,4 @@ returns-in-Ok-clause-stepped g c =
     rw (← c.self.view_is, c.starts_in_time.ensures.in_time, c.first_step.ensures.first)
     (steps_until g.R.Drives.stands g.R.Drives.keeps g.R.Drives.goes_by c.self.inside.driver c.step.new.self
     c.self.inside.deadline c.self.inside.first c.args.tick.now c.args.code c.in-Ok.field-0 c.next_start.result
-    c.first_step.ensures.in_range c.starts_in_time.ensures.in_range c.in-Ok.ensures.stepped c.next_start.ensures)
+    c.first_step.ensures.in_range c.starts_in_time.ensures.in_range c.in-Ok.ensures.stepped c.next_start.ensures.start)
