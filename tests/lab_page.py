@@ -2,6 +2,7 @@
 
 from __future__ import annotations
 
+import contextlib
 import os
 import re
 import signal
@@ -9,13 +10,13 @@ import subprocess
 import sys
 import time
 from pathlib import Path
-from typing import Iterator
+from typing import Iterator, Set
 
 import pytest
 
 sys.path.insert(0, str(Path(__file__).parent))
 
-from webdriver import CONTRAST, CONTROL, CROSSING, DOWN, RIGHT, TAB, UP, Browser  # noqa: E402
+from webdriver import CONTRAST, CONTROL, CROSSING, DOWN, HOME, RIGHT, TAB, UP, Browser  # noqa: E402
 
 FULL = "recurs(8) & exponential(0.1, 2).cap(10).jittered(0, 1)"
 PLAYED = "return [...document.querySelectorAll('.played')].filter((figure) => figure.querySelector('svg')).length"
@@ -34,9 +35,18 @@ class Lab:
         assert found is not None
         self.address = found[1]
 
+    def players(self) -> Set[str]:
+        """The processes that play its storms."""
+        found = set()
+        for folder in Path("/proc").glob("[0-9]*"):
+            with contextlib.suppress(OSError):
+                if int((folder / "stat").read_text().rpartition(")")[2].split()[1]) == self.process.pid:
+                    found.add(folder.name)
+        return found
+
     def close(self) -> None:
         self.process.send_signal(signal.SIGINT)
-        told = self.process.communicate(timeout=20)
+        told = self.process.communicate(timeout=120)
         assert (self.process.returncode, told) == (0, ("", ""))
 
 
@@ -126,15 +136,13 @@ def test_all_of_it_by_the_keyboard(browser: Browser, lab: Lab) -> None:
     browser.tab_to("capacity-slider")
     browser.keys(RIGHT * 20)
     browser.wait("return Number(document.getElementById('capacity').value) > 1500")
-    for _ in range(100):
-        after = browser.run("return document.querySelector('#side-a .played').innerHTML")
-        if after != before:
-            break
+    ends = time.monotonic() + 120
+    while browser.run("return document.querySelector('#side-a .played').innerHTML") == before:
+        assert time.monotonic() < ends, "the picture stays the same"
         time.sleep(0.1)
-    assert after != before
     # the cookbook
     browser.tab_to("b-cookbook")
-    browser.keys("No retry")
+    browser.keys(HOME, DOWN)
     browser.wait("return document.getElementById('b-text').value === 'recurs(0)'")
     browser.wait("return document.querySelector('#side-b .lines').textContent.includes('1.00 for each request')")
     assert browser.run("return document.getElementById('a-cookbook').value") == ""
@@ -182,22 +190,25 @@ def test_a_parameter_out_of_range_is_told(browser: Browser) -> None:
     browser.wait("return document.querySelector('#side-a .lines').textContent.includes('54,000 requests')")
 
 
-def test_a_long_storm_shows_that_it_is_played_and_typing_breaks_it_off(browser: Browser) -> None:
+def test_a_long_storm_shows_that_it_is_played_and_typing_breaks_it_off(browser: Browser, lab: Lab) -> None:
     browser.tab_to("a-text")
     browser.keys("a", held=CONTROL)
-    # each of a million requests is retried for an hour: a minute of work
+    # a million requests, of which each is retried two hundred times
     browser.run("state.storm = {rate: 17000, seconds: 60, capacity: 1, queue: 0}; showControls()")
     browser.keys("recurs(200) & spaced(0.05)")
     browser.wait("return !document.getElementById('busy').hidden")
     assert "breaks it off" in browser.run("return document.getElementById('busy-said').textContent")
     shot(browser, "busy")
-    begun = time.monotonic()
+    at_work = lab.players()
     browser.run("state.storm = {seconds: 5}; showControls()")
     browser.keys("a", held=CONTROL)
     browser.keys("recurs(0)")
     browser.wait("return document.querySelector('#side-a .lines').textContent.includes('4,000 requests')")
-    assert time.monotonic() - begun < 30
-    assert browser.run("return document.getElementById('busy').hidden")
+    browser.wait("return document.getElementById('busy').hidden")
+    ends = time.monotonic() + 120
+    while at_work <= lab.players() and time.monotonic() < ends:
+        time.sleep(0.1)
+    assert not at_work <= lab.players(), "the process of the long storm is still there"
 
 
 def test_ten_storms_of_a_million_requests_at_once_leave_it_answering(browser: Browser) -> None:

@@ -17,7 +17,7 @@ from typing import Any, Dict, List, Optional
 ELEMENT = "element-6066-11e4-a52e-4f735466cecf"
 #: Keys that have no sign of their own.
 TAB, CONTROL = "\ue004", "\ue009"
-RIGHT, UP, DOWN = "\ue014", "\ue013", "\ue015"
+HOME, RIGHT, UP, DOWN = "\ue011", "\ue014", "\ue013", "\ue015"
 
 _OPTIONS = ["--headless=new", "--no-sandbox", "--disable-gpu", "--disable-dev-shm-usage", "--no-first-run"]
 _OPTIONS += ["--disable-background-networking", "--disable-component-update", "--disable-sync", "--hide-scrollbars"]
@@ -42,7 +42,7 @@ class Browser:
         body = json.dumps(given or {}).encode() if method == "POST" else None
         request = urllib.request.Request(self.base + self.session + path, body, {"Content-Type": "application/json"}, method=method)
         try:
-            with urllib.request.urlopen(request, timeout=60) as answer:
+            with urllib.request.urlopen(request, timeout=300) as answer:
                 return json.load(answer)["value"]
         except urllib.error.HTTPError as error:
             raise AssertionError(json.load(error)["value"]["message"]) from None
@@ -58,7 +58,7 @@ class Browser:
         """What a body of a function in the page gives, also where that is a promise."""
         return self.call("POST", "/execute/sync", {"script": script, "args": list(arguments)})
 
-    def wait(self, script: str, seconds: float = 20.0) -> Any:
+    def wait(self, script: str, seconds: float = 120.0) -> Any:
         """What the script gives, once it gives something."""
         ends = time.monotonic() + seconds
         while True:

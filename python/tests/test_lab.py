@@ -16,7 +16,7 @@ import sys
 import threading
 import time
 from pathlib import Path
-from typing import Any, Dict, Iterator, List, Optional, Tuple
+from typing import Any, Callable, Dict, Iterator, List, Optional, Tuple
 
 import pytest
 from conftest import TOP, heed_signals, python_environment
@@ -29,6 +29,8 @@ from hikebox._storm_code import in_python
 from hikebox._storm_terms import SCENARIOS, Parameters, Slow, Span
 from hikebox.quota import Terms
 
+#: How long is waited for what has to happen, in seconds: on a machine with much else to do it takes long.
+_PATIENCE = 120
 FULL = "recurs(8) & exponential(0.1, 2).cap(10).jittered(0, 1)"
 #: A storm that is played for many seconds.
 LONG: Dict[str, Any] = {"rate": 17_000, "capacity": 1, "queue": 0, "calls": 2**32}
@@ -59,7 +61,7 @@ class Answer:
 
 def ask(lab: Lab, method: str, path: str, body: Optional[bytes] = None, **headers: str) -> Answer:
     """What is answered; a header that is empty is not sent."""
-    connection = http.client.HTTPConnection("127.0.0.1", lab.port, timeout=60)
+    connection = http.client.HTTPConnection("127.0.0.1", lab.port, timeout=_PATIENCE)
     given = {"Content-Type": "application/json", **{name.replace("_", "-"): value for name, value in headers.items()}}
     try:
         connection.request(method, path, body, {name: value for name, value in given.items() if value})
@@ -253,7 +255,7 @@ def test_the_program_in_python_plays_the_storm_of_the_page(spelt: str, parameter
 
 def test_ten_storms_of_a_million_requests_at_once_leave_it_answering(lab: Lab) -> None:
     answers: List[Answer] = []
-    asked = storm_of(("recurs(0)", ""), rate=17_000, capacity=1)
+    asked = storm_of(("recurs(3) & spaced(1)", ""), rate=17_000, capacity=1)
 
     def wait(number: int) -> None:
         answers.append(post(lab, "storm", {**asked, "page": f"page {number}"}))
@@ -261,14 +263,10 @@ def test_ten_storms_of_a_million_requests_at_once_leave_it_answering(lab: Lab) -
     threads = [threading.Thread(target=wait, args=(number,)) for number in range(10)]
     for thread in threads:
         thread.start()
-    slowest = 0.0
-    for _ in range(10):
-        begun = time.monotonic()
+    for _ in range(3):
         assert post(lab, "plan", {"text": "recurs(1)"}).status == 200
         assert ask(lab, "GET", f"/{lab.token}/").status == 200
-        slowest = max(slowest, time.monotonic() - begun)
-        time.sleep(0.02)
-    assert slowest < 2
+    assert len(answers) < 10, "it answers once the storms are played"
     for thread in threads:
         thread.join()
     assert [answer.status for answer in answers] == [200] * 10
@@ -279,12 +277,19 @@ def test_the_next_storm_of_a_page_breaks_the_one_before_off(lab: Lab) -> None:
     broken: List[Answer] = []
     thread = threading.Thread(target=lambda: broken.append(post(lab, "storm", {"page": "q", "sides": [LONG_SIDE], "storm": LONG})))
     thread.start()
-    time.sleep(0.5)
-    begun = time.monotonic()
+    comes_to(lambda: bool(children()))
     assert post(lab, "storm", storm_of(("recurs(0)", ""), page="q", seconds=1)).status == 200
-    thread.join()
-    assert time.monotonic() - begun < 5
+    # (by itself it would be played for an hour)
+    thread.join(_PATIENCE)
     assert (broken[0].status, broken[0].text) == (409, "the storm was broken off\n")
+
+
+def comes_to(happens: Callable[[], bool]) -> None:
+    """Waits until something happens."""
+    deadline = time.monotonic() + _PATIENCE
+    while not happens() and time.monotonic() < deadline:
+        time.sleep(0.05)
+    assert happens()
 
 
 def children() -> List[int]:
@@ -315,23 +320,19 @@ def test_a_closed_connection_ends_the_work(lab: Lab) -> None:
     with socket.create_connection(("127.0.0.1", lab.port)) as wire:
         head = f"POST /{lab.token}/storm HTTP/1.1\r\nHost: 127.0.0.1:{lab.port}\r\nContent-Type: application/json\r\n"
         wire.sendall(f"{head}Content-Length: {len(body)}\r\n\r\n".encode() + body)
-        deadline = time.monotonic() + 10
-        while not children() and time.monotonic() < deadline:
-            time.sleep(0.05)
-        assert children()
-    deadline = time.monotonic() + 10
-    while children() and time.monotonic() < deadline:
-        time.sleep(0.05)
-    assert not children()
+        comes_to(lambda: bool(children()))
+    comes_to(lambda: not children())
 
 
 def test_players_are_used_again_and_ended() -> None:
     players = Players(1)
     asked = storm_of(("recurs(0)", ""), seconds=1)
+    before = processes_of(os.getpid())
     first = players.play(asked, lambda: True)
-    begun = time.monotonic()
+    begun = {told.split()[0] for told in processes_of(os.getpid())} - {told.split()[0] for told in before}
     assert players.play(asked, lambda: True) == first
-    assert time.monotonic() - begun < 2
+    assert len(begun) == 1 and begun <= {told.split()[0] for told in processes_of(os.getpid())}
+    assert len(processes_of(os.getpid())) == len(before) + 1
     with pytest.raises(BrokenOff):
         players.play({"sides": [LONG_SIDE], "storm": LONG}, lambda: False)
     assert players.play(asked, lambda: True) == first
@@ -361,7 +362,7 @@ def connected(process: "subprocess.Popen[str]") -> Tuple[http.client.HTTPConnect
     address = process.stdout.readline()[len("hikebox lab: ") :].split(" ")[0]
     found = re.fullmatch(r"http://127\.0\.0\.1:(\d+)(/[\w-]+/)", address)
     assert found is not None
-    return http.client.HTTPConnection("127.0.0.1", int(found[1]), timeout=60), found[2]
+    return http.client.HTTPConnection("127.0.0.1", int(found[1]), timeout=_PATIENCE), found[2]
 
 
 @pytest.mark.parametrize("number", [signal.SIGINT, signal.SIGTERM])
@@ -374,7 +375,7 @@ def test_a_signal_ends_it_with_all_that_it_started(number: signal.Signals) -> No
     group = [int(found.split()[0]) for found in processes_of(process.pid)]
     assert group
     process.send_signal(number)
-    assert (*process.communicate(timeout=10), process.returncode) == ("", "", 0)
+    assert (*process.communicate(timeout=_PATIENCE), process.returncode) == ("", "", 0)
     assert not [each for each in group if Path(f"/proc/{each}").exists()]
     connection.close()
 
@@ -390,7 +391,7 @@ def test_a_storm_too_large_for_the_memory_is_told() -> None:
         assert answer.get("fault", {}).get("said") == wanted
     connection.close()
     process.send_signal(signal.SIGINT)
-    assert (*process.communicate(timeout=10), process.returncode) == ("", "", 0)
+    assert (*process.communicate(timeout=_PATIENCE), process.returncode) == ("", "", 0)
 
 
 def test_a_reader_that_goes_away_does_not_end_it() -> None:
@@ -404,7 +405,7 @@ def test_a_reader_that_goes_away_does_not_end_it() -> None:
     assert connection.getresponse().status == 200
     connection.close()
     process.send_signal(signal.SIGINT)
-    assert (*process.communicate(timeout=10), process.returncode) == ("", "", 0)
+    assert (*process.communicate(timeout=_PATIENCE), process.returncode) == ("", "", 0)
 
 
 def test_the_browser_is_opened_where_one_is_named(tmp_path: Path) -> None:
@@ -415,11 +416,9 @@ def test_the_browser_is_opened_where_one_is_named(tmp_path: Path) -> None:
     assert process.stdout is not None
     address = process.stdout.readline()[len("hikebox lab: ") :].split(" (")[0]
     assert address.endswith("/#story=herd&a=recurs%283%29%20%60x%60")
-    deadline = time.monotonic() + 10
-    while not (tmp_path / "opened").exists() and time.monotonic() < deadline:
-        time.sleep(0.05)
+    comes_to((tmp_path / "opened").exists)
     process.send_signal(signal.SIGINT)
-    process.communicate(timeout=10)
+    process.communicate(timeout=_PATIENCE)
     assert (tmp_path / "opened").read_text() == f"{address}\n"
 
 
@@ -429,10 +428,10 @@ def test_a_port_that_is_taken_is_told() -> None:
         taken.listen()
         port = taken.getsockname()[1]
         process = start("--no-browser", "--port", str(port))
-        told = process.communicate(timeout=10)
+        told = process.communicate(timeout=_PATIENCE)
     assert (process.returncode, *told) == (4, "", f"hikebox: lab: port {port}: Address already in use\n")
     process = start("--no-browser", "--port", "65536")
-    assert process.communicate(timeout=10)[1].splitlines()[-1] == (
+    assert process.communicate(timeout=_PATIENCE)[1].splitlines()[-1] == (
         "hikebox lab: error: argument --port: '65536' is not a number from 0 to 65535"
     )
     assert process.returncode == 2

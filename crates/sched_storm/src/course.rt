@@ -72,9 +72,9 @@ impl Course {
             match due {
                 Due::End(flight) => self.end(alloc, key, flight)?,
                 Due::First if is_full => return Ok(true),
-                Due::First => self.begin_first(key)?,
+                Due::First => self.begin_first(alloc, key)?,
                 Due::Retry(_) if is_full => return Ok(true),
-                Due::Retry(driver) => self.begin_retry(key, driver)?,
+                Due::Retry(driver) => self.begin_retry(alloc, key, driver)?,
             }
         }
     }
@@ -100,7 +100,7 @@ impl Course {
     }
 
     // The next request begins its first call.
-    fn begin_first(&mut self, key: Key) -> Result<(), NoMemory>
+    fn begin_first(&mut self, alloc: Global, key: Key) -> Result<(), NoMemory>
         requires key { IsKey self.old.storm.until key }
         requires one { self.old.tally.score.all.requests < all_requests self.old.storm }
         requires room { calls_in self.old.tally.score.all < self.old.storm.calls }
@@ -112,11 +112,11 @@ impl Course {
         self.drawn = self.storm.count(self.drawn, key.0);
         self.tally.begin_first();
         self.comes = self.storm.comes_at(self.tally.score.all.requests);
-        self.call(key, None)
+        self.call(alloc, key, None)
     }
 
     // A retry begins.
-    fn begin_retry(&mut self, key: Key, driver: Box<Stepper>) -> Result<(), NoMemory>
+    fn begin_retry(&mut self, alloc: Global, key: Key, driver: Box<Stepper>) -> Result<(), NoMemory>
         requires key { IsKey self.old.storm.until key }
         requires driver { IsBy key.0 driver }
         requires room { calls_in self.old.tally.score.all < self.old.storm.calls }
@@ -128,24 +128,33 @@ impl Course {
     {
         self.tally.turn(&self.storm, self.busy, key.0)?;
         self.tally.begin_retry();
-        self.call(key, Some(driver))
+        self.call(alloc, key, Some(driver))
     }
 
-    // A call comes to the peer.
-    fn call(&mut self, key: Key, driver: Option<Box<Stepper>>) -> Result<(), NoMemory>
+    // A call comes to the peer. One that fails as it comes has ended then: its request is the first of this moment, and
+    // nothing of another one comes between.
+    fn call(
+        &mut self,
+        alloc: Global,
+        key: Key,
+        driver: Option<Box<Stepper>>,
+    ) -> Result<(), NoMemory>
         requires key { IsKey self.old.storm.until key }
         requires driver { IsAnyBy key.0 driver }
         requires room { HasRoom self.old.tally.score self.old.pending }
         ensures storm { self.new.storm ≡ self.old.storm }
-        ensures score { self.new.tally.score ≡ self.old.tally.score }
+        ensures calls { calls_in self.new.tally.score.all ≡ calls_in self.old.tally.score.all }
         ensures flights { OnOk result (self.new.pending.flights ≤ self.old.pending.flights + 1) }
     {
         let (at, request) = key;
         let Called { busy, ends, how } = self.storm.call(self.busy, at);
         self.busy = busy;
+        let flight = Flight { how, driver };
+        if ends == at {
+            return self.end(alloc, key, flight);
+        }
         if ends <= self.storm.parameters().until {
-            self.pending
-                .add_flight((ends, request), Flight { how, driver })?;
+            self.pending.add_flight((ends, request), flight)?;
         }
         Ok(())
     }
