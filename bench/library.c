@@ -134,7 +134,7 @@ static uint64_t calls(const char *what, const char *name, uint64_t many) {
     hikebox_place place;
     check(hikebox_policy_read("\"forever\"", 9, &on.policy, &place));
     if (name[0] == 'b') check(hikebox_budget_fixed(tickets, &on.pass));
-    if (name[0] == 'q') check(hikebox_quota_new(tickets, 0, 1000, &on.quota));
+    if (name[0] == 'q') check(hikebox_quota_new(0, tickets, 0, 1000, &on.quota));
     if (what[0] == 'c') for (uint64_t turn = 0; turn < many; turn++) done += attempt(&state, 0);
     else if (what[0] == 'g') done = call(&on, &state, many);
     else for (uint64_t turn = 0; turn < many; turn++) done += call(&on, &state, what[0] == 'r');

@@ -33,7 +33,8 @@ const char *hikebox_status_text(unsigned status) {
     case 34: return "another pass is alive or was dropped";
     case 35: return "the reserve is more than 4294967296 tickets a window";
     case 36: return "the share is more than 1000 tickets a request";
-    case 37: return "the window is shorter than 1 ms";
+    case 37: return "the window is shorter than 100 ms";
+    case 38: return "64 races with other draws were lost";
     case 40: return "there is no such report";
     case 41: return "no run is under way";
     case 42: return "the retry draws on something else";

@@ -78,6 +78,9 @@ extern "C" {
 /* The greatest share of a quota, in thousandths of a ticket a request: 1000 tickets. */
 #define HIKEBOX_MOST_SHARE UINT64_C(1000000)
 
+/* The shortest period of a quota, in milliseconds. */
+#define HIKEBOX_LEAST_PERIOD UINT64_C(100)
+
 /* The most events of a journal. */
 #define HIKEBOX_MOST_EVENTS 65536
 
@@ -111,7 +114,7 @@ enum {
     /* The policy has more than 256 nodes. */
     HIKEBOX_TOO_MANY = 14,
 
-    /* The moment is before that of the event before. */
+    /* The moment is before that of the event before, or the window before the one that a store counts. */
     HIKEBOX_BACKWARDS = 20,
     /* The journal holds HIKEBOX_MOST_EVENTS events. */
     HIKEBOX_JOURNAL_FULL = 21,
@@ -126,7 +129,8 @@ enum {
     HIKEBOX_LIMIT_TOO_LARGE = 30,
     /* The budget keeps its limit. */
     HIKEBOX_FIXED = 31,
-    /* The budget has no ticket left, or the window of a quota has none now. */
+    /* The budget has no ticket left, or the window of a quota has given out its own: `next` of hikebox_usage tells when
+     * the next begins. */
     HIKEBOX_NO_TICKET = 32,
     /* The pass of the budget or of the quota has one part, which it keeps. */
     HIKEBOX_TOO_MANY_PASSES = 33,
@@ -136,8 +140,10 @@ enum {
     HIKEBOX_RESERVE_TOO_LARGE = 35,
     /* The quota's share is above HIKEBOX_MOST_SHARE. */
     HIKEBOX_SHARE_TOO_LARGE = 36,
-    /* The quota's period is 0. */
+    /* The quota's period is below HIKEBOX_LEAST_PERIOD. */
     HIKEBOX_PERIOD_TOO_SHORT = 37,
+    /* The draw of a quota lost 64 races with other draws. */
+    HIKEBOX_RACES_LOST = 38,
 
     /* The report is none of HIKEBOX_NO_REPORT, HIKEBOX_WON and HIKEBOX_LOST. */
     HIKEBOX_NO_SUCH_REPORT = 40,
@@ -309,9 +315,9 @@ HIKEBOX_CHECKED hikebox_status hikebox_pass_raise(hikebox_pass *pass, uint64_t t
 HIKEBOX_CHECKED hikebox_status hikebox_pass_count(hikebox_pass *pass, uint64_t *tickets);
 
 /*
- * Closes the budget, where this pass has all parts: frees it and writes how many tickets were drawn
- * of it. HIKEBOX_EMPTY; _WRONG_KIND; _PASSES_OUT; _NO_MEMORY, which comes only where another pass was freed: then
- * this one is freed, too.
+ * Closes the budget, where this pass has all its parts: frees it and writes how many tickets were drawn of it, exactly.
+ * It takes no memory. HIKEBOX_EMPTY; _WRONG_KIND; _PASSES_OUT, exactly where the pass has fewer parts: another is held,
+ * by a handle or a retry, or was freed. Then this one goes on as before.
  */
 HIKEBOX_CHECKED hikebox_status hikebox_pass_close(hikebox_pass *pass, uint64_t *tickets);
 
@@ -322,15 +328,18 @@ hikebox_status hikebox_pass_free(hikebox_pass *pass);
 /* ---- Quotas ------------------------------------------------------------------------------------------------------ */
 
 /*
- * A quota cuts time into windows of `period` milliseconds, counted from moment 0. In each window it gives out at most
+ * A quota cuts time into windows of `period` milliseconds, which begin at its multiples. In each it gives out at most
  * `reserve` tickets, and `share` thousandths of a ticket for each request that was counted in it so far, rounded down;
  * never more than HIKEBOX_MOST_TICKETS. What a window has left is lost with it. The program counts each request once,
  * before its first run, by hikebox_quota_deposit. It holds the quota by its passes, as it does a budget.
  *
- * A deposit, a draw and a look open the window of their moment for all passes, at most 3600 past the latest one; but
- * wherever it is, as long as no request was counted and no window opened but the first. From then on it is the latest:
- * a call with an earlier moment is of the latest window. The last window is the one with the number 2999999999, and
- * each later moment is in it.
+ * Windows are counted from the one that the quota is made in. A deposit, a draw and a look open the window of their own
+ * moment for all passes, and no other: those that are left out give no ticket. From then on it is the latest, and a call
+ * with an earlier moment is of the latest window. So between two moments that are n periods apart there are at most
+ * n + 2 reserves and the shares of the requests, however long the quota was idle, where each clock is right; each call
+ * whose clock is ahead adds at most one reserve and its share, and no other window begins before `next` of
+ * hikebox_usage, which is then that far ahead. The last window is the one with the number 2999999999, and each later
+ * moment is in it.
  */
 
 /* What is known of a window of a quota. */
@@ -343,13 +352,15 @@ typedef struct {
     uint64_t given;
     /* The tickets that it may yet give for the requests counted. */
     uint64_t left;
+    /* When the next window begins; HIKEBOX_FAR of the last. */
+    uint64_t next;
 } hikebox_usage;
 
 /*
- * Makes a quota and puts its first pass into `quota`. HIKEBOX_FULL; _RESERVE_TOO_LARGE; _SHARE_TOO_LARGE;
- * _PERIOD_TOO_SHORT; _TOO_LARGE, of the period; _NO_MEMORY.
+ * Makes a quota at the moment `now` and puts its first pass into `quota`. HIKEBOX_TOO_LARGE, of the moment; _FULL;
+ * _RESERVE_TOO_LARGE; _SHARE_TOO_LARGE; _PERIOD_TOO_SHORT; _TOO_LARGE, of the period; _NO_MEMORY.
  */
-HIKEBOX_CHECKED hikebox_status hikebox_quota_new(uint64_t reserve, uint64_t share, uint64_t period,
+HIKEBOX_CHECKED hikebox_status hikebox_quota_new(uint64_t now, uint64_t reserve, uint64_t share, uint64_t period,
                                                  hikebox_quota *quota);
 
 /* Counts a request in the window of `now`, or in the latest one where that is later. Past the last window none is
@@ -359,12 +370,13 @@ HIKEBOX_CHECKED hikebox_status hikebox_quota_deposit(hikebox_quota *quota, uint6
 /*
  * Draws a ticket of the window of `now`, or of the latest one where that is later, and writes its number, which no
  * other draw of the quota got; the number divided by 2^32 is that of the window. HIKEBOX_TOO_LARGE; _EMPTY;
- * _WRONG_KIND; _NO_TICKET: the window has given out as many as its requests allow, or 64 other draws came first in this
- * call. The pass may draw again: with more requests and in later windows there are more tickets.
+ * _WRONG_KIND; _NO_TICKET: the window has given out as many as its requests allow; _RACES_LOST: 64 other draws came
+ * first in this call. The pass may draw again: with more requests and in later windows there are more tickets.
  */
 HIKEBOX_CHECKED hikebox_status hikebox_quota_draw(hikebox_quota *quota, uint64_t now, uint64_t *ticket);
 
-/* Writes what the window of `now`, or the latest one where that is later, was asked, has given and has left.
+/* Writes what the window of `now`, or the latest one where that is later, was asked, has given and has left, and when
+ * the next begins.
  * HIKEBOX_TOO_LARGE; _EMPTY; _WRONG_KIND. */
 HIKEBOX_CHECKED hikebox_status hikebox_quota_seen(hikebox_quota *quota, uint64_t now, hikebox_usage *usage);
 
@@ -384,14 +396,73 @@ HIKEBOX_CHECKED hikebox_status hikebox_quota_count(hikebox_quota *quota, uint64_
 
 /*
  * Closes the quota, where this pass has all its parts: frees it and writes how many tickets were drawn of it, in all
- * windows. HIKEBOX_EMPTY; _WRONG_KIND; _PASSES_OUT; _NO_MEMORY, which comes only where another pass was freed: then
- * this one is freed, too.
+ * windows, exactly. It takes no memory. HIKEBOX_EMPTY; _WRONG_KIND; _PASSES_OUT, exactly where the pass has fewer
+ * parts: another is held, by a handle or a retry, or was freed. Then this one goes on as before.
  */
 HIKEBOX_CHECKED hikebox_status hikebox_quota_close(hikebox_quota *quota, uint64_t *tickets);
 
 /* Frees the pass, with its tickets: the quota can't be closed then, and its other passes go on. HIKEBOX_EMPTY;
  * _WRONG_KIND. */
 hikebox_status hikebox_quota_free(hikebox_quota *quota);
+
+/* How many tickets a window of so many requests may give, by a quota with this reserve and this share: `reserve`, and
+ * `share` thousandths of a ticket for each request, of which HIKEBOX_MOST_TICKETS count; at most HIKEBOX_MOST_TICKETS.
+ * It is always HIKEBOX_OK. */
+HIKEBOX_CHECKED hikebox_status hikebox_quota_allows(uint64_t reserve, uint64_t share, uint64_t asked,
+                                                    uint64_t *tickets);
+
+/* ---- Leases ------------------------------------------------------------------------------------------------------ */
+
+/*
+ * Processes share a budget or a quota by a store that keeps three numbers of it: a file, a server, a row of a table. A
+ * process that needs tickets leases a range of them, by one step of the store: it reads its numbers, hands them to one of
+ * the calls below, and keeps what they are then, with no other step between. Then the process draws from its range, by a
+ * budget that has so many tickets.
+ *
+ * However the steps of all processes follow one another: each number of a window is in at most one range, and, where
+ * all name the same limit or terms, the ranges of a window have together at most as many tickets as it may give for the
+ * requests that the store was told in it. That holds of a store that keeps its numbers, or passes over tickets, or
+ * loses requests, and that goes on to later windows; not of one that goes back to what it kept earlier.
+ */
+
+/* What a store keeps. Of a budget or a quota that it doesn't know yet each number is 0. */
+typedef struct {
+    /* The window of its last lease, by its number; 0 for good where there are no windows. */
+    uint64_t window;
+    /* How many tickets of that window were leased. */
+    uint64_t given;
+    /* How many requests of that window the store was told. */
+    uint64_t asked;
+} hikebox_stored;
+
+/* What a process asks of a store. */
+typedef struct {
+    /* The present window, by the store's clock: its moment divided by the window's length. */
+    uint64_t window;
+    /* The requests of that window that the process has to tell. */
+    uint64_t told;
+    /* How many tickets it wants. */
+    uint64_t wanted;
+} hikebox_asking;
+
+/* A range of tickets: so many from the number `first` on. */
+typedef struct {
+    uint64_t first;
+    uint64_t tickets;
+} hikebox_range;
+
+/*
+ * Leases tickets of a budget that has `limit` of them, in all or in each window: those that follow the ones that were
+ * leased, as many of those wanted as there are, or none. `stored` then has what the store is to keep before the range is
+ * drawn from. HIKEBOX_BACKWARDS: the store counts a later window, and has lost its count of the one that is asked for.
+ */
+HIKEBOX_CHECKED hikebox_status hikebox_lease_of_budget(uint64_t limit, const hikebox_asking *asking,
+                                                       hikebox_stored *stored, hikebox_range *range);
+
+/* The same of a window of a quota, which has as many tickets as hikebox_quota_allows tells for the requests of the
+ * window with those that are told. HIKEBOX_BACKWARDS. */
+HIKEBOX_CHECKED hikebox_status hikebox_lease_of_quota(uint64_t reserve, uint64_t share, const hikebox_asking *asking,
+                                                      hikebox_stored *stored, hikebox_range *range);
 
 /* ---- Retries ----------------------------------------------------------------------------------------------------- */
 
@@ -422,7 +493,7 @@ enum {
     HIKEBOX_ENDED_WON = 1,
     /* The last run failed, and the policy does not go on. */
     HIKEBOX_ENDED_DONE = 2,
-    /* The last run failed, the policy goes on, and the budget or the quota has no ticket. */
+    /* The last run failed, the policy goes on, and the budget or the quota gave no ticket. */
     HIKEBOX_ENDED_REFUSED = 3,
     /* It was cancelled. */
     HIKEBOX_ENDED_CANCELLED = 4,

@@ -12,7 +12,7 @@ NUMBERS = {"uint64_t": "u64", "uint32_t": "u32", "uint8_t": "u8", "char": "u8", 
            "hikebox_status": "u32"}
 #: The structs of the header, and what Rust calls them.
 STRUCTS = {"place": "Place", "decision": "Decision", "next": "Next", "usage": "Used", "storm": "Storm", "window": "Window",
-           "totals": "Totals"}
+           "totals": "Totals", "stored": "Stored", "asking": "Asking", "range": "Range"}
 #: Constants of Rust that are not named as the header's.
 NAMES = {"FAR": "HIKEBOX_FAR", "MOST_TICKETS": "HIKEBOX_MOST_TICKETS"}
 

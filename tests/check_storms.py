@@ -106,16 +106,16 @@ WORKED = [
         {"p50": 150, "p99": 275, "slowest": 275, "recovered": None},
     ),
     Case(
-        "a quota's window border: a ticket at 0, none more until 10, one at 10",
-        {"meet": [{"recurs": 2}, {"spaced": 10}]},
-        {"rate": 2, "together": 2, "seconds": 1, "outage": "0..11", "quota": "1/0/10"},
+        "a quota's window border: a ticket at 0, none more until 100, one at 100",
+        {"meet": [{"recurs": 2}, {"spaced": 100}]},
+        {"rate": 2, "together": 2, "seconds": 1, "outage": "0..101", "quota": "1/0/100"},
         [[0, 2, 1, 2, 1, 3, 0, 0, 0]],
-        {"won": 1, "denied": 1, "calls": 4, "hundredths": 200, "tickets": 2, "p50": 21},
+        {"won": 1, "denied": 1, "calls": 4, "hundredths": 200, "tickets": 2, "p50": 201},
     ),
     Case(
         "a quota's share: the first request fails before the second is counted",
         {"meet": [{"recurs": 1}, {"spaced": 10}]},
-        {"rate": 2, "together": 2, "seconds": 1, "outage": "0..10", "quota": "0/500/10"},
+        {"rate": 2, "together": 2, "seconds": 1, "outage": "0..10", "quota": "0/500/100"},
         [[0, 2, 1, 1, 1, 2, 0, 0, 0]],
         {"won": 1, "denied": 1, "tickets": 1, "p50": 11},
     ),
@@ -263,9 +263,9 @@ BAD = [
     "--calls 4294967297",
     "--words 18446744073709551616",
     "--budget 4294967297",
-    "--budget 1 --quota 1/1/1",
+    "--budget 1 --quota 1/1/100",
     "--quota 1/1",
-    "--quota 1/1/0",
+    "--quota 1/1/99",
     "--scenario flood",
     "--csv --json",
     "--csv --compare other.json",
@@ -358,7 +358,7 @@ def some_storm(rng: random.Random) -> Tuple[Any, Dict[str, Any]]:
     if limit == "budget":
         options[limit] = rng.choice([0, 1, 30, 2**32])
     if limit == "quota":
-        options[limit] = f"{rng.choice([0, 1, 10])}/{rng.choice([0, 1, 100, 1500])}/{rng.choice([1, 100, 1000])}"
+        options[limit] = f"{rng.choice([0, 1, 10])}/{rng.choice([0, 1, 100, 1500])}/{rng.choice([100, 101, 1000])}"
     return plan, options
 
 

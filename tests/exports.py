@@ -1,6 +1,7 @@
 """Compares the calls that include/hikebox.h declares with those that crates/hikebox_c exports: their names, and of each the
 types of its parameters in order. A handle's type is a struct of one pointer, whichever kind it is of. Each export makes the
-call of its name of crates/sched_calls or crates/sched_storm_call and nothing else, and has its parameters and clauses, word for word."""
+call of its name of crates/sched_calls, crates/sched_storm_call or crates/sched_lease_call and nothing else, and has its
+parameters and clauses, word for word."""
 import pathlib
 import re
 import sys
@@ -21,6 +22,9 @@ RATTLE = {
     "&StormGiven": ["const hikebox_storm *"],
     "&mut [WindowTold]": ["hikebox_window *", "size_t"],
     "&mut TotalsTold": ["hikebox_totals *"],
+    "&Asking": ["const hikebox_asking *"],
+    "&mut Stored": ["hikebox_stored *"],
+    "&mut Range": ["hikebox_range *"],
     "u64": ["uint64_t"],
     "u32": ["uint32_t"],
     "alloc: Global": [],
@@ -34,9 +38,14 @@ STRUCTS = {
     "StormGiven": "hikebox_storm",
     "WindowTold": "hikebox_window",
     "TotalsTold": "hikebox_totals",
+    "Asking": "hikebox_asking",
+    "Stored": "hikebox_stored",
+    "Range": "hikebox_range",
 }
 #: The crates whose calls are exported.
-CALLS = ("sched_calls", "sched_storm_call")
+CALLS = ("sched_calls", "sched_storm_call", "sched_lease_call")
+#: The crates whose structs have the layout of C.
+LAID_OUT = ("sched_reply", "sched_storm_call", "sched_ticket_lease", "sched_lease_call")
 FIELDS = {"u64": "uint64_t", "u32": "uint32_t", "[u32; 4]": "uint32_t[4]"}
 
 
@@ -91,7 +100,7 @@ def passed_on():
 
 def structs():
     header = without_comments((TOP / "include/hikebox.h").read_text())
-    files = [file for crate in ("sched_reply", "sched_storm_call") for file in sorted((TOP / "crates" / crate / "src").glob("*.rt"))]
+    files = [file for crate in LAID_OUT for file in sorted((TOP / "crates" / crate / "src").glob("*.rt"))]
     replies = "".join(without_comments(file.read_text()) for file in files)
     for rattle, c in STRUCTS.items():
         here = re.search(r"typedef struct \{([^}]*)\} " + c + ";", header).group(1)

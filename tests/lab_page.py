@@ -20,6 +20,8 @@ from webdriver import CONTRAST, CONTROL, CROSSING, DOWN, HOME, RIGHT, TAB, UP, B
 
 FULL = "recurs(8) & exponential(0.1, 2).cap(10).jittered(0, 1)"
 PLAYED = "return [...document.querySelectorAll('.played')].filter((figure) => figure.querySelector('svg')).length"
+#: How many of the pictures, two of plans and two of storms, were drawn for the width that the page has now.
+DRAWN = "[...document.querySelectorAll('figure svg')].filter((svg) => Number(svg.getAttribute('width')) === widthOf(svg.parentElement)).length"
 #: Where screenshots are left, if anywhere.
 SHOTS = os.environ.get("HIKEBOX_SHOTS")
 
@@ -233,9 +235,8 @@ def test_ten_storms_of_a_million_requests_at_once_leave_it_answering(browser: Br
 def test_texts_can_be_read(browser: Browser, dark: bool, width: int) -> None:
     browser.resize(width, 1600)
     browser.is_dark(dark)
-    browser.wait(f"return {width} === innerWidth")
-    time.sleep(0.8)
-    browser.wait(f"{PLAYED} === 2")
+    browser.wait(f"return {width} === innerWidth && matchMedia('(prefers-color-scheme: dark)').matches === {str(dark).lower()}")
+    browser.wait(f"return {DRAWN} === 4")
     browser.run("document.querySelectorAll('details').forEach((part) => { part.open = true })")
     ratio, text = browser.run(CONTRAST)
     assert ratio >= 4.5, text

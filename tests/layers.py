@@ -1,8 +1,10 @@
 #!/usr/bin/python3
 """Prints a picture of the layers, made from crates.txt: a box for each of its parts, from the top down, with the parts that
 it stands on in its last line; in a box each crate stands on crates of the rows below it, or of other boxes. Tests,
-examples, checks and benchmarks are left out. With --check it fails where docs/DESIGN.md has another picture."""
+examples, checks and benchmarks are left out. With --check it fails where docs/DESIGN.md has another picture, and where a
+crate's line in crates.txt does not name the very crates that its files name."""
 
+import re
 import sys
 from pathlib import Path
 from textwrap import wrap
@@ -28,6 +30,33 @@ def parts_of(text: str) -> dict[str, Crates]:
         if crates:
             parts[heading.removeprefix("# ").partition(":")[0]] = crates
     return parts
+
+
+def named_by(crate: Path) -> set[str]:
+    """The words of a crate's files that may name another: in Rattle the first of a path, and there and in definitions and
+    proofs the first after `Rattle.`. What stands in a comment names none."""
+    found: set[str] = set()
+    for folder in ("src", "specs", "proofs"):
+        for path in (crate / folder).rglob("*"):
+            if path.suffix in (".rt", ".antt"):
+                code = re.sub(r"//.*|--.*", "", path.read_text())
+                found.update(re.findall(r"\bRattle\.(\w+)", code))
+                if path.suffix == ".rt":
+                    found.update(re.findall(r"(?<![\w:])(\w+)::", code))
+    return found
+
+
+def faults_of(text: str) -> list[str]:
+    """What is wrong with crates.txt: a crate stands on one that its files don't name, or they name one that it lacks."""
+    lines = [line.partition(":") for line in text.splitlines() if line and not line.startswith("#")]
+    lower = {words.split()[0]: names.split() for words, _, names in lines}
+    known = lower.keys() | {other for names in lower.values() for other in names}
+    faults = []
+    for name, names in lower.items():
+        found = named_by(TOP / "crates" / name) & (known - {name})
+        faults += [f"{name} stands on {other}, which its files don't name" for other in names if other not in found]
+        faults += [f"the files of {name} name {other}, on which it does not stand" for other in found - set(names)]
+    return faults
 
 
 def rows_of(crates: Crates) -> list[list[str]]:
@@ -58,13 +87,16 @@ def picture_of(parts: dict[str, Crates]) -> str:
 
 
 def main() -> None:
-    picture = picture_of(parts_of((TOP / "crates.txt").read_text()))
+    text = (TOP / "crates.txt").read_text()
+    picture = picture_of(parts_of(text))
     if sys.argv[1:] != ["--check"]:
         print(picture)
     elif f"```text\n{picture}\n```" not in (TOP / "docs/DESIGN.md").read_text():
         sys.exit("tests/layers.py: docs/DESIGN.md has another picture than crates.txt: paste what tests/layers.py prints")
+    elif faults := faults_of(text):
+        sys.exit("\n".join(f"tests/layers.py: crates.txt: {fault}" for fault in faults))
     else:
-        print("tests/layers.py: the picture in docs/DESIGN.md is that of crates.txt")
+        print("tests/layers.py: the picture in docs/DESIGN.md is that of crates.txt, which names what each crate's files do")
 
 
 if __name__ == "__main__":

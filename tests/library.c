@@ -6,14 +6,16 @@
 //   budgets                           passes of budgets without end, and limits that are raised after refusals
 //   deadlines                         retries with a deadline, which the plan or the deadline ends
 //   quotas                            quotas: windows, their borders and passes, and retries on a quota and on nothing
+//   leases                            leases of a budget and of a quota worked out by hand, and what a window allows
 //   fault                             says what is wrong with the policy on standard input, as `zsched check` does
 //   faults                            texts that are no policy, each with its fault, its place and what is wanted there
 //   journals                          the events of a driver
 //   lasting                           a retry past 65,536 failures, a journal that is full, and handles of one policy
-//   shares                            threads retry by one policy, each with a share of it, and free it
+//   shares                            threads retry by one policy, each with a share of it, and free it; others draw of one
+//                                     quota, in windows that are apart
 //   storms                            storms worked out by hand, and each refusal
 //   draw THREADS TICKETS              threads draw all tickets of a budget, and each is drawn once
-//   calls                             each call at least once; one that is refused for want of memory is made again
+//   calls                             each call that takes memory at least once; one that is refused for want of memory is made again
 #include <hikebox.h>
 #include <pthread.h>
 #include <stdio.h>
@@ -290,7 +292,7 @@ static int handles(void) {
     hikebox_pass pass = HIKEBOX_INIT, part = HIKEBOX_INIT, other_pass = HIKEBOX_INIT;
     hikebox_quota quota = HIKEBOX_INIT, other_quota = HIKEBOX_INIT;
     hikebox_retry machine = HIKEBOX_INIT, other_machine = HIKEBOX_INIT, quota_machine = HIKEBOX_INIT;
-    hikebox_usage usage = {6, 6, 6, 6};
+    hikebox_usage usage = {6, 6, 6, 6, 6};
     hikebox_place place = {7, 7};
     hikebox_decision decision = {5, true};
     hikebox_next next = {9, 9, 9, 9, 9};
@@ -305,7 +307,7 @@ static int handles(void) {
     wants(hikebox_policy_share(&policy, &other_policy), HIKEBOX_OK);
     wants(hikebox_pass_split(&pass, &other_pass), HIKEBOX_OK);
     wants(hikebox_retry_new(&policy, &other_pass, HIKEBOX_NO_DEADLINE, &other_machine), HIKEBOX_OK);
-    wants(hikebox_quota_new(1, 0, 10, &quota), HIKEBOX_OK);
+    wants(hikebox_quota_new(0, 1, 0, 100, &quota), HIKEBOX_OK);
     wants(hikebox_quota_split(&quota, &other_quota), HIKEBOX_OK);
     wants(hikebox_retry_on_quota(&policy, &quota, HIKEBOX_NO_DEADLINE, &quota_machine), HIKEBOX_OK);
     void *kinds[] = {&policy, &driver, &pass, &quota, &machine, &part};
@@ -377,7 +379,7 @@ static int handles(void) {
         wants(hikebox_budget_rising(1, handle), HIKEBOX_FULL);
         wants(hikebox_pass_split(&other_pass, handle), HIKEBOX_FULL);
         wants(hikebox_retry_new(&other_policy, &other_pass, HIKEBOX_NO_DEADLINE, handle), HIKEBOX_FULL);
-        wants(hikebox_quota_new(1, 0, 0, handle), HIKEBOX_FULL);
+        wants(hikebox_quota_new(0, 1, 0, 0, handle), HIKEBOX_FULL);
         wants(hikebox_quota_split(&other_quota, handle), HIKEBOX_FULL);
         wants(hikebox_retry_on_quota(&other_policy, &other_quota, HIKEBOX_NO_DEADLINE, handle), HIKEBOX_FULL);
         wants(hikebox_retry_unlimited(&other_policy, HIKEBOX_NO_DEADLINE, handle), HIKEBOX_FULL);
@@ -390,7 +392,7 @@ static int handles(void) {
     wants(hikebox_policy_free(&other_policy), HIKEBOX_OK);
     // Nothing was lost and no result was written.
     holds(number == 77 && other == 78 && length == 79 && decision.start == 5 && next.what == 9 && next.granted == 9);
-    holds(strcmp(text, "unread") == 0 && usage.window == 6 && usage.left == 6);
+    holds(strcmp(text, "unread") == 0 && usage.window == 6 && usage.left == 6 && usage.next == 6);
     holds(is_event(&event, 1, 2, 3));
     wants(hikebox_quota_close(&quota, &number), HIKEBOX_OK);
     holds(number == 0);
@@ -543,7 +545,7 @@ static void sees_at(int line, hikebox_quota *quota, uint64_t now, hikebox_usage 
     hikebox_usage got;
     wants_at(line, hikebox_quota_seen(quota, now, &got), HIKEBOX_OK);
     holds_at(line, got.window == wanted.window && got.asked == wanted.asked && got.given == wanted.given
-                       && got.left == wanted.left);
+                       && got.left == wanted.left && got.next == wanted.next);
 }
 #define sees(quota, now, ...) sees_at(__LINE__, quota, now, (hikebox_usage){__VA_ARGS__})
 
@@ -565,25 +567,30 @@ static void closes_at(int line, hikebox_quota *quota, uint64_t wanted) {
 static void terms(void) {
     hikebox_quota quota = HIKEBOX_INIT;
     uint64_t tickets = HIKEBOX_MOST_TICKETS, share = HIKEBOX_MOST_SHARE, far = HIKEBOX_FAR;
-    wants(hikebox_quota_new(tickets + 1, share + 1, 0, &quota), HIKEBOX_RESERVE_TOO_LARGE);
-    wants(hikebox_quota_new(tickets + 1, share, far + 1, &quota), HIKEBOX_RESERVE_TOO_LARGE);
-    wants(hikebox_quota_new(tickets, share + 1, 0, &quota), HIKEBOX_SHARE_TOO_LARGE);
-    wants(hikebox_quota_new(tickets, share + 1, far + 1, &quota), HIKEBOX_SHARE_TOO_LARGE);
-    wants(hikebox_quota_new(tickets, share, 0, &quota), HIKEBOX_PERIOD_TOO_SHORT);
-    wants(hikebox_quota_new(tickets, share, far + 1, &quota), HIKEBOX_TOO_LARGE);
+    wants(hikebox_quota_new(far + 1, tickets + 1, share + 1, 0, &quota), HIKEBOX_TOO_LARGE);
+    wants(hikebox_quota_new(0, tickets + 1, share + 1, 0, &quota), HIKEBOX_RESERVE_TOO_LARGE);
+    wants(hikebox_quota_new(0, tickets + 1, share, far + 1, &quota), HIKEBOX_RESERVE_TOO_LARGE);
+    wants(hikebox_quota_new(0, tickets, share + 1, 0, &quota), HIKEBOX_SHARE_TOO_LARGE);
+    wants(hikebox_quota_new(0, tickets, share + 1, far + 1, &quota), HIKEBOX_SHARE_TOO_LARGE);
+    wants(hikebox_quota_new(0, tickets, share, 99, &quota), HIKEBOX_PERIOD_TOO_SHORT);
+    wants(hikebox_quota_new(0, tickets, share, far + 1, &quota), HIKEBOX_TOO_LARGE);
     holds(quota.held == NULL);
-    wants(hikebox_quota_new(tickets, share, far, &quota), HIKEBOX_OK);
-    sees(&quota, far - 1, 0, 0, 0, HIKEBOX_MOST_TICKETS);
-    sees(&quota, far, 1, 0, 0, HIKEBOX_MOST_TICKETS);
+    wants(hikebox_quota_new(0, tickets, share, far, &quota), HIKEBOX_OK);
+    sees(&quota, far - 1, 0, 0, 0, HIKEBOX_MOST_TICKETS, far);
+    sees(&quota, far, 1, 0, 0, HIKEBOX_MOST_TICKETS, far);
     closes(&quota, 0);
+    wants(hikebox_quota_new(far, 1, 0, 100, &quota), HIKEBOX_OK);
+    draws(&quota, far, 0);
+    sees(&quota, 0, 0, 0, 1, 0, far);
+    closes(&quota, 1);
 }
 
 // Windows of 100 ms, each of 2 tickets and half a ticket a request; then no reserve, no share, and windows far apart.
 static void windows(void) {
     hikebox_quota quota = HIKEBOX_INIT;
     uint64_t ticket = 77;
-    wants(hikebox_quota_new(2, 500, 100, &quota), HIKEBOX_OK);
-    sees(&quota, 0, 0, 0, 0, 2);
+    wants(hikebox_quota_new(0, 2, 500, 100, &quota), HIKEBOX_OK);
+    sees(&quota, 0, 0, 0, 0, 2, 100);
     draws(&quota, 0, 0);
     draws(&quota, 99, 1);
     wants(hikebox_quota_draw(&quota, 99, &ticket), HIKEBOX_NO_TICKET);
@@ -591,38 +598,41 @@ static void windows(void) {
     wants(hikebox_quota_draw(&quota, 99, &ticket), HIKEBOX_NO_TICKET);
     holds(ticket == 77);
     wants(hikebox_quota_deposit(&quota, 0), HIKEBOX_OK);
-    sees(&quota, 50, 0, 2, 2, 1);
+    sees(&quota, 50, 0, 2, 2, 1, 100);
     draws(&quota, 99, 2);
-    sees(&quota, 99, 0, 2, 3, 0);
+    sees(&quota, 99, 0, 2, 3, 0, 100);
     draws(&quota, 100, first_of(1));
     draws(&quota, 99, first_of(1) + 1);
     wants(hikebox_quota_draw(&quota, 199, &ticket), HIKEBOX_NO_TICKET);
-    sees(&quota, 0, 1, 0, 2, 0);
+    sees(&quota, 0, 1, 0, 2, 0, 200);
     wants(hikebox_quota_deposit(&quota, 250), HIKEBOX_OK);
-    sees(&quota, 200, 2, 1, 0, 2);
+    sees(&quota, 200, 2, 1, 0, 2, 300);
     draws(&quota, 300, first_of(3));
     wants(hikebox_quota_draw(&quota, HIKEBOX_FAR + 1, &ticket), HIKEBOX_TOO_LARGE);
     closes(&quota, 6);
-    wants(hikebox_quota_new(0, 1000, 10, &quota), HIKEBOX_OK);
+    wants(hikebox_quota_new(0, 0, 1000, 100, &quota), HIKEBOX_OK);
     wants(hikebox_quota_draw(&quota, 5, &ticket), HIKEBOX_NO_TICKET);
     wants(hikebox_quota_deposit(&quota, 5), HIKEBOX_OK);
     draws(&quota, 5, 0);
     wants(hikebox_quota_draw(&quota, 5, &ticket), HIKEBOX_NO_TICKET);
     closes(&quota, 1);
-    wants(hikebox_quota_new(1, 0, 10, &quota), HIKEBOX_OK);
-    for (int request = 0; request < 5; request++) wants(hikebox_quota_deposit(&quota, 9), HIKEBOX_OK);
-    draws(&quota, 9, 0);
-    wants(hikebox_quota_draw(&quota, 9, &ticket), HIKEBOX_NO_TICKET);
-    draws(&quota, 10, first_of(1));
+    wants(hikebox_quota_new(0, 1, 0, 100, &quota), HIKEBOX_OK);
+    for (int request = 0; request < 5; request++) wants(hikebox_quota_deposit(&quota, 99), HIKEBOX_OK);
+    draws(&quota, 99, 0);
+    wants(hikebox_quota_draw(&quota, 99, &ticket), HIKEBOX_NO_TICKET);
+    draws(&quota, 100, first_of(1));
     closes(&quota, 2);
-    // The first call opens its window wherever it is, and each later one at most 3600 past the latest.
-    wants(hikebox_quota_new(1, 0, 1, &quota), HIKEBOX_OK);
-    draws(&quota, 5000, first_of(5000));
-    draws(&quota, 10000, first_of(8600));
-    draws(&quota, 10000, first_of(10000));
-    closes(&quota, 3);
-    wants(hikebox_quota_new(1, 0, 1, &quota), HIKEBOX_OK);
+    // Windows are counted from the one that the quota was made in; a call opens its own, and those between give nothing.
+    wants(hikebox_quota_new(1700000000042, 1, 0, 100, &quota), HIKEBOX_OK);
+    draws(&quota, 1700000000099, 0);
+    wants(hikebox_quota_draw(&quota, 0, &ticket), HIKEBOX_NO_TICKET);
+    draws(&quota, 1700000500000, first_of(5000));
+    wants(hikebox_quota_draw(&quota, 1700000500099, &ticket), HIKEBOX_NO_TICKET);
+    sees(&quota, 1700000000200, 5000, 0, 1, 0, 1700000500100);
+    closes(&quota, 2);
+    wants(hikebox_quota_new(0, 1, 0, 100, &quota), HIKEBOX_OK);
     draws(&quota, HIKEBOX_FAR, first_of(2999999999));
+    sees(&quota, 0, 2999999999, 0, 1, 0, HIKEBOX_FAR);
     closes(&quota, 1);
     // The moment is looked at before the handle.
     wants(hikebox_quota_deposit(&quota, HIKEBOX_FAR + 1), HIKEBOX_TOO_LARGE);
@@ -634,7 +644,7 @@ static void windows(void) {
 static void passes(void) {
     hikebox_quota quota = HIKEBOX_INIT, part = HIKEBOX_INIT, least = HIKEBOX_INIT, none = HIKEBOX_INIT;
     uint64_t tickets = 77;
-    wants(hikebox_quota_new(9, 0, 10, &quota), HIKEBOX_OK);
+    wants(hikebox_quota_new(0, 9, 0, 100, &quota), HIKEBOX_OK);
     wants(hikebox_quota_split(&quota, &part), HIKEBOX_OK);
     wants(hikebox_quota_split(&part, &least), HIKEBOX_OK);
     wants(hikebox_quota_split(&least, &none), HIKEBOX_TOO_MANY_PASSES);
@@ -653,7 +663,7 @@ static void passes(void) {
     wants(hikebox_quota_join(&quota, &part), HIKEBOX_OK);
     closes(&quota, 4);
     // It counts no passes.
-    wants(hikebox_quota_new(1, 0, 10, &quota), HIKEBOX_OK);
+    wants(hikebox_quota_new(0, 1, 0, 100, &quota), HIKEBOX_OK);
     for (int times = 0; times < 70000; times++) {
         wants(hikebox_quota_split(&quota, &part), HIKEBOX_OK);
         wants(hikebox_quota_join(&quota, &part), HIKEBOX_OK);
@@ -692,14 +702,14 @@ static void drawings(void) {
     uint64_t tickets;
     wants(read_policy("{\"meet\":[{\"recurs\":3},{\"spaced\":60}]}", &policy), HIKEBOX_OK);
     wants(read_policy("{\"recurs\":3}", &often), HIKEBOX_OK);
-    wants(hikebox_quota_new(1, 0, 100, &quota), HIKEBOX_OK);
+    wants(hikebox_quota_new(0, 1, 0, 100, &quota), HIKEBOX_OK);
     wants(hikebox_retry_on_quota(&policy, &quota, HIKEBOX_NO_DEADLINE, &machine), HIKEBOX_OK);
     fails(&machine, 0, 99, HIKEBOX_WAIT, 1);
     fails(&machine, 159, 160, HIKEBOX_WAIT, 2);
     fails(&machine, 220, 230, HIKEBOX_WAIT, 3);
     fails(&machine, 290, 299, HIKEBOX_OVER, 3);
     ended(&machine, HIKEBOX_ENDED_DONE, 4);
-    sees(&quota, 299, 2, 0, 1, 0);
+    sees(&quota, 299, 2, 0, 1, 0, 300);
     wants(hikebox_retry_end_on_quota(&machine, &quota), HIKEBOX_OK);
     wants(hikebox_quota_count(&quota, &tickets), HIKEBOX_OK);
     holds(machine.held == NULL && tickets == 3);
@@ -731,7 +741,7 @@ static void drawings(void) {
     ended(&free_machine, HIKEBOX_ENDED_DONE, 4);
     wants(hikebox_retry_free(&free_machine), HIKEBOX_OK);
     // A retry that is freed keeps its pass.
-    wants(hikebox_quota_new(1, 0, 100, &quota), HIKEBOX_OK);
+    wants(hikebox_quota_new(0, 1, 0, 100, &quota), HIKEBOX_OK);
     wants(hikebox_retry_on_quota(&often, &quota, HIKEBOX_NO_DEADLINE, &machine), HIKEBOX_OK);
     wants(hikebox_retry_free(&machine), HIKEBOX_OK);
     wants(hikebox_quota_close(&quota, &tickets), HIKEBOX_PASSES_OUT);
@@ -799,7 +809,7 @@ static int deadlines(void) {
     spaced_deadlines();
     wants(read_policy("{\"spaced\":450}", &policy), HIKEBOX_OK);
     wants(read_policy("\"forever\"", &at_once), HIKEBOX_OK);
-    wants(hikebox_quota_new(9, 0, 1000, &quota), HIKEBOX_OK);
+    wants(hikebox_quota_new(0, 9, 0, 1000, &quota), HIKEBOX_OK);
     wants(hikebox_budget_fixed(9, &pass), HIKEBOX_OK);
     // On a quota, from 5000 on: runs that take 60 fail at 5060 and 5570, and the next start would be 6020. What is left is
     // the same whatever the retry does.
@@ -864,6 +874,63 @@ static int quotas(void) {
     return wrong;
 }
 
+// A call on a store that had `stored`: its status, what is kept then, and the range.
+static void leased_at(int line, hikebox_status status, const hikebox_stored *stored, const hikebox_range *range,
+                      hikebox_status wanted, hikebox_stored kept, hikebox_range granted) {
+    wants_at(line, status, wanted);
+    holds_at(line, stored->window == kept.window && stored->given == kept.given && stored->asked == kept.asked);
+    holds_at(line, range->first == granted.first && range->tickets == granted.tickets);
+}
+
+static void allows_at(int line, uint64_t reserve, uint64_t share, uint64_t asked, uint64_t wanted) {
+    uint64_t tickets = 77;
+    wants_at(line, hikebox_quota_allows(reserve, share, asked, &tickets), HIKEBOX_OK);
+    holds_at(line, tickets == wanted);
+}
+#define allows(...) allows_at(__LINE__, __VA_ARGS__)
+
+static int leases(void) {
+    // Ten tickets by fours, for good; then in a later window, and in an earlier one.
+    hikebox_stored stored = {0, 0, 0};
+    hikebox_asking four = {0, 0, 4};
+    hikebox_range range = {77, 78};
+    for (uint64_t before = 0; before < 12; before += 4) {
+        uint64_t tickets = before < 8 ? 4 : 2;
+        leased_at(__LINE__, hikebox_lease_of_budget(10, &four, &stored, &range), &stored, &range, HIKEBOX_OK,
+                  (hikebox_stored){0, before + tickets, 0}, (hikebox_range){before, tickets});
+    }
+    leased_at(__LINE__, hikebox_lease_of_budget(10, &four, &stored, &range), &stored, &range, HIKEBOX_OK,
+              (hikebox_stored){0, 10, 0}, (hikebox_range){10, 0});
+    four.window = 7;
+    leased_at(__LINE__, hikebox_lease_of_budget(10, &four, &stored, &range), &stored, &range, HIKEBOX_OK,
+              (hikebox_stored){7, 4, 0}, (hikebox_range){0, 4});
+    four.window = 6;
+    leased_at(__LINE__, hikebox_lease_of_budget(10, &four, &stored, &range), &stored, &range, HIKEBOX_BACKWARDS,
+              (hikebox_stored){7, 4, 0}, (hikebox_range){0, 4});
+
+    // Two tickets and a tenth of each request: 5 requests and 25 more are 30, so five tickets, of which one was given.
+    hikebox_asking nine = {7, 25, 9};
+    stored = (hikebox_stored){7, 1, 5};
+    leased_at(__LINE__, hikebox_lease_of_quota(2, 100, &nine, &stored, &range), &stored, &range, HIKEBOX_OK,
+              (hikebox_stored){7, 5, 30}, (hikebox_range){1, 4});
+    leased_at(__LINE__, hikebox_lease_of_quota(0, 0, &nine, &stored, &range), &stored, &range, HIKEBOX_OK,
+              (hikebox_stored){7, 5, 55}, (hikebox_range){5, 0});
+    nine.window = 8;
+    leased_at(__LINE__, hikebox_lease_of_quota(2, 100, &nine, &stored, &range), &stored, &range, HIKEBOX_OK,
+              (hikebox_stored){8, 4, 25}, (hikebox_range){0, 4});
+    nine.window = 7;
+    leased_at(__LINE__, hikebox_lease_of_quota(2, 100, &nine, &stored, &range), &stored, &range, HIKEBOX_BACKWARDS,
+              (hikebox_stored){8, 4, 25}, (hikebox_range){0, 4});
+
+    allows(2, 100, 9, 2);
+    allows(2, 100, 10, 3);
+    allows(0, 100, UINT64_MAX, 429496729);
+    allows(0, HIKEBOX_MOST_SHARE, 4294967, 4294967000);
+    allows(0, HIKEBOX_MOST_SHARE, 4294968, HIKEBOX_MOST_TICKETS);
+    allows(UINT64_MAX, UINT64_MAX, UINT64_MAX, HIKEBOX_MOST_TICKETS);
+    return wrong;
+}
+
 // What a thread has: a share of the policy, and a pass of the budget.
 struct worker {
     hikebox_policy policy;
@@ -892,7 +959,7 @@ static void *retry_by_share(void *given) {
     return NULL;
 }
 
-static int shares(void) {
+static void policy_shares(void) {
     enum { THREADS = 8 };
     static struct worker workers[THREADS];
     pthread_t threads[THREADS];
@@ -908,6 +975,59 @@ static int shares(void) {
     for (int at = 1; at < THREADS; at++) wants(hikebox_pass_join(&workers[0].pass, &workers[at].pass), HIKEBOX_OK);
     wants(hikebox_pass_close(&workers[0].pass, &tickets), HIKEBOX_OK);
     holds(tickets == 1600);
+}
+
+// What a thread draws of a quota by a clock of its own: a pass, the window that it begins in, and its tickets.
+enum { APART = 8, TURNS = 300, RESERVE = 5 };
+struct drawer {
+    hikebox_quota pass;
+    uint64_t from, count, tickets[(APART + TURNS) * RESERVE];
+};
+
+// Draws in each of its windows, of 100 ms, until it is refused.
+static void *draw_by_windows(void *given) {
+    struct drawer *drawer = given;
+    uint64_t window = drawer->from, ticket;
+    for (; window < drawer->from + TURNS; window++)
+        while (hikebox_quota_draw(&drawer->pass, window * 100, &ticket) == HIKEBOX_OK)
+            drawer->tickets[drawer->count++] = ticket;
+    return NULL;
+}
+
+// Threads whose clocks are windows apart draw at once: each window gives its tickets once, from the first on, and no more;
+// a thread never comes back to an earlier window, and the last window of all gives all that it has.
+static void windows_at_once(void) {
+    static struct drawer drawers[APART];
+    static unsigned given[APART + TURNS];
+    pthread_t threads[APART];
+    uint64_t tickets, total = 0;
+    wants(hikebox_quota_new(0, RESERVE, 0, 100, &drawers[0].pass), HIKEBOX_OK);
+    for (int at = 1; at < APART; at++) {
+        wants(hikebox_quota_split(&drawers[0].pass, &drawers[at].pass), HIKEBOX_OK);
+        drawers[at].from = at;
+    }
+    for (int at = 0; at < APART; at++) pthread_create(&threads[at], NULL, draw_by_windows, &drawers[at]);
+    for (int at = 0; at < APART; at++) pthread_join(threads[at], NULL);
+    for (int at = 0; at < APART; at++) {
+        struct drawer *drawer = &drawers[at];
+        for (uint64_t place = 0; place < drawer->count; place++) {
+            uint64_t window = drawer->tickets[place] >> 32, ticket = drawer->tickets[place] % first_of(1);
+            holds(window < APART + TURNS - 1 && ticket < RESERVE && !(given[window] >> ticket & 1));
+            holds(place == 0 || drawer->tickets[place - 1] < drawer->tickets[place]);
+            given[window] |= 1u << ticket;
+        }
+        total += drawer->count;
+        if (at > 0) wants(hikebox_quota_join(&drawers[0].pass, &drawer->pass), HIKEBOX_OK);
+    }
+    for (int window = 0; window < APART + TURNS; window++) holds((given[window] & (given[window] + 1)) == 0);
+    holds(given[APART + TURNS - 2] == (1u << RESERVE) - 1);
+    wants(hikebox_quota_close(&drawers[0].pass, &tickets), HIKEBOX_OK);
+    holds(tickets == total);
+}
+
+static int shares(void) {
+    policy_shares();
+    windows_at_once();
     return wrong;
 }
 
@@ -1145,7 +1265,7 @@ static int calls(void) {
     again(hikebox_pass_count(&pass, &number));
     again(hikebox_pass_close(&pass, &other));
     holds(number == other);
-    again(hikebox_quota_new(1, 1000, 10, &quota));
+    again(hikebox_quota_new(0, 1, 1000, 100, &quota));
     again(hikebox_quota_split(&quota, &quota_part));
     again(hikebox_quota_deposit(&quota_part, 0));
     again(hikebox_quota_draw(&quota_part, 0, &number));
@@ -1157,15 +1277,18 @@ static int calls(void) {
     again(hikebox_quota_count(&quota, &number));
     again(hikebox_quota_close(&quota, &other));
     holds(number == 1 && other == 1);
-    again(hikebox_quota_new(1, 0, 10, &quota));
+    again(hikebox_quota_new(0, 1, 0, 100, &quota));
     again(hikebox_retry_on_quota(&policy, &quota, HIKEBOX_NO_DEADLINE, &machine));
     again(hikebox_retry_free(&machine));
+    wants(hikebox_quota_close(&quota, &number), HIKEBOX_PASSES_OUT);
     again(hikebox_quota_free(&quota));
     again(hikebox_retry_unlimited(&policy, HIKEBOX_NO_DEADLINE, &machine));
     again(hikebox_retry_free(&machine));
     again(hikebox_budget_fixed(1, &sole));
     again(hikebox_retry_new(&policy, &sole, HIKEBOX_NO_DEADLINE, &machine));
     again(hikebox_retry_free(&machine));
+    // A close takes no memory, and leaves the pass where it is refused.
+    wants(hikebox_pass_close(&sole, &number), HIKEBOX_PASSES_OUT);
     again(hikebox_pass_free(&sole));
     again(hikebox_driver_free(&driver));
     again(hikebox_policy_free(&second));
@@ -1182,6 +1305,7 @@ int main(int count, char **words) {
     if (!strcmp(what, "budgets")) return budgets();
     if (!strcmp(what, "deadlines")) return deadlines();
     if (!strcmp(what, "quotas")) return quotas();
+    if (!strcmp(what, "leases")) return leases();
     if (!strcmp(what, "fault")) return fault();
     if (!strcmp(what, "faults")) return faults();
     if (!strcmp(what, "journals")) return journals();

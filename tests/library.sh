@@ -60,13 +60,17 @@ for late in 1 840000 999999; do
     wrong "examples/c/retry.c, $late ns late, waits $(xargs <"$work/waits") and not $(xargs <"$work/whole")"
 done
 
-# The second and third block of docs/C.md, in functions that have what they name. The first stands in examples/c/poll.c.
+# The second, third and fourth block of docs/C.md, in functions that have what they name. The first stands in examples/c/poll.c.
 {
   printf '#include <hikebox.h>\n#include <stdio.h>\nuint64_t now(void);\n'
   printf 'int by_deadline(hikebox_policy policy, hikebox_pass pass);\nint by_deadline(hikebox_policy policy, hikebox_pass pass) {\n'
   block 2
   printf 'return 0;\n}\nint program(hikebox_policy policy);\nint program(hikebox_policy policy) {\n'
   block 3
+  printf 'return 0;\n}\nhikebox_stored load(int file);\nvoid store(int file, const hikebox_stored *stored);\n'
+  printf 'uint64_t clock_of(int file);\nint lease(int file, uint64_t told, hikebox_pass pass);\n'
+  printf 'int lease(int file, uint64_t told, hikebox_pass pass) {\n'
+  block 4
   printf 'return 0;\n}\n'
 } >"$work/page.c"
 cc "${flags[@]}" -c -o "$work/page.o" "$work/page.c" || wrong "docs/C.md: its blocks are not compiled"
@@ -76,7 +80,7 @@ import sys
 sys.exit(not sys.argv[2].strip() or sys.argv[2] not in open(sys.argv[1]).read())
 EOF
 
-python3 - "$top/examples/c/storm.c" "$(block 4)" <<'EOF' || wrong "docs/C.md: its block is not that of examples/c/storm.c"
+python3 - "$top/examples/c/storm.c" "$(block 5)" <<'EOF' || wrong "docs/C.md: its block is not that of examples/c/storm.c"
 import sys
 sys.exit(not sys.argv[2].strip() or sys.argv[2] not in open(sys.argv[1]).read())
 EOF
@@ -143,11 +147,11 @@ ends 5 '{"recurs":0}' '[{"won":1}]' won:1
 ends 5 '"forever"' '[{"lost":1},{"lost":2},{"lost":3},{"won":4}]' lost:1 lost:2 lost:3 won:4
 
 for program in linked loaded; do
-  for words in handles budgets deadlines quotas faults journals lasting shares storms; do
+  for words in handles budgets deadlines quotas leases faults journals lasting shares storms; do
     "$work/$program" "$words" || wrong "$program $words"
   done
   "$work/$program" draw 16 10000000 || wrong "$program draw"
-  for words in handles budgets deadlines quotas faults journals shares storms calls 'draw 4 20000'; do
+  for words in handles budgets deadlines quotas leases faults journals shares storms calls 'draw 4 20000'; do
     # shellcheck disable=SC2086
     valgrind --quiet --leak-check=full --show-leak-kinds=all --error-exitcode=9 "$work/$program" $words >"$work/out" ||
       wrong "valgrind $program $words"

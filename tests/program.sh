@@ -229,11 +229,11 @@ for number in 0 1 2 3; do
 done
 wants 0 "${share}granted 4 in 1 windows\n" '' pool --quota 2/500/1000
 wants 0 "${all_done}granted 12 in 1 windows\n" '' pool --quota=4294967296/1000000/4611686018427387903 --workers 1
-wants 0 "${all_refused}granted 0 in 0 windows\n" '' pool --quota 0/249/1
+wants 0 "${all_refused}granted 0 in 0 windows\n" '' pool --quota 0/249/100
 wants 6 "${not_over}granted 0 in 0 windows\n" 'zsched: not finished\n' pool --quota 2/500/1000 --turns 0
 # The same quotas with their units: a share of 50 % is 500 thousandths, of 24.9 % 249.
 wants 0 "${share}granted 4 in 1 windows\n" '' pool --quota 2/50%/1s
-wants 0 "${all_refused}granted 0 in 0 windows\n" '' pool --quota 0/24.9%/1ms
+wants 0 "${all_refused}granted 0 in 0 windows\n" '' pool --quota 0/24.9%/100ms
 wants 0 "${share}granted 4 in 1 windows\n" '' pool --quota 2/50%/1d
 input '[{"plan":{"spaced":59999},"runs":[{"lost":7},{"lost":7},{"won":1}]}]'
 wants 0 'job 0: budget refused, failure 7, granted 1\ngranted 1 in 1 windows\n' '' pool --quota 1/0%/1m
@@ -248,21 +248,21 @@ wants 0 'job 0: budget refused, failure 7, granted 1000\ngranted 1000 in 1 windo
 input '[]'
 wants 0 'granted 0 in 0 windows\n' '' pool --quota 5/1000/100
 spelt='it is spelt as 10/20%/60s, with ms, s, m, h or d, or without units as 10/200/60000; RESERVE is at most 4294967296,'
-spelt+=' SHARE at most 100000%, and PERIOD from 1ms to 4611686018427387903ms'
-for terms in 1 1/2 1/2/3/4 1/2/ /2/3 a/2/3 1/b/3 1/2/c -1/2/3 1.5/2/3 ' 1/2/3' 4294967297/2/3 1/1000001/3 1/2/0 \
+spelt+=' SHARE at most 100000%, and PERIOD from 100ms to 4611686018427387903ms'
+for terms in 1 1/2 1/2/300/4 1/2/ /2/3 a/2/3 1/b/3 1/2/c -1/2/300 1.5/2/3 ' 1/2/300' 4294967297/2/3 1/1000001/3 1/2/0 1/2/99 \
   1/2/4611686018427387904 18446744073709551616/2/3 1/2%/3 1/2/3s 1/2.55%/3s 1/2.%/3s 1/%/3s 1/2%/s 1/2%/1.5s 1/2%/3w \
   1/2%/0s 1/100000.1%/3s 1/2%/18446744073709551615d; do
   bad "invalid value '$terms' for '--quota <RESERVE/SHARE%/PERIOD>': $spelt" pool --quota="$terms"
 done
 bad "a value is required for '--quota <RESERVE/SHARE%/PERIOD>' but none was supplied" pool --quota
 bad .. pool --quota ''
-bad "the argument '--quota <RESERVE/SHARE%/PERIOD>' cannot be used multiple times" pool --quota 1/2/3 --quota 1/2/3
-bad "the argument '--quota <RESERVE/SHARE%/PERIOD>' cannot be used with '--budget <N>'" pool --quota 1/2/3 --budget 100
+bad "the argument '--quota <RESERVE/SHARE%/PERIOD>' cannot be used multiple times" pool --quota 1/2/300 --quota 1/2/300
+bad "the argument '--quota <RESERVE/SHARE%/PERIOD>' cannot be used with '--budget <N>'" pool --quota 1/2/300 --budget 100
 bad "the argument '--quota <RESERVE/SHARE%/PERIOD>' cannot be used with '--workers <N>' of more than 1: jobs on a quota \
-run on one thread" pool --quota 1/2/3 --workers 2
-bad .. plan --quota 1/2/3
+run on one thread" pool --quota 1/2/300 --workers 2
+bad .. plan --quota 1/2/300
 input '{}'
-refuses 'not a plan' 'top: jobs are an array, with a job for each item; found {}' pool --quota 1/2/3
+refuses 'not a plan' 'top: jobs are an array, with a job for each item; found {}' pool --quota 1/2/300
 
 # Of a bad text the first fault is told: the array, the number of jobs, and of each job in turn its members, the number
 # of its runs, each run, and its plan.
@@ -408,7 +408,7 @@ for span in 0..1 0..1@0 0..1@101 1..0@50 0..3600001@50; do
 done
 bad "invalid value 'flood' for '--scenario <NAME>': it is one of outage, herd and brown-out" storm --scenario flood
 bad .. storm --quota 1/2
-bad .. storm --quota 1/2/3 --budget 1
+bad .. storm --quota 1/2/300 --budget 1
 bad .. storm --csv --json
 bad .. storm --csv --compare "$work/one.json"
 

@@ -35,6 +35,8 @@ class Browser:
         self.base = f"http://127.0.0.1:{port}"
         options = [*_OPTIONS, f"--user-data-dir={self.folder}", f"--window-size={width},{height}"]
         wanted = {"browserName": "chrome", "goog:chromeOptions": {"args": options}, "goog:loggingPrefs": {"performance": "ALL", "browser": "ALL"}}
+        # (the protocol gives a script 30 seconds where none are named)
+        wanted["timeouts"] = {"script": 240_000}
         self.session = ""
         self.session = "/session/" + self.call("POST", "/session", {"capabilities": {"alwaysMatch": wanted}})["sessionId"]
 

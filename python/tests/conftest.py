@@ -23,9 +23,12 @@ TOP = HERE.parent.parent
 
 
 def heed_signals() -> None:
-    """Signals that whoever started the tests ignores, as a shell does of what it runs in the background, are heeded."""
-    for number in (signal.SIGHUP, signal.SIGINT, signal.SIGQUIT, signal.SIGTERM):
+    """Signals that whoever started the tests ignores or blocks, as a shell does of what it runs in the background, are
+    heeded."""
+    numbers = (signal.SIGHUP, signal.SIGINT, signal.SIGPIPE, signal.SIGQUIT, signal.SIGTERM)
+    for number in numbers:
         signal.signal(number, signal.SIG_DFL)
+    signal.pthread_sigmask(signal.SIG_UNBLOCK, numbers)
 
 
 @pytest.fixture

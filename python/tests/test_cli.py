@@ -196,7 +196,7 @@ def test_a_signal_goes_to_the_command_and_ends_the_run(start: Any, name: str) ->
     process = start("run", "--policy", "recurs(9)", "--", "sh", "-c", TOLD.format(name))
     assert process.stdout.readline() == "up\n"
     process.send_signal(getattr(signal, f"SIG{name}"))
-    assert process.communicate(timeout=10)[0] == "told\n"
+    assert process.communicate(timeout=60)[0] == "told\n"
     assert process.returncode == 5
 
 
@@ -204,7 +204,7 @@ def test_a_signal_that_kills_the_command(start: Any) -> None:
     process = start("run", "--policy", "recurs(9)", "--", "sh", "-c", "echo up; exec sleep 60")
     assert process.stdout.readline() == "up\n"
     process.terminate()
-    process.communicate(timeout=10)
+    process.communicate(timeout=60)
     assert process.returncode == 128 + signal.SIGTERM
 
 
@@ -212,7 +212,7 @@ def test_a_signal_that_ends_nothing_is_passed_on_too(start: Any) -> None:
     process = start("run", "--policy", "recurs(9)", "--", "sh", "-c", TOLD.format("USR1").replace("exit 5", "exit 0"))
     assert process.stdout.readline() == "up\n"
     process.send_signal(signal.SIGUSR1)
-    assert process.communicate(timeout=10)[0] == "told\n"
+    assert process.communicate(timeout=60)[0] == "told\n"
     assert process.returncode == 0
 
 
@@ -223,7 +223,7 @@ def test_a_signal_between_two_attempts_ends_the_run(start: Any) -> None:
     time.sleep(0.1)
     assert process.poll() is None
     process.terminate()
-    process.communicate(timeout=10)
+    process.communicate(timeout=60)
     assert process.returncode == 128 + signal.SIGTERM
 
 

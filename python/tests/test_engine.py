@@ -10,7 +10,7 @@ from typing import Any, Dict, List, Tuple
 import pytest
 from conftest import TOP
 
-from hikebox import _engine
+from hikebox import _engine, _structs
 from hikebox._engine import Handle, Pass, PolicyHandle, QuotaPass
 from hikebox._machine import Machine
 from hikebox._plan import Plan
@@ -27,13 +27,16 @@ TYPES: Dict[str, Any] = {
     "uint64_t *": (ctypes.POINTER(c_uint64),),
     "uint32_t": (ctypes.c_uint32,),
     "const uint32_t [4]": (ctypes.POINTER(ctypes.c_uint32),),
-    "hikebox_place *": (ctypes.POINTER(_engine.Place),),
-    "hikebox_decision *": (ctypes.POINTER(_engine.Decision),),
-    "hikebox_next *": (ctypes.POINTER(_engine.Next),),
-    "hikebox_usage *": (ctypes.POINTER(_engine.Usage),),
-    "const hikebox_storm *": (ctypes.POINTER(_engine.Storm),),
-    "hikebox_window *": (ctypes.POINTER(_engine.Window),),
-    "hikebox_totals *": (ctypes.POINTER(_engine.Totals),),
+    "hikebox_place *": (ctypes.POINTER(_structs.Place),),
+    "hikebox_decision *": (ctypes.POINTER(_structs.Decision),),
+    "hikebox_next *": (ctypes.POINTER(_structs.Next),),
+    "hikebox_usage *": (ctypes.POINTER(_structs.Usage),),
+    "const hikebox_storm *": (ctypes.POINTER(_structs.Storm),),
+    "hikebox_window *": (ctypes.POINTER(_structs.Window),),
+    "hikebox_totals *": (ctypes.POINTER(_structs.Totals),),
+    "hikebox_stored *": (ctypes.POINTER(_structs.Stored),),
+    "const hikebox_asking *": (ctypes.POINTER(_structs.Asking),),
+    "hikebox_range *": (ctypes.POINTER(_structs.Range),),
     **{f"hikebox_{kind} *": (ctypes.POINTER(Handle),) for kind in ("policy", "driver", "pass", "quota", "retry")},
 }
 
@@ -73,9 +76,10 @@ def test_the_structures_are_those_of_the_header() -> None:
         (name, fields(body))
         for body, name in re.findall(r"typedef struct \{(.*?)\} (hikebox_\w+);", header(), flags=re.S)
     )
-    kinds: Dict[str, Any] = {"place": _engine.Place, "decision": _engine.Decision}
-    kinds.update({"next": _engine.Next, "usage": _engine.Usage, "storm": _engine.Storm})
-    kinds.update({"window": _engine.Window, "totals": _engine.Totals})
+    kinds: Dict[str, Any] = {"place": _structs.Place, "decision": _structs.Decision}
+    kinds.update({"next": _structs.Next, "usage": _structs.Usage, "storm": _structs.Storm})
+    kinds.update({"window": _structs.Window, "totals": _structs.Totals})
+    kinds.update({"stored": _structs.Stored, "asking": _structs.Asking, "range": _structs.Range})
     for name, kind in kinds.items():
         assert [(field, CTYPES[word]) for word, field in found[f"hikebox_{name}"]] == list(kind._fields_)
 
@@ -136,13 +140,13 @@ def test_wrong_handles_are_refused_and_nothing_is_lost() -> None:
     drawn = Pass.of_budget(3, False)
     library = _engine.library
     empty = Handle()
-    number, words = c_uint64(), _engine.Words()
+    number, words = c_uint64(), _structs.Words()
     assert library.hikebox_pass_draw(byref(empty), byref(number)) == 1
     assert library.hikebox_pass_draw(policy.at, byref(number)) == 2
     assert library.hikebox_policy_free(byref(empty)) == 1
     assert library.hikebox_policy_free(drawn.at) == 2
     assert library.hikebox_budget_fixed(1, drawn.at) == 3
-    assert library.hikebox_retry_poll(policy.at, 0, words, 0, 0, byref(_engine.Next())) == 2
+    assert library.hikebox_retry_poll(policy.at, 0, words, 0, 0, byref(_structs.Next())) == 2
     assert policy.size() == (1, 1) and drawn.draw() == 0
     machine = Machine()
     assert machine.begin(policy, drawn)
@@ -170,9 +174,9 @@ def test_a_retry_as_a_machine() -> None:
 
 
 def test_a_retry_on_a_quota_as_a_machine() -> None:
-    machine, policy, drawn = Machine(), read(b'{"spaced":100}'), QuotaPass.of_quota(1, 500, 1000)
+    machine, policy, drawn = Machine(), read(b'{"spaced":100}'), QuotaPass.of_quota(0, 1, 500, 1000)
     drawn.deposit(5_010)
-    assert drawn.seen(5_010) == (5, 1, 0, 1)
+    assert drawn.seen(5_010) == (5, 1, 0, 1, 6_000)
     assert machine.begin(policy, drawn)
     assert machine.poll(5_010, _engine.NO_REPORT, 0)[0] == _engine.RUN
     assert machine.poll(5_020, _engine.LOST, 7) == (_engine.WAIT, 5_120, 1)
@@ -187,7 +191,7 @@ def test_a_retry_on_a_quota_as_a_machine() -> None:
 def test_a_retry_with_a_deadline_as_a_machine() -> None:
     # starts at 450 and 900, and the one at 1350 is too late: it ends so, and draws nothing for it
     machine, policy = Machine(), read(b'{"spaced":450}')
-    budget, quota = Pass.of_budget(9, False), QuotaPass.of_quota(9, 0, 60_000)
+    budget, quota = Pass.of_budget(9, False), QuotaPass.of_quota(0, 9, 0, 60_000)
     for drawn in (budget, quota, None):
         if drawn is None:
             machine.begin_unlimited(policy, 1000)
@@ -216,14 +220,14 @@ def test_a_retry_on_nothing_as_a_machine() -> None:
         machine.end(Pass.of_budget(1, False))
     assert caught.value.status == 42
     with pytest.raises(EngineError) as caught:
-        machine.end(QuotaPass.of_quota(1, 0, 1))
+        machine.end(QuotaPass.of_quota(0, 1, 0, 100))
     assert caught.value.status == 42
     machine.free()
     machine.free()
 
 
 def test_a_retry_ends_on_what_it_draws_on_alone() -> None:
-    policy, quota, budget = read(b'{"recurs":2}'), QuotaPass.of_quota(1, 0, 1), Pass.of_budget(3, False)
+    policy, quota, budget = read(b'{"recurs":2}'), QuotaPass.of_quota(0, 1, 0, 100), Pass.of_budget(3, False)
     machine = Machine()
     assert machine.begin(policy, quota)
     with pytest.raises(EngineError) as caught:

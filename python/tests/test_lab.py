@@ -371,9 +371,8 @@ def test_a_signal_ends_it_with_all_that_it_started(number: signal.Signals) -> No
     connection, path = connected(process)
     body = json.dumps({"page": "p", "sides": [LONG_SIDE], "storm": LONG})
     connection.request("POST", f"{path}storm", body, {"Content-Type": "application/json"})
-    time.sleep(0.7)
+    comes_to(lambda: bool(processes_of(process.pid)))
     group = [int(found.split()[0]) for found in processes_of(process.pid)]
-    assert group
     process.send_signal(number)
     assert (*process.communicate(timeout=_PATIENCE), process.returncode) == ("", "", 0)
     assert not [each for each in group if Path(f"/proc/{each}").exists()]

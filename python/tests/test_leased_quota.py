@@ -6,6 +6,7 @@ import asyncio
 import json
 import os
 import pickle
+import random
 import subprocess
 import sys
 import time
@@ -18,6 +19,8 @@ from conftest import HERE, python_environment
 
 from draws import drawn_by, repeated
 from hikebox import AsyncRetrying, Ending, Retrying, StoreError, StoreLost, TermsError, Usage, recurs, spaced, state_of
+from hikebox._engine import MOST_TICKETS
+from hikebox._leasing import Stored, lease_of_quota
 from hikebox._requests import Requests
 from hikebox.leased import FileStore, Leased, LeasedQuota, QuotaRange, RedisStore
 from hikebox.quota import Terms
@@ -438,6 +441,10 @@ def test_a_later_window_in_the_file_grants_nothing(tmp_path: Path) -> None:
     counts[key] = [f"another-boot {int(number) + 100}", 9, 5]
     _file_store.write_counts(file, counts)
     assert LeasedQuota(store, "a", 9, 0, 1000).seen() == Usage(int(number), 0, 0, 9)
+    counts[key] = [window, -1, 5]
+    _file_store.write_counts(file, counts)
+    with pytest.raises(StoreLost):
+        LeasedQuota(store, "a", 9, 0, 1000).seen()
     os.close(file)
 
 
@@ -579,6 +586,36 @@ def test_the_script_rounds_as_a_quota_does(redis_server: Any) -> None:
         assert given == [0, allowed, asked]
         assert Terms(reserve, share, 1).allowed(asked) == allowed
         assert client.eval(_redis_store.GRANT, 1, "k", 0, 5, reserve, share, 2**32, 1000) == [allowed, 0, asked]
+
+
+def test_the_script_grants_what_the_step_of_a_lease_does(redis_server: Any) -> None:
+    """Leases of a window, one after another, by the script and by the engine: random ones, with numbers of each size."""
+    from hikebox import _redis_store
+
+    client = redis_server().client()
+    chance = random.Random(11)
+
+    def number(most: int) -> int:
+        near = chance.choice((0, most, 1 << chance.randrange(42)))
+        return max(0, min(most, near + chance.randrange(-1, 2)))
+
+    granted_in_all = 0
+    for _ in range(400):
+        terms = Terms(number(2**32), number(1_000_000), 1)
+        stored = Stored(0, number(2**33), number(2**40)) if chance.random() < 0.5 else Stored()
+        client.delete("k")
+        client.hset("k", mapping={"asked": stored.asked, "given": stored.given})
+        for _ in range(8):
+            told, wanted = number(2**40), number(2**32)
+            found = client.eval(
+                _redis_store.GRANT, 1, "k", told, wanted, terms.reserve, terms.share, MOST_TICKETS, 60_000
+            )
+            granted = lease_of_quota(terms, 0, told, wanted, stored)
+            assert granted is not None
+            assert found == [granted.first, granted.tickets, stored.asked]
+            assert client.hmget("k", "asked", "given") == [b"%d" % stored.asked, b"%d" % stored.given]
+            granted_in_all += granted.tickets > 0
+    assert granted_in_all > 400
 
 
 def test_windows_of_redis_two_processes_with_a_clock_an_hour_off(

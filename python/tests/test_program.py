@@ -119,9 +119,10 @@ def test_a_closed_pipe_ends_quietly() -> None:
     for words in (["plan", "--steps", "4096", "spaced(1)"], ["--help"]):
         ends = os.pipe()
         os.close(ends[0])
-        process = subprocess.Popen([*PROGRAM, *words], stdout=ends[1], stderr=subprocess.PIPE, env=python_environment())
+        how: Any = {"stdout": ends[1], "stderr": subprocess.PIPE, "env": python_environment()}
+        process = subprocess.Popen([*PROGRAM, *words], preexec_fn=heed_signals, **how)
         os.close(ends[1])
-        assert process.communicate(timeout=30)[1] == b""
+        assert process.communicate(timeout=120)[1] == b""
         assert process.returncode == -signal.SIGPIPE
 
 

@@ -80,7 +80,7 @@ def test_worked_windows(clock: VirtualClock) -> None:
     quota.deposit()
     assert [quota.draw() for _ in range(2)] == [3 * WINDOW + 3, None]
     clock.advance(9.999)
-    assert quota.draw() is None
+    assert quota.draw() is None and quota.seen().next == 40
     clock.advance(0.001)
     assert quota.seen() == Usage(window=4, asked=0, given=0, left=2)
     assert [quota.draw() for _ in range(3)] == [4 * WINDOW, 4 * WINDOW + 1, None]
@@ -106,24 +106,43 @@ def test_a_quota_without_a_share_or_a_reserve(clock: VirtualClock) -> None:
 def test_a_clock_that_goes_back_or_far_ahead(clock: VirtualClock) -> None:
     now = [100.0]
     quota = Quota(2, 0, 1, clock=lambda: now[0])
-    assert quota.draw() == 100 * WINDOW
+    assert quota.draw() == 0
     now[0] = 5.0
-    assert [quota.draw() for _ in range(2)] == [100 * WINDOW + 1, None]
-    now[0] = 100 + 3600 + 1.0
-    assert quota.draw() == 3700 * WINDOW
-    now[0] = 200.0
-    assert [quota.draw() for _ in range(2)] == [3700 * WINDOW + 1, None]
+    assert [quota.draw() for _ in range(2)] == [1, None]
+    # an hour ahead, for one call
     now[0] = 3701.0
-    assert quota.draw() == 3701 * WINDOW
+    assert quota.draw() == 3601 * WINDOW
+    now[0] = 200.0
+    assert [quota.draw() for _ in range(2)] == [3601 * WINDOW + 1, None]
+    assert quota.seen() == Usage(window=3601, asked=0, given=2, left=0) and quota.seen().next == 3702
+    now[0] = 3702.0
+    assert quota.draw() == 3602 * WINDOW
     now[0] = -1.0
-    assert quota.draw() == 3701 * WINDOW + 1
+    assert quota.draw() == 3602 * WINDOW + 1
+
+
+def test_an_idle_week_gives_one_reserve(clock: VirtualClock) -> None:
+    quota = Quota(10, 0, 1, clock=clock)
+    clock.advance(7 * 86_400)
+    assert [quota.draw() for _ in range(200)] == [604_800 * WINDOW + n for n in range(10)] + [None] * 190
+
+
+def test_moments_since_1970_by_the_shortest_windows() -> None:
+    clock = VirtualClock(1_700_000_000)
+    quota = Quota(1, 0, 0.1, clock=clock)
+    assert [quota.draw() for _ in range(2)] == [0, None]
+    clock.advance(0.125)
+    assert [quota.draw() for _ in range(2)] == [WINDOW, None]
+    # some nine years later
+    clock.advance(299_999_999.75)
+    assert quota.draw() == 2_999_999_998 * WINDOW
 
 
 def test_terms() -> None:
     quota = Quota(10, 0.25, timedelta(minutes=1))
     assert (quota.reserve, quota.share, quota.per) == (10, 0.25, 60.0)
     assert repr(quota) == "<Quota(10, 0.25, per=60)>"
-    assert repr(Quota(2**32, 1000, milliseconds(1))) == "<Quota(4294967296, 1000, per=0.001)>"
+    assert repr(Quota(2**32, 1000, milliseconds(100))) == "<Quota(4294967296, 1000, per=0.1)>"
     assert Quota(0, 0.0006, 1).share == 0.001
     assert Quota(0, 1 / 3, 1).share == 0.333
     longest = Quota(1, 0, milliseconds(2**62 - 1))
@@ -139,9 +158,10 @@ BAD_TERMS: List[Any] = [
     ((0, 1000.1, 1), "a share is from 0 to 1000 retries a request, not 1000.1"),
     ((0, float("nan"), 1), "a share is from 0 to 1000 retries a request, not nan"),
     ((0, 0.0004, 1), "a share is counted in thousandths of a retry a request, and 0.0004 is less than one"),
-    ((0, 0, 0), "the window of a quota is at least a millisecond long, not 0"),
+    ((0, 0, 0), "the window of a quota is at least 100 ms long, not 0"),
+    ((0, 0, 0.099), "the window of a quota is at least 100 ms long, not 0.099"),
     ((0, 0, 0.0001), "the window of a quota: 0.0001 s is less than a millisecond"),
-    ((0, 0, timedelta(0)), "the window of a quota is at least a millisecond long, not datetime.timedelta(0)"),
+    ((0, 0, timedelta(0)), "the window of a quota is at least 100 ms long, not datetime.timedelta(0)"),
     ((0, 0, -1), "the window of a quota: -1 is not from 0 to 4611686018427387903 milliseconds"),
     ((0, 0, float("inf")), "the window of a quota: a duration of inf seconds"),
 ]
@@ -184,14 +204,14 @@ def test_a_call_is_a_request_and_its_retries_draw(kind: str, clock: VirtualClock
 
 @KINDS
 def test_retries_draw_at_the_moment_of_the_failure(kind: str, clock: VirtualClock) -> None:
-    # failures at 5.5, 5.9, 6.7 and 8.3 s: windows 5, 5, 6 and 8 of a second, each with two tickets
+    # failures at 5.5, 5.9, 6.7 and 8.3 s: windows 0, 0, 1 and 3 of a second, each with two tickets
     clock.advance(5.5)
     quota = Quota(2, 0, 1, clock=clock)
     retrying = retrying_of(kind, recurs(3) & exponential(0.4), clock, budget=quota)
     assert call(kind, retrying) == (3, "SCHEDULE_DONE")
     assert clock.slept == pytest.approx([0.4, 0.8, 1.6])
     assert quota.granted == 3
-    assert quota.seen() == Usage(window=8, asked=0, given=0, left=2)
+    assert quota.seen() == Usage(window=3, asked=0, given=0, left=2)
 
 
 @KINDS
@@ -201,7 +221,7 @@ def test_a_quota_by_another_clock_than_the_retrys(kind: str, clock: VirtualClock
     retrying = retrying_of(kind, recurs(9) & spaced(5), clock, budget=quota)
     assert call(kind, retrying) == (3, "BUDGET_REFUSED")
     assert clock.slept == [5, 5, 5]
-    assert quota.seen() == Usage(window=1000, asked=1, given=3, left=0)
+    assert quota.seen() == Usage(window=0, asked=1, given=3, left=0)
     assert quota.close() == 3
 
 
@@ -243,11 +263,13 @@ def test_a_quota_of_the_real_clock() -> None:
     state = state_of(caught.value)
     assert state is not None and (state.granted, state.ending) == (3, Ending.BUDGET_REFUSED)
     with pytest.raises(KeyError):
-        Retrying(recurs(1) & spaced(0.001), budget=Quota(9, 0, 0.01))(fails)
+        Retrying(recurs(1) & spaced(0.001), budget=Quota(9, 0, 0.1))(fails)
     # windows are of the machine's monotonic clock
+    before = int(time.monotonic())
     quota = Quota(1, 0, 1)
-    before = time.monotonic()
-    assert int(before) <= quota.seen().window <= int(time.monotonic())
+    assert quota.seen().window <= int(time.monotonic()) - before
+    ends = quota.seen().next
+    assert ends is not None and before < ends <= time.monotonic() + 1
 
 
 def test_a_sleep_that_takes_no_time_moves_the_retrys_draws() -> None:
@@ -334,6 +356,38 @@ def test_8_threads_over_200_windows_with_deposits_beside() -> None:
     tickets = sorted(ticket for mine in drawn for ticket in mine)
     assert tickets == [window * WINDOW + ticket for window in range(200) for ticket in range(23)]
     assert quota.close() == 200 * 23
+
+
+def test_8_threads_draw_in_different_windows_at_once() -> None:
+    # the clock of each thread is windows ahead of the others'
+    mine = threading.local()
+    mine.now = 0.0
+    quota = Quota(5, 0, 1, clock=lambda: float(mine.now))
+    drawn: List[List[int]] = [[] for _ in range(8)]
+    ready = threading.Barrier(8)
+
+    def work(first: int) -> None:
+        ready.wait()
+        for window in range(first, first + 300):
+            mine.now = window + 0.5
+            ticket = quota.draw()
+            while ticket is not None:
+                drawn[first].append(ticket)
+                ticket = quota.draw()
+
+    threads = [threading.Thread(target=work, args=(first,)) for first in range(8)]
+    for thread in threads:
+        thread.start()
+    for thread in threads:
+        thread.join()
+    # no thread comes back to an earlier window, and each window gives its first tickets, five at most, each once
+    assert all(tickets == sorted(tickets) for tickets in drawn)
+    given = dict.fromkeys(range(307), 0)
+    for ticket in sorted(ticket for tickets in drawn for ticket in tickets):
+        assert ticket % WINDOW == given[ticket // WINDOW]
+        given[ticket // WINDOW] += 1
+    assert max(given.values()) == given[306] == 5
+    assert quota.close() == sum(given.values())
 
 
 def test_threads_share_a_retrying_and_a_quota(clock: VirtualClock) -> None:

@@ -299,7 +299,7 @@ def test_real_time(kind: str) -> None:
     policy = spaced(0.03)
     result = Retrying(policy)(call) if kind == "sync" else asyncio.run(AsyncRetrying(policy)(call.later))
     took = time.monotonic() - start
-    assert result == "won" and 0.058 <= took < 1
+    assert result == "won" and 0.058 <= took < 20
 
 
 def test_a_retry_goes_on_after_65536_failures(clock: VirtualClock) -> None:

@@ -51,7 +51,7 @@ def a_quota(reserve: int, share: int, period: int, windows: Set[int]) -> Callabl
     latest, given = [0], [0]
 
     def grants(now: int) -> bool:
-        window = max(latest[0], min(now // period, latest[0] + 3600))
+        window = max(latest[0], now // period)
         if window != latest[0]:
             latest[0], given[0] = window, 0
         allowed = reserve + (share // 1000 if window == 0 else 0)
@@ -152,7 +152,7 @@ def test_200_retries_on_a_quota_end_as_the_definitions_and_zsched_pool_say() -> 
     for _ in range(200):
         tree, runs = some_job(rng)
         reserve, share = rng.randrange(4), rng.choice([0, 999, 1000, 2500])
-        period = rng.choice([1, 50, 200, 1000, 10**6])
+        period = rng.choice([100, 150, 200, 1000, 10**6])
         clock = VirtualClock()
         line = ended(tree, runs, Quota(reserve, share / 1000, milliseconds(period), clock=clock), clock)
         windows: Set[int] = set()

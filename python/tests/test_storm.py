@@ -4,6 +4,7 @@ from __future__ import annotations
 
 import importlib
 import json
+import os
 import pickle
 import random
 import resource
@@ -270,7 +271,7 @@ def test_a_cut_storm_has_a_status_of_its_own() -> None:
         (["--rate", "20000"], "rate: 20000 a second for 60 s are 1200000 requests, and a storm has at most 1048576"),
         (["--window", "1"], "window: 120000 ms by windows of 1 ms are 120001 lines, and a report has at most 65537"),
         (["--budget", "4294967297"], "argument --budget: '4294967297' is not a number from 0 to 4294967296"),
-        (["--quota", "1/1%/0s"], "argument --quota: the window of a quota is at least a millisecond long, not 0.0"),
+        (["--quota", "1/1%/0s"], "argument --quota: the window of a quota is at least 100 ms long, not 0.0"),
         (["--budget", "1", "--quota", "1/1%/1s"], "argument --quota: not allowed with argument --budget"),
         (["--csv", "--json"], "argument --json: not allowed with argument --csv"),
         (["--csv", "recurs(1)", "recurs(2)"], "storm: --csv and --json are of one policy"),
@@ -306,14 +307,22 @@ def test_a_storm_too_large_for_the_memory_is_told() -> None:
     assert (done.returncode, done.stdout, done.stderr) == (5, "", "hikebox: no memory\n")
 
 
+def spent_by(process: int) -> float:
+    """The seconds of the processor that a process took so far."""
+    words = Path(f"/proc/{process}/stat").read_text().rpartition(")")[2].split()
+    return (int(words[11]) + int(words[12])) / os.sysconf("SC_CLK_TCK")
+
+
 def test_an_interrupt_ends_it_in_the_midst_of_a_storm() -> None:
     words = ["storm", "--rate", "17000", "--capacity", "1", "--queue", "0", "--calls", str(2**32), "recurs(10000) & spaced(0.01)"]
     command = [sys.executable, "-m", "hikebox", *words]
     process = subprocess.Popen(command, stdout=subprocess.PIPE, env=python_environment(), preexec_fn=heed_signals)
-    time.sleep(1.5)
+    # (its start takes some tenths of a second of the processor, and the storm minutes)
+    while spent_by(process.pid) < 2:
+        time.sleep(0.05)
     assert process.poll() is None
     process.send_signal(signal.SIGINT)
-    assert (process.wait(timeout=5), process.communicate()[0]) == (-signal.SIGINT, b"")
+    assert (process.wait(timeout=60), process.communicate()[0]) == (-signal.SIGINT, b"")
 
 
 def test_a_bad_policy_is_told() -> None:

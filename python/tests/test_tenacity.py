@@ -83,11 +83,11 @@ def test_a_quota_over_all_calls() -> None:
     retrying = tenacity.Retrying(before=before_deposit(quota), stop=stop, wait=wait, reraise=True)
     for _ in range(4):
         assert retrying(lambda: 1) == 1
-    assert quota.seen() == Usage(window=1, asked=4, given=0, left=3)
+    assert quota.seen() == Usage(window=0, asked=4, given=0, left=3)
     for _ in range(2):
         with pytest.raises(KeyError):
             retrying(fails)
-    assert quota.seen() == Usage(window=1, asked=6, given=4, left=0)
+    assert quota.seen() == Usage(window=0, asked=6, given=4, left=0)
 
 
 def test_with_tenacitys_own_stops_waits_and_results() -> None:

@@ -49,7 +49,7 @@ pub enum BudgetError {
     ReserveTooLarge,
     /// The share is below 0 or above 10 retries a request, no number, or more than 0 and less than a thousandth.
     ShareOutOfRange,
-    /// The window is shorter than a millisecond.
+    /// The window is shorter than 100 milliseconds.
     PeriodTooShort,
     /// The window is longer than 2^62 - 1 milliseconds.
     PeriodTooLong,
@@ -185,7 +185,7 @@ impl fmt::Display for BudgetError {
             Self::ShareOutOfRange => {
                 "the share is not 0, nor from 0.001 to 10 retries a request (0.2 is one for every five)"
             }
-            Self::PeriodTooShort => "the window is shorter than a millisecond",
+            Self::PeriodTooShort => "the window is shorter than 100 milliseconds",
             Self::PeriodTooLong => "the window is longer than 2^62 - 1 milliseconds",
             Self::TooManyPasses => "more than 2^42 passes are alive",
             Self::NoMemory => "no memory",

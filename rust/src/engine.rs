@@ -44,6 +44,35 @@ pub(crate) struct Used {
     pub(crate) asked: u64,
     pub(crate) given: u64,
     pub(crate) left: u64,
+    pub(crate) next: u64,
+}
+
+/// What a store keeps of a budget or a quota.
+#[cfg(feature = "leased")]
+#[repr(C)]
+#[derive(Clone, Copy, Debug, Default)]
+pub(crate) struct Stored {
+    pub(crate) window: u64,
+    pub(crate) given: u64,
+    pub(crate) asked: u64,
+}
+
+/// What is asked of a store.
+#[cfg(feature = "leased")]
+#[repr(C)]
+#[derive(Clone, Copy, Debug, Default)]
+pub(crate) struct Asking {
+    pub(crate) window: u64,
+    pub(crate) told: u64,
+    pub(crate) wanted: u64,
+}
+
+#[cfg(feature = "leased")]
+#[repr(C)]
+#[derive(Clone, Copy, Debug, Default)]
+pub(crate) struct Range {
+    pub(crate) first: u64,
+    pub(crate) tickets: u64,
 }
 
 #[repr(C)]
@@ -122,6 +151,7 @@ const TOO_MANY_PASSES: u32 = 33;
 const RESERVE_TOO_LARGE: u32 = 35;
 const SHARE_TOO_LARGE: u32 = 36;
 const PERIOD_TOO_SHORT: u32 = 37;
+const RACES_LOST: u32 = 38;
 
 pub(crate) const NO_REPORT: u32 = 0;
 pub(crate) const WON: u32 = 1;
@@ -182,7 +212,7 @@ extern "C" {
     fn hikebox_pass_close(pass: *mut Raw, tickets: *mut u64) -> u32;
     fn hikebox_pass_free(pass: *mut Raw) -> u32;
 
-    fn hikebox_quota_new(reserve: u64, share: u64, period: u64, quota: *mut Raw) -> u32;
+    fn hikebox_quota_new(now: u64, reserve: u64, share: u64, period: u64, quota: *mut Raw) -> u32;
     fn hikebox_quota_deposit(quota: *mut Raw, now: u64) -> u32;
     fn hikebox_quota_draw(quota: *mut Raw, now: u64, ticket: *mut u64) -> u32;
     fn hikebox_quota_seen(quota: *mut Raw, now: u64, usage: *mut Used) -> u32;
@@ -209,6 +239,24 @@ extern "C" {
     fn hikebox_retry_end(retry: *mut Raw, pass: *mut Raw) -> u32;
     fn hikebox_retry_end_on_quota(retry: *mut Raw, quota: *mut Raw) -> u32;
     fn hikebox_retry_free(retry: *mut Raw) -> u32;
+
+    #[cfg(feature = "leased")]
+    fn hikebox_quota_allows(reserve: u64, share: u64, asked: u64, tickets: *mut u64) -> u32;
+    #[cfg(feature = "leased")]
+    fn hikebox_lease_of_budget(
+        limit: u64,
+        asking: *const Asking,
+        stored: *mut Stored,
+        range: *mut Range,
+    ) -> u32;
+    #[cfg(feature = "leased")]
+    fn hikebox_lease_of_quota(
+        reserve: u64,
+        share: u64,
+        asking: *const Asking,
+        stored: *mut Stored,
+        range: *mut Range,
+    ) -> u32;
 
     fn hikebox_storm_play(
         policy: *mut Raw,
@@ -238,6 +286,7 @@ pub(crate) enum Status {
     ReserveTooLarge,
     ShareTooLarge,
     PeriodTooShort,
+    RacesLost,
     /// What no call of this crate is answered, unless the caller is at fault.
     Other(u32),
 }
@@ -262,6 +311,7 @@ impl Status {
             RESERVE_TOO_LARGE => Self::ReserveTooLarge,
             SHARE_TOO_LARGE => Self::ShareTooLarge,
             PERIOD_TOO_SHORT => Self::PeriodTooShort,
+            RACES_LOST => Self::RacesLost,
             other => Self::Other(other),
         })
     }
@@ -447,8 +497,9 @@ impl Handle<PassKind> {
 }
 
 impl Handle<QuotaKind> {
-    pub(crate) fn new(reserve: u64, share: u64, period: u64) -> Result<Self, Status> {
-        Self::filled(|quota| unsafe { hikebox_quota_new(reserve, share, period, quota) })
+    /// The first pass of a quota, whose windows are counted from the one of this moment, up to [`FAR`].
+    pub(crate) fn new(now: u64, reserve: u64, share: u64, period: u64) -> Result<Self, Status> {
+        Self::filled(|quota| unsafe { hikebox_quota_new(now, reserve, share, period, quota) })
     }
 
     pub(crate) fn deposit(&mut self, now: u64) {
@@ -561,6 +612,34 @@ impl<K: Kind> Drop for Handle<K> {
             unsafe { K::FREE(&mut self.raw) };
         }
     }
+}
+
+/// Leases tickets of a budget that has so many. `None` where the store counts a later window.
+#[cfg(feature = "leased")]
+pub(crate) fn lease_of_budget(limit: u64, asking: Asking, stored: &mut Stored) -> Option<Range> {
+    let mut range = Range::default();
+    // SAFETY: the call reads and writes these three alone, which are its own.
+    let status = unsafe { hikebox_lease_of_budget(limit, &asking, stored, &mut range) };
+    (status == OK).then_some(range)
+}
+
+/// The same of a window of a quota that has this reserve and this share.
+#[cfg(feature = "leased")]
+pub(crate) fn lease_of_quota(reserve: u64, share: u64, asking: Asking, stored: &mut Stored) -> Option<Range> {
+    let mut range = Range::default();
+    // SAFETY: as of a budget.
+    let status = unsafe { hikebox_lease_of_quota(reserve, share, &asking, stored, &mut range) };
+    (status == OK).then_some(range)
+}
+
+/// How many tickets a window of so many requests gives.
+#[cfg(feature = "leased")]
+pub(crate) fn quota_allows(reserve: u64, share: u64, asked: u64) -> u64 {
+    let mut tickets = 0;
+    // SAFETY: the call writes this number alone.
+    let status = unsafe { hikebox_quota_allows(reserve, share, asked, &mut tickets) };
+    debug_assert_eq!(status, OK);
+    tickets
 }
 
 /// Takes the file's lock, which goes when the file is closed, where no other process has it.

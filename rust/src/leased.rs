@@ -1,10 +1,10 @@
 //! Budgets and quotas that the processes of a machine share: tickets in ranges from a file that counts.
 
 use crate::budget::{Budget, BudgetError, Pass};
-use crate::engine::{uptime, MOST_TICKETS};
+use crate::engine::{lease_of_budget, lease_of_quota, uptime, Asking, Range, Stored, MOST_TICKETS};
 use crate::grants::Tickets;
 use crate::quota::{Terms, Usage};
-use crate::store::{CountFile, Counts, StoreError, Window};
+use crate::store::{CountFile, StoreError, Window};
 use std::error::Error;
 use std::path::Path;
 use std::sync::{Mutex, MutexGuard, PoisonError};
@@ -87,13 +87,11 @@ struct Requests {
     count: u64,
 }
 
-/// What a file has of the present window of a quota.
+/// What a file has of the present window of a quota, and the range of it that was granted.
 struct Found {
     window: Window,
-    /// The tickets that were given before, and those of the range that follows them.
-    before: u64,
-    tickets: u64,
-    asked: u64,
+    stored: Stored,
+    range: Range,
 }
 
 /// The greatest limit: one below 2^52.
@@ -143,38 +141,22 @@ impl Leased {
     /// A new lease, or `None` where the limit is reached.
     fn take(&self) -> Result<Option<Lease>, StoreError> {
         let counts = self.file.lock()?;
-        let period = match self.period {
-            Some(period) => period,
-            None => return self.take_for_good(counts),
+        let (key, window) = match self.period {
+            Some(period) => {
+                let millis = u64::try_from(period.as_millis()).unwrap_or(u64::MAX).max(1);
+                (format!("windows of {millis} ms of {}", self.name), Some(Window::present(millis)?))
+            }
+            None => (format!("budget {}", self.name), None),
         };
-        let millis = u64::try_from(period.as_millis()).unwrap_or(u64::MAX).max(1);
-        let (key, window) = (format!("windows of {millis} ms of {}", self.name), Window::present(millis)?);
-        let [before] = counts.of_window(&key, &window)?;
-        match self.below_limit(before) {
-            0 => Ok(None),
-            tickets => {
-                counts.set(key, Some(&window), &[before + tickets])?;
-                Lease::of(before, tickets, Some(window.until)).map(Some)
-            }
+        let mut stored = counts.of::<1>(&key, window.as_ref())?;
+        let number = window.as_ref().map_or(0, |window| window.number);
+        let asking = Asking { window: number, told: 0, wanted: self.lease };
+        let range = lease_of_budget(self.limit, asking, &mut stored).ok_or(StoreError::Lost)?;
+        if range.tickets == 0 {
+            return Ok(None);
         }
-    }
-
-    /// A new lease of a budget that has no windows.
-    fn take_for_good(&self, counts: Counts) -> Result<Option<Lease>, StoreError> {
-        let key = format!("budget {}", self.name);
-        let [before] = counts.of(&key)?;
-        match self.below_limit(before) {
-            0 => Ok(None),
-            tickets => {
-                counts.set(key, None, &[before + tickets])?;
-                Lease::of(before, tickets, None).map(Some)
-            }
-        }
-    }
-
-    /// How many tickets of a lease are below the limit.
-    fn below_limit(&self, before: u64) -> u64 {
-        self.lease.min(self.limit.saturating_sub(before))
+        counts.set(key, window.as_ref(), &[stored.given])?;
+        Lease::of(range, window.map(|window| window.until)).map(Some)
     }
 }
 
@@ -229,8 +211,8 @@ impl LeasedQuota {
     /// [`StoreError`] where a new lease is wanted and the file grants none.
     pub fn draw(&self) -> Result<Option<u64>, StoreError> {
         draw(&self.held, || match self.ask(true)? {
-            Found { tickets: 0, .. } => Ok(None),
-            found => Lease::of(found.before, found.tickets, Some(found.window.until)).map(Some),
+            Found { range: Range { tickets: 0, .. }, .. } => Ok(None),
+            Found { range, window, .. } => Lease::of(range, Some(window.until)).map(Some),
         })
     }
 
@@ -240,9 +222,9 @@ impl LeasedQuota {
     ///
     /// [`StoreError`] where the file can't be read or written, or has lost its count of the present window.
     pub fn seen(&self) -> Result<Usage, StoreError> {
-        let Found { window, before: given, asked, .. } = self.ask(false)?;
+        let Found { window, stored: Stored { given, asked, .. }, .. } = self.ask(false)?;
         let left = self.terms.allowed(asked).saturating_sub(given);
-        Ok(Usage { window: window.number, asked, given, left })
+        Ok(Usage { window: window.number, asked, given, left, next: None })
     }
 
     /// Tells the file the requests of the present window, and takes a range of its tickets where that is wanted.
@@ -251,16 +233,23 @@ impl LeasedQuota {
         let counts = self.file.lock()?;
         let window = Window::present(self.terms.period)?;
         let key = format!("quota of {} ms of {}", self.terms.period, self.name);
-        let [before, asked] = counts.of_window(&key, &window)?;
+        let mut stored = counts.of::<2>(&key, Some(&window))?;
+        // comes to the window before any request is told, as none is where the file has a later one
+        self.lease_of(&window, 0, 0, &mut stored)?;
         let told = lock(&self.requests).take(window.number);
-        let asked = asked.saturating_add(told);
-        let allowed = self.terms.allowed(asked);
-        let lease = if wants_tickets { self.lease.unwrap_or((allowed / 64).clamp(1, 1000)) } else { 0 };
-        let tickets = lease.min(allowed.saturating_sub(before));
-        if told + tickets > 0 {
-            counts.set(key, Some(&window), &[before + tickets, asked])?;
+        let allowed = self.terms.allowed(stored.asked.saturating_add(told));
+        let wanted = if wants_tickets { self.lease.unwrap_or((allowed / 64).clamp(1, 1000)) } else { 0 };
+        let range = self.lease_of(&window, told, wanted, &mut stored)?;
+        if told + range.tickets > 0 {
+            counts.set(key, Some(&window), &[stored.given, stored.asked])?;
         }
-        Ok(Found { window, before, tickets, asked })
+        Ok(Found { window, stored, range })
+    }
+
+    /// Takes a range of the present window, and tells requests of it.
+    fn lease_of(&self, window: &Window, told: u64, wanted: u64, stored: &mut Stored) -> Result<Range, StoreError> {
+        let asking = Asking { window: window.number, told, wanted };
+        lease_of_quota(self.terms.reserve, self.terms.share, asking, stored).ok_or(StoreError::Lost)
     }
 }
 
@@ -298,8 +287,8 @@ impl Requests {
 }
 
 impl Lease {
-    fn of(first: u64, tickets: u64, until: Option<Instant>) -> Result<Self, StoreError> {
-        Ok(Self { first, until, pass: Budget::new(tickets)?.pass()? })
+    fn of(range: Range, until: Option<Instant>) -> Result<Self, StoreError> {
+        Ok(Self { first: range.first, until, pass: Budget::new(range.tickets)?.pass()? })
     }
 
     fn draw(&mut self) -> Option<u64> {

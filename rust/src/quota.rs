@@ -4,17 +4,18 @@ use crate::budget::BudgetError;
 use crate::clock::{now, whole_millis};
 use crate::counters::{Counter, Counters, Window};
 #[cfg(feature = "leased")]
-use crate::engine::{FAR, MOST_TICKETS};
+use crate::engine::{quota_allows, FAR, MOST_TICKETS};
 use crate::engine::{Handle, QuotaKind, Status, Used};
 use std::fmt;
 use std::sync::{Arc, Mutex, MutexGuard, PoisonError};
 use std::time::{Duration, Instant};
 
-/// Retries for a service, shared by all threads of a program: in each window of time no more than a reserve, and a
-/// share of the requests made in it. Nothing is carried from a window to the next. It is cheap to clone; all clones are
-/// the same quota.
+/// Retries for a service, shared by all threads of a program: in each window of time no more are granted than a reserve,
+/// and a share of the requests made in it. Nothing is carried from a window to the next. It is cheap to clone; all
+/// clones are the same quota.
 ///
-/// A retry draws a ticket, and each call that is retried counts as one request, before its first run:
+/// A retry draws a ticket where its run fails, and begins after its delay, maybe in a later window: more retries can
+/// begin in a window than it granted. Each call that is retried counts as one request, before its first run:
 ///
 /// ```
 /// use hikebox::{retry, Policy, Quota};
@@ -77,7 +78,7 @@ pub struct QuotaPass {
 /// What is known of a window of a quota.
 #[derive(Clone, Copy, Debug, PartialEq, Eq, Hash)]
 pub struct Usage {
-    /// Which window it is: its moment divided by the window's length.
+    /// Which window it is: from 0 on, in which the quota was made; of a `LeasedQuota` by the machine's uptime.
     pub window: u64,
     /// The requests that were counted in it.
     pub asked: u64,
@@ -85,6 +86,9 @@ pub struct Usage {
     pub given: u64,
     /// The tickets that it may yet give for the requests counted so far.
     pub left: u64,
+    /// When the next window begins, as a moment of the quota's. If that is further off than the window's length, this
+    /// one was opened by a call whose clock was ahead. `None` of a `LeasedQuota`.
+    pub next: Option<Duration>,
 }
 
 /// What a quota is made with, in the engine's units: tickets, thousandths of a ticket, milliseconds.
@@ -98,7 +102,7 @@ pub(crate) struct Terms {
 impl Quota {
     /// A quota of `reserve` retries in each window of this length (whole milliseconds), and `share` retries for each
     /// request of the window: 0.2 is one for every five. The share is counted in thousandths, and is at most 10: a
-    /// number that was meant as per cent, as 20.0, is refused.
+    /// number that was meant as per cent, as 20.0, is refused. A window is at least 100 milliseconds long.
     ///
     /// # Errors
     ///
@@ -114,8 +118,26 @@ impl Quota {
     ///
     /// [`BudgetError`] says which of them is out of its range.
     pub fn new_at(began: Instant, reserve: u64, share: f64, per: Duration) -> Result<Self, BudgetError> {
-        let Terms { reserve, share, period } = Terms::new(reserve, share, per)?;
-        let root = Handle::<QuotaKind>::new(reserve, share, period).map_err(BudgetError::of)?;
+        Self::made(Duration::ZERO, began, Terms::new(reserve, share, per)?)
+    }
+
+    /// The same for a host that has a clock of its own, whose moment is this one: windows are counted from the one that
+    /// it lies in. Its moments are given by [`Quota::deposit_at`], [`QuotaPass::draw_at`] and [`Machine::step`]; they may
+    /// be those since 1970.
+    ///
+    /// [`Machine::step`]: crate::Machine::step
+    ///
+    /// # Errors
+    ///
+    /// [`BudgetError`] says which of them is out of its range.
+    pub fn new_of_host(moment: Duration, reserve: u64, share: f64, per: Duration) -> Result<Self, BudgetError> {
+        let now = now();
+        Self::made(moment, now.checked_sub(moment).unwrap_or(now), Terms::new(reserve, share, per)?)
+    }
+
+    fn made(moment: Duration, began: Instant, terms: Terms) -> Result<Self, BudgetError> {
+        let Terms { reserve, share, period } = terms;
+        let root = Handle::<QuotaKind>::new(whole_millis(moment), reserve, share, period).map_err(BudgetError::of)?;
         Ok(Self::of(root, began, period))
     }
 
@@ -174,7 +196,7 @@ impl Quota {
         }
     }
 
-    /// What was asked of the present window, what it has given, and what it has left.
+    /// What was asked of the present window, what it has given, what it has left, and when the next begins.
     pub fn seen(&self) -> Usage {
         self.seen_at(self.moment(now()))
     }
@@ -244,7 +266,7 @@ impl QuotaPass {
         self.draw_at(self.quota.moment(now()))
     }
 
-    /// What was asked of the present window, what it has given, and what it has left.
+    /// What was asked of the present window, what it has given, what it has left, and when the next begins.
     pub fn seen(&mut self) -> Usage {
         self.seen_at(self.quota.moment(now()))
     }
@@ -258,14 +280,18 @@ impl QuotaPass {
     /// [`QuotaPass::draw`] at such a moment.
     #[must_use = "the ticket is drawn, if there is one"]
     pub fn draw_at(&mut self, now: Duration) -> Option<u64> {
-        match self.handle().draw(whole_millis(now)) {
-            Ok(ticket) => {
-                self.tickets += 1;
-                Some(ticket)
-            }
-            Err(status) => {
-                debug_assert_eq!(status, Status::NoTicket);
-                None
+        loop {
+            match self.handle().draw(whole_millis(now)) {
+                Ok(ticket) => {
+                    self.tickets += 1;
+                    return Some(ticket);
+                }
+                // As many other draws got a ticket meanwhile.
+                Err(Status::RacesLost) => {}
+                Err(status) => {
+                    debug_assert_eq!(status, Status::NoTicket);
+                    return None;
+                }
             }
         }
     }
@@ -294,9 +320,13 @@ impl Drop for QuotaPass {
 }
 
 fn usage(used: Used) -> Usage {
-    let Used { window, asked, given, left } = used;
-    Usage { window, asked, given, left }
+    let Used { window, asked, given, left, next } = used;
+    Usage { window, asked, given, left, next: Some(Duration::from_millis(next)) }
 }
+
+/// The shortest window, in milliseconds.
+#[cfg(feature = "leased")]
+const LEAST_PERIOD: u64 = 100;
 
 /// The greatest share, in thousandths of a ticket: 20.0 is 20 per cent by mistake.
 const MOST_SHARE: f64 = 10_000.0;
@@ -320,7 +350,7 @@ impl Terms {
         let Self { reserve, period, .. } = self;
         match self {
             _ if reserve > MOST_TICKETS => Err(BudgetError::ReserveTooLarge),
-            _ if period == 0 => Err(BudgetError::PeriodTooShort),
+            _ if period < LEAST_PERIOD => Err(BudgetError::PeriodTooShort),
             _ if period > FAR => Err(BudgetError::PeriodTooLong),
             terms => Ok(terms),
         }
@@ -328,6 +358,6 @@ impl Terms {
 
     /// How many tickets a window of so many requests gives.
     pub(crate) fn allowed(self, asked: u64) -> u64 {
-        (self.reserve + self.share * asked.min(MOST_TICKETS) / 1000).min(MOST_TICKETS)
+        quota_allows(self.reserve, self.share, asked)
     }
 }

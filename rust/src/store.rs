@@ -1,7 +1,7 @@
 //! Files that count the tickets that were leased, for the processes of a machine.
 
 use crate::budget::BudgetError;
-use crate::engine::{try_lock, uptime};
+use crate::engine::{try_lock, uptime, Stored};
 use serde_json::{json, Map, Value};
 use std::error::Error;
 use std::fmt;
@@ -84,14 +84,10 @@ impl Window {
         Ok(Self { boot: boot.trim().to_owned(), number, until })
     }
 
-    /// Whether a window of this text is a later one of the same start.
-    fn is_before(&self, text: &str) -> bool {
-        match text.split_once(' ') {
-            Some((boot, number)) => {
-                boot == self.boot && number.parse::<u64>().map_or(false, |number| number > self.number)
-            }
-            None => false,
-        }
+    /// The number of a window of this text, where it is one of the same start.
+    fn number_of(&self, text: &str) -> Option<u64> {
+        let (boot, number) = text.split_once(' ')?;
+        if boot == self.boot { number.parse().ok() } else { None }
     }
 }
 
@@ -113,26 +109,22 @@ impl Counts {
         Ok(Self { file, by_key })
     }
 
-    /// The `N` counts of this key as a whole: each 0 where there are none.
-    pub(crate) fn of<const N: usize>(&self, key: &str) -> Result<[u64; N], StoreError> {
-        match self.by_key.get(key) {
-            Some(stored) => numbers(stored),
-            None => Ok([0; N]),
-        }
-    }
-
-    /// Those of this key's window, which are 0 where the file has an earlier one; [`StoreError::Lost`] where it has a
-    /// later one.
-    pub(crate) fn of_window<const N: usize>(&self, key: &str, window: &Window) -> Result<[u64; N], StoreError> {
+    /// What is stored of this key, in `N` counts, as a whole or in the window that was counted last: nothing where the
+    /// file has none of this start of the machine.
+    pub(crate) fn of<const N: usize>(&self, key: &str, window: Option<&Window>) -> Result<Stored, StoreError> {
         let stored = match self.by_key.get(key) {
             Some(stored) => stored,
-            None => return Ok([0; N]),
+            None => return Ok(Stored::default()),
         };
         let name = stored.get(0).and_then(Value::as_str).ok_or(StoreError::Damaged)?;
-        if window.is_before(name) {
-            return Err(StoreError::Lost);
-        }
-        if name == window.to_string() { numbers(stored) } else { Ok([0; N]) }
+        let window = match window.map(|window| window.number_of(name)) {
+            Some(None) => return Ok(Stored::default()),
+            Some(Some(number)) => number,
+            None => 0,
+        };
+        let numbers = numbers::<N>(stored)?;
+        let at = |place| numbers.get(place).copied().unwrap_or(0);
+        Ok(Stored { window, given: at(0), asked: at(1) })
     }
 
     /// Sets the counts of this key, as a whole or in a window, and writes all by one write, and to the disk.

@@ -276,7 +276,7 @@ impl Storm {
         self.fault = match Terms::new(reserve, share, per) {
             Ok(Terms { reserve, share, period }) => {
                 self.storm = engine::Storm { draws_on: ON_QUOTA, reserve, share, period, ..self.storm };
-                Handle::<QuotaKind>::new(reserve, share, period).err().map(BudgetError::of)
+                Handle::<QuotaKind>::new(0, reserve, share, period).err().map(BudgetError::of)
             }
             Err(fault) => Some(fault),
         };

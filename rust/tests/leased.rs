@@ -5,8 +5,9 @@ use hikebox::{retry, BudgetError, Leased, LeasedQuota, Policy, RetryError, Store
 use std::collections::{HashMap, HashSet};
 use std::env;
 use std::fs;
+use std::io::{BufRead, BufReader};
 use std::path::{Path, PathBuf};
-use std::process::{Command, Stdio};
+use std::process::{Child, Command, Stdio};
 use std::sync::Arc;
 use std::thread;
 use std::time::{Duration, Instant};
@@ -75,19 +76,20 @@ fn eight_processes_draw_all_of_a_quota_each_ticket_once() {
     assert_eq!(drawn_by_eight("process_on_a_quota", "quotas"), 30_000);
 }
 
+/// A process that does what this test does, on this file.
+fn drawing(process: &str, file: &Scratch) -> Child {
+    Command::new(env::current_exe().unwrap())
+        .args(["--ignored", "--exact", process, "--nocapture", "--test-threads=1"])
+        .env("HIKEBOX_TEST_FILE", &file.0)
+        .stdout(Stdio::piped())
+        .spawn()
+        .unwrap()
+}
+
 /// How many tickets eight processes draw that each do what this test does. Each ticket is one of the first so many.
 fn drawn_by_eight(process: &str, name: &str) -> u64 {
     let file = Scratch::new(name);
-    let children: Vec<_> = (0..8)
-        .map(|_| {
-            Command::new(env::current_exe().unwrap())
-                .args(["--ignored", "--exact", process, "--nocapture", "--test-threads=1"])
-                .env("HIKEBOX_TEST_FILE", &file.0)
-                .stdout(Stdio::piped())
-                .spawn()
-                .unwrap()
-        })
-        .collect();
+    let children: Vec<_> = (0..8).map(|_| drawing(process, &file)).collect();
     let readers: Vec<_> = children
         .into_iter()
         .map(|child| thread::spawn(|| child.wait_with_output().unwrap()))
@@ -181,6 +183,102 @@ fn a_file_that_can_not_be_reached_grants_nothing() {
 }
 
 #[test]
+fn a_file_that_another_process_keeps_locked_grants_nothing() {
+    let file = Scratch::new("locked");
+    let mut keeper = Command::new("flock")
+        .args([file.0.as_os_str(), "-c".as_ref(), "echo locked; read line".as_ref()])
+        .stdin(Stdio::piped())
+        .stdout(Stdio::piped())
+        .spawn()
+        .unwrap();
+    let mut line = String::new();
+    BufReader::new(keeper.stdout.take().unwrap()).read_line(&mut line).unwrap();
+    assert_eq!(line, "locked\n");
+    let (budget, quota) = (Leased::new(&file.0, "b", 10), long_quota(&file.0, 10, 0.0));
+    thread::scope(|scope| {
+        let drawn = scope.spawn(|| budget.draw());
+        assert!(matches!(quota.draw(), Err(StoreError::Locked)));
+        assert!(matches!(drawn.join().unwrap(), Err(StoreError::Locked)));
+    });
+    drop(keeper.stdin.take());
+    keeper.wait().unwrap();
+    // nothing was counted meanwhile
+    assert_eq!(Leased::new(&file.0, "b", 10).draw().unwrap(), Some(0));
+    assert_eq!(long_quota(&file.0, 10, 0.0).draw().unwrap(), Some(0));
+}
+
+#[test]
+fn a_file_with_a_later_window_of_a_budget_grants_nothing() {
+    let file = Scratch::new("later");
+    let period = Duration::from_secs(1_000_000);
+    let windowed = || Leased::new(&file.0, "w", 9).in_each(period).lease(1);
+    let boot = fs::read_to_string("/proc/sys/kernel/random/boot_id").unwrap();
+    let window = long_quota(&file.0, 1, 0.0).seen().unwrap().window;
+    let written = |name: &str| {
+        let body = format!("{{\"windows of 1000000000 ms of w\":[\"{name}\",7]}}");
+        fs::write(&file.0, format!("hikebox counts 1 {} {}\n{body}", body.len(), crc32(body.as_bytes()))).unwrap();
+    };
+    written(&format!("{} {window}", boot.trim()));
+    assert_eq!(windowed().draw().unwrap(), Some(7));
+    written(&format!("{} {}", boot.trim(), window + 1));
+    assert!(matches!(windowed().draw(), Err(StoreError::Lost)));
+    // of another start of the machine nothing is counted
+    written(&format!("another {}", window + 1));
+    assert_eq!(windowed().draw().unwrap(), Some(0));
+}
+
+#[test]
+fn eight_threads_draw_each_ticket_of_a_file_once() {
+    let file = Scratch::new("threads");
+    let (budget, quota) = (Leased::new(&file.0, "b", 5000).lease(16), long_quota(&file.0, 1000, 0.5).lease(16));
+    let drawn = |draw: &(dyn Fn() -> Option<u64> + Sync)| -> Vec<u64> {
+        let mut all: Vec<u64> = thread::scope(|scope| {
+            let threads: Vec<_> =
+                (0..8).map(|_| scope.spawn(|| std::iter::from_fn(draw).collect::<Vec<_>>())).collect();
+            threads.into_iter().flat_map(|thread| thread.join().unwrap()).collect()
+        });
+        all.sort_unstable();
+        all
+    };
+    assert_eq!(drawn(&|| budget.draw().unwrap()), (0..5000).collect::<Vec<_>>());
+    (0..2000).for_each(|_| quota.deposit());
+    // the reserve, and a half of 2,000 requests
+    assert_eq!(drawn(&|| quota.draw().unwrap()), (0..2000).collect::<Vec<_>>());
+}
+
+/// Processes are killed while they draw. What each of them had printed is its own, and the others have the rest, but for
+/// what leases had that died.
+#[test]
+fn processes_that_are_killed_overdraw_nothing() {
+    // (six processes with 2,500 requests each add the half of those to a reserve of 20,000)
+    for (process, name, most) in [("drawing_process", "killed", LIMIT), ("process_on_a_quota", "killed-quota", 27_500)]
+    {
+        let file = Scratch::new(name);
+        let mut seen = HashSet::new();
+        let mut heard = |line: &str| {
+            if let Some((_, ticket)) = line.split_once("ticket ") {
+                let ticket: u64 = ticket.parse().unwrap();
+                assert!(seen.insert(ticket), "ticket {ticket}");
+            }
+        };
+        for _ in 0..5 {
+            let mut child = drawing(process, &file);
+            let mut lines = BufReader::new(child.stdout.take().unwrap()).lines();
+            let before = lines.by_ref().take(500).map(Result::unwrap).collect::<Vec<_>>();
+            child.kill().unwrap();
+            // (a line may have been cut, and then is no ticket's)
+            let after: Vec<_> = lines.map_while(Result::ok).collect();
+            child.wait().unwrap();
+            before.iter().chain(after.split_last().map_or(&[][..], |(_, whole)| whole)).for_each(|line| heard(line));
+        }
+        let output = drawing(process, &file).wait_with_output().unwrap();
+        assert!(output.status.success());
+        String::from_utf8(output.stdout).unwrap().lines().for_each(heard);
+        assert!(seen.len() > 2500 && seen.iter().all(|ticket| *ticket < most), "{}", seen.len());
+    }
+}
+
+#[test]
 fn requests_that_were_told_are_everybodys() {
     let file = Scratch::new("told");
     let (first, second) = (long_quota(&file.0, 4, 0.5).lease(2), long_quota(&file.0, 4, 0.5).lease(2));
@@ -191,9 +289,9 @@ fn requests_that_were_told_are_everybodys() {
     (0..6).for_each(|_| second.deposit());
     assert_eq!(draws(&first, 1), [None]);
     let usage = second.seen().unwrap();
-    assert_eq!(usage, Usage { window: usage.window, asked: 6, given: 4, left: 3 });
+    assert_eq!(usage, Usage { window: usage.window, asked: 6, given: 4, left: 3, next: None });
     assert_eq!(draws(&first, 4), [Some(4), Some(5), Some(6), None]);
-    assert_eq!(second.seen().unwrap(), Usage { window: usage.window, asked: 6, given: 7, left: 0 });
+    assert_eq!(second.seen().unwrap(), Usage { window: usage.window, asked: 6, given: 7, left: 0, next: None });
     // beside a budget in the same file, and a quota of another name
     assert_eq!(Leased::new(&file.0, "q", 1).draw().unwrap(), Some(0));
     assert_eq!(Leased::new(&file.0, "q", 1).in_each(Duration::from_secs(1_000_000)).draw().unwrap(), Some(0));
@@ -224,7 +322,7 @@ fn each_window_of_a_quota_has_its_own_requests_and_tickets() {
         let after = quota.seen().unwrap();
         if before.window == after.window {
             assert_eq!(drawn, [0, 1, 2]);
-            assert_eq!(after, Usage { window: after.window, asked: 4, given: 3, left: 0 });
+            assert_eq!(after, Usage { window: after.window, asked: 4, given: 3, left: 0, next: None });
             windows.insert(after.window);
         }
         thread::sleep(Duration::from_millis(300));
@@ -243,7 +341,7 @@ fn a_quota_that_python_wrote_goes_on() {
         fs::write(&file.0, format!("hikebox counts 1 {} {}\n{body}", body.len(), crc32(body.as_bytes()))).unwrap();
     };
     written(&format!("{} {window}", boot.trim()));
-    assert_eq!(long_quota(&file.0, 5, 0.2).seen().unwrap(), Usage { window, asked: 20, given: 7, left: 2 });
+    assert_eq!(long_quota(&file.0, 5, 0.2).seen().unwrap(), Usage { window, asked: 20, given: 7, left: 2, next: None });
     assert_eq!(long_quota(&file.0, 5, 0.2).draw().unwrap(), Some(7));
     // a later window of this start of the machine, and one of another start
     written(&format!("{} {}", boot.trim(), window + 1));

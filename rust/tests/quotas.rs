@@ -23,35 +23,38 @@ fn quota(reserve: u64, share: f64, millis: u64) -> Quota {
     Quota::new(reserve, share, Duration::from_millis(millis)).unwrap()
 }
 
-fn usage(window: u64, asked: u64, given: u64, left: u64) -> Usage {
-    Usage { window, asked, given, left }
+/// The window, what was asked and given in it, and what is left.
+fn told(usage: Usage) -> [u64; 4] {
+    [usage.window, usage.asked, usage.given, usage.left]
 }
 
 #[test]
 fn worked_windows() {
-    let quota = quota(2, 0.4, 10);
+    let quota = quota(2, 0.4, 100);
     let mut first = quota.pass().unwrap();
     let mut second = quota.pass().unwrap();
-    assert_eq!(first.draw_at(at(30)), Some(3 * WINDOW));
-    assert_eq!(second.draw_at(at(31)), Some(3 * WINDOW + 1));
-    assert_eq!(first.draw_at(at(32)), None);
+    assert_eq!(first.draw_at(at(300)), Some(3 * WINDOW));
+    assert_eq!(second.draw_at(at(310)), Some(3 * WINDOW + 1));
+    assert_eq!(first.draw_at(at(320)), None);
     for _ in 0..4 {
-        second.deposit_at(at(33));
+        second.deposit_at(at(330));
     }
     // 2 and 0.4 for each of four requests: 3.6
-    assert_eq!(first.seen_at(at(34)), usage(3, 4, 2, 1));
-    assert_eq!(first.draw_at(at(34)), Some(3 * WINDOW + 2));
-    assert_eq!(first.draw_at(at(34)), None);
-    quota.deposit_at(at(35));
-    assert_eq!(second.draw_at(at(39)), Some(3 * WINDOW + 3));
-    assert_eq!(second.draw_at(at(39)), None);
-    assert_eq!(quota.seen_at(at(40)), usage(4, 0, 0, 2));
-    assert_eq!(first.draw_at(at(40)), Some(4 * WINDOW));
+    assert_eq!(told(first.seen_at(at(340))), [3, 4, 2, 1]);
+    assert_eq!(first.seen_at(at(340)).next, Some(at(400)));
+    assert_eq!(first.draw_at(at(340)), Some(3 * WINDOW + 2));
+    assert_eq!(first.draw_at(at(340)), None);
+    quota.deposit_at(at(350));
+    assert_eq!(second.draw_at(at(399)), Some(3 * WINDOW + 3));
+    assert_eq!(second.draw_at(at(399)), None);
+    assert_eq!(told(quota.seen_at(at(400))), [4, 0, 0, 2]);
+    assert_eq!(first.draw_at(at(400)), Some(4 * WINDOW));
     // a clock that is behind is served in the latest window
-    assert_eq!(second.draw_at(at(5)), Some(4 * WINDOW + 1));
-    assert_eq!(second.draw_at(at(5)), None);
-    // and one that is ahead opens it 3,600 windows on at most
-    assert_eq!(first.draw_at(Duration::MAX), Some(3604 * WINDOW));
+    assert_eq!(second.draw_at(at(50)), Some(4 * WINDOW + 1));
+    assert_eq!(second.draw_at(at(50)), None);
+    // and one that is ahead opens its own
+    assert_eq!(first.draw_at(at(3_600_000)), Some(36_000 * WINDOW));
+    assert_eq!(quota.seen_at(at(50)).next, Some(at(3_600_100)));
     assert_eq!((first.count(), second.count()), (4, 3));
     assert_eq!(quota.granted(), 0);
     drop(first);
@@ -62,15 +65,37 @@ fn worked_windows() {
 }
 
 #[test]
+fn an_idle_week_gives_one_reserve() {
+    let quota = quota(10, 0.0, 1000);
+    let mut pass = quota.pass().unwrap();
+    let week = at(7 * 86_400_000);
+    assert_eq!((0..200).filter(|_| pass.draw_at(week).is_some()).count(), 10);
+    drop(pass);
+    assert_eq!(quota.close().unwrap(), 10);
+}
+
+#[test]
+fn a_host_may_count_from_1970() {
+    let millis = |millis: u64| at(1_700_000_000_000 + millis);
+    let quota = Quota::new_of_host(millis(42), 1, 0.0, at(100)).unwrap();
+    let mut pass = quota.pass().unwrap();
+    assert_eq!(pass.draw_at(millis(99)), Some(0));
+    assert_eq!(pass.draw_at(millis(99)), None);
+    assert_eq!(pass.draw_at(millis(100)), Some(WINDOW));
+    assert_eq!(pass.draw_at(millis(299_999_999_800)), Some(2_999_999_998 * WINDOW));
+    assert!(quota.moment(Instant::now()) >= millis(42));
+}
+
+#[test]
 fn windows_go_by_the_systems_clock() {
     let began = Instant::now() - Duration::from_secs(100);
     let quota = Quota::new_at(began, 1, 1.0, Duration::from_secs(60)).unwrap();
     quota.deposit();
-    assert_eq!(quota.seen(), usage(1, 1, 0, 2));
+    assert_eq!(told(quota.seen()), [1, 1, 0, 2]);
     let mut pass = quota.pass().unwrap();
     pass.deposit();
     assert_eq!(pass.draw(), Some(WINDOW));
-    assert_eq!(pass.seen(), usage(1, 2, 1, 2));
+    assert_eq!(told(pass.seen()), [1, 2, 1, 2]);
     assert_eq!(quota.moment(began), at(0));
     assert_eq!(quota.moment(began + Duration::from_millis(1500)), at(1500));
     assert_eq!(quota.moment(began - Duration::from_millis(1500)), at(0));
@@ -85,12 +110,12 @@ fn terms_out_of_their_ranges_are_refused() {
         assert_eq!(refused(0, share, second), BudgetError::ShareOutOfRange, "{share}");
     }
     assert_eq!(refused(0, 0.0, Duration::ZERO), BudgetError::PeriodTooShort);
-    assert_eq!(refused(0, 0.0, Duration::from_micros(999)), BudgetError::PeriodTooShort);
+    assert_eq!(refused(0, 0.0, Duration::from_micros(99_999)), BudgetError::PeriodTooShort);
     assert_eq!(refused(0, 0.0, Duration::from_millis(1 << 62)), BudgetError::PeriodTooLong);
     assert_eq!(refused(0, 0.0, Duration::MAX), BudgetError::PeriodTooLong);
-    assert_eq!(BudgetError::PeriodTooShort.to_string(), "the window is shorter than a millisecond");
+    assert_eq!(BudgetError::PeriodTooShort.to_string(), "the window is shorter than 100 milliseconds");
     assert!(Quota::new(4_294_967_296, 10.0, Duration::from_millis((1 << 62) - 1)).is_ok());
-    assert!(Quota::new(0, 0.001, Duration::from_millis(1)).is_ok());
+    assert!(Quota::new(0, 0.001, Duration::from_millis(100)).is_ok());
 }
 
 /// A retry by hand on the quota whose runs all fail, from this moment on: how it ended, and when it ran.
@@ -115,7 +140,7 @@ fn a_retry_draws_at_the_moment_of_the_failure() {
     // failures at 5,500, 5,900, 6,700 and 8,300
     let json = r#"{"meet":[{"recurs":3},{"exponential":[400,2]}]}"#;
     assert_eq!(all_lost(json, &quota, 5500), (Ended::ScheduleDone, vec![5500, 5900, 6700, 8300], 3));
-    assert_eq!(quota.seen_at(at(6999)), usage(6, 0, 1, 1));
+    assert_eq!(told(quota.seen_at(at(6999))), [6, 0, 1, 1]);
     assert_eq!(all_lost("\"forever\"", &quota, 6900), (Ended::BudgetRefused, vec![6900, 6900], 1));
     assert_eq!(all_lost("\"forever\"", &quota, 8300), (Ended::BudgetRefused, vec![8300; 3], 2));
     assert_eq!(quota.close().unwrap(), 6);
@@ -151,23 +176,23 @@ fn each_call_is_a_request_and_its_retries_draw() {
         assert_eq!(quota.granted(), granted);
     }
     assert_eq!(Retrying::new(&policy, &quota).call(|| Ok::<_, ()>(5)), Ok(5));
-    assert_eq!(quota.seen(), usage(0, 4, 2, 1));
+    assert_eq!(told(quota.seen()), [0, 4, 2, 1]);
     assert_eq!(Retrying::new(&policy, &quota).when(|_| false).call(|| Err::<(), _>(1)), Err(RetryError::NotRetried(1)));
-    assert_eq!(quota.seen(), usage(0, 5, 2, 1));
+    assert_eq!(told(quota.seen()), [0, 5, 2, 1]);
     assert_eq!(quota.close().unwrap(), 2);
 }
 
 #[test]
 fn a_refused_call_is_served_in_the_next_window() {
-    let (policy, quota) = (policy(r#"{"recurs":1}"#), quota(1, 0.0, 50));
+    let (policy, quota) = (policy(r#"{"recurs":1}"#), quota(1, 0.0, 100));
     let fails = || retry(&policy, &quota, || Err::<(), _>(()));
     let ends: Vec<_> = (0..40)
         .map(|_| {
-            thread::sleep(Duration::from_millis(5));
+            thread::sleep(Duration::from_millis(10));
             fails()
         })
         .collect();
-    // 200 ms are four windows at least, each with one ticket
+    // 400 ms are four windows at least, each with one ticket
     let granted = ends.iter().filter(|end| **end == Err(RetryError::ScheduleDone(()))).count();
     assert!((4..40).contains(&granted), "{granted}");
     assert_eq!(quota.close().unwrap(), granted as u64);
@@ -210,8 +235,45 @@ fn sixteen_threads_draw_all_of_a_window_each_ticket_once() {
     // 16 * 10,000 requests give 40,000 tickets, beside the ten
     tickets.sort_unstable();
     assert_eq!(tickets, (0..40_010).collect::<Vec<_>>());
-    assert_eq!(quota.seen_at(at(0)), usage(0, 160_000, 40_010, 0));
+    assert_eq!(told(quota.seen_at(at(0))), [0, 160_000, 40_010, 0]);
     assert_eq!(quota.close().unwrap(), 40_010);
+}
+
+/// Eight threads whose clocks are windows apart draw at once, each until it is refused in each of its windows.
+#[test]
+fn threads_draw_in_different_windows_at_once() {
+    let quota = quota(5, 0.0, 100);
+    let ready = Barrier::new(8);
+    let drawn: Vec<Vec<u64>> = thread::scope(|scope| {
+        let threads: Vec<_> = (0..8)
+            .map(|first: u64| {
+                let mut pass = quota.pass().unwrap();
+                let ready = &ready;
+                scope.spawn(move || {
+                    let mut drawn = Vec::new();
+                    ready.wait();
+                    for window in first..first + 2000 {
+                        drawn.extend(std::iter::from_fn(|| pass.draw_at(at(window * 100))));
+                    }
+                    drawn
+                })
+            })
+            .collect();
+        threads.into_iter().map(|thread| thread.join().unwrap()).collect()
+    });
+    // no thread comes back to an earlier window, and each window gives its first tickets, five at most, each once
+    assert!(drawn.iter().all(|mine| mine.windows(2).all(|pair| pair[0] < pair[1])));
+    let mut tickets: Vec<u64> = drawn.into_iter().flatten().collect();
+    tickets.sort_unstable();
+    let mut given = vec![0; 2007];
+    for ticket in &tickets {
+        let window = (ticket / WINDOW) as usize;
+        assert_eq!(ticket % WINDOW, given[window]);
+        given[window] += 1;
+    }
+    assert!(given.iter().all(|given| *given <= 5));
+    assert_eq!(given[2006], 5);
+    assert_eq!(quota.close().unwrap(), tickets.len() as u64);
 }
 
 #[test]
@@ -243,7 +305,7 @@ fn sixteen_threads_of_retries_never_pass_the_quota() {
 
 #[test]
 fn a_clone_keeps_a_quota_open() {
-    let quota = quota(1, 0.0, 1);
+    let quota = quota(1, 0.0, 100);
     let clone = quota.clone();
     let quota = quota.close().unwrap_err();
     drop(clone);
@@ -269,12 +331,12 @@ fn the_time_of_the_first_run_counts() {
     let quota = Quota::new_at(now.get() - at(900), 1, 0.0, Duration::from_secs(1)).unwrap();
     let (policy, mut seen) = (policy(r#"{"recurs":1}"#), Vec::new());
     let ended = Retrying::new(&policy, &quota).clock(|| now.get()).call(|| {
-        seen.push(quota.seen_at(at(0)));
+        seen.push(told(quota.seen_at(at(0))));
         now.set(now.get() + at(600));
         Err::<(), _>("no")
     });
     assert_eq!(ended, Err(RetryError::ScheduleDone("no")));
-    assert_eq!(seen, [usage(0, 1, 0, 1), usage(1, 0, 1, 0)]);
+    assert_eq!(seen, [[0, 1, 0, 1], [1, 0, 1, 0]]);
     assert_eq!(quota.close().unwrap(), 1);
 }
 
@@ -287,7 +349,7 @@ fn requests_of_many_threads_are_counted_each_once_and_by_their_windows() {
             scope.spawn(|| (0..500).for_each(|_| quota.deposit()));
         }
     });
-    assert_eq!(quota.seen(), usage(0, 20_000, 0, 20_000));
+    assert_eq!(told(quota.seen()), [0, 20_000, 0, 20_000]);
     assert_eq!(quota.close().unwrap(), 0);
 }
 

@@ -95,7 +95,7 @@ fn a_wait_is_whole_whatever_part_of_a_millisecond_the_call_took() {
     assert_eq!(result, Err(RetryError::ScheduleDone("no")));
     assert_eq!(waits, [Duration::from_millis(2); 2]);
     assert_eq!(starts, [0, 2840, 5680].map(Duration::from_micros));
-    assert!(began.elapsed() < Duration::from_secs(2));
+    assert!(began.elapsed() < Duration::from_secs(20));
 }
 
 #[test]

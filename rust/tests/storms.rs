@@ -147,7 +147,7 @@ fn what_is_out_of_range_is_named() {
         (told(storm().rate(20_000)), "rate times seconds is at most 1048576"),
         (told(storm().window(millis(1))), "until divided by window is at most 65536"),
         (told(storm().quota(1, 20.0, SECOND)), "the share is not 0, nor from 0.001 to 10 retries a request (0.2 is one for every five)"),
-        (told(storm().quota(1, 0.1, Duration::ZERO)), "the window is shorter than a millisecond"),
+        (told(storm().quota(1, 0.1, Duration::ZERO)), "the window is shorter than 100 milliseconds"),
     ];
     for (told, wanted) in cases {
         assert_eq!(told, wanted);

@@ -10,8 +10,8 @@ ghost use Rattle.std.specs.Prelude.{◌≡◌, [], IfSome};
 ghost use Rattle.sched_driver_stepper.specs.Standing.{standing_after};
 
 use sched_run::{
-    Budget, Draws, Ending, Machine, MidWords, Millis, Moment, OnBudget, OnQuota, Plan, Quota,
-    Stepper, Terms, Unlimited, VirtualClock, retry_call,
+    Budget, Draws, Machine, MidWords, Millis, Moment, OnBudget, OnQuota, Plan, Quota, Stepper,
+    Terms, Unlimited, VirtualClock, retry_call,
 };
 use std::alloc::{AllocGlobal, Global};
 use std::sync::Wait;
@@ -72,7 +72,7 @@ fn counted<R: Wait + AllocGlobal>(rt: &R, what: What, on: &str, calls: u64) -> O
                 share: 0,
                 period: Millis::from(1000),
             };
-            let (quota, pass) = Quota::new(alloc, terms).ok()?;
+            let (quota, pass) = Quota::new(alloc, Moment::new(0)?, terms).ok()?;
             Some(calls_by(rt, what, stepper, OnQuota::new(pass, &quota), calls))
         }
         _ => Some(calls_by(rt, what, stepper, Unlimited::new(), calls)),

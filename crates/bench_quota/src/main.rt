@@ -60,8 +60,8 @@ fn called<R: Threads + Sync>(
         share: 0,
         period: Millis::from(1000),
     };
-    let (quota, mut first) = Quota::new(alloc, terms)?;
     let now = Moment::new(500).ok_or(QuotaFault::PeriodTooShort)?;
+    let (quota, mut first) = Quota::new(alloc, now, terms)?;
     if threads == 1 {
         let mut pass = call_times(&quota, first, now, call, calls);
         return Ok(pass.seen(&quota, now));

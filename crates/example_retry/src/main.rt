@@ -3,10 +3,10 @@
 //! in the last error.
 #![tactic(auto)]
 
-use anyhow::{Context, Result, bail};
+use anyhow::{Context, Result};
 use sched_run::{
-    Budget, Ending, Machine, OnBudget, Plan, PlanFault, Stepper, SystemClock, SystemWords, Tagged,
-    retry_call,
+    Budget, CallEnding, Machine, OnBudget, Plan, PlanFault, Stepper, SystemClock, SystemWords,
+    Tagged, retry_call,
 };
 use std::alloc::{AllocGlobal, Global};
 use std::random::RandomSource;
@@ -54,14 +54,14 @@ fn read<R: Runtime + RandomSource + AllocGlobal + Wait>(rt: &R, path: &str) -> R
 fn told<R: Eprint>(
     rt: &R,
     retries: u64,
-    ending: Ending<Tagged<String>, Tagged<io::Error>>,
+    ending: CallEnding<Tagged<String>, Tagged<io::Error>>,
 ) -> Result<String> {
     eprintln!(rt; "{retries} retries")?;
     match ending {
-        Ending::Won(text) => Ok(text.value),
-        Ending::ScheduleDone(fault) => Err(fault.value.into()),
-        Ending::BudgetRefused(fault) => Err(fault.value.into()),
-        _ => bail!("the retry broke off"),
+        CallEnding::Won(text) => Ok(text.value),
+        CallEnding::ScheduleDone(fault) => Err(fault.value.into()),
+        CallEnding::BudgetRefused(fault) => Err(fault.value.into()),
+        CallEnding::Broken(_, fault) => Err(fault.value.into()),
     }
 }
 

@@ -4,6 +4,7 @@
 mod budgets;
 mod drivers;
 mod faults;
+mod leases;
 mod policies;
 mod quotas;
 mod retries;

@@ -16,14 +16,17 @@ use std::alloc::Global;
 #[unsafe(no_mangle)]
 pub extern "C" fn hikebox_quota_new(
     alloc: Global,
+    now: u64,
     reserve: u64,
     share: u64,
     period: u64,
     quota: &mut Handle,
 ) -> u32
-    ensures { Makes (MakesQuota (terms_of reserve share period)) quota.old.held result quota.new.held }
+    ensures made { now ≤ FAR → Makes (MakesQuota now (terms_of reserve share period)) quota.old.held
+        result quota.new.held }
+    ensures too_large { FAR < now → (quota.new.held ≡ quota.old.held) × (result ≡ code_of status.TooLarge) }
 {
-    sched_calls::quota_new(alloc, reserve, share, period, quota)
+    sched_calls::quota_new(alloc, now, reserve, share, period, quota)
 }
 
 #[unsafe(no_mangle)]

@@ -109,14 +109,15 @@ pub fn pass_count(alloc: Global, pass: &mut Handle, tickets: &mut u64) -> u32
     tell(answer, tickets)
 }
 
-/// Closes the budget, where this pass stands for all, and writes how many tickets were drawn of it.
+/// Closes the budget, where this pass stands for all, and writes how many tickets were drawn of it. Otherwise
+/// `PassesOut`, and the pass stays: another is alive or was freed.
 pub fn pass_close(alloc: Global, pass: &mut Handle, tickets: &mut u64) -> u32
     ensures { ClosesHeld Closes pass.old.held pass.new.held (Tells result tickets.old tickets.new) }
 {
     let Some(mut held) = pass.take(alloc) else {
         return Status::Empty.code();
     };
-    let answer = held.close(alloc);
+    let answer = held.close();
     if held.kind() != Kind::Room {
         pass.put(held);
     }

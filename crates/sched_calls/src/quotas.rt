@@ -14,14 +14,26 @@ use sched_handle::{Handle, Held, Kind, Status, Usage, tell};
 use sched_time::Moment;
 use std::alloc::Global;
 
-/// Makes a quota and puts its first pass into `quota`.
-pub fn quota_new(alloc: Global, reserve: u64, share: u64, period: u64, quota: &mut Handle) -> u32
-    ensures { Makes (MakesQuota (terms_of reserve share period)) quota.old.held result quota.new.held }
+/// Makes a quota at the moment `now` and puts its first pass into `quota`.
+pub fn quota_new(
+    alloc: Global,
+    now: u64,
+    reserve: u64,
+    share: u64,
+    period: u64,
+    quota: &mut Handle,
+) -> u32
+    ensures made { now ≤ FAR → Makes (MakesQuota now (terms_of reserve share period)) quota.old.held
+        result quota.new.held }
+    ensures too_large { FAR < now → (quota.new.held ≡ quota.old.held) × (result ≡ code_of status.TooLarge) }
 {
+    let Some(now) = Moment::new(now) else {
+        return Status::TooLarge.code();
+    };
     if quota.is_full(alloc) {
         return Status::Full.code();
     }
-    let made = Held::quota(alloc, reserve, share, period);
+    let made = Held::quota(alloc, now, reserve, share, period);
     quota.fill(made)
 }
 
@@ -62,7 +74,7 @@ pub fn quota_draw(alloc: Global, quota: &mut Handle, now: u64, ticket: &mut u64)
     tell(answer, ticket)
 }
 
-/// Writes what that window was asked, has given and has left.
+/// Writes what that window was asked, has given and has left, and when the next begins.
 pub fn quota_seen(alloc: Global, quota: &mut Handle, now: u64, usage: &mut Usage) -> u32
     ensures seen { now ≤ FAR → OnHeld (SeesQuota now) quota.old.held quota.new.held
         (Tells result usage.old usage.new) }
@@ -133,14 +145,15 @@ pub fn quota_count(alloc: Global, quota: &mut Handle, tickets: &mut u64) -> u32
     tell(answer, tickets)
 }
 
-/// Closes the quota, where this pass has all its parts, and writes how many tickets were drawn of it.
+/// Closes the quota, where this pass has all its parts, and writes how many tickets were drawn of it. Otherwise
+/// `PassesOut`, and the pass stays: another is alive or was freed.
 pub fn quota_close(alloc: Global, quota: &mut Handle, tickets: &mut u64) -> u32
     ensures { ClosesHeld ClosesQuota quota.old.held quota.new.held (Tells result tickets.old tickets.new) }
 {
     let Some(mut held) = quota.take(alloc) else {
         return Status::Empty.code();
     };
-    let answer = held.close_quota(alloc);
+    let answer = held.close_quota();
     if held.kind() != Kind::Room {
         quota.put(held);
     }

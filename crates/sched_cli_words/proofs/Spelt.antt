@@ -226,7 +226,7 @@ module _ (text : List ℕ) where
   module _ (r s p : ℕ) (reserve : IsNumber (front 47 text) r)
       (others : AreShareAndPeriod (front 47 (rest 47 text)) (rest 47 (rest 47 text)) s p) where
     -- terms that lie in their ranges have these numbers
-    only : (t : Terms) → Spells text t → AreTerms t → t.period ≤ FAR → (r ≤ 4294967296) × (s ≤ 1000000) × (0 < p) × (p ≤ FAR)
+    only : (t : Terms) → Spells text t → AreTerms t → t.period ≤ FAR → (r ≤ 4294967296) × (s ≤ 1000000) × (100 ≤ p) × (p ≤ FAR)
     only t is ranges far =
         let one = same_number (front 47 text) r t.reserve reserve is.reserve in
         let same = one_share_and_period (front 47 (rest 47 text)) (rest 47 (rest 47 text)) s t.share p t.period others is.others in
@@ -238,8 +238,8 @@ module _ (text : List ℕ) where
     pub share_past : 1000000 < s → NoTerms text
     share_past past t is ranges far = let within = (only t is ranges far).1 in omega arith
 
-    pub period_none : p ≡ 0 → NoTerms text
-    period_none nothing t is ranges far = let within = (only t is ranges far).2 in omega arith
+    pub period_short : p < 100 → NoTerms text
+    period_short short t is ranges far = let within = (only t is ranges far).2 in omega arith
 
     pub period_far : FAR < p → NoTerms text
     period_far past t is ranges far = let within = (only t is ranges far).3 in omega arith
@@ -254,4 +254,4 @@ pub ruleset of_periods = (period_no_unit, period_no_number, period_past, period_
 
 pub ruleset of_shares = (percents, thousandths, no_tenths, no_period, no_thousandths, no_millis)
 
-pub ruleset of_terms = (no_first, no_second, no_reserve, no_others, period_far, reserve_past, share_past, period_none)
+pub ruleset of_terms = (no_first, no_second, no_reserve, no_others, period_far, reserve_past, share_past, period_short)

@@ -10,13 +10,13 @@ use crate::faults::WordsFault;
 use crate::options::MOST_TURNS;
 use crate::quotas::QuotaOptions;
 use clap::{Arg, ArgMatches};
-use sched_ticket_quota::{MAX_RESERVE, MAX_SHARE, Terms};
+use sched_ticket_quota::{MAX_RESERVE, MAX_SHARE, MIN_PERIOD, Terms};
 use sched_time::Millis;
 use std::alloc::{AllocError, Global};
 
 const QUOTA_WANTED: &str =
     "it is spelt as 10/20%/60s, with ms, s, m, h or d, or without units as 10/200/60000; \
-     RESERVE is at most 4294967296, SHARE at most 100000%, and PERIOD from 1ms to 4611686018427387903ms";
+     RESERVE is at most 4294967296, SHARE at most 100000%, and PERIOD from 100ms to 4611686018427387903ms";
 
 // The option that takes a quota in the place of a budget.
 pub(crate) fn quota_option<'a>(alloc: Global) -> Result<Arg<'a>, AllocError> {
@@ -76,7 +76,7 @@ pub(crate) fn terms_in(text: &str) -> Option<Terms>
     let reserve = number_in(reserve)?;
     let (share, period) = share_and_period_in(share, period)?;
     let period = Millis::new(period)?;
-    if reserve > MAX_RESERVE || share > MAX_SHARE || period.get() == 0 {
+    if reserve > MAX_RESERVE || share > MAX_SHARE || period.get() < MIN_PERIOD {
         return None;
     }
     Some(Terms {

@@ -1,2 +1,2 @@
+pub mod Ended
 pub mod Told
-pub mod Endings

@@ -1,9 +1,8 @@
 -- What turns of a machine leave of what it may stand for.
-use Rattle.std.proofs.Common.{◌≡◌, ◌⊎◌, inl, inr, ℕ, Bool, true, false, List, [], ◌∷◌, ◌++◌, Option, Some, None, is_some, Result, Ok, Err, refl, sym, ap, ◌∙◌, subst}
+use Rattle.std.proofs.Common.{◌≡◌, ◌⊎◌, inl, inr, ℕ, Bool, true, false, List, [], ◌∷◌, ◌++◌, Option, Some, None, Result, refl, sym, ap, ◌∙◌, subst}
 use Rattle.std.specs.List.{FoldsTo}
 use Rattle.std.proofs.lemmas.Fn.{FoldsTo-push}
 use Rattle.std.proofs.lemmas.List.{append-nil}
-use Rattle.rand_core.specs.Stream.{Stream}
 use Rattle.sched_time.specs.declared.numbers.Tick.{Tick}
 use Rattle.sched_plan.specs.Schedule.{Schedule}
 use Rattle.sched_driver.specs.Driven.{Driven, next_start_of}
@@ -25,7 +24,7 @@ use Rattle.sched_run_machine.specs.declared.next.Next.{Next}
 use Rattle.sched_run_machine.specs.declared.next.Next.TheVariants.{Poll, Run, Wait, Over}
 use Rattle.sched_run_machine.proofs.Calls.{plan_after}
 use Rattle.sched_retry.specs.Retrying.{Retrying}
-use Rattle.sched_repeat.specs.Machine.{RepeatMachine, Finds, StandsFor as StandsForRepeat}
+use Rattle.sched_repeat.specs.Machine.{Finds, StandsFor as StandsForRepeat}
 use Rattle.sched_repeat.proofs.Calls.{plan_told}
 use Rattle.sched_closure.specs.Turns.{Turning, Calling, calling, Finishes, Turn, start_in}
 use Rattle.sched_closure.specs.Calls.{retry_turning, machine_turning, repeat_turning, repeat_machine_turning}

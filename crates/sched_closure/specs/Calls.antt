@@ -1,13 +1,11 @@
 -- What takes turns where a closure is called: retries and repeats, and the machines that stand for them.
-use Rattle.std.specs.Prelude.{◌≡◌, ℕ, Bool, Option, Some, Result, Ok, Err}
+use Rattle.std.specs.Prelude.{◌≡◌, Bool}
 use Rattle.sched_plan.specs.Schedule.{Schedule}
 use Rattle.sched_driver.specs.Driven.{Driven}
 use Rattle.sched_ticket_draws.specs.Grants.{Grants}
 use Rattle.sched_task_law.specs.Kind.{a_retry, a_repeat}
 use Rattle.sched_task_law.specs.Past.{Past, is_under_way, waits_for}
 use Rattle.sched_retry.specs.Retrying.{Retrying}
-use Rattle.sched_retry.specs.declared.endings.Ending.{Ending}
-use Rattle.sched_retry.specs.declared.endings.Ending.TheVariants as ending
 use Rattle.sched_run_machine.specs.Machine.{Machine, StandsFor, Polls}
 use Rattle.sched_run_machine.specs.Next.{HostPoll}
 use Rattle.sched_repeat.specs.Machine.{RepeatMachine, ToldPoll, StandsFor as StandsForRepeat, Polls as PollsRepeat}
@@ -42,11 +40,3 @@ module _ (keeps : Bool) where
     due = λ m start. (v : Past) → StandsForRepeat stands keeps m v → start ≡ waits_for v;
     polls = PollsRepeat stands keeps goes_by;
   }
-
--- what an ending of a retry hands out is the very value that the last call gave
-abbrev pub HandsOut : {I F : Type 0} → Option (Result I F) → Ending I F → Type 0
-HandsOut last (ending.Won item) = last ≡ Some (Ok item)
-HandsOut last (ending.ScheduleDone fault) = last ≡ Some (Err fault)
-HandsOut last (ending.BudgetRefused fault) = last ≡ Some (Err fault)
-HandsOut last ending.Cancelled = ⊥
-HandsOut last (ending.Broken fault) = Unit {0}

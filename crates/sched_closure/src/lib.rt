@@ -1,6 +1,7 @@
 //! Closures that are called again and again: until they succeed, or after each success.
 #![tactic(auto)]
 
+mod endings;
 mod machines;
 mod repeats;
 mod retries;
@@ -8,5 +9,6 @@ mod retries;
 mod tests;
 mod turns;
 
+pub use endings::{CallEnding, RepeatCallEnding};
 pub use repeats::repeat_call;
 pub use retries::retry_call;

@@ -1,17 +1,18 @@
 //! A closure that is called again after each success.
-ghost use Rattle.std.specs.Prelude.{◌≡◌, List, Option, Some, None, Result};
+ghost use Rattle.std.specs.Prelude.{◌≡◌, List, Some, None};
 ghost use Rattle.std.specs.List.{FoldsTo};
 ghost use Rattle.sched_time.specs.declared.numbers.Tick.{Tick as Ticked};
 ghost use Rattle.sched_task_law.specs.Past.{Past};
-ghost use Rattle.sched_repeat.specs.Ending.{how_of, HandsOut, RepeatFits};
 ghost use Rattle.sched_repeat.specs.Machine.{StandsFor};
 ghost use Rattle.sched_closure.specs.Turns.{calling, Turn};
 ghost use Rattle.sched_closure.specs.Calls.{repeat_turning};
+ghost use Rattle.sched_closure.specs.Endings.{how_of_repeat, gave_of_repeat, EndsWith};
 
+use crate::endings::{RepeatCallEnding, repeat_ending};
 use crate::turns::call_on;
 use rand_core::Rng;
 use sched_effect::Coded;
-use sched_repeat::{RepeatEnding, RepeatMachine, ending_of};
+use sched_repeat::RepeatMachine;
 use sched_run_machine::Drives;
 use sched_task::Clock;
 use std::alloc::AllocGlobal;
@@ -22,14 +23,14 @@ use std::sync::Wait;
 ///
 /// Each run calls the closure once, and ends at the moment that the clock tells after the call: the schedule's delays
 /// count from there. The schedule is stepped with the code of each success. Where memory is refused or a journal is full
-/// at the end of a run that succeeded, the repeat ends as `Broken`.
+/// at the end of a run that succeeded, the repeat ends as `Broken`, with that run's item.
 pub fn repeat_call<I, F, R, S, K, G, C>(
     rt: &R,
     repeat: &mut RepeatMachine<S>,
     clock: &mut K,
     words: &mut G,
     call: C,
-) -> RepeatEnding<F>
+) -> RepeatCallEnding<I, F>
 where
     I: Coded + Drop,
     F: Coded + Drop,
@@ -40,17 +41,17 @@ where
     C: FnMut() -> Result<I, F>,
     requires unended { repeat.old.over ≡ None }
     requires callable { C.IsAlwaysCallable call }
-    ensures turns { (ticks : List Ticked) × (called : C) × (last : Option (Result I F)) × HandsOut last result
+    ensures turns { (ticks : List Ticked) × (called : C)
         × ((v : Past) → StandsFor S.stands S.keeps repeat.old v →
         S.goes_by repeat.new.driver v.driver.plan → (u : Past)
         × FoldsTo (Turn (repeat_turning S.keeps) K.tells K.waits C.step I.coded F.coded)
         (calling v clock.old (G.stream words.old) call None)
         ticks
-        (calling u clock.new (G.stream words.new) called last)
-        × RepeatFits F.coded u.over u.runs result
+        (calling u clock.new (G.stream words.new) called (Some (gave_of_repeat result)))
+        × EndsWith I.coded F.coded u.over u.runs (how_of_repeat result) (gave_of_repeat result)
         × StandsFor S.stands S.keeps repeat.new u) }
-    ensures over { repeat.new.over ≡ Some (how_of result) }
+    ensures over { repeat.new.over ≡ Some (how_of_repeat result) }
 {
     let outcome = call_on(rt, repeat, clock, words, call);
-    ending_of(outcome, repeat.over()).unwrap()
+    repeat_ending(outcome, repeat.over())
 }

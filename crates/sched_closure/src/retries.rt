@@ -1,20 +1,19 @@
 //! A closure that is called until it succeeds.
-ghost use Rattle.std.specs.Prelude.{◌≡◌, List, Option, Some, None, true, is_some, Result};
+ghost use Rattle.std.specs.Prelude.{◌≡◌, List, Some, None};
 ghost use Rattle.std.specs.List.{FoldsTo};
 ghost use Rattle.sched_time.specs.declared.numbers.Tick.{Tick as Ticked};
-ghost use Rattle.sched_effect.specs.Runs.{ran_by};
-ghost use Rattle.sched_retry.specs.Ending.{how_of, EndingFits};
 ghost use Rattle.sched_retry.specs.Retrying.{Retrying};
-ghost use Rattle.sched_run_machine.specs.Machine.{StandsFor, EndsAs};
+ghost use Rattle.sched_run_machine.specs.Machine.{StandsFor};
 ghost use Rattle.sched_closure.specs.Turns.{calling, Turn};
-ghost use Rattle.sched_closure.specs.Calls.{retry_turning, HandsOut};
+ghost use Rattle.sched_closure.specs.Calls.{retry_turning};
+ghost use Rattle.sched_closure.specs.Endings.{how_of, gave, EndsWith};
 
+use crate::endings::{CallEnding, retry_ending};
 use crate::turns::call_on;
 use rand_core::Rng;
 use sched_effect::Coded;
-use sched_retry::Ending;
 use sched_run_machine::{Drives, Machine};
-use sched_task::{Clock, How};
+use sched_task::Clock;
 use sched_ticket_draws::Draws;
 use std::alloc::AllocGlobal;
 use std::sync::Wait;
@@ -24,7 +23,7 @@ use std::sync::Wait;
 ///
 /// Each run calls the closure once, and ends at the moment that the clock tells after the call: the schedule's delays
 /// count from there. Where memory is refused or a journal is full at the end of a run that failed, the retry ends as
-/// `Broken`: it has the run's code, and the fault itself is dropped.
+/// `Broken`, with that run's fault.
 ///
 /// With a deadline, by `Until` as the retry's driver, it ends as `ScheduleDone` where the start planned is past that; the
 /// driver's `late_start` then tells that start.
@@ -34,7 +33,7 @@ pub fn retry_call<I, F, R, S, D, K, G, C>(
     clock: &mut K,
     words: &mut G,
     call: C,
-) -> Ending<I, F>
+) -> CallEnding<I, F>
 where
     I: Coded + Drop,
     F: Coded + Drop,
@@ -46,35 +45,17 @@ where
     C: FnMut() -> Result<I, F>,
     requires unended { retry.old.over ≡ None }
     requires callable { C.IsAlwaysCallable call }
-    ensures turns { (ticks : List Ticked) × (called : C) × (last : Option (Result I F)) × HandsOut last result
+    ensures turns { (ticks : List Ticked) × (called : C)
         × ((v : Retrying D) → StandsFor S.stands S.keeps D.grants retry.old v →
         S.goes_by retry.new.driver v.past.driver.plan → (u : Retrying D)
         × FoldsTo (Turn (retry_turning D.grants S.keeps) K.tells K.waits C.step I.coded F.coded)
         (calling v clock.old (G.stream words.old) call None)
         ticks
-        (calling u clock.new (G.stream words.new) called last)
-        × EndingFits I.coded F.coded u.past.over u.past.runs result
+        (calling u clock.new (G.stream words.new) called (Some (gave result)))
+        × EndsWith I.coded F.coded u.past.over u.past.runs (how_of result) (gave result)
         × StandsFor S.stands S.keeps D.grants retry.new u) }
     ensures over { retry.new.over ≡ Some (how_of result) }
 {
     let outcome = call_on(rt, retry, clock, words, call);
-    ending_of(outcome, retry.over())
-}
-
-// The ending of a retry whose last run gave this, and which is over so.
-fn ending_of<I: Coded + Drop, F: Coded + Drop>(run: Result<I, F>, over: Option<How>) -> Ending<I, F>
-    requires over { is_some over ≡ true }
-    requires ends { EndsAs (ran_by I.coded F.coded run) over }
-    ensures over { over ≡ Some (how_of result) }
-    ensures value { HandsOut (Some run) result }
-{
-    match run {
-        Ok(item) => Ending::Won(item),
-        Err(fault) => match over {
-            Some(How::ScheduleDone) => Ending::ScheduleDone(fault),
-            Some(How::BudgetRefused) => Ending::BudgetRefused(fault),
-            Some(How::Broken(cause)) => Ending::Broken(cause),
-            None | Some(How::Won | How::Failed | How::Cancelled) => unreachable!(),
-        },
-    }
+    retry_ending(outcome, retry.over())
 }

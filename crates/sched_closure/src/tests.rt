@@ -2,11 +2,10 @@ ghost use Rattle.std.specs.Prelude.{◌≡◌, ⊤, []};
 ghost use Rattle.sched_ticket.specs.Held.{IsOf};
 ghost use Rattle.sched_driver_stepper.specs.Standing.{standing_after};
 
-use super::retry_call;
+use super::{CallEnding, retry_call};
 use sched_driver::Driver;
 use sched_driver_stepper::Stepper;
 use sched_plan::{Plan, PlanFault, Side, Test};
-use sched_retry::Ending;
 use sched_run_machine::Machine;
 use sched_task::{Clock, MidWords, RunFault, VirtualClock};
 use sched_ticket::{Budget, Pass};
@@ -56,7 +55,7 @@ fn a_closure_is_called_until_it_succeeds(rt: HostRuntime) {
             Ok("fresh".len() as u32)
         }
     });
-    assert!(rt; matches!(ending, Ending::Won(5)));
+    assert!(rt; matches!(ending, CallEnding::Won(5)));
     assert_eq!(rt; calls, 3);
     assert_eq!(rt; retry.granted(), 2);
     assert_eq!(rt; clock.now().get(), 1200);
@@ -78,7 +77,7 @@ fn the_last_failure_ends_it(rt: HostRuntime) {
             Err(calls)
         },
     );
-    assert!(rt; matches!(ending, Ending::ScheduleDone(2)));
+    assert!(rt; matches!(ending, CallEnding::ScheduleDone(2)));
     assert_eq!(rt; calls, 2);
     assert_eq!(rt; clock.now().get(), 100);
 }
@@ -100,7 +99,7 @@ fn no_call_is_made_without_a_ticket(rt: HostRuntime) {
             Err(calls)
         },
     );
-    assert!(rt; matches!(ending, Ending::BudgetRefused(3)));
+    assert!(rt; matches!(ending, CallEnding::BudgetRefused(3)));
     assert_eq!(rt; calls, 3);
     assert_eq!(rt; retry.granted(), 2);
     assert_eq!(rt; clock.now().get(), 200);
@@ -148,7 +147,7 @@ fn a_delay_begins_where_its_call_ends(rt: HostRuntime) {
             Err(4)
         },
     );
-    assert!(rt; matches!(ending, Ending::ScheduleDone(4)));
+    assert!(rt; matches!(ending, CallEnding::ScheduleDone(4)));
     assert_eq!(rt; now.get().get(), 350);
 }
 
@@ -169,7 +168,7 @@ fn a_retry_has_no_last_event(rt: HostRuntime) {
             Ok(7u32)
         }
     });
-    assert!(rt; matches!(ending, Ending::Won(7)));
+    assert!(rt; matches!(ending, CallEnding::Won(7)));
     assert_eq!(rt; calls, 200_001);
     assert_eq!(rt; retry.granted(), 200_000);
     assert_eq!(rt; clock.now().get(), 200_000_000);
@@ -190,7 +189,8 @@ fn a_journal_has_an_end(rt: HostRuntime) {
         &mut MidWords,
         || -> Result<(), u32> { Err(3) },
     );
-    assert!(rt; matches!(ending, Ending::Broken(RunFault::JournalFull)));
+    assert!(rt; matches!(ending, CallEnding::Broken(RunFault::JournalFull, 3)));
+    assert!(rt; matches!(ending.into_result(), Err(3)));
     assert_eq!(rt; retry.granted(), 65_536);
     assert_eq!(rt; retry.driver().journal().len(), 65_536);
     assert_eq!(rt; clock.now().get(), 65_536_000);

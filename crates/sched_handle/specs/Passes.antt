@@ -3,10 +3,10 @@ use Rattle.std.specs.Prelude.{◌≡◌, ℕ, ◌<◌, ◌≤◌, Bool, false, l
 use Rattle.std.specs.Global.{Global}
 use Rattle.std_alloc.specs.declared.boxed.Box.{Box}
 use Rattle.sched_ticket.specs.View.{parted_terms, first_view, part_of, with_split, joined_view}
-use Rattle.sched_ticket.specs.Calls.{Drew, DrawRefused, SplitRefused, Raised, IsWhole}
+use Rattle.sched_ticket.specs.Whole.{IsWhole}
+use Rattle.sched_ticket.specs.Calls.{Drew, DrawRefused, SplitRefused, Raised}
 use Rattle.sched_ticket_draws.specs.Budgets.{OfBudget}
 use Rattle.sched_host.specs.Worker.{CloseFails}
-use Rattle.sched_host.specs.declared.close.CloseFault.TheVariants as close
 use Rattle.sched_handle.specs.Held.{IsOther, OtherKind}
 use Rattle.sched_handle.specs.declared.held.Held.{Held}
 use Rattle.sched_handle.specs.declared.held.Held.TheVariants.{Room, Pass}
@@ -85,12 +85,10 @@ abbrev pub Joins : Held → Held → Held → Type 0
 Joins u v w =
     (s t : OfBudget) → u ≡ Pass s → v ≡ Pass t → IsPassOf s w (λ x. x.pass.has ≡ joined_view s.pass.has t.pass.has)
 
--- the budget of a pass is closed, or not: what comes back is as it was, but that the pass may be marked as one of
--- several
+-- the budget of a pass is closed, or not: then the pass is one of several, and is left, marked so
 abbrev pub PassCloses : OfBudget → Result ℕ Status → Held → Type 0
 PassCloses s (Ok n) v = (v ≡ Room) × (n ≡ length s.pass.has.tickets) × IsWhole s.budget.terms s.pass.has
-PassCloses s (Err PassesOut) v = (t : OfBudget) × (v ≡ Pass t) × CloseFails s (close.PassesOut t)
-PassCloses s (Err NoMemory) v = v ≡ Room
+PassCloses s (Err PassesOut) v = (t : OfBudget) × (v ≡ Pass t) × CloseFails s t
 PassCloses s (Err _) v = ⊥
 
 abbrev pub Closes : Held → Result ℕ Status → Held → Type 0

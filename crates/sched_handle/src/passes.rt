@@ -11,7 +11,7 @@ ghost use Rattle.sched_handle.specs.declared.held.Held.TheVariants as what;
 ghost use Rattle.sched_handle.specs.declared.held.Kind.TheVariants as kind;
 
 use crate::held::{Held, Kind};
-use sched_host::{CloseFault, Worker};
+use sched_host::Worker;
 use sched_reply::Status;
 use sched_ticket::TicketFault;
 use std::alloc::Global;
@@ -105,8 +105,9 @@ impl Held {
         drop(mem::replace(self, Held::Pass(this.join(other))));
     }
 
-    /// Closes the budget where this pass stands for all its passes. Where nothing is left of the pass, room is.
-    pub fn close(&mut self, alloc: Global) -> Result<u64, Status>
+    /// Closes the budget where this pass stands for all its passes: then room is left of it. Otherwise another pass is
+    /// alive or was freed, and this one stays.
+    pub fn close(&mut self) -> Result<u64, Status>
         ensures { Closes self.old result self.new }
     {
         if self.kind() != Kind::Pass {
@@ -116,13 +117,12 @@ impl Held {
         let Some(this) = this.into_worker() else {
             return Err(Status::WrongKind);
         };
-        match this.close(alloc) {
+        match this.close() {
             Ok(tickets) => Ok(tickets),
-            Err(CloseFault::PassesOut(worker)) => {
+            Err(worker) => {
                 drop(mem::replace(self, Held::Pass(worker)));
                 Err(Status::PassesOut)
             }
-            Err(CloseFault::NoMemory) => Err(Status::NoMemory),
         }
     }
 

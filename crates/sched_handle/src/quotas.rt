@@ -12,18 +12,24 @@ ghost use Rattle.sched_handle.specs.declared.held.Held.TheVariants as what;
 ghost use Rattle.sched_handle.specs.declared.held.Kind.TheVariants as kind;
 
 use crate::held::{Held, Kind};
-use sched_host::{CloseFault, QuotaWorker};
+use sched_host::QuotaWorker;
 use sched_reply::{Status, Usage};
-use sched_ticket_quota::{MAX_RESERVE, MAX_SHARE, QuotaFault, Terms};
+use sched_ticket_quota::{MAX_RESERVE, MAX_SHARE, QuotaFault, Refusal, Terms};
 use sched_time::{Millis, Moment};
 use std::alloc::Global;
 use std::mem;
 
 impl Held {
     /// A quota of `reserve` tickets and `share` thousandths of a ticket for each request, in each window of `period`
-    /// milliseconds, and its first pass.
-    pub fn quota(alloc: Global, reserve: u64, share: u64, period: u64) -> Result<Box<Held>, Status>
-        ensures { MakesQuota (terms_of reserve share period) result }
+    /// milliseconds, and its first pass. The window of `now` is open, and windows are counted from it on.
+    pub fn quota(
+        alloc: Global,
+        now: Moment,
+        reserve: u64,
+        share: u64,
+        period: u64,
+    ) -> Result<Box<Held>, Status>
+        ensures { MakesQuota now (terms_of reserve share period) result }
     {
         let Some(period) = Millis::new(period) else {
             return Err(if reserve > MAX_RESERVE {
@@ -39,7 +45,7 @@ impl Held {
             share,
             period,
         };
-        match QuotaWorker::new(alloc, terms) {
+        match QuotaWorker::new(alloc, now, terms) {
             Ok(worker) => Held::Quota(worker).boxed(alloc),
             Err(QuotaFault::ReserveTooLarge) => Err(Status::ReserveTooLarge),
             Err(QuotaFault::ShareTooLarge) => Err(Status::ShareTooLarge),
@@ -64,8 +70,9 @@ impl Held {
     {
         let worker = self.quota_mut()?;
         match worker.draw(now) {
-            Some(ticket) => Ok(ticket),
-            None => Err(Status::NoTicket),
+            Ok(ticket) => Ok(ticket),
+            Err(Refusal::WindowOut(_)) => Err(Status::NoTicket),
+            Err(Refusal::RacesLost) => Err(Status::RacesLost),
         }
     }
 
@@ -80,6 +87,7 @@ impl Held {
             asked: seen.asked,
             given: seen.given,
             left: seen.left,
+            next: seen.next.get(),
         })
     }
 
@@ -119,8 +127,9 @@ impl Held {
         drop(mem::replace(self, Held::Quota(this.join(other))));
     }
 
-    /// Closes the quota where this pass has all its parts. Where nothing is left of the pass, room is.
-    pub fn close_quota(&mut self, alloc: Global) -> Result<u64, Status>
+    /// Closes the quota where this pass has all its parts: then room is left of it. Otherwise another pass is alive or
+    /// was freed, and this one stays.
+    pub fn close_quota(&mut self) -> Result<u64, Status>
         ensures { ClosesQuota self.old result self.new }
     {
         if self.kind() != Kind::Quota {
@@ -130,13 +139,12 @@ impl Held {
         let Some(worker) = this.into_quota_worker() else {
             return Err(Status::WrongKind);
         };
-        match worker.close(alloc) {
+        match worker.close() {
             Ok(tickets) => Ok(tickets),
-            Err(CloseFault::PassesOut(worker)) => {
+            Err(worker) => {
                 drop(mem::replace(self, Held::Quota(worker)));
                 Err(Status::PassesOut)
             }
-            Err(CloseFault::NoMemory) => Err(Status::NoMemory),
         }
     }
 

@@ -1,14 +1,14 @@
 //! A quota as one worker holds it.
-ghost use Rattle.std.specs.Prelude.{◌≡◌, ◌<◌, ◌∷◌, length, IfOk, IfErr, OnOk, IfSome, IfNone, MatchOption};
+ghost use Rattle.std.specs.Prelude.{◌≡◌, ◌/◌, ◌<◌, ◌∷◌, length, IfOk, IfErr, OnOk};
 ghost use Rattle.sched_ticket_quota.specs.View.{first_view, part_of, without_part, joined_view};
 ghost use Rattle.sched_ticket_quota.specs.Steps.{IsSound};
 ghost use Rattle.sched_ticket_quota.specs.Held.{AreTerms};
-ghost use Rattle.sched_ticket_quota.specs.Calls.{RefusesTerms, Deposited, Drew, DrawRefused, Told, IsWhole};
+ghost use Rattle.sched_ticket_quota.specs.Calls.{RefusesTerms, Deposited, Drew, DrawRefused, Told};
+ghost use Rattle.sched_ticket_quota.specs.Whole.{IsWhole};
 ghost use Rattle.sched_host.specs.Worker.{QuotaSplitFails, QuotaCloseFails};
 
-use crate::close::CloseFault;
 use sched_ticket_draws::OnQuota;
-use sched_ticket_quota::{Pass, Quota, QuotaFault, Terms, Usage};
+use sched_ticket_quota::{Pass, Quota, QuotaFault, Refusal, Terms, Usage};
 use sched_time::Moment;
 use std::alloc::Global;
 use std::marker::Model;
@@ -34,13 +34,14 @@ impl Model for QuotaWorker {
 }
 
 impl QuotaWorker {
-    /// A quota of these terms, and its first worker.
-    pub fn new(alloc: Global, terms: Terms) -> Result<QuotaWorker, QuotaFault>
+    /// A quota of these terms, and its first worker. The window of `now` is open, and windows are counted from it on.
+    pub fn new(alloc: Global, now: Moment, terms: Terms) -> Result<QuotaWorker, QuotaFault>
         ensures ok { IfOk result (λ w. (w.quota.terms ≡ terms) × (w.pass.has ≡ first_view terms)) }
+        ensures start { IfOk result (λ w. w.quota.start ≡ now / terms.period) }
         ensures terms { OnOk result (AreTerms terms) }
         ensures err { IfErr result (RefusesTerms terms) }
     {
-        let (quota, pass) = Quota::new(alloc, terms)?;
+        let (quota, pass) = Quota::new(alloc, now, terms)?;
         match Arc::new(alloc, quota) {
             Ok(quota) => Ok(QuotaWorker { pass, quota }),
             Err(_) => Err(QuotaFault::NoMemory),
@@ -66,29 +67,30 @@ impl QuotaWorker {
     /// Counts a request in the window of `now`, or in the latest one where that is later.
     pub fn deposit(&mut self, now: Moment)
         ensures quota { self.new.quota ≡ self.old.quota }
-        ensures counted { Deposited self.old.quota.terms now self.old.pass.has self.new.pass.has }
+        ensures counted { Deposited self.old.quota now self.old.pass.has self.new.pass.has }
         ensures tickets { self.new.pass.has.tickets ≡ self.old.pass.has.tickets }
     {
         self.pass.deposit(&self.quota, now)
     }
 
-    /// A ticket of the window of `now`, or of the latest one where that is later. None where so many were given there
-    /// as its requests allow, or where other draws came first 64 times. A worker that was refused may draw again.
-    pub fn draw(&mut self, now: Moment) -> Option<u64>
+    /// A ticket of the window of `now`, or of the latest one where that is later. `WindowOut` where so many were given
+    /// there as its requests allow, with the moment at which the next window begins, and `RacesLost` where other draws
+    /// came first 64 times in this call. A worker that was refused may draw again.
+    pub fn draw(&mut self, now: Moment) -> Result<u64, Refusal>
         ensures quota { self.new.quota ≡ self.old.quota }
-        ensures some { IfSome result (λ t. Drew self.old.quota.terms now self.old.pass.has t self.new.pass.has) }
-        ensures none { IfNone result (DrawRefused self.old.quota.terms now self.old.pass.has self.new.pass.has) }
-        ensures tickets { MatchOption result (self.new.pass.has.tickets ≡ self.old.pass.has.tickets)
-            (λ t. self.new.pass.has.tickets ≡ t ∷ self.old.pass.has.tickets) }
+        ensures ok { IfOk result (λ t. Drew self.old.quota now self.old.pass.has t self.new.pass.has) }
+        ensures err { IfErr result (λ why. DrawRefused self.old.quota now self.old.pass.has why self.new.pass.has) }
+        ensures gained { IfOk result (λ t. self.new.pass.has.tickets ≡ t ∷ self.old.pass.has.tickets) }
+        ensures kept { IfErr result (λ _. self.new.pass.has.tickets ≡ self.old.pass.has.tickets) }
     {
         self.pass.draw(&self.quota, now)
     }
 
     /// What was asked of the window of `now`, or of the latest one where that is later, what it has given and what it
-    /// has left.
+    /// has left, and when the next window begins.
     pub fn seen(&mut self, now: Moment) -> Usage
         ensures quota { self.new.quota ≡ self.old.quota }
-        ensures told { Told self.old.quota.terms now self.old.pass.has self.new.pass.has result }
+        ensures told { Told self.old.quota now self.old.pass.has self.new.pass.has result }
     {
         self.pass.seen(&self.quota, now)
     }
@@ -129,23 +131,17 @@ impl QuotaWorker {
         self.pass.granted()
     }
 
-    /// The number of tickets given out, where this worker's pass has all parts of the quota.
-    pub fn close(self, alloc: Global) -> Result<u64, CloseFault<QuotaWorker>>
+    /// The number of tickets given out, where this worker's pass has all parts of the quota, which ends with it.
+    /// Otherwise its pass is one of several, of which another is alive or was dropped: the worker comes back as it was.
+    pub fn close(self) -> Result<u64, QuotaWorker>
         ensures count { IfOk result (λ n. n ≡ length self.pass.has.tickets) }
         ensures whole { OnOk result (IsWhole self.quota.terms self.pass.has) }
         ensures err { IfErr result (QuotaCloseFails self) }
     {
         let QuotaWorker { pass, quota } = self;
-        let quota = match Arc::try_unwrap(quota) {
-            Ok(quota) => quota,
-            Err(quota) => return Err(CloseFault::PassesOut(QuotaWorker { pass, quota })),
-        };
-        match quota.close(pass) {
+        match pass.total(&quota) {
             Ok(tickets) => Ok(tickets),
-            Err((quota, pass, _)) => match Arc::new(alloc, quota) {
-                Ok(quota) => Err(CloseFault::PassesOut(QuotaWorker { pass, quota })),
-                Err(_) => Err(CloseFault::NoMemory),
-            },
+            Err(pass) => Err(QuotaWorker { pass, quota }),
         }
     }
 }

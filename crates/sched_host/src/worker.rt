@@ -4,10 +4,10 @@ ghost use Rattle.std.specs.Prelude.{IfOk, IfErr, OnOk, IfSome, IfNone};
 ghost use Rattle.sched_ticket.specs.View.{parted_terms, draws_again, first_view, part_of, with_split, joined_view};
 ghost use Rattle.sched_ticket.specs.Steps.{IsSound};
 ghost use Rattle.sched_ticket.specs.Lists.{AreBelow};
-ghost use Rattle.sched_ticket.specs.Calls.{Drew, DrawRefused, Raised, RefusesLimit, RefusesRaise, IsWhole};
+ghost use Rattle.sched_ticket.specs.Calls.{Drew, DrawRefused, Raised, RefusesLimit, RefusesRaise};
+ghost use Rattle.sched_ticket.specs.Whole.{IsWhole};
 ghost use Rattle.sched_host.specs.Worker.{SplitFails, CloseFails};
 
-use crate::close::CloseFault;
 use sched_ticket::{Budget, Pass, TicketFault};
 use sched_ticket_draws::OnBudget;
 use std::alloc::Global;
@@ -133,8 +133,10 @@ impl Worker {
         self.pass.count()
     }
 
-    /// The number of tickets drawn, where this worker's pass stands for all passes of the budget.
-    pub fn close(self, alloc: Global) -> Result<u64, CloseFault<Worker>>
+    /// The number of tickets drawn, where this worker's pass stands for all passes of the budget, which ends with it.
+    /// Otherwise its pass is one of several, of which another is alive or was dropped: the worker comes back, its pass
+    /// marked as shared.
+    pub fn close(self) -> Result<u64, Worker>
         ensures count { IfOk result (λ n. n ≡ length self.pass.has.tickets) }
         ensures whole { OnOk result (IsWhole self.budget.terms self.pass.has) }
         ensures fixed { IfOk result (λ n. self.budget.terms.rises ≡ false →
@@ -143,16 +145,9 @@ impl Worker {
         ensures err { IfErr result (CloseFails self) }
     {
         let Worker { pass, budget } = self;
-        let budget = match Arc::try_unwrap(budget) {
-            Ok(budget) => budget,
-            Err(budget) => return Err(CloseFault::PassesOut(Worker { pass, budget })),
-        };
-        match budget.close(pass) {
+        match pass.total(&budget) {
             Ok(tickets) => Ok(tickets),
-            Err((budget, pass, _)) => match Arc::new(alloc, budget) {
-                Ok(budget) => Err(CloseFault::PassesOut(Worker { pass, budget })),
-                Err(_) => Err(CloseFault::NoMemory),
-            },
+            Err(pass) => Err(Worker { pass, budget }),
         }
     }
 }

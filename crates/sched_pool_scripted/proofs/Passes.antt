@@ -1,14 +1,14 @@
 -- What a pass's requests are after each call.
 use Rattle.std.proofs.Common.{◌≡◌, ℕ, inl, inr, true, false, length, refl, ap, ◌∙◌, arith}
 use Rattle.sched_ticket_quota.specs.Calls.{Turned, Deposited}
-use Rattle.sched_ticket_quota.specs.declared.view.Terms.{Terms}
+use Rattle.sched_ticket_quota.specs.Held.{Name}
 use Rattle.sched_ticket_quota.specs.declared.view.View.{View}
 use Rattle.sched_ticket_draws.specs.Quotas.{OfQuota, QuotaDrew}
 use Rattle.sched_pool_scripted.specs.Driven.{IsUnused}
 
 -- a pass that comes to a window keeps its requests
-turned_requests : (k : Terms) (now : ℕ) (v u : View) → Turned k now v u → u.requests ≡ v.requests
-turned_requests k now v u turned = elim turned [
+turned_requests : (b : Name) (now : ℕ) (v u : View) → Turned b now v u → u.requests ≡ v.requests
+turned_requests b now v u turned = elim turned [
   | inl there ↦ ap (λ (v : View). v.requests) there.1
   | inr comes ↦ elim comes [
     | inl meets ↦ ap (λ (v : View). v.requests) meets.3
@@ -16,8 +16,8 @@ turned_requests k now v u turned = elim turned [
   ]
 ]
 
-turned_told : (k : Terms) (now : ℕ) (v u : View) → Turned k now v u → u.told ≡ v.told
-turned_told k now v u turned = elim turned [
+turned_told : (b : Name) (now : ℕ) (v u : View) → Turned b now v u → u.told ≡ v.told
+turned_told b now v u turned = elim turned [
   | inl there ↦ ap (λ (v : View). v.told) there.1
   | inr comes ↦ elim comes [
     | inl meets ↦ ap (λ (v : View). v.told) meets.3
@@ -30,21 +30,21 @@ pub drew_requests : (d : OfQuota) (now : ℕ) (e : OfQuota) → QuotaDrew d now 
     e.pass.has.requests ≡ d.pass.has.requests
 drew_requests d now e drew =
     let won = drew.2.2 in
-    let kept = turned_requests d.quota.terms now d.pass.has drew.2.0 drew.2.1 in
+    let kept = turned_requests d.quota now d.pass.has drew.2.0 drew.2.1 in
     rw (won.gained, won.tries.same, kept) refl
 
 pub drew_none_requests : (d : OfQuota) (now : ℕ) (e : OfQuota) → QuotaDrew d now false e →
     e.pass.has.requests ≡ d.pass.has.requests
 drew_none_requests d now e drew =
-    let kept = turned_requests d.quota.terms now d.pass.has drew.1.0 drew.1.1 in
-    rw (drew.1.2.tries.same, kept) refl
+    let kept = turned_requests d.quota now d.pass.has drew.2.0 drew.2.1 in
+    rw (drew.2.2.tries.same, kept) refl
 
 -- an unused pass counts a request: one
-pub counts_one : (k : Terms) (now : ℕ) (v w : View) → IsUnused v → Deposited k now v w → length w.requests ≡ 1
-counts_one k now v w unused counted =
+pub counts_one : (b : Name) (now : ℕ) (v w : View) → IsUnused v → Deposited b now v w → length w.requests ≡ 1
+counts_one b now v w unused counted =
     let u = counted.0 in
-    let none : length u.requests ≡ 0 = ap length (turned_requests k now v u counted.1 ∙ unused.requests) in
-    let told : u.told ≡ 0 = turned_told k now v u counted.1 ∙ unused.told in
+    let none : length u.requests ≡ 0 = ap length (turned_requests b now v u counted.1 ∙ unused.requests) in
+    let told : u.told ≡ 0 = turned_told b now v u counted.1 ∙ unused.told in
     elim counted.2 [
       | inl past ↦ absurd (omega (arith, told, past.0))
       | inr one ↦ rw one.3 (omega (arith, none))

@@ -1,7 +1,7 @@
 //! Running jobs on one quota.
 ghost use Rattle.std.specs.Prelude.{◌≡◌, length, All, IfOk, OnOk};
 ghost use Rattle.sched_ticket_quota.specs.Held.{AreTerms, IsOf, Name};
-ghost use Rattle.sched_ticket_quota.specs.Calls.{IsWhole};
+ghost use Rattle.sched_ticket_quota.specs.Whole.{IsWhole};
 ghost use Rattle.sched_pool_scripted.specs.Driven.{IsDriven, IsUnused};
 ghost use Rattle.sched_pool_scripted.specs.QuotaBatch.{AreRunOnQuota, AreTaken};
 ghost use Rattle.sched_pool_scripted.specs.Windows.{HasDistinct};
@@ -109,7 +109,10 @@ where
     requires { AreTerms terms }
     ensures { IfOk result (λ batch. AreRunOnQuota jobs.now terms batch.ends.items batch.granted batch.windows) }
 {
-    let (quota, pass) = match Quota::new(alloc, terms) {
+    let Some(start) = Moment::new(0) else {
+        unreachable!()
+    };
+    let (quota, pass) = match Quota::new(alloc, start, terms) {
         Ok(made) => made,
         Err(QuotaFault::NoMemory) => return Err(QuotaBatchFault::NoMemory),
         Err(_) => unreachable!(),

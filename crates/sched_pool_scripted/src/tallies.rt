@@ -77,11 +77,11 @@ impl<Q: RefersTo<Quota>> Draws for Tally<Q> {
 
     fn draw(&mut self, now: Moment) -> bool {
         match self.pass.draw(self.quota.target(), now) {
-            Some(ticket) => {
+            Ok(ticket) => {
                 self.windows = with_window(self.windows.take(), ticket / NUMBERS);
                 true
             }
-            None => false,
+            Err(_) => false,
         }
     }
 

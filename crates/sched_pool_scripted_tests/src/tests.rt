@@ -3,7 +3,7 @@ use sched_effect::{Effect, Ran};
 use sched_pool_json::{JobRead, read_jobs};
 use sched_pool_scripted::{QuotaBatch, run_on_quota};
 use sched_task::{How, RunFault};
-use sched_ticket_quota::{MAX_RESERVE, MAX_SHARE, Terms};
+use sched_ticket_quota::{MAX_RESERVE, MAX_SHARE, MIN_PERIOD, Terms};
 use sched_time::Millis;
 use serde_json::Value;
 use std::alloc::{AllocGlobal, Global};
@@ -35,7 +35,7 @@ where
 {
     let jobs = jobs_of(rt.alloc(), text)?;
     let period = Millis::new(period).ok_or("out of range")?;
-    if reserve > MAX_RESERVE || share > MAX_SHARE || period.get() == 0 {
+    if reserve > MAX_RESERVE || share > MAX_SHARE || period.get() < MIN_PERIOD {
         return Err(Fail::from("out of range"));
     }
     let terms = Terms {

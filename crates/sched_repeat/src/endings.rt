@@ -35,7 +35,7 @@ impl<F: Drop> RepeatEnding<F> {
 }
 
 /// The ending of a repeat whose last run gave this and which is over so, or `None` where it goes on.
-pub fn ending_of<I: Coded + Drop, F: Coded + Drop>(
+pub(crate) fn ending_of<I: Coded + Drop, F: Coded + Drop>(
     run: Result<I, F>,
     over: Option<How>,
 ) -> Option<RepeatEnding<F>>

@@ -7,6 +7,6 @@ mod machine;
 mod repeat;
 mod runner;
 
-pub use endings::{RepeatEnding, ending_of};
+pub use endings::RepeatEnding;
 pub use machine::RepeatMachine;
 pub use repeat::Repeat;

@@ -28,6 +28,7 @@ code_of status.PassesOut = 34
 code_of status.ReserveTooLarge = 35
 code_of status.ShareTooLarge = 36
 code_of status.PeriodTooShort = 37
+code_of status.RacesLost = 38
 code_of status.NoSuchReport = 40
 code_of status.NoRun = 41
 code_of status.DrawsElsewhere = 42

@@ -59,6 +59,8 @@ pub struct Usage {
     pub given: u64,
     /// The tickets that it may yet give for the requests counted.
     pub left: u64,
+    /// When the next window begins.
+    pub next: u64,
 }
 
 impl Decided {

@@ -61,7 +61,7 @@ pub enum Status {
     /// The budget keeps its limit.
     #[error("the budget keeps its limit")]
     Fixed,
-    /// There is no ticket.
+    /// The budget has no ticket left, or the window of the quota has given out its own.
     #[error("there is no ticket")]
     NoTicket,
     /// The pass has one part, which it keeps.
@@ -76,9 +76,12 @@ pub enum Status {
     /// The share is too large.
     #[error("the share is more than 1000 tickets a request")]
     ShareTooLarge,
-    /// The period is 0.
-    #[error("the window is shorter than 1 ms")]
+    /// The period is less than 100 ms.
+    #[error("the window is shorter than 100 ms")]
     PeriodTooShort,
+    /// Other draws of the quota came first, again and again.
+    #[error("64 races with other draws were lost")]
+    RacesLost,
     /// The report is none that there is.
     #[error("there is no such report")]
     NoSuchReport,
@@ -120,6 +123,7 @@ impl Status {
             Status::ReserveTooLarge => 35,
             Status::ShareTooLarge => 36,
             Status::PeriodTooShort => 37,
+            Status::RacesLost => 38,
             Status::NoSuchReport => 40,
             Status::NoRun => 41,
             Status::DrawsElsewhere => 42,

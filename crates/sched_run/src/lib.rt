@@ -22,7 +22,7 @@ pub use futures::Future;
 pub use futures::executor::block_on;
 pub use futures::task::{Context, Poll};
 pub use rand_core::Rng;
-pub use sched_closure::{repeat_call, retry_call};
+pub use sched_closure::{CallEnding, RepeatCallEnding, repeat_call, retry_call};
 pub use sched_driver::{DriveFault, Driver, Event};
 pub use sched_driver_stepper::{StepFault, Stepper};
 pub use sched_effect::{
@@ -40,6 +40,7 @@ pub use sched_task::{
 pub use sched_ticket::{Budget, Pass, PassesOut, Refusal, TicketFault};
 pub use sched_ticket_draws::{Draws, OnBudget, OnQuota, RefersTo, Unlimited};
 pub use sched_ticket_quota::{
-    Pass as QuotaPass, PassesOut as QuotaPassesOut, Quota, QuotaFault, Terms, Usage,
+    Pass as QuotaPass, PassesOut as QuotaPassesOut, Quota, QuotaFault, Refusal as QuotaRefusal,
+    Terms, Usage,
 };
 pub use sched_time::{Decision, FAR, Interval, Millis, Moment, NoMemory, Tick};

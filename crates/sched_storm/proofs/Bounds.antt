@@ -93,7 +93,7 @@ lawful_turn k until t d terms by later law =
     record {
       here = omega arith;
       before = omega arith;
-      latest = quotient_rises k.period t until terms.period by;
+      latest = quotient_rises k.period t until (omega (arith, terms.period)) by;
     }
 
 lawful_turned : (k : Terms) (until t : ℕ) (d : Drawn) → AreTerms k → t ≤ until → IsLawful (Quota k) until d →

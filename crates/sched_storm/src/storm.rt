@@ -5,7 +5,7 @@ ghost use Rattle.sched_storm.specs.Parameters.{RequestsAreInRange, PeerIsInRange
 ghost use Rattle.sched_storm.specs.Parameters.{all_requests, comes_at};
 
 use crate::parameters::{BrownOut, Draws, Parameters, Span};
-use sched_ticket_quota::{MAX_RESERVE, MAX_SHARE, Terms};
+use sched_ticket_quota::{MAX_RESERVE, MAX_SHARE, MIN_PERIOD, Terms};
 use std::marker::Model;
 
 /// The greatest rate, herd and capacity.
@@ -167,5 +167,5 @@ fn are_draws(draws: Draws) -> bool
 fn are_terms(terms: Terms) -> bool
     ensures { IsTrue result ↔ AreTerms terms }
 {
-    terms.reserve <= MAX_RESERVE && terms.share <= MAX_SHARE && 0 < terms.period.get()
+    terms.reserve <= MAX_RESERVE && terms.share <= MAX_SHARE && MIN_PERIOD <= terms.period.get()
 }

@@ -35,6 +35,7 @@ refused g t u status.PassesOut room wants = absurd wants
 refused g t u status.ReserveTooLarge room wants = absurd wants
 refused g t u status.ShareTooLarge room wants = absurd wants
 refused g t u status.PeriodTooShort room wants = absurd wants
+refused g t u status.RacesLost room wants = absurd wants
 refused g t u status.NoSuchReport room wants = absurd wants
 refused g t u status.NoRun room wants = absurd wants
 refused g t u status.DrawsElsewhere room wants = absurd wants

@@ -1,9 +1,9 @@
 -- What contracts see of what draws on a quota, and a draw of it.
-use Rattle.std.specs.Prelude.{◌≡◌, ℕ, ◌≤◌, ◌⊎◌, Bool, true, false, length, refl}
+use Rattle.std.specs.Prelude.{◌≡◌, ℕ, ◌⊎◌, Bool, true, false, length, refl}
 use Rattle.std.proofs.Common.{inl, inr, arith, ap, subst, sym}
 use Rattle.sched_ticket_quota.specs.Held.{Name, Held, IsOf}
-use Rattle.sched_ticket_quota.specs.Calls.{Turned, Drew, DrawRefused, HasNoRoom}
-use Rattle.sched_ticket_quota.specs.declared.view.Terms.{Terms}
+use Rattle.sched_ticket_quota.specs.Calls.{Turned, Drew, DrawRefused, IsWhy}
+use Rattle.sched_ticket_quota.specs.declared.fault.Refusal.{Refusal}
 use Rattle.sched_ticket_quota.specs.declared.view.View.{View}
 use Rattle.sched_ticket_draws.specs.Counted.{count_after}
 use Rattle.sched_ticket_draws.specs.Grants.{Grants, Lawful}
@@ -13,14 +13,14 @@ pub record OfQuota : Type 0 where
   pub pass : Held
   pub quota : Name
 
--- a draw at a moment: the pass gained a ticket of the moment's window or of a later one, or it was refused
+-- a draw at a moment: the pass gained a ticket of the moment's window or of a later one, or it was refused for a reason
 abbrev pub QuotaDrew : OfQuota → ℕ → Bool → OfQuota → Type 0
-QuotaDrew d now true e = (e.quota ≡ d.quota) × (t : ℕ) × Drew d.quota.terms now d.pass.has t e.pass.has
-QuotaDrew d now false e = (e.quota ≡ d.quota) × DrawRefused d.quota.terms now d.pass.has e.pass.has
+QuotaDrew d now true e = (e.quota ≡ d.quota) × (t : ℕ) × Drew d.quota now d.pass.has t e.pass.has
+QuotaDrew d now false e = (e.quota ≡ d.quota) × (why : Refusal) × DrawRefused d.quota now d.pass.has why e.pass.has
 
--- the last draw found so many tickets given in the latest window as its requests allow, or lost 64 races with other draws
-abbrev pub NoneLeft : Terms → View → Type 0
-NoneLeft k v = HasNoRoom k v ⊎ (v.losses ≡ 64)
+-- why the last draw was refused: the tickets of the latest window were out, or it lost 64 races with other draws
+abbrev pub NoneLeft : Name → View → Type 0
+NoneLeft b v = (why : Refusal) × IsWhy b v why
 
 abbrev pub quota_grants : Grants OfQuota
 quota_grants = record {
@@ -28,13 +28,13 @@ quota_grants = record {
   name = λ d. d.quota;
   granted = λ d. length d.pass.has.tickets;
   drew = QuotaDrew;
-  refused = λ d. NoneLeft d.quota.terms d.pass.has;
+  refused = λ d. NoneLeft d.quota d.pass.has;
   stands = λ d. IsOf d.quota d.pass;
 }
 
 -- a pass that comes to a window keeps its tickets
-Turned-tickets : (k : Terms) (now : ℕ) (v u : View) → Turned k now v u → u.tickets ≡ v.tickets
-Turned-tickets k now v u turned = elim turned [
+Turned-tickets : (b : Name) (now : ℕ) (v u : View) → Turned b now v u → u.tickets ≡ v.tickets
+Turned-tickets b now v u turned = elim turned [
   | inl there ↦ ap (λ (v : View). v.tickets) there.1
   | inr comes ↦ elim comes [
     | inl meets ↦ ap (λ (v : View). v.tickets) meets.3
@@ -50,18 +50,16 @@ QuotaDrew-counts : (d : OfQuota) (now : ℕ) (got : Bool) (e : OfQuota) → Quot
     length e.pass.has.tickets ≡ count_after got (length d.pass.has.tickets)
 QuotaDrew-counts d now true e drew =
     let won = drew.2.2 in
-    let kept = Turned-tickets d.quota.terms now d.pass.has drew.2.0 drew.2.1 in
+    let kept = Turned-tickets d.quota now d.pass.has drew.2.0 drew.2.1 in
     rw (won.gained, won.tries.same, kept) (omega arith)
 QuotaDrew-counts d now false e drew =
-    let kept = Turned-tickets d.quota.terms now d.pass.has drew.1.0 drew.1.1 in
-    rw (drew.1.2.tries.same, kept) refl
+    let kept = Turned-tickets d.quota now d.pass.has drew.2.0 drew.2.1 in
+    rw (drew.2.2.tries.same, kept) refl
 
 QuotaDrew-denies : (d : OfQuota) (now : ℕ) (e : OfQuota) → QuotaDrew d now false e →
-    NoneLeft e.quota.terms e.pass.has
-QuotaDrew-denies d now e drew = elim drew.1.2.reason [
-  | inl full ↦ inl (subst (λ (q : Name). HasNoRoom q.terms e.pass.has) (sym drew.0) full)
-  | inr lost ↦ inr lost
-]
+    NoneLeft e.quota e.pass.has
+QuotaDrew-denies d now e drew =
+    (drew.1, subst (λ (q : Name). IsWhy q e.pass.has drew.1) (sym drew.0) drew.2.2.reason)
 
 pub quota_lawful : Lawful quota_grants
 quota_lawful = record {

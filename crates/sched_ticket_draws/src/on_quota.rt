@@ -40,7 +40,7 @@ impl<Q: RefersTo<Quota>> OnQuota<Q> {
     /// Counts a request at the moment `now`, as `Pass::deposit` does: once, before its first run.
     pub fn deposit(&mut self, now: Moment)
         ensures quota { self.new.quota ≡ self.old.quota }
-        ensures counted { Deposited self.old.quota.terms now self.old.pass.has self.new.pass.has }
+        ensures counted { Deposited self.old.quota now self.old.pass.has self.new.pass.has }
         ensures tickets { self.new.pass.has.tickets ≡ self.old.pass.has.tickets }
     {
         self.pass.deposit(self.quota.target(), now);
@@ -66,8 +66,8 @@ impl<Q: RefersTo<Quota>> Draws for OnQuota<Q> {
 
     fn draw(&mut self, now: Moment) -> bool {
         match self.pass.draw(self.quota.target(), now) {
-            Some(_) => true,
-            None => false,
+            Ok(_) => true,
+            Err(_) => false,
         }
     }
 

@@ -73,7 +73,7 @@ fn a_quota(rt: HostRuntime) -> Result<(), Fail> {
         share: 500,
         period: Millis::from(1000),
     };
-    let (quota, pass) = Quota::new(rt.alloc(), terms)?;
+    let (quota, pass) = Quota::new(rt.alloc(), at(0), terms)?;
     let mut drawing = OnQuota::new(pass, &quota);
     assert_eq!(rt; thrice(&mut drawing, at(0)), (true, false, false));
     drawing.deposit(at(1));

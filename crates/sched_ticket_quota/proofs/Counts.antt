@@ -1,5 +1,5 @@
 -- What the rule says of the words, and of all views together.
-use Rattle.std.proofs.Common.{◌≡◌, ℕ, ◌+◌, ◌-◌, ◌<◌, ◌≤◌, min, List, set, cond, ap, arith, lt_of_not-le, lt-ltb, le-ltb}
+use Rattle.std.proofs.Common.{◌≡◌, ℕ, ◌+◌, ◌-◌, ◌<◌, ◌≤◌, min, List, set, cond, ap, subst, arith, lt_of_not-le, lt-ltb, le-ltb}
 use mathlib.Core.Logic.{dite}
 use mathlib.Core.Option.{some}
 use native.Mathlib.Decide.{dec_le}
@@ -7,7 +7,7 @@ use lib.ListN.{get_elem?}
 use Rattle.sched_ticket.specs.Lists.{total, below, is}
 use Rattle.sched_ticket.proofs.Sums.{total-set, total-one, term_le, total-le, below-one, below-is, once_below-le, from, below-from, none_from}
 use Rattle.sched_ticket_quota.specs.Windows.{window_of, first_of, within}
-use Rattle.sched_ticket_quota.specs.Rule.{ticket_weight, request_weight, tickets_in, requests_in, weights, may_count, IsDealt, IsCounted, IsSeen, IsFound, IsOrderly}
+use Rattle.sched_ticket_quota.specs.Rule.{ticket_weight, request_weight, tickets_in, requests_in, weights, may_count, openings, begins, IsDealt, IsCounted, IsSeen, IsFound, IsOrderly}
 use Rattle.sched_ticket_quota.specs.Steps.{IsNoLater, IsLater, IsSound}
 use Rattle.sched_ticket_quota.specs.declared.view.Terms.{Terms}
 use Rattle.sched_ticket_quota.specs.declared.view.View.{View}
@@ -47,6 +47,27 @@ module _ (asked latest : ℕ) (views : List View) (c : IsCounted asked latest vi
       let start = c.from in
       let low : latest ≤ w = omega arith in
       omega arith
+
+  -- the latest window was begun
+  pub begun_at : 0 < window_of asked → 0 < begins views (window_of asked)
+  begun_at some-window =
+      let w : ℕ = window_of asked in
+      let start = c.from in
+      let low : latest ≤ w = omega arith in
+      dite (dec_le w latest)
+      (λ here.
+      let same : latest ≡ w = omega arith in
+      let opened : 0 < openings views (first_of w) = subst (λ (x : ℕ). 0 < x → 0 < openings views (first_of x)) same c.opened some-window in
+      omega arith)
+      (λ not.
+      let later : latest < w = lt_of_not-le not in
+      let a : ℕ = first_of (w - 1) in
+      let h : ℕ → ℕ = within a 4294967296 in
+      let up : below h asked ≤ below h (first_of latest) + requests_in views (w - 1) = c.all h in
+      let here : below h asked ≡ min (asked - a) 4294967296 = below-within a 4294967296 asked in
+      let before : below h (first_of latest) ≡ min (first_of latest - a) 4294967296 = below-within a 4294967296 (first_of latest) in
+      let full : 4294967296 ≤ requests_in views (w - 1) = omega arith in
+      omega arith)
 
 module _ (drawn window : ℕ) (views : List View) (d : IsDealt drawn window views) where
   -- as many tickets were given in the latest window as its word says

@@ -1,24 +1,26 @@
 -- Each step keeps the rule.
-use Rattle.std.proofs.Common.{◌≡◌, ◌≢◌, ℕ, ◌+◌, ◌%◌, ◌^◌, ◌<◌, ◌≤◌, ◌==◌, max, List, length, set, slice_index, sym, refl, ap, ◌∙◌, subst, arith, ⊎_elim, lt_of_not-le, length-set}
+use Rattle.std.proofs.Common.{◌≡◌, ◌≢◌, ℕ, ◌+◌, ◌-◌, ◌%◌, ◌^◌, ◌<◌, ◌≤◌, ◌==◌, max, List, length, set, slice_index, sym, refl, ap, ◌∙◌, subst, arith, ⊎_elim, lt_of_not-le, length-set}
 use Rattle.std.proofs.Math.Nat.{mod-eq_of_lt}
 use Rattle.std.proofs.lemmas.List.{get_or-set_same, get_or-set_other}
 use mathlib.Core.Logic.{dite}
 use mathlib.Core.Option.{Option, some}
-use native.Mathlib.Decide.{dec_le}
+use native.Mathlib.Decide.{ℕ_discrete, dec_le}
 use prog.Atomic.{either}
 use lib.ListN.{get_elem?}
 use Rattle.atomic_table.specs.Table.{Step, keeps, Allows}
 use Rattle.atomic_table.proofs.Lists.{at_set, exchanged}
 use Rattle.sched_ticket.specs.Lists.{total, below, times, is}
 use Rattle.sched_ticket.proofs.Sums.{total-set, below_more, is-same}
-use Rattle.sched_ticket_quota.specs.Windows.{window_of, first_of, allowed, floor_of, count_in}
+use Rattle.sched_ticket_quota.specs.Windows.{window_of, first_of, allowed, floor_of, within, count_in}
 use Rattle.sched_ticket_quota.specs.View.{with_reading, with_opening, with_request, with_found, with_ticket, with_loss, next_ticket}
-use Rattle.sched_ticket_quota.specs.Rule.{ticket_weight, request_weight, tickets_in, requests_in, weights, may_count, openings, IsDealt, IsCounted, IsSeen, IsFound, Fits, IsOrderly, IsKept}
+use Rattle.sched_ticket_quota.specs.Rule.{ticket_weight, request_weight, tickets_in, requests_in, weights, may_count, openings, begins, IsDealt, IsCounted, IsSeen, IsFound, Fits, IsOrderly, IsKept}
+use Rattle.sched_ticket_quota.specs.Whole.{IsWhole}
 use Rattle.sched_ticket_quota.specs.Steps.{Sat, reads, opens, counts, finds, wins, learns}
 use Rattle.sched_ticket_quota.specs.declared.view.Terms.{Terms}
 use Rattle.sched_ticket_quota.specs.declared.view.View.{View}
-use Rattle.sched_ticket_quota.proofs.Numbers.{allowed-mono, allows-on, below-mono}
-use Rattle.sched_ticket_quota.proofs.Counts.{may_count-yes, may_count-no, all_may_count, total-same, total-more, seen_at, found_at, is_later, asked_le, drawn_le, no_later, is_sound}
+use Rattle.sched_ticket_quota.proofs.Numbers.{allowed-mono, allows-on, below-mono, within-low, within-high}
+use Rattle.sched_ticket_quota.proofs.Counts.{may_count-yes, may_count-no, all_may_count, total-same, total-more, seen_at, begun_at, found_at, is_later, asked_le, drawn_le, no_later, is_sound}
+use Rattle.sched_ticket_quota.proofs.Whole.{is_whole}
 
 -- the draws fit where a view with the same tickets takes another's place
 dealt-same : (d window : ℕ) (views : List View) (j : ℕ) (v w : View) → get_elem? views j ≡ some v → w.tickets ≡ v.tickets → IsDealt d window views → IsDealt d window (set views j w)
@@ -37,11 +39,13 @@ counted-same q latest views j v w at same may opened o =
 
 module _ (k : Terms) where
   -- a view fits while numbers grow
-  pub Fits-on : (d d' q q' : ℕ) (t t' r r' : ℕ → ℕ) (u : View) → Fits k d q t r u → d ≤ d' → q ≤ q' → ((w : ℕ) → t w ≤ t' w) → ((w : ℕ) → r w ≤ r' w) → Fits k d' q' t' r' u
-  Fits-on d d' q q' t t' r r' u f more-d more-q more-t more-r = record {
+  pub Fits-on : (d d' q q' : ℕ) (t t' r r' e e' : ℕ → ℕ) (u : View) → Fits k d q t r e u → d ≤ d' → q ≤ q'
+      → ((w : ℕ) → t w ≤ t' w) → ((w : ℕ) → r w ≤ r' w) → ((w : ℕ) → e w ≤ e' w) → Fits k d' q' t' r' e' u
+  Fits-on d d' q q' t t' r r' e e' u f more-d more-q more-t more-r more-e = record {
     allows = allows-on k r r' u.tickets more-r f.allows;
     seen = omega (arith, f.seen);
     counted = omega (arith, f.counted, more-r (window_of u.seen));
+    begun = λ some-window. omega (arith, f.begun some-window, more-e (window_of u.seen));
     found = omega (arith, f.found);
     given = λ w low high. omega (arith, f.given w low high, more-t w);
     live = f.live;
@@ -53,21 +57,37 @@ module _ (k : Terms) where
       → IsOrderly k d window q latest views → get_elem? views j ≡ some v → w.weight ≡ v.weight
       → IsDealt d' window' (set views j w) → IsCounted q' latest' (set views j w) → d ≤ d' → q ≤ q' → first_of window' ≤ q'
       → ((x : ℕ) → count_in x v.tickets ≤ count_in x w.tickets) → ((x : ℕ) → count_in x v.requests ≤ count_in x w.requests)
-      → (((x : ℕ) → tickets_in views x ≤ tickets_in (set views j w) x) → ((x : ℕ) → requests_in views x ≤ requests_in (set views j w) x) → Fits k d' q' (tickets_in (set views j w)) (requests_in (set views j w)) w)
+      → ((x : ℕ) → times x v.opened ≤ times x w.opened)
+      → (((x : ℕ) → begins views x ≤ begins (set views j w) x) → (x : ℕ) → 0 < x → 0 < tickets_in (set views j w) x → 0 < begins (set views j w) x)
+      → (((x : ℕ) → tickets_in views x ≤ tickets_in (set views j w) x) → ((x : ℕ) → requests_in views x ≤ requests_in (set views j w) x)
+      → ((x : ℕ) → begins views x ≤ begins (set views j w) x) → Fits k d' q' (tickets_in (set views j w)) (requests_in (set views j w)) (begins (set views j w)) w)
       → IsOrderly k d' window' q' latest' (set views j w)
-  moved d window q latest views j v w d' window' q' latest' o at weight dealt counted more-d more-q behind more-v more-r fits =
+  moved d window q latest views j v w d' window' q' latest' o at weight dealt counted more-d more-q behind more-v more-r more-o entered fits =
       let more : (x : ℕ) → tickets_in views x ≤ tickets_in (set views j w) x = λ x. total-more (λ (u : View). count_in x u.tickets) views j v w at (more-v x) in
       let many : (x : ℕ) → requests_in views x ≤ requests_in (set views j w) x = λ x. total-more (λ (u : View). count_in x u.requests) views j v w at (more-r x) in
+      let wide : (x : ℕ) → begins views x ≤ begins (set views j w) x =
+      λ x. let opened : openings views (first_of x) ≤ openings (set views j w) (first_of x) = total-more (λ (u : View). times (first_of x) u.opened) views j v w at (more-o (first_of x)) in
+      omega (arith, opened, many (x - 1)) in
       record {
         dealt = dealt;
         counted = counted;
         behind = behind;
+        entered = entered wide;
         parts = total-same (λ (u : View). u.weight) views j v w at weight ∙ o.parts;
         each = λ by u there. ⊎_elim
-            (λ (t : (by ≡ j) × (w ≡ u)). subst (Fits k d' q' (tickets_in (set views j w)) (requests_in (set views j w))) t.1 (fits more many))
-            (λ (t : (by ≢ j) × (get_elem? views by ≡ some u)). Fits-on d d' q q' (tickets_in views) (tickets_in (set views j w)) (requests_in views) (requests_in (set views j w)) u (o.each by u t.1) more-d more-q more many)
+            (λ (t : (by ≡ j) × (w ≡ u)). subst (Fits k d' q' (tickets_in (set views j w)) (requests_in (set views j w)) (begins (set views j w))) t.1 (fits more many wide))
+            (λ (t : (by ≢ j) × (get_elem? views by ≡ some u)).
+            Fits-on d d' q q' (tickets_in views) (tickets_in (set views j w)) (requests_in views) (requests_in (set views j w)) (begins views) (begins (set views j w)) u (o.each by u t.1) more-d more-q more many wide)
             (at_set views j by w u there);
       }
+
+  -- no window has a first ticket where one view with as many takes another's place
+  entered-same : (d window q latest : ℕ) (views : List View) (j : ℕ) (v w : View)
+      → IsOrderly k d window q latest views → get_elem? views j ≡ some v → w.tickets ≡ v.tickets
+      → ((x : ℕ) → begins views x ≤ begins (set views j w) x) → (x : ℕ) → 0 < x → 0 < tickets_in (set views j w) x → 0 < begins (set views j w) x
+  entered-same d window q latest views j v w o at same wide x some-window given =
+      let kept : tickets_in (set views j w) x ≡ tickets_in views x = total-same (λ (u : View). count_in x u.tickets) views j v w at (ap (count_in x) same) in
+      omega (arith, o.entered x some-window (omega (arith, kept, given)), wide x)
 
   -- a step is allowed if it is at any words
   allows : (n id : ℕ) (m : Sat) (i : ℕ) (f : ℕ → ℕ) (then : ℕ → Sat → Type 0)
@@ -105,20 +125,22 @@ module _ (k : Terms) where
   }
 
   -- a pass has learnt the words, and all else is as it was
-  told : (d window q latest : ℕ) (views : List View) (id : ℕ) (v : View) (seen found readings losses : ℕ)
+  told : (d window q latest : ℕ) (views : List View) (id : ℕ) (v : View) (seen found readings looks losses : ℕ)
       → IsOrderly k d window q latest views → get_elem? views id ≡ some v
-      → seen ≤ q → IsSeen (requests_in views) seen → found ≤ d → IsFound (tickets_in views) found
-      → IsOrderly k d window q latest (set views id (record v { seen = seen; found = found; readings = readings; losses = losses }))
-  told d window q latest views id v seen found readings losses o at seen_le is_seen found_le is_found =
-      let w : View = record v { seen = seen; found = found; readings = readings; losses = losses } in
+      → seen ≤ q → IsSeen (requests_in views) seen → (0 < window_of seen → 0 < begins views (window_of seen)) → found ≤ d → IsFound (tickets_in views) found
+      → IsOrderly k d window q latest (set views id (record v { seen = seen; found = found; readings = readings; looks = looks; losses = losses }))
+  told d window q latest views id v seen found readings looks losses o at seen_le is_seen begun found_le is_found =
+      let w : View = record v { seen = seen; found = found; readings = readings; looks = looks; losses = losses } in
       let f = o.each id v at in
       moved d window q latest views id v w d window q latest o at refl
       (dealt-same d window views id v w at refl o.dealt) (counted-same q latest views id v w at refl refl refl o.counted)
-      (omega arith) (omega arith) o.behind (λ x. omega arith) (λ x. omega arith)
-      (λ more many. record {
+      (omega arith) (omega arith) o.behind (λ x. omega arith) (λ x. omega arith) (λ x. omega arith)
+      (entered-same d window q latest views id v w o at refl)
+      (λ more many wide. record {
         allows = allows-on k (requests_in views) (requests_in (set views id w)) v.tickets many f.allows;
         seen = seen_le;
         counted = omega (arith, is_seen, many (window_of seen));
+        begun = λ some-window. omega (arith, begun some-window, wide (window_of seen));
         found = found_le;
         given = λ x low high. omega (arith, is_found x low high, more x);
         live = f.live;
@@ -132,7 +154,7 @@ module _ (k : Terms) where
       let f = o.each id v at in (
         with_reading v q,
         (λ homes. kept-requests ws (set views id (with_reading v q)) homes window latest q long
-            (told (slice_index ws 8) window q latest views id v q v.found (v.readings + 1) v.losses o at (omega arith) (seen_at q latest views o.counted) f.found f.given)),
+            (told (slice_index ws 8) window q latest views id v q v.found (v.readings + 1) v.looks v.losses o at (omega arith) (seen_at q latest views o.counted) (begun_at q latest views o.counted) f.found f.given)),
         ((f.seen, asked_le k (slice_index ws 8) window q latest views o), no_later k (slice_index ws 8) window q latest views o id v at, refl),
       ))
 
@@ -143,7 +165,7 @@ module _ (k : Terms) where
       let f = o.each id v at in (
         with_found v d,
         (λ homes. kept-draws ws (set views id (with_found v d)) homes window latest d long
-            (told d window (slice_index ws 24) latest views id v v.seen d v.readings 0 o at f.seen f.counted (omega arith) (found_at d window views o.dealt))),
+            (told d window (slice_index ws 24) latest views id v v.seen d v.readings (v.looks + 1) 0 o at f.seen f.counted f.begun (omega arith) (found_at d window views o.dealt))),
         (f.found, refl),
       ))
 
@@ -154,8 +176,13 @@ module _ (k : Terms) where
       let f = o.each id v at in (
         v,
         (λ homes. kept-draws ws (set views id v) homes window latest d long
-            (told d window (slice_index ws 24) latest views id v v.seen v.found v.readings v.losses o at f.seen f.counted f.found f.given)),
-        (refl, is_sound k d window (slice_index ws 24) latest views o id v at),
+            (told d window (slice_index ws 24) latest views id v v.seen v.found v.readings v.looks v.losses o at f.seen f.counted f.begun f.found f.given)),
+        (
+          refl,
+          is_sound k d window (slice_index ws 24) latest views o id v at,
+          λ all. let live : 0 < v.weight = omega arith in
+              subst (λ (t : Terms). IsWhole t v) (sym (f.live live)) (is_whole k d window (slice_index ws 24) latest views o id v at all),
+        ),
       ))
 
   -- a pass has opened a window, or found that another had
@@ -169,11 +196,13 @@ module _ (k : Terms) where
       let behind = o.behind in
       moved d window q latest views id v w d window q' latest' o at refl
       (dealt-same d window views id v w at refl o.dealt) counted
-      (omega arith) up (omega arith) (λ x. omega arith) (λ x. omega arith)
-      (λ more many. record {
+      (omega arith) up (omega arith) (λ x. omega arith) (λ x. omega arith) (λ x. omega arith)
+      (entered-same d window q latest views id v w o at refl)
+      (λ more many wide. record {
         allows = allows-on k (requests_in views) (requests_in (set views id w)) v.tickets many f.allows;
         seen = omega arith;
         counted = omega (arith, is_seen, many (window_of q'));
+        begun = begun_at q' latest' (set views id w) counted;
         found = f.found;
         given = λ x low high. omega (arith, f.given x low high, more x);
         live = f.live;
@@ -254,11 +283,13 @@ module _ (k : Terms) where
       let orderly : IsOrderly k d window (q + 1) latest (set views id w) =
       moved d window q latest views id v w d window (q + 1) latest o at refl
       (dealt-same d window views id v w at refl o.dealt) counted
-      (omega arith) (omega arith) (omega arith) (λ x. omega arith) (λ x. omega arith)
-      (λ more many. record {
+      (omega arith) (omega arith) (omega arith) (λ x. omega arith) (λ x. omega arith) (λ x. omega arith)
+      (entered-same d window q latest views id v w o at refl)
+      (λ more many wide. record {
         allows = allows-on k (requests_in views) (requests_in (set views id w)) v.tickets many f.allows;
         seen = omega arith;
         counted = seen_at (q + 1) latest (set views id w) counted;
+        begun = begun_at (q + 1) latest (set views id w) counted;
         found = f.found;
         given = λ x low high. omega (arith, f.given x low high, more x);
         live = f.live;
@@ -302,13 +333,22 @@ module _ (k : Terms) where
       let enough : allowed k (v.seen % 4294967296) ≤ allowed k (requests_in views n) = allowed-mono k (v.seen % 4294967296) (requests_in views n) (omega (arith, f.counted)) in
       moved d window q latest views id v w (t + 1) n q latest o at refl
       dealt (counted-same q latest views id v w at refl refl refl o.counted)
-      (omega arith) (omega arith) (omega arith) (λ x. omega arith) (λ x. omega arith)
-      (λ more many.
+      (omega arith) (omega arith) (omega arith) (λ x. omega arith) (λ x. omega arith) (λ x. omega arith)
+      (λ wide x some-window given. dite (ℕ_discrete x n)
+      (λ here. subst (λ (y : ℕ). 0 < begins (set views id w) y) (sym here) (omega (arith, f.begun (omega arith), wide n)))
+      (λ other.
+      let sum : tickets_in (set views id w) x + count_in x v.tickets ≡ tickets_in views x + count_in x w.tickets = total-set (λ (u : View). count_in x u.tickets) views id v w at in
+      let none : within (first_of x) 4294967296 t ≡ 0 = dite (dec_le x n)
+      (λ less. let low : x < n = lt_of_not-le (λ more. other (omega arith)) in within-high (first_of x) 4294967296 t (omega arith))
+      (λ more. let high : n < x = lt_of_not-le more in within-low (first_of x) 4294967296 t (omega arith)) in
+      omega (arith, o.entered x some-window (omega arith), wide x)))
+      (λ more many wide.
       let many' : allowed k (requests_in views n) ≤ allowed k (requests_in (set views id w) n) = allowed-mono k (requests_in views n) (requests_in (set views id w) n) (many n) in
       let low : t < first_of n + allowed k (requests_in (set views id w) n) = omega arith in record {
         allows = (subst (λ (x : ℕ). t < first_of x + allowed k (requests_in (set views id w) x)) (sym is_in) low, allows-on k (requests_in views) (requests_in (set views id w)) v.tickets many f.allows);
         seen = f.seen;
         counted = omega (arith, f.counted, many n);
+        begun = λ some-window. omega (arith, f.begun some-window, wide n);
         found = omega arith;
         given = found_at (t + 1) n (set views id w) dealt;
         live = f.live;
@@ -335,12 +375,12 @@ module _ (k : Terms) where
       (λ known. (
         v,
         (λ homes. kept-draws ws (set views id v) homes window latest d long
-            (told d window q latest views id v v.seen v.found v.readings v.losses o at f.seen f.counted f.found f.given)),
+            (told d window q latest views id v v.seen v.found v.readings v.looks v.losses o at f.seen f.counted f.begun f.found f.given)),
         ((λ hit. absurd (miss hit)), λ _. (f.found, (λ past. absurd (omega (arith, past, known))), λ _. refl)),
       ))
       (λ not. (
         with_loss v d,
         (λ homes. kept-draws ws (set views id (with_loss v d)) homes window latest d long
-            (told d window q latest views id v v.seen d v.readings (v.losses + 1) o at f.seen f.counted (omega arith) (found_at d window views o.dealt))),
+            (told d window q latest views id v v.seen d v.readings v.looks (v.losses + 1) o at f.seen f.counted f.begun (omega arith) (found_at d window views o.dealt))),
         ((λ hit. absurd (miss hit)), λ _. (f.found, (λ _. refl), λ same. absurd (omega (arith, same, lt_of_not-le not)))),
       ))))

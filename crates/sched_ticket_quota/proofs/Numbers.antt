@@ -43,8 +43,8 @@ allowed-mono k n m le =
     omega arith
 
 -- a moment no later is in no later window
-pub window_at-mono : (k : Terms) (n m : ℕ) → n ≤ m → window_at k n ≤ window_at k m
-window_at-mono k n m le = dite (dec_le 1 k.period)
+pub window_at-mono : (k : Terms) (start n m : ℕ) → n ≤ m → window_at k start n ≤ window_at k start m
+window_at-mono k start n m le = dite (dec_le 1 k.period)
     (λ some-period.
     let down : n / k.period * k.period ≤ n = div-mul-le_self n k.period in
     let less : n / k.period ≤ m / k.period = le-div (n / k.period) m k.period some-period (omega arith) in

@@ -1,21 +1,19 @@
--- A split, a join, the first state and the last keep the rule.
-use Rattle.std.proofs.Common.{◌≡◌, ◌≢◌, ℕ, zero, suc, ◌+◌, ◌<◌, ◌≤◌, max, List, [], ◌∷◌, ◌++◌, length, set, slice_index, sym, refl, ap, ◌∙◌, subst, arith, ⊎_elim, lt_of_not-le}
+-- A split, a join and the first state keep the rule.
+use Rattle.std.proofs.Common.{◌≡◌, ◌≢◌, ℕ, zero, suc, ◌+◌, ◌-◌, ◌<◌, ◌≤◌, max, List, [], ◌∷◌, ◌++◌, length, set, slice_index, sym, refl, ◌∙◌, subst, arith, ⊎_elim, lt_of_not-le}
 use mathlib.Core.Logic.{dite}
 use mathlib.Core.Option.{Option, some, some-injective, some-ne-none}
 use native.Mathlib.Decide.{dec_le}
 use lib.ListN.{get_elem?}
-use Rattle.atomic_table.specs.Table.{State, Splits, Joins}
+use Rattle.atomic_table.specs.Table.{Splits, Joins}
 use Rattle.atomic_table.proofs.Lists.{at_set, at_snoc, set_else}
 use Rattle.sched_ticket.specs.Lists.{total, times, is}
-use Rattle.sched_ticket.proofs.Sums.{total-append, total-set, total-le, Each-append, alone}
+use Rattle.sched_ticket.proofs.Sums.{total-append, total-set, Each-append}
 use Rattle.sched_ticket.proofs.Ways.{part-some}
-use Rattle.sched_ticket_quota.specs.Windows.{first_of, allowed, within, count_in}
+use Rattle.sched_ticket_quota.specs.Windows.{first_of, within, count_in}
 use Rattle.sched_ticket_quota.specs.View.{first_view, without_part, part_of, joined_view, blank_view}
-use Rattle.sched_ticket_quota.specs.Rule.{ticket_weight, request_weight, tickets_in, requests_in, weights, may_count, IsAllowed, Fits, IsOrderly, drawn_of, asked_of, IsKept}
-use Rattle.sched_ticket_quota.specs.Calls.{IsWhole}
+use Rattle.sched_ticket_quota.specs.Rule.{ticket_weight, request_weight, tickets_in, requests_in, may_count, begins, IsAllowed, Fits, IsOrderly, drawn_of, asked_of, IsKept}
 use Rattle.sched_ticket_quota.specs.declared.view.Terms.{Terms}
 use Rattle.sched_ticket_quota.specs.declared.view.View.{View}
-use Rattle.sched_ticket_quota.proofs.Numbers.{below-within, count_in-allowed}
 use Rattle.sched_ticket_quota.proofs.Counts.{may_count-yes, may_count-no, may_count-le}
 use Rattle.sched_ticket_quota.proofs.Moves.{Fits-on}
 
@@ -44,11 +42,12 @@ module _ (k : Terms) where
       let sums : (g : View → ℕ) → total g after + g v ≡ total g views + g left + g right = λ g. omega (arith, total-append g (set views id left) (right ∷ []), total-set g views id v left at) in
       let tickets : (x : ℕ) → tickets_in views x ≤ tickets_in after x = λ x. omega (arith, sums (λ (u : View). count_in x u.tickets)) in
       let requests : (x : ℕ) → requests_in views x ≤ requests_in after x = λ x. omega (arith, sums (λ (u : View). count_in x u.requests)) in
-      let F : View → Type 0 = Fits k (drawn_of s) (asked_of s) (tickets_in after) (requests_in after) in
-      let on : (u : View) → Fits k (drawn_of s) (asked_of s) (tickets_in views) (requests_in views) u → F u = λ u g. Fits-on k (drawn_of s) (drawn_of s) (asked_of s) (asked_of s) (tickets_in views) (tickets_in after) (requests_in views) (requests_in after) u g (omega arith) (omega arith) tickets requests in
+      let starts : (x : ℕ) → begins views x ≤ begins after x = λ x. omega (arith, requests (x - 1), sums (λ (u : View). times (first_of x) u.opened)) in
+      let F : View → Type 0 = Fits k (drawn_of s) (asked_of s) (tickets_in after) (requests_in after) (begins after) in
+      let on : (u : View) → Fits k (drawn_of s) (asked_of s) (tickets_in views) (requests_in views) (begins views) u → F u = λ u g. Fits-on k (drawn_of s) (drawn_of s) (asked_of s) (asked_of s) (tickets_in views) (tickets_in after) (requests_in views) (requests_in after) (begins views) (begins after) u g (omega arith) (omega arith) tickets requests starts in
       let g : F v = on v f in
-      let fits-left : F left = record { allows = g.allows; seen = g.seen; counted = g.counted; found = g.found; given = g.given; live = λ _. f.live (omega arith); spent = λ none. absurd (omega arith) } in
-      let fits-right : F right = record { allows = tt; seen = g.seen; counted = g.counted; found = g.found; given = g.given; live = λ _. f.live (omega arith); spent = λ _. (refl, refl, refl) } in
+      let fits-left : F left = record { allows = g.allows; seen = g.seen; counted = g.counted; begun = g.begun; found = g.found; given = g.given; live = λ _. f.live (omega arith); spent = λ none. absurd (omega arith) } in
+      let fits-right : F right = record { allows = tt; seen = g.seen; counted = g.counted; begun = g.begun; found = g.found; given = g.given; live = λ _. f.live (omega arith); spent = λ _. (refl, refl, refl) } in
       record {
         window = kept.window;
         latest = kept.latest;
@@ -69,6 +68,7 @@ module _ (k : Terms) where
             small = omega (arith, sums may_count, may_count-cut v more, o.counted.small);
           };
           behind = o.behind;
+          entered = λ x some-window given. omega (arith, o.entered x some-window (omega (arith, given, sums (λ (u : View). count_in x u.tickets))), starts x);
           parts = omega (arith, sums (λ (u : View). u.weight), o.parts);
           each = λ by u there. ⊎_elim
               (λ (t : get_elem? (set views id left) by ≡ some u). ⊎_elim
@@ -92,14 +92,16 @@ module _ (k : Terms) where
       let sums : (g : View → ℕ) → total g after + g w + g v ≡ total g views + g joined + g blank_view = λ g. omega (arith, total-set g views id v joined at, total-set g middle other w blank_view there) in
       let tickets : (x : ℕ) → tickets_in views x ≤ tickets_in after x = λ x. omega (arith, sums (λ (u : View). count_in x u.tickets), total-append (within (first_of x) 4294967296) v.tickets w.tickets) in
       let requests : (x : ℕ) → requests_in views x ≤ requests_in after x = λ x. omega (arith, sums (λ (u : View). count_in x u.requests), total-append (within (first_of x) 4294967296) v.requests w.requests) in
-      let F : View → Type 0 = Fits k (drawn_of s) (asked_of s) (tickets_in after) (requests_in after) in
-      let on : (u : View) → Fits k (drawn_of s) (asked_of s) (tickets_in views) (requests_in views) u → F u = λ u g. Fits-on k (drawn_of s) (drawn_of s) (asked_of s) (asked_of s) (tickets_in views) (tickets_in after) (requests_in views) (requests_in after) u g (omega arith) (omega arith) tickets requests in
+      let starts : (x : ℕ) → begins views x ≤ begins after x = λ x. omega (arith, requests (x - 1), sums (λ (u : View). times (first_of x) u.opened), total-append (is (first_of x)) v.opened w.opened) in
+      let F : View → Type 0 = Fits k (drawn_of s) (asked_of s) (tickets_in after) (requests_in after) (begins after) in
+      let on : (u : View) → Fits k (drawn_of s) (asked_of s) (tickets_in views) (requests_in views) (begins views) u → F u = λ u g. Fits-on k (drawn_of s) (drawn_of s) (asked_of s) (asked_of s) (tickets_in views) (tickets_in after) (requests_in views) (requests_in after) (begins views) (begins after) u g (omega arith) (omega arith) tickets requests starts in
       let g : F v = on v f in
       let g-other : F w = on w (o.each other w at-other) in
       let fits-joined : F joined = record {
         allows = Each-append (IsAllowed k (requests_in after)) v.tickets w.tickets g.allows g-other.allows;
         seen = g.seen;
         counted = g.counted;
+        begun = g.begun;
         found = g.found;
         given = g.given;
         live = λ _. f.live live;
@@ -109,6 +111,7 @@ module _ (k : Terms) where
         allows = tt;
         seen = omega arith;
         counted = omega arith;
+        begun = λ some-window. absurd (omega arith);
         found = omega arith;
         given = λ x low high. omega arith;
         live = λ h. absurd (omega arith);
@@ -134,6 +137,7 @@ module _ (k : Terms) where
             small = omega (arith, sums may_count, may_count-joined v w, may_count-le blank_view, o.counted.small);
           };
           behind = o.behind;
+          entered = λ x some-window given. omega (arith, o.entered x some-window (omega (arith, given, sums (λ (u : View). count_in x u.tickets), total-append (within (first_of x) 4294967296) v.tickets w.tickets)), starts x);
           parts = omega (arith, sums (λ (u : View). u.weight), o.parts);
           each = λ by u there'. ⊎_elim
               (λ (e : (by ≡ other) × (blank_view ≡ u)). subst F e.1 fits-blank)
@@ -143,29 +147,6 @@ module _ (k : Terms) where
               (at_set views id by joined u e.1))
               (at_set middle other by blank_view u there');
         };
-      }
-
-  -- in each window the tickets are no more than its requests allow
-  pub windows_kept : (s : State ℕ View) → IsKept k s → (w : ℕ) → tickets_in s.views w ≤ allowed k (requests_in s.views w)
-  windows_kept s kept w =
-      let o = kept.orderly in
-      let n : ℕ = allowed k (requests_in s.views w) in
-      let h : ℕ → ℕ = within (first_of w) n in
-      let each : tickets_in s.views w ≤ total (ticket_weight h) s.views =
-      total-le (λ (v : View). count_in w v.tickets) (ticket_weight h) s.views (λ i u at. count_in-allowed k (requests_in s.views) w u.tickets (o.each i u at).allows) in
-      omega (arith, o.dealt.once h, below-within (first_of w) n (drawn_of s))
-
-  -- what all passes have is what the pass has that has all parts
-  pub is_whole : (s : State ℕ View) → IsKept k s → (id : ℕ) (v : View) → get_elem? s.views id ≡ some v → v.weight ≡ 4611686018427387904 → IsWhole k v
-  is_whole s kept id v at all =
-      let o = kept.orderly in
-      let here : weights s.views ≡ v.weight = o.parts ∙ sym all in
-      record {
-        all = all;
-        windows = λ w.
-            let tickets : tickets_in s.views w ≡ count_in w v.tickets = alone (λ (u : View). count_in w u.tickets) (λ (u : View). u.weight) s.views id v (λ i u there e. ap (count_in w) ((o.each i u there).spent e).0) at here in
-            let requests : requests_in s.views w ≡ count_in w v.requests = alone (λ (u : View). count_in w u.requests) (λ (u : View). u.weight) s.views id v (λ i u there e. ap (count_in w) ((o.each i u there).spent e).1) at here in
-            omega (arith, windows_kept s kept w, ap (allowed k) requests);
       }
 
   first-view : (by : ℕ) (v : View) → get_elem? (first_view k ∷ []) by ≡ some v → first_view k ≡ v
@@ -183,8 +164,9 @@ module _ (k : Terms) where
           dealt = record { once = λ h. omega arith; all = λ h. omega arith; from = omega arith; to = omega arith; begun = λ h. absurd (omega arith) };
           counted = record { once = λ h. omega arith; all = λ h. omega arith; from = omega arith; opened = λ h. absurd (omega arith); small = omega (arith, may_count-le (first_view k)) };
           behind = omega arith;
+          entered = λ w some-window given. absurd (omega arith);
           parts = omega arith;
-          each = λ by v at. subst (Fits k 0 0 (tickets_in (first_view k ∷ [])) (requests_in (first_view k ∷ []))) (first-view by v at)
-              (record { allows = tt; seen = omega arith; counted = omega arith; found = omega arith; given = λ w low high. absurd (omega arith); live = λ h. refl; spent = λ none. absurd (omega arith) });
+          each = λ by v at. subst (Fits k 0 0 (tickets_in (first_view k ∷ [])) (requests_in (first_view k ∷ [])) (begins (first_view k ∷ []))) (first-view by v at)
+              (record { allows = tt; seen = omega arith; counted = omega arith; begun = λ some-window. absurd (omega arith); found = omega arith; given = λ w low high. absurd (omega arith); live = λ h. refl; spent = λ none. absurd (omega arith) });
         }));
   }

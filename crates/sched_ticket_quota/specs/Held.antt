@@ -6,36 +6,39 @@ use Rattle.sched_ticket_quota.specs.Steps.{Sat}
 use Rattle.sched_ticket_quota.specs.declared.view.Terms.{Terms}
 use Rattle.sched_ticket_quota.specs.declared.view.View.{View}
 
--- which quota it is, and what it was made with
+-- which quota it is, and what it was made with: `start` is the window that it was made in, counted from moment 0
 pub record Name : Type 0 where
   pub table : TableId
   pub terms : Terms
+  pub start : ℕ
 
 -- which quota a pass is of, and what it has of it
 pub record Held : Type 0 where
   pub table : TableId
+  pub start : ℕ
   pub has : View
 
 -- the pass is of this quota
 abbrev pub IsOf : Name → Held → Type 0
-IsOf b p = (p.table ≡ b.table) × (p.has.terms ≡ b.terms)
+IsOf b p = (p.table ≡ b.table) × (p.has.terms ≡ b.terms) × (p.start ≡ b.start)
 
 -- terms that a quota can be made with
 pub record AreTerms (k : Terms) : Type 0 where
   pub reserve : k.reserve ≤ 4294967296
   pub share : k.share ≤ 1000000
-  pub period : 0 < k.period
+  pub period : 100 ≤ k.period
 
--- a quota's table has 32 words and no slot, and is under the rule for its terms
-pub record IsLaidOut (table : TableId) (key about : Terms) : Type 0 where
+-- a quota's table has 32 words and no slot, and is under the rule for its terms; it was made in a moment's window
+pub record IsLaidOut (table : TableId) (key about : Terms) (from : ℕ) : Type 0 where
   pub words : table.words ≡ 32
   pub slots : table.slots ≡ 0
   pub about_is : key ≡ about
   pub terms : AreTerms about
+  pub early : from ≤ 4611686018427387903
 
 -- a pass keeps what its view has: n tickets, a weight w, the number of its last request, and the moment up to which the
 -- window of the requests that it has seen is not over
-pub record IsKnown (m : Sat) (n w told until : ℕ) : Type 0 where
+pub record IsKnown (m : Sat) (n w told from until : ℕ) : Type 0 where
   pub bare : m.1 ≡ []
   pub tickets : length m.0.tickets ≡ n
   pub weight : m.0.weight ≡ w
@@ -43,4 +46,4 @@ pub record IsKnown (m : Sat) (n w told until : ℕ) : Type 0 where
   pub live : 0 < w
   pub few_parts : w ≤ 4611686018427387904
   pub few_tickets : n ≤ 17496587910722355200
-  pub goes_on : 0 < until → window_at m.0.terms (until - 1) ≤ window_of m.0.seen
+  pub goes_on : 0 < until → window_at m.0.terms from (until - 1) ≤ window_of m.0.seen

@@ -1,5 +1,5 @@
 -- What holds of a quota between any two atomic steps, of its two words and of the views of all its passes.
-use Rattle.std.specs.Prelude.{◌≡◌, ℕ, ◌+◌, ◌<◌, ◌≤◌, List, [], length, slice_index, if◌then◌else◌, nat_lt}
+use Rattle.std.specs.Prelude.{◌≡◌, ℕ, ◌+◌, ◌-◌, ◌/◌, ◌<◌, ◌≤◌, List, [], length, slice_index, if◌then◌else◌, nat_lt}
 use mathlib.Core.Option.{some}
 use lib.ListN.{get_elem?}
 use Rattle.atomic_table.specs.Table.{State}
@@ -34,6 +34,10 @@ may_count v = if nat_lt v.told 12884901888000000000 then v.weight else 0
 abbrev pub openings : List View → ℕ → ℕ
 openings views first = total (λ (v : View). times first v.opened) views
 
+-- how often a window was begun: opened by a call, or by the requests past the 4294967296 of the window before
+abbrev pub begins : List View → ℕ → ℕ
+begins views w = openings views (first_of w) + requests_in views (w - 1) / 4294967296
+
 -- the tickets are numbers below `drawn`, each once, and all numbers from the latest window on
 pub record IsDealt (drawn window : ℕ) (views : List View) : Type 0 where
   pub once : (h : ℕ → ℕ) → total (ticket_weight h) views ≤ below h drawn
@@ -64,10 +68,11 @@ abbrev pub IsFound : (ℕ → ℕ) → ℕ → Type 0
 IsFound tickets d = (w : ℕ) → first_of w < d → d ≤ first_of w + 4294967296 → d ≤ first_of w + tickets w
 
 -- one view fits the words, and what all views have of each window
-pub record Fits (k : Terms) (drawn asked : ℕ) (tickets requests : ℕ → ℕ) (v : View) : Type 0 where
+pub record Fits (k : Terms) (drawn asked : ℕ) (tickets requests starts : ℕ → ℕ) (v : View) : Type 0 where
   pub allows : Each (IsAllowed k requests) v.tickets
   pub seen : v.seen ≤ asked
   pub counted : IsSeen requests v.seen
+  pub begun : 0 < window_of v.seen → 0 < starts (window_of v.seen)
   pub found : v.found ≤ drawn
   pub given : IsFound tickets v.found
   pub live : 0 < v.weight → v.terms ≡ k
@@ -78,11 +83,12 @@ pub record Fits (k : Terms) (drawn asked : ℕ) (tickets requests : ℕ → ℕ)
 pub record IsOrderly (k : Terms) (drawn window asked latest : ℕ) (views : List View) : Type 0 where
   pub dealt : IsDealt drawn window views
   pub counted : IsCounted asked latest views
-  -- no ticket is of a window that was not opened
+  -- no ticket is of a window that was not begun
   pub behind : first_of window ≤ asked
+  pub entered : (w : ℕ) → 0 < w → 0 < tickets_in views w → 0 < begins views w
   pub parts : weights views ≡ 4611686018427387904
   pub each : (by : ℕ) (v : View) → get_elem? views by ≡ some v →
-      Fits k drawn asked (tickets_in views) (requests_in views) v
+      Fits k drawn asked (tickets_in views) (requests_in views) (begins views) v
 
 -- the two words of a quota's table, which lie 16 apart
 abbrev pub drawn_of : State ℕ View → ℕ

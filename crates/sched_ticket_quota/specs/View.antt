@@ -17,6 +17,7 @@ fresh_view k seen told found weight = record {
   found = found;
   weight = weight;
   readings = 0;
+  looks = 0;
   losses = 0;
 }
 
@@ -41,7 +42,7 @@ with_request v n = record v { requests = n ∷ v.requests; seen = n + 1; told = 
 
 -- a pass that has looked at the draws, and has lost no race since
 abbrev pub with_found : View → ℕ → View
-with_found v d = record v { found = d; losses = 0 }
+with_found v d = record v { found = d; looks = v.looks + 1; losses = 0 }
 
 abbrev pub with_ticket : View → ℕ → View
 with_ticket v t = record v { tickets = t ∷ v.tickets; found = t + 1 }
@@ -74,5 +75,6 @@ joined_view v w = record {
   found = v.found;
   weight = v.weight + w.weight;
   readings = v.readings + w.readings;
+  looks = v.looks + w.looks;
   losses = v.losses;
 }

@@ -1,5 +1,5 @@
 -- Windows of time, and how many tickets one may give.
-use Rattle.std.specs.Prelude.{ℕ, ◌+◌, ◌-◌, ◌*◌, ◌/◌, ◌%◌, min, List, if◌then◌else◌, ◌==◌}
+use Rattle.std.specs.Prelude.{ℕ, ◌+◌, ◌-◌, ◌*◌, ◌/◌, ◌%◌, min, List, if◌then◌else◌, nat_lt}
 use Rattle.sched_ticket.specs.Lists.{total, once_below}
 use Rattle.sched_ticket_quota.specs.declared.view.Terms.{Terms}
 
@@ -11,14 +11,15 @@ window_of n = n / 4294967296
 abbrev pub first_of : ℕ → ℕ
 first_of w = w * 4294967296
 
--- the window of a moment, of which 2999999999 is the last
-abbrev pub window_at : Terms → ℕ → ℕ
-window_at k now = min (now / k.period) 2999999999
+-- the window of a moment: a quota's are counted from the one that it was made in, so many periods after moment 0, and
+-- 2999999999 is the last
+abbrev pub window_at : Terms → ℕ → ℕ → ℕ
+window_at k start now = min (now / k.period - start) 2999999999
 
--- the window that a call in this one opens, where it read q requests: its own, or 3600 past the latest where that is
--- earlier. The first is opened wherever it is.
-abbrev pub opening : ℕ → ℕ → ℕ
-opening window q = if q == 0 then window else min window (window_of q + 3600)
+-- the moment from which on a call opens a later window. The last does not end before the last moment.
+abbrev pub end_of : Terms → ℕ → ℕ → ℕ
+end_of k start w =
+    if nat_lt w 2999999999 then min ((start + w + 1) * k.period) 4611686018427387903 else 4611686018427387903
 
 -- the tickets that a window of n requests may give, at most 4294967296
 abbrev pub allowed : Terms → ℕ → ℕ

@@ -1,5 +1,6 @@
 //! Why a call on a quota was refused.
 
+use sched_time::Moment;
 use thiserror::Error;
 
 /// Why a quota was not made, or a pass not split.
@@ -11,8 +12,8 @@ pub enum QuotaFault {
     /// The share is more than 1,000,000 thousandths.
     #[error("the share is more than 1000 tickets a request")]
     ShareTooLarge,
-    /// The period is 0.
-    #[error("the window is shorter than 1 ms")]
+    /// The period is less than 100 ms.
+    #[error("the window is shorter than 100 ms")]
     PeriodTooShort,
     /// A growth was refused.
     #[error("no memory")]
@@ -20,6 +21,18 @@ pub enum QuotaFault {
     /// The pass has one part, which it keeps.
     #[error("the pass has no part to give")]
     TooManyPasses,
+}
+
+/// Why a draw was refused. The pass may draw again.
+#[derive(Clone, Copy, Debug, PartialEq, Eq, Drop, Error)]
+pub enum Refusal {
+    /// As many tickets were given in the window as its requests allow. It ends at this moment, and the next has a
+    /// reserve again; till then only further requests allow more.
+    #[error("the tickets of the window are out")]
+    WindowOut(Moment),
+    /// Other draws came first 64 times in this call.
+    #[error("64 races with other draws were lost")]
+    RacesLost,
 }
 
 /// A quota was not closed: another of its passes is alive, or was dropped.

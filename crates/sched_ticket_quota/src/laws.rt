@@ -3,6 +3,8 @@
 ghost use Rattle.sched_ticket_quota.specs.Laws.{TicketsStandOnce, RequestsStandOnce, WindowsAreKept, WindowsAreSmall};
 ghost use Rattle.sched_ticket_quota.specs.Laws.{LatestIsCounted, RefusalsAreJust, SightIsTrue, WindowsWereOpened};
 ghost use Rattle.sched_ticket_quota.specs.Laws.{PartsAreKept, SpentHasNothing, WordsStaySmall};
+ghost use Rattle.sched_ticket_quota.specs.Clocks.{OpensItsOwn, DrawsNoEarlier, CountsNoEarlier, WindowsEnd};
+ghost use Rattle.sched_ticket_quota.specs.Clocks.{EndsWithinAPeriod, ClocksAreBounded};
 
 /// No ticket is given twice, and no request is counted twice.
 pub fn numbers_stand_once()
@@ -29,6 +31,26 @@ pub fn refusals_are_just()
 /// all counted.
 pub fn windows_were_opened()
     ensures { WindowsWereOpened }
+{}
+
+/// A call opens no window, or that of its own moment alone, and draws and counts in no earlier one.
+pub fn calls_go_by_their_moments()
+    ensures opens { OpensItsOwn }
+    ensures draws { DrawsNoEarlier }
+    ensures counts { CountsNoEarlier }
+{}
+
+/// The windows from that of a moment on have at most two reserves, one more for each period until another moment, one for
+/// each call that opened a window past that one's, and the share of the requests counted in them.
+pub fn clocks_are_bounded()
+    ensures { ClocksAreBounded }
+{}
+
+/// A moment is in a later window than one that has ended by then, and in no later one than one that has not. The window of
+/// a moment ends within a period, but for the last.
+pub fn windows_end()
+    ensures end { WindowsEnd }
+    ensures soon { EndsWithinAPeriod }
 {}
 
 /// The passes' parts are 2^62 in all, and what stands for no part has nothing.

@@ -14,7 +14,7 @@ mod quota;
 mod rule;
 mod view;
 
-pub use fault::{PassesOut, QuotaFault};
-pub use pass::{MAX_LEAP, MAX_TRIES, Pass, Usage};
-pub use quota::{LAST_WINDOW, MAX_RESERVE, MAX_SHARE, Quota};
+pub use fault::{PassesOut, QuotaFault, Refusal};
+pub use pass::{MAX_TRIES, Pass, Usage};
+pub use quota::{LAST_WINDOW, MAX_RESERVE, MAX_SHARE, MIN_PERIOD, Quota};
 pub use view::{Terms, View};

@@ -1,26 +1,24 @@
 //! The pass: the right to count requests and to draw tickets of a quota, and what was drawn with it.
 ghost use Rattle.std.specs.Prelude.{◌≡◌, ◌+◌, ◌-◌, ◌*◌, ◌/◌, ◌<◌, ◌≤◌, ◌%◌, ◌⊎◌, [], ◌∷◌, length, min, max};
-ghost use Rattle.std.specs.Prelude.{IfOk, IfErr, OnOk, IfSome, IfNone, MatchOption};
-ghost use Rattle.sched_ticket_quota.specs.Windows.{window_of, first_of, window_at, opening, allowed, floor_of};
+ghost use Rattle.std.specs.Prelude.{IfOk, IfErr, OnOk};
+ghost use Rattle.sched_ticket_quota.specs.Windows.{window_of, first_of, window_at, end_of, allowed, floor_of};
 ghost use Rattle.sched_ticket_quota.specs.View.{fresh_view, with_reading, with_opening, with_ticket, next_ticket};
 ghost use Rattle.sched_ticket_quota.specs.View.{without_part, part_of, joined_view};
 ghost use Rattle.sched_ticket_quota.specs.Steps.{IsLater, IsSound, IsNoLater};
-ghost use Rattle.sched_ticket_quota.specs.Held.{AreTerms, IsOf};
+ghost use Rattle.sched_ticket_quota.specs.Held.{IsOf};
+ghost use Rattle.sched_ticket_quota.specs.Whole.{IsWhole};
 ghost use Rattle.sched_ticket_quota.specs.Calls.{Meets, Opens, Turned, Deposited, Tried};
 ghost use Rattle.sched_ticket_quota.specs.Calls.{Drew, DrawRefused, Won, WonNone, Told};
 
-use crate::fault::QuotaFault;
+use crate::fault::{QuotaFault, Refusal};
 use crate::quota::{DRAWS, LAST_WINDOW, NUMBERS, Quota, REQUESTS};
 use crate::rule::{Count, Find, Learn, Merge, Open, Part, Read, Win};
-use crate::view::{Terms, View};
-use sched_ticket::parts::given;
-use sched_time::Moment;
+use crate::view::View;
+use sched_ticket::parts::{ALL_PARTS, given};
+use sched_time::{FAR, Moment};
 use std::marker::Model;
 
 pub(crate) type Seat = atomic_table::Seat<u8, View>;
-
-/// How far past the latest window one call opens another.
-pub const MAX_LEAP: u64 = 3600;
 
 /// How many races with other draws one draw loses before it gives up.
 pub const MAX_TRIES: u64 = 64;
@@ -28,7 +26,7 @@ pub const MAX_TRIES: u64 = 64;
 /// What is known of a window: as one look at its requests and one at its tickets showed.
 #[derive(Clone, Copy, Debug, PartialEq, Eq, Drop)]
 pub struct Usage {
-    /// Which window it is, from 0 on.
+    /// Which window it is, from 0 on, the one in which the quota was made.
     pub window: u64,
     /// The requests that were counted in it.
     pub asked: u64,
@@ -36,6 +34,8 @@ pub struct Usage {
     pub given: u64,
     /// The tickets that it may yet give for the requests counted.
     pub left: u64,
+    /// When the next window begins. If that is further off than a period, a call whose clock was ahead opened this one.
+    pub next: Moment,
 }
 
 /// The right to count requests and to draw tickets of one quota. Contracts see it as its quota and what it has of it.
@@ -48,6 +48,8 @@ pub struct Pass {
     pub(crate) weight: u64,
     /// The word of requests after the last one that it counted.
     told: u64,
+    /// The window that the quota was made in, counted from moment 0.
+    start: u64,
     /// Before this moment the window is not over that it has seen.
     until: u64,
 }
@@ -57,23 +59,24 @@ impl Model for Pass {
 
     ghost Value = { Held };
 
-    ghost view = { λ p. record { table = p.seat.table_id; has = p.seat.me.0 } };
+    ghost view = { λ p. record { table = p.seat.table_id; start = p.start; has = p.seat.me.0 } };
 
-    ghost invariant = { λ p. IsKnown p.seat.me p.granted p.weight p.told p.until };
+    ghost invariant = { λ p. IsKnown p.seat.me p.granted p.weight p.told p.start p.until };
 }
 
 impl Pass {
-    pub(crate) fn start(seat: Seat, weight: u64, told: u64) -> Pass
+    pub(crate) fn of_seat(seat: Seat, weight: u64, told: u64, start: u64) -> Pass
         requires bare { seat.me.1 ≡ [] }
         requires new { seat.me.0 ≡ fresh_view seat.me.0.terms seat.me.0.seen told seat.me.0.found weight }
         requires live { (0 < weight) × (weight ≤ 4611686018427387904) }
-        ensures { (result.table ≡ seat.table_id) × (result.has ≡ seat.me.0) }
+        ensures { (result.table ≡ seat.table_id) × (result.start ≡ start) × (result.has ≡ seat.me.0) }
     {
         Pass {
             seat,
             granted: 0,
             weight,
             told,
+            start,
             until: 0,
         }
     }
@@ -90,7 +93,7 @@ impl Pass {
     pub fn deposit(&mut self, quota: &Quota, now: Moment)
         requires { IsOf quota.now self.old }
         ensures of { IsOf quota.now self.new }
-        ensures counted { Deposited quota.now.terms now self.old.has self.new.has }
+        ensures counted { Deposited quota.now now self.old.has self.new.has }
         ensures tickets { self.new.has.tickets ≡ self.old.has.tickets }
     {
         self.turn(quota, now);
@@ -103,19 +106,20 @@ impl Pass {
         }
     }
 
-    /// A ticket of the window of `now`, or of the latest one where that is later. None where so many were given there
-    /// as its requests allow, or where other draws came first 64 times in this call. A pass that was refused may draw again.
-    pub fn draw(&mut self, quota: &Quota, now: Moment) -> Option<u64>
+    /// A ticket of the window of `now`, or of the latest one where that is later. `WindowOut` where so many were given
+    /// there as its requests allow, with the moment at which the next window begins, and `RacesLost` where other draws
+    /// came first 64 times in this call. A pass that was refused may draw again.
+    pub fn draw(&mut self, quota: &Quota, now: Moment) -> Result<u64, Refusal>
         requires { IsOf quota.now self.old }
         ensures of { IsOf quota.now self.new }
-        ensures some { IfSome result (λ t. Drew quota.now.terms now self.old.has t self.new.has) }
-        ensures none { IfNone result (DrawRefused quota.now.terms now self.old.has self.new.has) }
-        ensures tickets { MatchOption result
-            (self.new.has.tickets ≡ self.old.has.tickets) (λ t. self.new.has.tickets ≡ t ∷ self.old.has.tickets) }
+        ensures ok { IfOk result (λ t. Drew quota.now now self.old.has t self.new.has) }
+        ensures err { IfErr result (λ why. DrawRefused quota.now now self.old.has why self.new.has) }
+        ensures gained { IfOk result (λ t. self.new.has.tickets ≡ t ∷ self.old.has.tickets) }
+        ensures kept { IfErr result (λ _. self.new.has.tickets ≡ self.old.has.tickets) }
     {
         self.turn(quota, now);
         let ticket = win(quota, &mut self.seat);
-        if ticket.is_some() {
+        if ticket.is_ok() {
             self.granted += 1;
         }
         ticket
@@ -137,7 +141,7 @@ impl Pass {
         let parts = given(self.weight);
         let seat = quota.table.shared.split_seat::<Part>(&mut self.seat);
         self.weight -= parts;
-        Ok(Pass::start(seat, parts, self.told))
+        Ok(Pass::of_seat(seat, parts, self.told, self.start))
     }
 
     /// One pass with what both have.
@@ -153,7 +157,7 @@ impl Pass {
             granted,
             weight,
             told,
-            until: _,
+            ..
         } = other;
         quota.table.shared.join_seat::<Merge>(&mut self.seat, seat);
         quota.table.shared.load::<Learn>(&mut self.seat, DRAWS);
@@ -163,12 +167,27 @@ impl Pass {
         self
     }
 
+    /// The number of tickets that were given out, where this pass is the whole: it has all parts of the quota. Otherwise
+    /// it is one of several, of which another is alive or was dropped, and it comes back as it was.
+    pub fn total(mut self, quota: &Quota) -> Result<u64, Pass>
+        requires { IsOf quota.now self }
+        ensures granted { IfOk result (λ n. n ≡ length self.has.tickets) }
+        ensures whole { OnOk result (IsWhole quota.now.terms self.has) }
+        ensures err { IfErr result (λ p. (p ≡ self) × (self.has.weight < 4611686018427387904)) }
+    {
+        if self.weight < ALL_PARTS {
+            return Err(self);
+        }
+        quota.table.shared.load::<Learn>(&mut self.seat, DRAWS);
+        Ok(self.granted)
+    }
+
     /// What was asked of the window of `now`, or of the latest one where that is later, what it has given and what it
-    /// has left, each as of one moment in this call.
+    /// has left, each as of one moment in this call, and when the next window begins.
     pub fn seen(&mut self, quota: &Quota, now: Moment) -> Usage
         requires { IsOf quota.now self.old }
         ensures of { IsOf quota.now self.new }
-        ensures told { Told quota.now.terms now self.old.has self.new.has result }
+        ensures told { Told quota.now now self.old.has self.new.has result }
     {
         self.turn(quota, now);
         let drawn = quota.table.shared.load::<Find>(&mut self.seat, DRAWS);
@@ -181,6 +200,7 @@ impl Pass {
             asked,
             given,
             left: room.saturating_sub(given),
+            next: end_of(quota, requests / NUMBERS),
         }
     }
 
@@ -188,15 +208,17 @@ impl Pass {
     fn turn(&mut self, quota: &Quota, now: Moment)
         requires { IsOf quota.now self.old }
         ensures of { IsOf quota.now self.new }
-        ensures turned { Turned quota.now.terms now self.old.has self.new.has }
+        ensures turned { Turned quota.now now self.old.has self.new.has }
         ensures tickets { self.new.has.tickets ≡ self.old.has.tickets }
     {
         if now.get() < self.until {
             return;
         }
-        let window = (now.get() / quota.terms.period.get()).min(LAST_WINDOW);
+        let window = (now.get() / quota.terms.period.get())
+            .saturating_sub(quota.start)
+            .min(LAST_WINDOW);
         let latest = reach(quota, &mut self.seat, window);
-        self.until = end_of(quota.terms, latest);
+        self.until = end_of(quota, latest).get();
     }
 }
 
@@ -213,36 +235,32 @@ fn reach(quota: &Quota, seat: &mut Seat, window: u64) -> u64
     if window <= requests / NUMBERS {
         return requests / NUMBERS;
     }
-    let next = leap(window, requests);
     let found = quota
         .table
         .shared
-        .fetch_max::<Open>(seat, REQUESTS, next * NUMBERS);
-    found.max(next * NUMBERS) / NUMBERS
+        .fetch_max::<Open>(seat, REQUESTS, window * NUMBERS);
+    found.max(window * NUMBERS) / NUMBERS
 }
 
-/// Which window is opened on the way to this one, where so many requests were read.
-fn leap(window: u64, requests: u64) -> u64
-    ensures next { result ≡ opening window requests }
-    ensures no_later { result ≤ window }
-{
-    if requests == 0 {
-        window
-    } else {
-        window.min(requests / NUMBERS + MAX_LEAP)
-    }
-}
-
-/// The first moment after this window.
-fn end_of(terms: Terms, window: u64) -> u64
-    requires { AreTerms terms }
-    ensures { 0 < result → window_at terms (result - 1) ≤ window }
+/// When this window ends.
+fn end_of(quota: &Quota, window: u64) -> Moment
+    ensures { result ≡ end_of quota.now.terms quota.now.start window }
 {
     if window >= LAST_WINDOW {
-        u64::MAX
+        capped(FAR)
     } else {
-        (window + 1).saturating_mul(terms.period.get())
+        capped((quota.start + window + 1).saturating_mul(quota.terms.period.get()))
     }
+}
+
+/// The moment at so many milliseconds, or the last one.
+fn capped(millis: u64) -> Moment
+    ensures { result ≡ min millis 4611686018427387903 }
+{
+    let Some(moment) = Moment::new(millis.min(FAR)) else {
+        unreachable!()
+    };
+    moment
 }
 
 /// How many tickets a window of so many requests may give.
@@ -254,12 +272,12 @@ fn room(quota: &Quota, asked: u64) -> u64
 }
 
 /// Draws the next ticket of the latest window, if there is room for it.
-fn win(quota: &Quota, seat: &mut Seat) -> Option<u64>
+fn win(quota: &Quota, seat: &mut Seat) -> Result<u64, Refusal>
     requires of { (seat.old.table_id ≡ quota.now.table) × (seat.old.me.0.terms ≡ quota.now.terms) }
     requires live { 0 < seat.old.me.0.weight }
     ensures seat { (seat.new.table_id ≡ seat.old.table_id) × (seat.new.me.1 ≡ seat.old.me.1) }
-    ensures some { IfSome result (λ t. Won quota.now.terms seat.old.me.0 t seat.new.me.0) }
-    ensures none { IfNone result (WonNone quota.now.terms seat.old.me.0 seat.new.me.0) }
+    ensures ok { IfOk result (λ t. Won quota.now.terms seat.old.me.0 t seat.new.me.0) }
+    ensures err { IfErr result (λ why. WonNone quota.now seat.old.me.0 why seat.new.me.0) }
 {
     let mut drawn = quota.table.shared.load::<Find>(seat, DRAWS);
     for _ in 0..MAX_TRIES {
@@ -267,16 +285,16 @@ fn win(quota: &Quota, seat: &mut Seat) -> Option<u64>
         let asked = requests % NUMBERS;
         let ticket = drawn.max(requests - asked);
         if ticket >= requests - asked + room(quota, asked) {
-            return None;
+            return Err(Refusal::WindowOut(end_of(quota, requests / NUMBERS)));
         }
         let found = quota
             .table
             .shared
             .compare_exchange::<Win>(seat, DRAWS, drawn, ticket + 1);
         if found == drawn {
-            return Some(ticket);
+            return Ok(ticket);
         }
         drawn = found;
     }
-    None
+    Err(Refusal::RacesLost)
 }

@@ -1,15 +1,17 @@
 //! The quota: making it, and closing it with the pass that has all parts.
-ghost use Rattle.std.specs.Prelude.{◌≡◌, ◌<◌, length, IfOk, IfErr, OnOk};
+ghost use Rattle.std.specs.Prelude.{◌≡◌, ◌/◌, ◌<◌, length, IfOk, IfErr, OnOk};
 ghost use Rattle.sched_ticket_quota.specs.View.{first_view};
 ghost use Rattle.sched_ticket_quota.specs.Held.{AreTerms, IsOf};
-ghost use Rattle.sched_ticket_quota.specs.Calls.{RefusesTerms, IsWhole};
+ghost use Rattle.sched_ticket_quota.specs.Calls.{RefusesTerms};
+ghost use Rattle.sched_ticket_quota.specs.Whole.{IsWhole};
 
 use crate::fault::{PassesOut, QuotaFault};
-use crate::pass::{Pass, Seat};
+use crate::pass::Pass;
 use crate::rule::Rule;
 use crate::view::{Terms, View};
 use atomic_table::Table;
 use sched_ticket::parts::ALL_PARTS;
+use sched_time::Moment;
 use std::alloc::Global;
 use std::marker::Model;
 
@@ -19,7 +21,10 @@ pub const MAX_RESERVE: u64 = 4294967296;
 /// The greatest share, in thousandths of a ticket a request.
 pub const MAX_SHARE: u64 = 1000000;
 
-/// The last window, which does not end.
+/// The shortest period, in milliseconds.
+pub const MIN_PERIOD: u64 = 100;
+
+/// The last window, which does not end: the first is that in which the quota was made, and has the number 0.
 pub const LAST_WINDOW: u64 = 2999999999;
 
 /// The numbers of a window.
@@ -37,6 +42,8 @@ pub(crate) const REQUESTS: usize = 24;
 pub struct Quota {
     pub(crate) table: Table<u8, View, Terms, Rule, Global>,
     pub(crate) terms: Terms,
+    /// The window that it was made in, counted from moment 0.
+    pub(crate) start: u64,
 }
 
 impl Model for Quota {
@@ -44,15 +51,16 @@ impl Model for Quota {
 
     ghost Value = { Name };
 
-    ghost view = { λ b. record { table = b.table.shared.table_id; terms = b.terms } };
+    ghost view = { λ b. record { table = b.table.shared.table_id; terms = b.terms; start = b.start } };
 
-    ghost invariant = { λ b. IsLaidOut b.table.shared.table_id b.table.shared.key b.terms };
+    ghost invariant = { λ b. IsLaidOut b.table.shared.table_id b.table.shared.key b.terms b.start };
 }
 
 impl Quota {
-    /// A quota of these terms, and its first pass. No window is open before the first call.
-    pub fn new(alloc: Global, terms: Terms) -> Result<(Quota, Pass), QuotaFault>
+    /// A quota of these terms, and its first pass. The window of `now` is open, and windows are counted from it on.
+    pub fn new(alloc: Global, now: Moment, terms: Terms) -> Result<(Quota, Pass), QuotaFault>
         ensures ok { IfOk result (λ r. (r.0.terms ≡ terms) × IsOf r.0 r.1 × (r.1.has ≡ first_view terms)) }
+        ensures start { IfOk result (λ r. r.0.start ≡ now / terms.period) }
         ensures terms { OnOk result (AreTerms terms) }
         ensures err { IfErr result (RefusesTerms terms) }
     {
@@ -62,16 +70,24 @@ impl Quota {
         if terms.share > MAX_SHARE {
             return Err(QuotaFault::ShareTooLarge);
         }
-        if terms.period.get() == 0 {
+        if terms.period.get() < MIN_PERIOD {
             return Err(QuotaFault::PeriodTooShort);
         }
+        let start = now.get() / terms.period.get();
         match Table::of_words(alloc, &[0; 32], &terms) {
-            Ok((table, seat)) => Ok((Quota { table, terms }, Pass::start(seat, ALL_PARTS, 0))),
+            Ok((table, seat)) => {
+                let quota = Quota {
+                    table,
+                    terms,
+                    start,
+                };
+                Ok((quota, Pass::of_seat(seat, ALL_PARTS, 0, start)))
+            }
             Err(_) => Err(QuotaFault::NoMemory),
         }
     }
 
-    /// The number of tickets that were given out, where this pass has all parts.
+    /// The number of tickets that were given out, where this pass has all parts, as `Pass::total` tells.
     /// Otherwise another pass is alive or was dropped, and both come back as they were.
     pub fn close(self, pass: Pass) -> Result<u64, (Quota, Pass, PassesOut)>
         requires { IsOf self pass }
@@ -79,21 +95,9 @@ impl Quota {
         ensures whole { OnOk result (IsWhole self.terms pass.has) }
         ensures err { IfErr result (λ r. (r.0 ≡ self) × (r.1 ≡ pass) × (pass.has.weight < 4611686018427387904)) }
     {
-        if pass.weight < ALL_PARTS {
-            return Err((self, pass, PassesOut));
+        match pass.total(&self) {
+            Ok(granted) => Ok(granted),
+            Err(pass) => Err((self, pass, PassesOut)),
         }
-        let granted = pass.granted;
-        self.take_apart(pass.seat);
-        Ok(granted)
-    }
-
-    /// Frees the table.
-    fn take_apart(self, seat: Seat)
-        requires of { seat.table_id ≡ self.table }
-        requires all { seat.me.0.weight ≡ 4611686018427387904 }
-        ensures { IsWhole self.terms seat.me.0 }
-    {
-        let Quota { table, terms: _ } = self;
-        table.close_with(seat).free();
     }
 }

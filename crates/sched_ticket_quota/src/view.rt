@@ -10,7 +10,7 @@ pub struct Terms {
     pub reserve: u64,
     /// The thousandths of a ticket that each request adds to its window, at most 1,000,000.
     pub share: u64,
-    /// How long a window is, from 1 ms on. Windows are counted from moment 0.
+    /// How long a window is, from 100 ms on. Windows begin at its multiples, from moment 0 on.
     pub period: Millis,
 }
 
@@ -35,6 +35,8 @@ pub struct View {
     pub weight: u64,
     /// How often it read the word of requests.
     pub readings: u64,
-    /// How many races its last draw lost: how often another draw came between its look and its own.
+    /// How often it looked at the word of draws.
+    pub looks: u64,
+    /// How many races it lost since its last look: how often another draw came between that look and its own.
     pub losses: u64,
 }

@@ -2,7 +2,7 @@
 ghost use Rattle.std.specs.Prelude.{◌≡◌, ◌≤◌, IfOk};
 ghost use Rattle.sched_ticket_quota.specs.Held.{IsOf};
 
-use sched_ticket_quota::{Pass, PassesOut, Quota, Terms, Usage};
+use sched_ticket_quota::{Pass, PassesOut, Quota, Refusal, Terms, Usage};
 use sched_time::{Millis, Moment};
 use std::process::Abort;
 use std::test::Fail;
@@ -29,13 +29,26 @@ fn terms(reserve: u64, share: u64, period: u32) -> Terms {
     }
 }
 
-// Asserts what a draw at this moment answers.
-fn draws(rt: &impl Abort, quota: &Quota, pass: &mut Pass, millis: u64, ticket: Option<u64>)
+// Asserts that a draw at this moment is given this ticket.
+fn draws(rt: &impl Abort, quota: &Quota, pass: &mut Pass, millis: u64, ticket: u64)
     requires of { IsOf quota.now pass.old }
     requires moment { millis ≤ 4611686018427387903 }
     ensures { IsOf quota.now pass.new }
 {
-    assert_eq!(rt; pass.draw(quota, at(millis)), ticket);
+    assert_eq!(rt; pass.draw(quota, at(millis)), Ok(ticket));
+}
+
+// Asserts that a draw at this moment finds the tickets of the window out, and that the next one begins then.
+fn is_out(rt: &impl Abort, quota: &Quota, pass: &mut Pass, millis: u64, next: u64)
+    requires of { IsOf quota.now pass.old }
+    requires moment { millis ≤ 4611686018427387903 }
+    requires next { next ≤ 4611686018427387903 }
+    ensures { IsOf quota.now pass.new }
+{
+    assert_eq!(rt;
+        pass.draw(quota, at(millis)),
+        Err(Refusal::WindowOut(at(next)))
+    );
 }
 
 // Counts a request at this moment.
@@ -47,18 +60,26 @@ fn asks(quota: &Quota, pass: &mut Pass, millis: u64)
     pass.deposit(quota, at(millis));
 }
 
-// Asserts what is seen at this moment: the window, and what was asked, given and is left in it.
-fn sees(rt: &impl Abort, quota: &Quota, pass: &mut Pass, millis: u64, want: (u64, u64, u64, u64))
+// Asserts what is seen at this moment: the window, what was asked, given and is left in it, and when the next begins.
+fn sees(
+    rt: &impl Abort,
+    quota: &Quota,
+    pass: &mut Pass,
+    millis: u64,
+    want: (u64, u64, u64, u64, u64),
+)
     requires of { IsOf quota.now pass.old }
     requires moment { millis ≤ 4611686018427387903 }
+    requires next { want.4 ≤ 4611686018427387903 }
     ensures { IsOf quota.now pass.new }
 {
-    let (window, asked, given, left) = want;
+    let (window, asked, given, left, next) = want;
     let usage = Usage {
         window,
         asked,
         given,
         left,
+        next: at(next),
     };
     assert_eq!(rt; pass.seen(quota, at(millis)), usage);
 }

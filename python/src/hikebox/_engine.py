@@ -9,9 +9,23 @@ from __future__ import annotations
 
 import ctypes
 import os
-from ctypes import POINTER, Structure, byref, c_bool, c_char_p, c_size_t, c_uint8, c_uint32, c_uint64, c_void_p
+from ctypes import POINTER, byref, c_char_p, c_size_t, c_uint8, c_uint32, c_uint64
 from typing import Any, Callable, ClassVar, Dict, List, NamedTuple, Optional, Tuple, TypeVar
 
+from ._structs import (
+    Asking,
+    Decision,
+    Handle,
+    Next,
+    Place,
+    Range,
+    Storm,
+    Stored,
+    Totals,
+    Usage,
+    Window,
+    Words,
+)
 from .errors import EngineError
 
 __all__ = [
@@ -49,11 +63,17 @@ FIXED = 31
 NO_TICKET = 32
 TOO_MANY_PASSES = 33
 PASSES_OUT = 34
+RACES_LOST = 38
 
 #: The most tickets of a budget, and of a window of a quota.
 MOST_TICKETS = 2**32
 #: The most thousandths of a ticket that a request gives.
 MOST_SHARE = 1_000_000
+#: The fewest milliseconds of a quota's window.
+LEAST_PERIOD = 100
+
+#: The greatest number that the engine takes.
+MOST_NUMBER = 2**64 - 1
 
 #: The deadline of a retry that has none.
 NO_DEADLINE = 2**64 - 1
@@ -62,62 +82,6 @@ NO_REPORT, WON, LOST = 0, 1, 2
 POLL, RUN, WAIT, OVER = 0, 1, 2, 3
 ON_NOTHING, ON_BUDGET, ON_QUOTA = 0, 1, 2
 
-
-class Handle(Structure):
-    """What the library keeps: one pointer, none where it holds nothing."""
-
-    _fields_ = [("held", c_void_p)]
-
-
-class Place(Structure):
-    _fields_ = [("line", c_uint64), ("column", c_uint64)]
-
-
-class Decision(Structure):
-    _fields_ = [("start", c_uint64), ("goes_on", c_bool)]
-
-
-class Next(Structure):
-    _fields_ = [
-        ("what", c_uint32),
-        ("how", c_uint32),
-        ("until", c_uint64),
-        ("granted", c_uint64),
-        ("runs", c_uint64),
-    ]
-
-
-class Usage(Structure):
-    _fields_ = [("window", c_uint64), ("asked", c_uint64), ("given", c_uint64), ("left", c_uint64)]
-
-
-def _numbers(names: str) -> List[Tuple[str, Any]]:
-    """Fields of these names, each a number."""
-    return [(name, c_uint64) for name in names.split()]
-
-
-class Storm(Structure):
-    _fields_ = _numbers(
-        "rate together seconds capacity patience queue outage_from outage_to slow_from slow_to slow_percent window until "
-        "calls words draws_on limit reserve share period"
-    )
-
-
-class Window(Structure):
-    _fields_ = _numbers("from requests won retries succeeded refused shed late waiting")
-
-
-class Totals(Structure):
-    _fields_ = [
-        *_numbers(
-            "requests won lost denied open calls hundredths most_calls most_from tickets p50 p99 slowest recovered"
-        ),
-        ("recovers", c_bool),
-        ("cut", c_bool),
-    ]
-
-
-Words = c_uint32 * 4
 
 _HANDLE = POINTER(Handle)
 _NUMBER = POINTER(c_uint64)
@@ -144,7 +108,7 @@ SIGNATURES: Dict[str, Tuple[Any, ...]] = {
     "hikebox_pass_count": (_HANDLE, _NUMBER),
     "hikebox_pass_close": (_HANDLE, _NUMBER),
     "hikebox_pass_free": (_HANDLE,),
-    "hikebox_quota_new": (c_uint64, c_uint64, c_uint64, _HANDLE),
+    "hikebox_quota_new": (c_uint64, c_uint64, c_uint64, c_uint64, _HANDLE),
     "hikebox_quota_deposit": (_HANDLE, c_uint64),
     "hikebox_quota_draw": (_HANDLE, c_uint64, _NUMBER),
     "hikebox_quota_seen": (_HANDLE, c_uint64, POINTER(Usage)),
@@ -161,6 +125,9 @@ SIGNATURES: Dict[str, Tuple[Any, ...]] = {
     "hikebox_retry_end": (_HANDLE, _HANDLE),
     "hikebox_retry_end_on_quota": (_HANDLE, _HANDLE),
     "hikebox_retry_free": (_HANDLE,),
+    "hikebox_quota_allows": (c_uint64, c_uint64, c_uint64, _NUMBER),
+    "hikebox_lease_of_budget": (c_uint64, POINTER(Asking), POINTER(Stored), POINTER(Range)),
+    "hikebox_lease_of_quota": (c_uint64, c_uint64, POINTER(Asking), POINTER(Stored), POINTER(Range)),
     "hikebox_storm_play": (_HANDLE, POINTER(Storm), POINTER(Window), c_size_t, POINTER(c_size_t), POINTER(Totals)),
 }
 
@@ -298,7 +265,7 @@ def play_storm(policy: PolicyHandle, storm: Storm) -> Tuple[List[Tuple[int, ...]
     status = _storm_play(policy.at, byref(storm), windows, room, byref(count), byref(totals))
     if status != OK:
         raise refused("hikebox_storm_play", status)
-    wide = len(Window._fields_)
+    wide = ctypes.sizeof(Window) // ctypes.sizeof(c_uint64)
     numbers = (c_uint64 * (wide * count.value)).from_buffer(windows)[:]
     return [tuple(numbers[at : at + wide]) for at in range(0, len(numbers), wide)], totals
 
@@ -440,10 +407,10 @@ class QuotaPass(BasePass):
         self._usage = Usage()
 
     @classmethod
-    def of_quota(cls, reserve: int, share: int, period: int) -> QuotaPass:
-        """The first pass of a new quota."""
+    def of_quota(cls, now: int, reserve: int, share: int, period: int) -> QuotaPass:
+        """The first pass of a new quota, whose windows are counted from the one of this moment."""
         made = cls()
-        status = library.hikebox_quota_new(reserve, share, period, made.at)
+        status = library.hikebox_quota_new(now, reserve, share, period, made.at)
         if status != OK:
             raise refused("hikebox_quota_new", status)
         return made
@@ -459,14 +426,16 @@ class QuotaPass(BasePass):
         """A ticket, or None where the window has none left."""
         self._now.value = now
         status = _quota_draw(self.at, self._now, self._at_ticket)
+        while status == RACES_LOST:  # to as many draws that got a ticket
+            status = _quota_draw(self.at, self._now, self._at_ticket)
         if status == OK:
             return self._ticket.value
         if status == NO_TICKET:
             return None
         raise refused("hikebox_quota_draw", status)
 
-    def seen(self, now: int) -> Tuple[int, int, int, int]:
-        """The window, the requests counted in it, the tickets given, and those that are left."""
+    def seen(self, now: int) -> Tuple[int, int, int, int, int]:
+        """The window, the requests counted in it, the tickets given, those that are left, and when the next begins."""
         usage = self._usage
         self._does("seen", now, byref(usage))
-        return usage.window, usage.asked, usage.given, usage.left
+        return usage.window, usage.asked, usage.given, usage.left, usage.next

@@ -8,9 +8,11 @@ import json
 import os
 import time
 import zlib
-from typing import Any, Callable, Dict, Iterator, List, Optional, Union
+from typing import Any, Callable, Dict, Iterator, List, Optional, Tuple, Union
 
-from ._stores import QuotaRange, Range, below, present_window, uptime
+from ._engine import MOST_NUMBER
+from ._leasing import Stored, lease_of_budget, lease_of_quota
+from ._stores import QuotaRange, Range, present_window, uptime
 from .errors import StoreError, StoreLost
 from .quota import Terms
 
@@ -40,19 +42,18 @@ class FileStore:
         """A range of this name's tickets, or of its present window's."""
         with self._locked() as file:
             counts = read_counts(file, self.path)
-            key, window, until = f"budget {name}", "", None
+            key, boot, number, until = f"budget {name}", "", 0, None
             if period is not None:
                 present = present_window(period, clock(), uptime(), clock())
-                key, window, until = f"windows of {period} ms of {name}", f"{_boot()} {present.number}", present.until
-            stored = counts.get(key, [window, 0])
-            if _is_later(stored[0], window):
+                key, boot, number, until = f"windows of {period} ms of {name}", _boot(), present.number, present.until
+            stored = _stored(counts.get(key), boot)
+            granted = lease_of_budget(limit, number, count, stored)
+            if granted is None:
                 return Range(0, 0, until, lost=True)
-            before = stored[1] if stored[0] == window else 0
-            granted = below(before, count, limit, until)
             if granted.tickets:
-                counts[key] = [window, before + granted.tickets]
+                counts[key] = [f"{boot} {number}" if boot else "", stored.given]
                 write_counts(file, counts)
-            return granted
+            return Range(granted.first, granted.tickets, until)
 
     def take_of_quota(
         self, name: str, terms: Terms, count: int, asked: Callable[[float], int], clock: Callable[[], float]
@@ -61,18 +62,18 @@ class FileStore:
         with self._locked() as file:
             counts = read_counts(file, self.path)
             present = present_window(terms.period, clock(), uptime(), clock())
-            key, window = f"quota of {terms.period} ms of {name}", f"{_boot()} {present.number}"
-            stored = counts.get(key, [window, 0, 0])
-            if _is_later(stored[0], window):
-                return QuotaRange(0, 0, present.until, present.number, 0, lost=True)
-            before, requests = stored[1:] if stored[0] == window else (0, 0)
+            key, boot, number = f"quota of {terms.period} ms of {name}", _boot(), present.number
+            stored = _stored(counts.get(key), boot)
+            # comes to the window before any request is told, as none is where the file has a later one
+            if lease_of_quota(terms, number, 0, 0, stored) is None:
+                return QuotaRange(0, 0, present.until, number, 0, lost=True)
             told = asked(present.began_by)
-            requests += told
-            tickets = max(0, min(count, terms.allowed(requests) - before))
-            if told or tickets:
-                counts[key] = [window, before + tickets, requests]
+            granted = lease_of_quota(terms, number, told, count, stored)
+            assert granted is not None
+            if told or granted.tickets:
+                counts[key] = [f"{boot} {number}", stored.given, stored.asked]
                 write_counts(file, counts)
-            return QuotaRange(before, tickets, present.until, present.number, requests)
+            return QuotaRange(granted.first, granted.tickets, present.until, number, stored.asked)
 
     @contextlib.contextmanager
     def _locked(self) -> Iterator[int]:
@@ -99,11 +100,16 @@ class FileStore:
                 time.sleep(0.001)
 
 
-def _is_later(stored: str, window: str) -> bool:
-    """Whether the window in the file is a later one of the same start of the machine."""
-    boot, _, number = stored.partition(" ")
-    present, _, now = window.partition(" ")
-    return boot == present and bool(number) and int(number) > int(now)
+def _stored(kept: Optional[List[Any]], boot: str) -> Stored:
+    """What the file keeps of a budget or a quota of this start of the machine, nothing where it is of another; without a
+    start that of a budget without windows."""
+    if kept is None:
+        return Stored()
+    started, _, window = kept[0].partition(" ")
+    numbers = [int(window or 0), *kept[1:]]
+    if not all(0 <= number <= MOST_NUMBER for number in numbers):
+        raise StoreLost("a count in the file is out of range")
+    return Stored(*numbers) if started == boot else Stored()
 
 
 def _boot() -> str:

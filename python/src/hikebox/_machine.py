@@ -14,14 +14,13 @@ from ._engine import (
     WAIT,
     BasePass,
     Handle,
-    Next,
     PolicyHandle,
-    Words,
     give_memory_back,
     library,
     refused,
     unchecked,
 )
+from ._structs import Next, Words
 
 __all__ = ["Machine", "lend_machine", "take_machine_back"]
 

@@ -6,7 +6,8 @@ import contextlib
 from typing import Any, Callable, Iterator, List, Optional, Tuple
 
 from ._engine import MOST_TICKETS
-from ._stores import Present, QuotaRange, Range, below, present_window
+from ._leasing import Stored, lease_of_budget
+from ._stores import Present, QuotaRange, Range, present_window
 from .errors import StoreError, StoreLost
 from .quota import Terms
 
@@ -85,7 +86,7 @@ class RedisStore:
             pipe.incrby(key, count)
             pipe.pexpire(key, 2 * period)
             after = int(self._answers(pipe, server)[0])
-            return below(after - count, count, limit, present.until)
+            return _below(limit, after - count, count, present.until)
 
     def take_of_quota(
         self, name: str, terms: Terms, count: int, asked: Callable[[float], int], clock: Callable[[], float]
@@ -118,7 +119,7 @@ class RedisStore:
         begun_on = server.decode() if isinstance(server, bytes) else server
         if not self.durable and begun_on != info["run_id"]:
             raise StoreLost(f"Redis was started anew since {name!r} was begun, and may have lost some of its count")
-        return below(before, count, limit, None)
+        return _below(limit, before, count, None)
 
     def _window(self, period: int, clock: Callable[[], float]) -> Tuple[Present, Optional[str]]:
         """The present window, and the name of this start of the server: None where the window may have begun before
@@ -144,6 +145,13 @@ class RedisStore:
         if info["run_id"] != server:
             raise StoreLost("Redis was started anew while it was asked")
         return answers
+
+
+def _below(limit: int, before: int, count: int, until: Optional[float]) -> Range:
+    """The lease of a server that has counted so many tickets, and `count` more for it."""
+    granted = lease_of_budget(limit, 0, count, Stored(given=before))
+    assert granted is not None
+    return Range(granted.first, granted.tickets, until)
 
 
 @contextlib.contextmanager

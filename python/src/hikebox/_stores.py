@@ -7,7 +7,7 @@ from typing import Callable, NamedTuple, Optional, Protocol
 
 from .quota import Terms
 
-__all__ = ["Present", "QuotaRange", "QuotaStore", "Range", "Store", "below", "present_window", "uptime"]
+__all__ = ["Present", "QuotaRange", "QuotaStore", "Range", "Store", "present_window", "uptime"]
 
 
 def uptime() -> float:
@@ -78,8 +78,3 @@ def present_window(period: int, before: float, moment: float, after: float) -> P
     number = int(moment * 1000 // period)
     passed = moment - number * period / 1000
     return Present(number, after - passed, before + period / 1000 - passed)
-
-
-def below(before: int, count: int, limit: int, until: Optional[float]) -> Range:
-    """Those of `count` numbers from `before` on that are below the limit."""
-    return Range(before, max(0, min(count, limit - before)), until)

@@ -4,12 +4,13 @@ from __future__ import annotations
 
 import math
 import time
-from dataclasses import dataclass
+from dataclasses import dataclass, field
 from functools import partial
 from typing import Callable, NamedTuple, Optional
 
-from ._engine import MOST_SHARE, MOST_TICKETS, QuotaPass
+from ._engine import LEAST_PERIOD, MOST_SHARE, MOST_TICKETS, QuotaPass
 from ._granting import Granting
+from ._leasing import quota_allows
 from ._passes import Passes
 from ._time import Duration, moment, seconds, seconds_text
 from .errors import PolicyError, TermsError
@@ -33,7 +34,7 @@ class Terms(NamedTuple):
         >>> Terms(10, 200, 1000).allowed(4), Terms(10, 200, 1000).allowed(5)
         (10, 11)
         """
-        return min(self.reserve + self.share * min(asked, MOST_TICKETS) // 1000, MOST_TICKETS)
+        return quota_allows(self.reserve, self.share, asked)
 
     def __str__(self) -> str:
         share = repr(self.share // 1000 if self.share % 1000 == 0 else self.share / 1000)
@@ -44,7 +45,7 @@ class Terms(NamedTuple):
 class Usage:
     """What is known of a window of a quota."""
 
-    #: Which window it is: the moment divided by the window's length.
+    #: Which window it is: from 0 on, in which the quota was made; of a `LeasedQuota` by the store's clock.
     window: int
     #: The requests that were counted in it.
     asked: int
@@ -54,10 +55,13 @@ class Usage:
     left: int
     #: Of a `LeasedQuota`: whether the store may have lost its count of the window, and so grants nothing of it.
     lost: bool = False
+    #: When the next window begins, in seconds of the quota's clock. If that is further off than `per`, this window was
+    #: opened by a call whose clock was ahead. None of a `LeasedQuota`. It is left out where usages are compared.
+    next: Optional[float] = field(default=None, compare=False)
 
 
 class Quota(Granting[QuotaPass]):
-    """Retries for a service: in each window of time no more than a reserve, and a share of the requests made in it.
+    """Retries for a service: each window of time grants no more than a reserve and a share of the requests made in it.
 
     `reserve`
         The retries of each window that ask for no request.
@@ -67,9 +71,10 @@ class Quota(Granting[QuotaPass]):
     `per`
         How long a window is: seconds, or a `timedelta`. Nothing is carried from a window to the next.
     `clock`
-        What tells the seconds by which windows are counted, from its 0 on: to be replaced in tests.
+        What tells the seconds by which windows go, from what it tells when the quota is made: to be replaced in tests.
 
-    A retry draws a ticket, and each call that is retried counts as one request, at its first attempt:
+    A retry draws a ticket where its attempt fails, and begins after its delay, maybe in a later window: more retries
+    can begin in a window than it granted. Each call that is retried counts as one request, at its first attempt:
 
     >>> from hikebox import recurs, retry
     >>> quota = Quota(reserve=10, share=0.2, per=10)
@@ -91,7 +96,7 @@ class Quota(Granting[QuotaPass]):
     ) -> None:
         self._terms = terms_of(reserve, share, per)
         self._clock = clock
-        self.passes = Passes("quota", partial(QuotaPass.of_quota, *self._terms))
+        self.passes = Passes("quota", partial(_first_pass, clock, self._terms))
 
     @property
     def terms(self) -> Terms:
@@ -115,7 +120,7 @@ class Quota(Granting[QuotaPass]):
 
     @property
     def clock(self) -> Callable[[], float]:
-        """What tells the seconds by which windows are counted."""
+        """What tells the seconds by which windows go."""
         return self._clock
 
     def deposit(self) -> None:
@@ -143,12 +148,13 @@ class Quota(Granting[QuotaPass]):
             self.passes.give_back(lent)
 
     def seen(self) -> Usage:
-        """What was asked of the present window, what it has given, and what it has left."""
+        """What was asked of the present window, what it has given, what it has left, and when the next begins."""
         lent = self.passes.lend()
         try:
-            return Usage(*lent.seen(moment(self._clock())))
+            window, asked, given, left, after = lent.seen(moment(self._clock()))
         finally:
             self.passes.give_back(lent)
+        return Usage(window, asked, given, left, next=after / 1000)
 
     def expression(self) -> str:
         return f"Quota({self._terms})"
@@ -156,6 +162,10 @@ class Quota(Granting[QuotaPass]):
     def moment_of(self, clock: float) -> int:
         """The moment at which a retry begins that begins at so many seconds of the quota's clock."""
         return moment(clock)
+
+
+def _first_pass(clock: Callable[[], float], terms: Terms) -> QuotaPass:
+    return QuotaPass.of_quota(moment(clock()), *terms)
 
 
 def terms_of(reserve: int, share: float, per: Duration) -> Terms:
@@ -184,6 +194,6 @@ def _period_of(per: Duration) -> int:
         period = seconds(per)
     except PolicyError as error:
         raise TermsError(f"the window of a quota: {error.hint}") from None
-    if period == 0:
-        raise TermsError(f"the window of a quota is at least a millisecond long, not {per!r}")
+    if period < LEAST_PERIOD:
+        raise TermsError(f"the window of a quota is at least {LEAST_PERIOD} ms long, not {per!r}")
     return period

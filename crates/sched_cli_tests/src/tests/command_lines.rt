@@ -147,18 +147,18 @@ const REASONS: [(&str, &str); 6] = [
         "unexpected argument '--step' found; tip: a similar argument exists: '--steps'",
     ),
     (
-        "zsched pool --quota 1/2/3 --budget 4",
+        "zsched pool --quota 1/2/300 --budget 4",
         "the argument '--quota <RESERVE/SHARE%/PERIOD>' cannot be used with '--budget <N>'",
     ),
     (
-        "zsched pool --quota 1/2/3 --workers 2",
+        "zsched pool --quota 1/2/300 --workers 2",
         "the argument '--quota <RESERVE/SHARE%/PERIOD>' cannot be used with '--workers <N>' of more than 1: \
          jobs on a quota run on one thread",
     ),
     (
         "zsched pool --quota 1/2\n",
         "invalid value '1/2' for '--quota <RESERVE/SHARE%/PERIOD>': it is spelt as 10/20%/60s, with ms, s, m, h or d, \
-         or without units as 10/200/60000; RESERVE is at most 4294967296, SHARE at most 100000%, and PERIOD from 1ms \
+         or without units as 10/200/60000; RESERVE is at most 4294967296, SHARE at most 100000%, and PERIOD from 100ms \
          to 4611686018427387903ms",
     ),
 ];

@@ -51,12 +51,12 @@ fn is_quota(
 #[test]
 fn a_quota_has_three_numbers(rt: HostRuntime) -> Result<(), Fail> {
     let alloc = rt.alloc();
-    let line = "zsched pool --quota 1/2/3";
-    is_quota(&rt, alloc, line, (1, 2, 3, 1000000))?;
-    let line = "zsched pool --turns 4 --workers 1 --quota=1/2/3";
-    is_quota(&rt, alloc, line, (1, 2, 3, 4))?;
-    let line = "zsched pool --quota 0/0/1";
-    is_quota(&rt, alloc, line, (0, 0, 1, 1000000))?;
+    let line = "zsched pool --quota 1/2/300";
+    is_quota(&rt, alloc, line, (1, 2, 300, 1000000))?;
+    let line = "zsched pool --turns 4 --workers 1 --quota=1/2/300";
+    is_quota(&rt, alloc, line, (1, 2, 300, 4))?;
+    let line = "zsched pool --quota 0/0/100";
+    is_quota(&rt, alloc, line, (0, 0, 100, 1000000))?;
     let line = "zsched pool --quota 10/20%/60s";
     is_quota(&rt, alloc, line, (10, 200, 60000, 1000000))?;
     let line = "zsched pool --quota 1/0.5%/100ms";
@@ -68,11 +68,11 @@ fn a_quota_has_three_numbers(rt: HostRuntime) -> Result<(), Fail> {
 
 // Command lines, with a bar between each two.
 const BAD_QUOTAS: &str =
-    "zsched pool --quota 1/2|zsched pool --quota 1/2/3/4|zsched pool --quota 1//3|zsched pool --quota a/2/3|\
-     zsched pool --quota 4294967297/2/3|zsched pool --quota 1/1000001/3|zsched pool --quota 1/2/0|\
-     zsched pool --quota 1/2%/3|zsched pool --quota 1/2/3s|zsched pool --quota 1/0.55%/3s|zsched pool --quota 1/2%/0s|\
-     zsched pool --quota 1/2/4611686018427387904|zsched pool --quota 1/2/3 --budget 100|\
-     zsched pool --quota 1/2/3 --workers 2|zsched plan --quota 1/2/3";
+    "zsched pool --quota 1/2|zsched pool --quota 1/2/300/4|zsched pool --quota 1//300|zsched pool --quota a/2/300|\
+     zsched pool --quota 4294967297/2/300|zsched pool --quota 1/1000001/300|zsched pool --quota 1/2/99|\
+     zsched pool --quota 1/2%/300|zsched pool --quota 1/2/3s|zsched pool --quota 1/0.55%/3s|zsched pool --quota 1/2%/99ms|\
+     zsched pool --quota 1/2/4611686018427387904|zsched pool --quota 1/2/300 --budget 100|\
+     zsched pool --quota 1/2/300 --workers 2|zsched plan --quota 1/2/300";
 
 #[test]
 fn a_bad_quota_is_a_bad_command_line(rt: HostRuntime) {

@@ -63,7 +63,7 @@ const TEXTS: [(&str, &str, &str, u8); 9] = [
         3,
     ),
     (
-        "zsched pool --quota 1/2/3",
+        "zsched pool --quota 1/2/300",
         r#"[{"plan":"forever","runs":[]}]"#,
         "zsched: number out of range\n[0].runs: 1 to 64 runs are wanted, 0 found",
         3,

@@ -3,10 +3,9 @@ ghost use Rattle.sched_driver_stepper.specs.Standing.{standing_after};
 ghost use Rattle.sched_run_machine.specs.Until.{FreshUntil};
 
 use super::{budget, moment, stepper};
-use crate::{repeat_call, retry_call};
+use crate::{CallEnding, RepeatCallEnding, repeat_call, retry_call};
 use sched_driver_stepper::Stepper;
-use sched_repeat::{RepeatEnding, RepeatMachine};
-use sched_retry::Ending;
+use sched_repeat::RepeatMachine;
 use sched_run_machine::{Machine, Until};
 use sched_task::{Clock, MidWords, VirtualClock};
 use sched_ticket_draws::{OnBudget, Unlimited};
@@ -43,7 +42,7 @@ fn no_call_is_planned_past_the_deadline(rt: HostRuntime) {
             Err(calls)
         },
     );
-    assert!(rt; matches!(ending, Ending::ScheduleDone(3)));
+    assert!(rt; matches!(ending, CallEnding::ScheduleDone(3)));
     assert_eq!(rt; retry.granted(), 2);
     assert_eq!(rt; clock.now().get(), 1200);
     assert_eq!(rt; retry.driver().late_start().map(Moment::get), Some(1300));
@@ -69,7 +68,7 @@ fn a_call_at_the_deadline_is_in_time(rt: HostRuntime) {
         &mut MidWords,
         || -> Result<(), u32> { Err(8) },
     );
-    assert!(rt; matches!(ending, Ending::ScheduleDone(8)));
+    assert!(rt; matches!(ending, CallEnding::ScheduleDone(8)));
     assert_eq!(rt; retry.granted(), 2);
     assert_eq!(rt; clock.now().get(), 1200);
 }
@@ -86,7 +85,7 @@ fn and_one_a_millisecond_later_is_not(rt: HostRuntime) {
         &mut MidWords,
         || -> Result<(), u32> { Err(8) },
     );
-    assert!(rt; matches!(ending, Ending::ScheduleDone(8)));
+    assert!(rt; matches!(ending, CallEnding::ScheduleDone(8)));
     assert_eq!(rt; retry.granted(), 1);
     assert_eq!(rt; clock.now().get(), 1100);
 }
@@ -104,7 +103,7 @@ fn a_plan_that_is_done_has_no_late_start(rt: HostRuntime) {
         &mut MidWords,
         || -> Result<(), u32> { Err(8) },
     );
-    assert!(rt; matches!(ending, Ending::ScheduleDone(8)));
+    assert!(rt; matches!(ending, CallEnding::ScheduleDone(8)));
     assert_eq!(rt; clock.now().get(), 1100);
     assert_eq!(rt; retry.driver().late_start().map(Moment::get), None);
 }
@@ -123,7 +122,7 @@ fn one_call_is_made_where_the_deadline_is_past(rt: HostRuntime) {
         &mut MidWords,
         || -> Result<(), u32> { Err(8) },
     );
-    assert!(rt; matches!(ending, Ending::ScheduleDone(8)));
+    assert!(rt; matches!(ending, CallEnding::ScheduleDone(8)));
     assert_eq!(rt; retry.granted(), 0);
     assert_eq!(rt; clock.now().get(), 1000);
     assert_eq!(rt; retry.driver().late_start().map(Moment::get), Some(1100));
@@ -141,7 +140,7 @@ fn no_deadline_ends_nothing(rt: HostRuntime) {
         &mut MidWords,
         || -> Result<(), u32> { Err(8) },
     );
-    assert!(rt; matches!(ending, Ending::ScheduleDone(8)));
+    assert!(rt; matches!(ending, CallEnding::ScheduleDone(8)));
     assert_eq!(rt; retry.granted(), 2);
     assert_eq!(rt; clock.now().get(), 1200);
     assert_eq!(rt; retry.driver().late_start().map(Moment::get), None);
@@ -165,7 +164,7 @@ fn no_call_of_a_repeat_is_planned_past_the_deadline(rt: HostRuntime) {
             Ok(calls)
         },
     );
-    assert!(rt; matches!(ending, RepeatEnding::ScheduleDone));
+    assert!(rt; matches!(ending, RepeatCallEnding::ScheduleDone(3)));
     assert_eq!(rt; calls, 3);
     assert_eq!(rt; clock.now().get(), 1200);
     assert_eq!(rt; repeat.driver().late_start().map(Moment::get), Some(1300));
@@ -211,7 +210,7 @@ fn a_clock_that_wakes_late_begins_its_call(rt: HostRuntime) {
             Err(calls)
         },
     );
-    assert!(rt; matches!(ending, Ending::ScheduleDone(2)));
+    assert!(rt; matches!(ending, CallEnding::ScheduleDone(2)));
     assert_eq!(rt; clock.now().get(), 1300);
     assert_eq!(rt; retry.driver().late_start().map(Moment::get), Some(1400));
 }

@@ -1,6 +1,6 @@
 use super::*;
-use crate::repeat_call;
-use sched_repeat::{RepeatEnding, RepeatMachine};
+use crate::{RepeatCallEnding, repeat_call};
+use sched_repeat::RepeatMachine;
 use sched_task::How;
 
 #[test]
@@ -18,7 +18,7 @@ fn a_closure_is_called_again_after_each_success(rt: HostRuntime) {
             Ok(calls)
         },
     );
-    assert!(rt; matches!(ending, RepeatEnding::ScheduleDone));
+    assert!(rt; matches!(ending, RepeatCallEnding::ScheduleDone(4)));
     assert_eq!(rt; calls, 4);
     assert_eq!(rt; clock.now().get(), 1300);
     let last = repeat.driver().last().expect(&rt, "an output was given");
@@ -39,7 +39,7 @@ fn the_first_failure_ends_a_repeat(rt: HostRuntime) {
             Err(calls.saturating_add(40))
         }
     });
-    assert!(rt; matches!(ending, RepeatEnding::Failed(43)));
+    assert!(rt; matches!(ending, RepeatCallEnding::Failed(43)));
     assert_eq!(rt; calls, 3);
     assert_eq!(rt; repeat.over(), Some(How::Failed));
     assert_eq!(rt; clock.now().get(), 200);
@@ -75,7 +75,7 @@ fn a_schedule_is_given_each_answer(rt: HostRuntime) {
             Ok(if left == 0 { 200 } else { 202 })
         },
     );
-    assert!(rt; matches!(ending, RepeatEnding::ScheduleDone));
+    assert!(rt; matches!(ending, RepeatCallEnding::ScheduleDone(200)));
     assert_eq!(rt; clock.now().get(), 20);
 }
 
@@ -95,7 +95,7 @@ fn a_delay_of_a_repeat_begins_where_its_call_ends(rt: HostRuntime) {
             Ok(())
         },
     );
-    assert!(rt; matches!(ending, RepeatEnding::ScheduleDone));
+    assert!(rt; matches!(ending, RepeatCallEnding::ScheduleDone(())));
     assert_eq!(rt; now.get().get(), 350);
 }
 
@@ -118,7 +118,7 @@ fn a_clock_that_goes_back_breaks_a_repeat(rt: HostRuntime) {
             Ok(())
         },
     );
-    assert!(rt; matches!(ending, RepeatEnding::Broken(RunFault::Backwards)));
+    assert!(rt; matches!(ending, RepeatCallEnding::Broken(RunFault::Backwards, ())));
     assert_eq!(rt; calls, 2);
 }
 
@@ -139,7 +139,7 @@ fn a_repeat_has_no_last_event(rt: HostRuntime) {
             Err(7u32)
         }
     });
-    assert!(rt; matches!(ending, RepeatEnding::Failed(7)));
+    assert!(rt; matches!(ending, RepeatCallEnding::Failed(7)));
     assert_eq!(rt; calls, 200_001);
     assert_eq!(rt; clock.now().get(), 200_000_000);
 }
@@ -159,7 +159,8 @@ fn a_journal_of_a_repeat_has_an_end(rt: HostRuntime) {
         &mut MidWords,
         || -> Result<u32, ()> { Ok(3) },
     );
-    assert!(rt; matches!(ending, RepeatEnding::Broken(RunFault::JournalFull)));
+    assert!(rt; matches!(ending, RepeatCallEnding::Broken(RunFault::JournalFull, 3)));
+    assert!(rt; matches!(ending.into_result(), Ok(3)));
     assert_eq!(rt; repeat.driver().journal().len(), 65_536);
     assert_eq!(rt; clock.now().get(), 65_536_000);
 }

@@ -75,7 +75,7 @@ fn begin_at_0<R>(rt: &R, text: &str) -> Result<(), Fail>
 where
     R: Wait + RandomSource + AllocGlobal + Abort,
 {
-    let batch = batch_of(rt, text, (1, 500, 10, AMPLE))?;
+    let batch = batch_of(rt, text, (1, 500, 100, AMPLE))?;
     for end in &batch.ends {
         assert_eq!(rt; end.begun().first().copied(), Moment::new(0), "{text}");
     }

@@ -12,7 +12,7 @@ const FOREVER: &str = r#"[{"plan":"forever","runs":[{"lost":7}]}]"#;
 #[test]
 fn no_job_asks_for_no_ticket(rt: HostRuntime) -> Result<(), Fail> {
     leaves(&rt, "[]", (5, 1000, 100, AMPLE), &[], (0, 0))?;
-    leaves(&rt, "[]", (0, 0, 1, 0), &[], (0, 0))
+    leaves(&rt, "[]", (0, 0, 100, 0), &[], (0, 0))
 }
 
 // The failures of the job lie at 0, 100 and 200: of windows of 100 ms each in its own, the border in the later one.
@@ -79,17 +79,18 @@ fn the_ends_of_the_ranges(rt: HostRuntime) -> Result<(), Fail> {
     leaves(
         &rt,
         FOREVER,
-        (4294967296, 0, 1, AMPLE),
+        (4294967296, 0, 100, AMPLE),
         &[(FULL, 7, 65536)],
         (65536, 1),
     )
 }
 
-// Its second failure lies 5000 windows after the first, and is served in window 3600, as the third in 7200.
+// Its failures lie 5000 windows apart, and each is served in its own; those between give nothing.
 #[test]
 fn a_long_wait_leaves_windows_out(rt: HostRuntime) -> Result<(), Fail> {
-    let jobs = r#"[{"plan":{"spaced":5000},"runs":[{"lost":7},{"lost":7},{"lost":7},{"won":1}]}]"#;
-    leaves(&rt, jobs, (1, 0, 1, AMPLE), &[(WON, 1, 3)], (3, 3))
+    let jobs =
+        r#"[{"plan":{"spaced":500000},"runs":[{"lost":7},{"lost":7},{"lost":7},{"won":1}]}]"#;
+    leaves(&rt, jobs, (1, 0, 100, AMPLE), &[(WON, 1, 3)], (3, 3))
 }
 
 #[test]

@@ -16,7 +16,7 @@ fn quota(rt: &impl Abort, alloc: Global, reserve: u64, share: u64) -> (Quota, Qu
         share,
         period: Millis::from(1000),
     };
-    Quota::new(alloc, terms).expect(rt, "the terms are in range")
+    Quota::new(alloc, moment(rt, 0), terms).expect(rt, "the terms are in range")
 }
 
 // With no budget there are as many retries as the schedule says.

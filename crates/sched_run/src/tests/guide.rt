@@ -78,6 +78,6 @@ fn repeat_a_call(rt: HostRuntime) {
         &mut MidWords,
         || statuses.ask(),
     );
-    assert!(rt; matches!(ending, RepeatEnding::ScheduleDone));
+    assert!(rt; matches!(ending, RepeatCallEnding::ScheduleDone(200)));
     assert_eq!(rt; clock.now().get(), 3000);
 }

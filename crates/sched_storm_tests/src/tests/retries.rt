@@ -23,18 +23,18 @@ fn plan_that_is_done_at_once(rt: HostRuntime) -> Result<(), Fail> {
     Ok(())
 }
 
-// A ticket at 0, none more until 10, one at 10.
+// A ticket at 0, none more until 100, one at 100.
 #[test]
 fn window_border_of_a_quota(rt: HostRuntime) -> Result<(), Fail> {
     let parameters = Parameters {
-        outage: Span { from: 0, to: 11 },
-        draws: quota(1, 0, 10),
+        outage: Span { from: 0, to: 101 },
+        draws: quota(1, 0, 100),
         ..storm_of(2, 2)
     };
-    let report = played(rt.alloc(), parameters, spaced(rt.alloc(), 2, 10)?)?;
+    let report = played(rt.alloc(), parameters, spaced(rt.alloc(), 2, 100)?)?;
     assert_eq!(rt; lines(rt.alloc(), &report)?.as_str(), "0 2 1 2 1 3 0 0 0\n");
     assert_eq!(rt; endings(&report.totals), [2, 1, 0, 1, 0, 4, 2]);
-    assert_eq!(rt; report.totals.p50, Some(21));
+    assert_eq!(rt; report.totals.p50, Some(201));
     Ok(())
 }
 
@@ -43,7 +43,7 @@ fn window_border_of_a_quota(rt: HostRuntime) -> Result<(), Fail> {
 fn share_of_a_quota(rt: HostRuntime) -> Result<(), Fail> {
     let parameters = Parameters {
         outage: Span { from: 0, to: 10 },
-        draws: quota(0, 500, 10),
+        draws: quota(0, 500, 100),
         ..storm_of(2, 2)
     };
     let report = played(rt.alloc(), parameters, spaced(rt.alloc(), 1, 10)?)?;

@@ -1,17 +1,17 @@
 //! What is refused, and the texts of faults.
-use super::terms;
-use sched_ticket_quota::{PassesOut, Quota, QuotaFault};
+use super::{at, terms};
+use sched_ticket_quota::{PassesOut, Quota, QuotaFault, Refusal};
 use std::test::Fail;
 
 #[test]
 fn terms_have_bounds(rt: HostRuntime) {
     for (reserve, share, period, fault) in [
-        (4294967297, 0, 1, Some(QuotaFault::ReserveTooLarge)),
-        (0, 1000001, 1, Some(QuotaFault::ShareTooLarge)),
-        (0, 0, 0, Some(QuotaFault::PeriodTooShort)),
-        (4294967296, 1000000, 1, None),
+        (4294967297, 0, 100, Some(QuotaFault::ReserveTooLarge)),
+        (0, 1000001, 100, Some(QuotaFault::ShareTooLarge)),
+        (0, 0, 99, Some(QuotaFault::PeriodTooShort)),
+        (4294967296, 1000000, 100, None),
     ] {
-        let made = Quota::new(rt.alloc(), terms(reserve, share, period));
+        let made = Quota::new(rt.alloc(), at(0), terms(reserve, share, period));
         assert_eq!(rt; made.err(), fault, "{reserve} {share} {period}");
     }
 }
@@ -19,19 +19,22 @@ fn terms_have_bounds(rt: HostRuntime) {
 #[test]
 fn faults_say_why(rt: HostRuntime) -> Result<(), Fail> {
     let texts = format!(in rt.alloc();
-        "{}; {}; {}; {}; {}; {}",
+        "{}; {}; {}; {}; {}; {}; {}; {}",
         QuotaFault::ReserveTooLarge,
         QuotaFault::ShareTooLarge,
         QuotaFault::PeriodTooShort,
         QuotaFault::NoMemory,
         QuotaFault::TooManyPasses,
-        PassesOut
+        PassesOut,
+        Refusal::WindowOut(at(0)),
+        Refusal::RacesLost
     )?;
     assert_eq!(rt;
         texts.as_str(),
         "the reserve is more than 4294967296 tickets a window; the share is more than 1000 tickets a request; \
-         the window is shorter than 1 ms; no memory; the pass has no part to give; \
-         another pass of the quota is alive or was dropped"
+         the window is shorter than 100 ms; no memory; the pass has no part to give; \
+         another pass of the quota is alive or was dropped; the tickets of the window are out; \
+         64 races with other draws were lost"
     );
     Ok(())
 }

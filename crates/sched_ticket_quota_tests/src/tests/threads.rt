@@ -35,7 +35,7 @@ fn draw_all(
     let mut pass = deposit_times(quota, pass, now, requests);
     let mut drawn = Vec::new(alloc);
     for _ in 0..MANY {
-        if let Some(ticket) = pass.draw(quota, now) {
+        if let Ok(ticket) = pass.draw(quota, now) {
             drawn.push(ticket)?;
         } else if pass.seen(quota, now).left == 0 {
             break;
@@ -134,7 +134,7 @@ fn count_up(tickets: &[u64]) -> bool {
 }
 
 fn sixteen_draw<R: Threads + Sync>(rt: &R, alloc: Global) -> Result<bool, Fail> {
-    let (quota, pass) = Quota::new(alloc, terms(40010, 0, 1000))?;
+    let (quota, pass) = Quota::new(alloc, at(0), terms(40010, 0, 1000))?;
     let (pass, all) = drained(rt, alloc, &quota, pass, at(0), (16, 0))?;
     let each_once = all.len() == 40010 && count_up(all.as_slice());
     Ok(each_once && quota.close(pass).ok() == Some(40010))
@@ -173,7 +173,7 @@ fn windows_fill<R: Threads + Sync>(
 {
     let mut full = true;
     for window in 0..WINDOWS {
-        let now = at(window * 10);
+        let now = at(window * 100);
         let (joined, all) = drained(rt, alloc, quota, pass, now, (8, 5))?;
         let (mine, rest) = draw_all(alloc, quota, joined, now, 0)?;
         pass = mine;
@@ -185,9 +185,65 @@ fn windows_fill<R: Threads + Sync>(
 
 #[test]
 fn eight_threads_over_windows(rt: HostRuntime) -> Result<(), Fail> {
-    let (quota, pass) = Quota::new(rt.alloc(), terms(3, 250, 10))?;
+    let (quota, pass) = Quota::new(rt.alloc(), at(0), terms(3, 250, 100))?;
     let (pass, full) = windows_fill(&rt, rt.alloc(), &quota, pass)?;
     assert!(rt; full);
     closes(&rt, quota, pass, 13000);
+    Ok(())
+}
+
+const TURNS: u64 = 4000;
+
+// Draws by a clock of this thread's own, four times in each window: the other threads' clocks are elsewhere.
+fn draw_over(alloc: Global, quota: &Quota, pass: Pass) -> Result<(Pass, Vec<u64>), AllocError>
+    requires { IsOf quota.now pass }
+    ensures { IfOk result (λ r. IsOf quota.now r.0) }
+{
+    let mut pass = pass;
+    let mut drawn = Vec::new(alloc);
+    for turn in 0..TURNS {
+        if let Ok(ticket) = pass.draw(quota, at(turn / 4 * 100)) {
+            drawn.push(ticket)?;
+        }
+    }
+    Ok((pass, drawn))
+}
+
+// So many threads draw, each by a clock of its own.
+fn drawn_over<R: Threads + Sync>(
+    rt: &R,
+    alloc: Global,
+    quota: &Quota,
+    mut pass: Pass,
+    workers: u64,
+) -> Result<(Pass, Vec<u64>), AllocError>
+    requires { IsOf quota.now pass }
+    ensures { IfOk result (λ r. IsOf quota.now r.0) }
+{
+    let passes = split_off(alloc, quota, &mut pass, workers)?;
+    let done = map_vec(rt, passes, &|part: Pass| { draw_over(alloc, quota, part) })?;
+    join_all(alloc, quota, pass, done)
+}
+
+// Whether each ticket stands once, and is one of the first three of its window.
+fn are_within(tickets: &[u64]) -> bool {
+    let mut least = 0;
+    for ticket in tickets {
+        if *ticket < least || *ticket % 4294967296 >= 3 {
+            return false;
+        }
+        least = ticket.wrapping_add(1);
+    }
+    true
+}
+
+// Eight threads whose clocks go on by themselves: the last window is exactly full, and none has more than its reserve.
+#[test]
+fn eight_clocks(rt: HostRuntime) -> Result<(), Fail> {
+    let (quota, pass) = Quota::new(rt.alloc(), at(0), terms(3, 0, 100))?;
+    let (pass, all) = drawn_over(&rt, rt.alloc(), &quota, pass, 8)?;
+    assert!(rt; are_within(all.as_slice()));
+    assert_eq!(rt; all.as_slice().last().copied(), Some(4290672328706));
+    closes(&rt, quota, pass, all.len() as u64);
     Ok(())
 }

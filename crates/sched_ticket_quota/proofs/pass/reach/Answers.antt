@@ -20,5 +20,5 @@ fetch_max-found-requires c =
     let read = c.load-requests.ensures in (
       read.0 ∙ c.requires.of.0 ∙ sym (ap (λ (b : Name). b.table) c.quota.view_is),
       omega arith,
-      opens_ok _ _ _ _ (step 0 24 _ 0 none) c.leap-next.result (omega (arith, ap (λ (m : Sat). m.0.weight) read.2.2)) (omega arith) (omega arith),
+      opens_ok _ _ _ _ (step 0 24 _ 0 none) c.args.window (omega (arith, ap (λ (m : Sat). m.0.weight) read.2.2)) (omega arith) (omega arith),
     )

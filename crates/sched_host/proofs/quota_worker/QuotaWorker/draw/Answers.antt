@@ -1,7 +1,7 @@
 use Rattle.sched_host.proofs.quota_worker.QuotaWorker.draw.Goals as goal
 
-pub returns-clause-some : goal.returns-clause-some
-returns-clause-some c = rw (← c.self.view_is, ← c.deref.ensures) c.draw.ensures.some
+pub returns-clause-ok : goal.returns-clause-ok
+returns-clause-ok c = rw (← c.self.view_is, ← c.deref.ensures) c.draw.ensures.ok
 
-pub returns-clause-none : goal.returns-clause-none
-returns-clause-none c = rw (← c.self.view_is, ← c.deref.ensures) c.draw.ensures.none
+pub returns-clause-err : goal.returns-clause-err
+returns-clause-err c = rw (← c.self.view_is, ← c.deref.ensures) c.draw.ensures.err

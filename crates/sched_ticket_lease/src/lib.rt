@@ -1,0 +1,8 @@
+//! Leases: ranges of the tickets of a budget or of a quota, which a store counts for many processes. A store keeps three
+//! numbers of each, and changes them by one step at a time; the step itself is a function of those numbers.
+#![tactic(auto)]
+
+pub mod laws;
+mod lease;
+
+pub use lease::{Ask, Grants, Lease, Stored};

@@ -1,0 +1,5 @@
+use Rattle.sched_ticket_quota.specs.Held.{IsOf}
+use Rattle.sched_ticket_quota_tests.proofs.tests.threads.draw_over.Given as goal
+
+abbrev pub invariant-loop-turn : goal.invariant-loop-turn
+invariant-loop-turn l = IsOf l.quota l.pass

@@ -1,0 +1,100 @@
+"""The structs of `hikebox.h`."""
+
+from __future__ import annotations
+
+from ctypes import Structure, c_bool, c_uint32, c_uint64, c_void_p
+from typing import Any, List, Tuple
+
+__all__ = [
+    "Asking",
+    "Decision",
+    "Handle",
+    "Next",
+    "Place",
+    "Range",
+    "Storm",
+    "Stored",
+    "Totals",
+    "Usage",
+    "Window",
+    "Words",
+]
+
+
+class Handle(Structure):
+    """What the library keeps: one pointer, none where it holds nothing."""
+
+    _fields_ = [("held", c_void_p)]
+
+
+class Place(Structure):
+    _fields_ = [("line", c_uint64), ("column", c_uint64)]
+
+
+class Decision(Structure):
+    _fields_ = [("start", c_uint64), ("goes_on", c_bool)]
+
+
+class Next(Structure):
+    _fields_ = [
+        ("what", c_uint32),
+        ("how", c_uint32),
+        ("until", c_uint64),
+        ("granted", c_uint64),
+        ("runs", c_uint64),
+    ]
+
+
+class Usage(Structure):
+    _fields_ = [(name, c_uint64) for name in ("window", "asked", "given", "left", "next")]
+
+
+def _numbers(names: str) -> List[Tuple[str, Any]]:
+    """Fields of these names, each a number."""
+    return [(name, c_uint64) for name in names.split()]
+
+
+class Storm(Structure):
+    _fields_ = _numbers(
+        "rate together seconds capacity patience queue outage_from outage_to slow_from slow_to slow_percent window until "
+        "calls words draws_on limit reserve share period"
+    )
+
+
+class Window(Structure):
+    _fields_ = _numbers("from requests won retries succeeded refused shed late waiting")
+
+
+class Totals(Structure):
+    _fields_ = [
+        *_numbers(
+            "requests won lost denied open calls hundredths most_calls most_from tickets p50 p99 slowest recovered"
+        ),
+        ("recovers", c_bool),
+        ("cut", c_bool),
+    ]
+
+
+class Stored(Structure):
+    """What a store keeps of a budget or a quota: which window it counted last, the tickets of it that were leased, and
+    its requests."""
+
+    window: int
+    given: int
+    asked: int
+
+    _fields_ = _numbers("window given asked")
+
+
+class Asking(Structure):
+    _fields_ = _numbers("window told wanted")
+
+
+class Range(Structure):
+    first: int
+    tickets: int
+
+    _fields_ = _numbers("first tickets")
+
+
+Words = c_uint32 * 4
