@@ -1,6 +1,6 @@
 """Compares the calls that include/hikebox.h declares with those that crates/hikebox_c exports: their names, and of each the
-types of its parameters in order. A handle's type is a struct of one pointer, whichever kind it is of. Each export makes the
-call of its name of crates/sched_calls or crates/sched_storm_call and nothing else, and has its parameters and clauses, word for word."""
+types of its parameters in order. A handle's type is a struct of one pointer, whichever kind it is of. The export of
+crates/sched_storm_call makes the call of its name there and nothing else, and has its parameters and clauses, word for word."""
 import pathlib
 import re
 import sys
@@ -15,7 +15,6 @@ RATTLE = {
     "&mut usize": ["size_t *"],
     "&mut Place": ["hikebox_place *"],
     "&mut Decided": ["hikebox_decision *"],
-    "&mut Noted": ["hikebox_event *"],
     "&mut Reply": ["hikebox_next *"],
     "&mut Usage": ["hikebox_usage *"],
     "&StormGiven": ["const hikebox_storm *"],
@@ -28,15 +27,14 @@ RATTLE = {
 STRUCTS = {
     "Place": "hikebox_place",
     "Decided": "hikebox_decision",
-    "Noted": "hikebox_event",
     "Reply": "hikebox_next",
     "Usage": "hikebox_usage",
     "StormGiven": "hikebox_storm",
     "WindowTold": "hikebox_window",
     "TotalsTold": "hikebox_totals",
 }
-#: The crates whose calls are exported.
-CALLS = ("sched_calls", "sched_storm_call")
+#: The crate whose calls are exported as they are.
+CALLS = ("sched_storm_call",)
 FIELDS = {"u64": "uint64_t", "u32": "uint32_t", "[u32; 4]": "uint32_t[4]"}
 
 
@@ -52,7 +50,7 @@ def declared():
         for parameter in parameters.split(","):
             kind, _, array = re.fullmatch(r"\s*(.*?[\s*])(\w+)(\[\d+\])?\s*", parameter, re.S).groups()
             kind = " ".join((kind + ("*" if array else "")).replace("*", " * ").split())
-            types.append(re.sub(r"hikebox_(policy|driver|pass|quota|retry) \*", "handle *", kind))
+            types.append(re.sub(r"hikebox_(policy|driver|pass|retry) \*", "handle *", kind))
         calls[name] = types
     return calls
 
@@ -81,7 +79,7 @@ def passed_on():
     """Each export with what it should be by the call that it makes, where it is something else."""
     calls = {name: (crate, *parts) for crate in CALLS for name, parts in functions(crate, "^pub fn ")}
     exports = dict(functions("hikebox_c", r'^pub extern "C" fn hikebox_'))
-    for name in sorted({*calls, *exports}):
+    for name in sorted(calls):
         crate, parameters, clauses, _ = calls.get(name, ("", "", "", ""))
         words = ", ".join(re.findall(r"(\w+):", parameters))
         call = f"{crate}::{name}({words})"
@@ -91,7 +89,7 @@ def passed_on():
 
 def structs():
     header = without_comments((TOP / "include/hikebox.h").read_text())
-    files = [file for crate in ("sched_reply", "sched_storm_call") for file in sorted((TOP / "crates" / crate / "src").glob("*.rt"))]
+    files = [file for crate in ("sched_handle", "sched_storm_call") for file in sorted((TOP / "crates" / crate / "src").glob("*.rt"))]
     replies = "".join(without_comments(file.read_text()) for file in files)
     for rattle, c in STRUCTS.items():
         here = re.search(r"typedef struct \{([^}]*)\} " + c + ";", header).group(1)

@@ -146,9 +146,9 @@ impl Machine {
 
     pub(crate) fn on(policy: &Policy, source: Source, deadline: u64) -> Result<Self, BudgetError> {
         let handle = policy.with(|policy| match &source {
-            Source::Budget(budget) => budget.with(|root| Handle::on_budget(policy, root, deadline)),
-            Source::Quota(quota) => quota.with(|root| Handle::on_quota(policy, root, deadline)),
-            Source::Store(_) | Source::Unlimited => Handle::unlimited(policy, deadline),
+            Source::Budget(budget) => budget.with(|root| Handle::begun(policy, root, deadline)),
+            Source::Quota(quota) => quota.with(|root| Handle::begun(policy, root, deadline)),
+            Source::Store(_) | Source::Unlimited => Handle::on_nothing(policy, deadline),
         });
         Ok(Self { handle: Some(handle.map_err(BudgetError::of)?), draws_on: DrawsOn::of(source) })
     }
@@ -247,7 +247,7 @@ impl Drop for Machine {
         };
         match &self.draws_on {
             DrawsOn::Budget(budget) => budget.with(|root| handle.end(root)),
-            DrawsOn::Quota(quota) => quota.with(|root| handle.end_on_quota(root)),
+            DrawsOn::Quota(quota) => quota.with(|root| handle.end(root)),
             DrawsOn::Store(_) | DrawsOn::Nothing => (),
         }
     }

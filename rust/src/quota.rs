@@ -5,7 +5,7 @@ use crate::clock::{now, whole_millis};
 use crate::counters::{Counter, Counters, Window};
 #[cfg(feature = "leased")]
 use crate::engine::{FAR, MOST_TICKETS};
-use crate::engine::{Handle, QuotaKind, Status, Used};
+use crate::engine::{Handle, PassKind, Status, Used};
 use std::fmt;
 use std::sync::{Arc, Mutex, MutexGuard, PoisonError};
 use std::time::{Duration, Instant};
@@ -39,7 +39,7 @@ pub struct Quota {
 
 struct Shared {
     /// The first pass, which others are split off.
-    root: Mutex<Handle<QuotaKind>>,
+    root: Mutex<Handle<PassKind>>,
     /// Those by which threads count their requests.
     counters: Counters,
     /// Moment 0.
@@ -69,7 +69,7 @@ struct Shared {
 #[derive(Debug)]
 pub struct QuotaPass {
     /// `None` only while it is dropped.
-    handle: Option<Handle<QuotaKind>>,
+    handle: Option<Handle<PassKind>>,
     quota: Quota,
     tickets: u64,
 }
@@ -115,11 +115,11 @@ impl Quota {
     /// [`BudgetError`] says which of them is out of its range.
     pub fn new_at(began: Instant, reserve: u64, share: f64, per: Duration) -> Result<Self, BudgetError> {
         let Terms { reserve, share, period } = Terms::new(reserve, share, per)?;
-        let root = Handle::<QuotaKind>::new(reserve, share, period).map_err(BudgetError::of)?;
+        let root = Handle::quota(reserve, share, period).map_err(BudgetError::of)?;
         Ok(Self::of(root, began, period))
     }
 
-    fn of(root: Handle<QuotaKind>, began: Instant, period: u64) -> Self {
+    fn of(root: Handle<PassKind>, began: Instant, period: u64) -> Self {
         let (root, counters) = (Mutex::new(root), Counters::default());
         Self { shared: Arc::new(Shared { root, counters, began, period }) }
     }
@@ -216,11 +216,11 @@ impl Quota {
     }
 
     /// Lends the first pass to one call.
-    pub(crate) fn with<T>(&self, call: impl FnOnce(&mut Handle<QuotaKind>) -> T) -> T {
+    pub(crate) fn with<T>(&self, call: impl FnOnce(&mut Handle<PassKind>) -> T) -> T {
         call(&mut self.lock())
     }
 
-    fn lock(&self) -> MutexGuard<'_, Handle<QuotaKind>> {
+    fn lock(&self) -> MutexGuard<'_, Handle<PassKind>> {
         self.shared.root.lock().unwrap_or_else(PoisonError::into_inner)
     }
 }
@@ -280,7 +280,7 @@ impl QuotaPass {
         self.tickets
     }
 
-    fn handle(&mut self) -> &mut Handle<QuotaKind> {
+    fn handle(&mut self) -> &mut Handle<PassKind> {
         self.handle.as_mut().expect("a pass has its handle until it is dropped")
     }
 }

@@ -1,10 +1,11 @@
-//! Hikebox for C, as include/hikebox.h declares it: calls for programs in C, or in any language that calls C.
+//! Hikebox for C, as include/hikebox.h declares it: calls for programs in C, or in any language that calls C. The header
+//! lists the refusals of each, and what the caller owes.
 #![tactic(auto)]
 
-mod budgets;
 mod drivers;
 mod faults;
+mod joins;
+mod passes;
 mod policies;
-mod quotas;
 mod retries;
 mod storms;

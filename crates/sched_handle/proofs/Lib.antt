@@ -1,2 +1,3 @@
 mod AsBox
 mod Deadlines
+pub mod Splits

@@ -5,7 +5,7 @@ use Rattle.std.proofs.lemmas.List.Elements.{All-nil, All-push}
 use Rattle.sched_ticket.specs.Lists.{total}
 use Rattle.sched_ticket.specs.View.{joined_view}
 use Rattle.sched_ticket.specs.Steps.{IsSound, IsWithin}
-use Rattle.sched_ticket.specs.Calls.{IsWhole}
+use Rattle.sched_ticket.specs.Whole.{IsWhole}
 use Rattle.sched_ticket.specs.Held.{Name, Held, IsOf}
 use Rattle.sched_ticket.specs.declared.view.Terms.{Terms}
 use Rattle.sched_ticket.specs.declared.view.View.{View}

@@ -3,7 +3,7 @@ use Rattle.std.specs.Prelude.{◌≡◌, ℕ, ◌+◌, ◌<◌, ◌≤◌, Bool,
 use Rattle.std.specs.List.{list_any}
 use Rattle.sched_ticket.specs.Lists.{total}
 use Rattle.sched_ticket.specs.Steps.{IsSound}
-use Rattle.sched_ticket.specs.Calls.{IsWhole}
+use Rattle.sched_ticket.specs.Whole.{IsWhole}
 use Rattle.sched_ticket.specs.Held.{Name, Held, IsOf}
 use Rattle.sched_task_law.specs.Kind.{retry}
 use Rattle.sched_task_law.specs.Past.{Past}

@@ -6,7 +6,7 @@ use Rattle.sched_ticket.proofs.Sums.{total-append}
 use Rattle.sched_ticket_quota.specs.Windows.{window_of}
 use Rattle.sched_ticket_quota.specs.View.{joined_view}
 use Rattle.sched_ticket_quota.specs.Held.{Name, Held, IsOf}
-use Rattle.sched_ticket_quota.specs.Calls.{IsWhole}
+use Rattle.sched_ticket_quota.specs.Whole.{IsWhole}
 use Rattle.sched_ticket_quota.specs.declared.view.Terms.{Terms}
 use Rattle.sched_ticket_quota.specs.declared.view.View.{View}
 use Rattle.sched_task_law.specs.Kind.{retry}

@@ -2,7 +2,7 @@
 use Rattle.std.proofs.Common.{◌≡◌, ℕ, false, List, length, ap, ◌∙◌, arith}
 use Rattle.sched_ticket.specs.View.{terms}
 use Rattle.sched_ticket.specs.Held.{Name, Held}
-use Rattle.sched_ticket.specs.Calls.{IsWhole}
+use Rattle.sched_ticket.specs.Whole.{IsWhole}
 use Rattle.sched_ticket.specs.declared.view.Terms.{Terms}
 use Rattle.sched_task_law.specs.Past.{Past}
 use Rattle.sched_pool.specs.Ends.{TotalsAgree}

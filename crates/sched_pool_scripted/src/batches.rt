@@ -2,7 +2,7 @@
 
 ghost use Rattle.std.specs.Prelude.{◌≡◌, ◌≤◌, [], length, vec_len, IfOk, OnOk};
 ghost use Rattle.sched_ticket.specs.Held.{IsOf};
-ghost use Rattle.sched_ticket.specs.Calls.{IsWhole};
+ghost use Rattle.sched_ticket.specs.Whole.{IsWhole};
 ghost use Rattle.sched_pool_scripted.specs.Batch.{AreRun, IsNewEnd};
 
 use crate::boards::boarded;

@@ -1,7 +1,7 @@
 //! Running jobs on one quota.
 ghost use Rattle.std.specs.Prelude.{◌≡◌, length, All, IfOk, OnOk};
 ghost use Rattle.sched_ticket_quota.specs.Held.{AreTerms, IsOf, Name};
-ghost use Rattle.sched_ticket_quota.specs.Calls.{IsWhole};
+ghost use Rattle.sched_ticket_quota.specs.Whole.{IsWhole};
 ghost use Rattle.sched_pool_scripted.specs.Driven.{IsDriven, IsUnused};
 ghost use Rattle.sched_pool_scripted.specs.QuotaBatch.{AreRunOnQuota, AreTaken};
 ghost use Rattle.sched_pool_scripted.specs.Windows.{HasDistinct};

@@ -3,9 +3,9 @@ use Rattle.std.proofs.Common.{◌≡◌, ℕ, Some, Err, refl}
 use Rattle.sched_handle.specs.Held.{Wants}
 use Rattle.sched_handle.specs.declared.held.Held.{Held}
 use Rattle.sched_handle.specs.declared.held.Kind.TheVariants as kind
-use Rattle.sched_reply.specs.Status.{code_of}
-use Rattle.sched_reply.specs.declared.status.Status.{Status}
-use Rattle.sched_reply.specs.declared.status.Status.TheVariants as status
+use Rattle.sched_handle.specs.Status.{code_of}
+use Rattle.sched_handle.specs.declared.status.Status.{Status}
+use Rattle.sched_handle.specs.declared.status.Status.TheVariants as status
 use Rattle.sched_storm_call.specs.Plays.{Told, HasRoom, PlaysStorm}
 use Rattle.sched_storm_call.specs.declared.records.StormGiven.{StormGiven}
 

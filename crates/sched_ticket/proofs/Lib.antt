@@ -2,6 +2,6 @@ pub mod Sums
 pub mod Ways
 pub mod Greatest
 pub mod Totals
-pub mod Moves
 pub mod Whole
+pub mod Moves
 pub mod Views

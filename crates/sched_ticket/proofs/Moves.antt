@@ -12,6 +12,7 @@ use Rattle.sched_ticket.specs.Lists.{total, below, Each}
 use Rattle.sched_ticket.specs.Parts.{all_parts}
 use Rattle.sched_ticket.specs.View.{refusal, first_weight, first_view, with_ticket, with_refusal, with_found, with_floor, with_raise, with_mark, with_refused_split, with_part, given, without_part, part_of, joined_view, blank_view}
 use Rattle.sched_ticket.specs.Rule.{drawn_at, made_at, limit_at, laid, used_up, number_weight, weights, splits, refused_splits, IsMarked, IsRefusal, Fits, IsOrderly, IsKept}
+use Rattle.sched_ticket.specs.Whole.{IsWhole, IsOneOfSeveral}
 use Rattle.sched_ticket.specs.Steps.{Sat, IsTold, draws, finds, wins, counts, learns, looks, reads_limit, raises}
 use Rattle.sched_ticket.specs.declared.view.Terms.{Terms}
 use Rattle.sched_ticket.specs.declared.view.Refusal.{Refusal}
@@ -20,8 +21,9 @@ use Rattle.sched_ticket.specs.declared.view.Mark.TheVariants.{Unseen, Sole, Shar
 use Rattle.sched_ticket.specs.declared.view.View.{View}
 use Rattle.sched_ticket.proofs.Sums.{total-append, total-set, term_le, terms_le, rest_le, Each-append, Each-map, below_more}
 use Rattle.sched_ticket.proofs.Totals.{drawn_le, made_le, is_later, is_sound}
-use Rattle.sched_ticket.proofs.Ways.{either_way, given-one, used_up-parts, used_up-counted, used_up-none, used_up-joined}
+use Rattle.sched_ticket.proofs.Ways.{used_up-parts, used_up-counted, used_up-none, used_up-joined}
 use Rattle.sched_ticket.proofs.Greatest.{greatest-append, greatest-raised, greatest-joined}
+use Rattle.sched_ticket.proofs.Whole.{is_whole, is_one_of_several}
 
 -- a mark stays true while another pass gets no lighter
 IsMarked-on : (m : Mark) (all all' weight other : ℕ) → 0 < other → weight + other ≤ all → all ≤ all' → IsMarked all m weight → IsMarked all' m weight
@@ -343,6 +345,7 @@ module _ (k : Terms) where
   looks_ok n id m st live = allows n id m made_at (λ x. x) (looks st m) (λ d made l views o at.
       let v : View = m.0 in
       let f : Fits k d made l (weights views) v = o.each id v at in
+      let of : v.terms ≡ k = (f.live live).0 in
       let weight = term_le (λ (u : View). u.weight) views id v at in
       let splits = term_le (λ (u : View). u.refused_splits) views id v at in
       let rest = rest_le (λ (u : View). u.refused_splits) (λ (u : View). u.weight) views id v (λ i u there. (o.each i u there).few_refused_splits) at in
@@ -350,8 +353,14 @@ module _ (k : Terms) where
       let marks : (mark : Mark) → IsMarked (weights views) mark v.weight → (homes : List (Option ℕ)) → IsKept k (record { words = laid d made l; homes = homes; views = set views id (with_mark v mark) }) =
       λ mark marked homes. kept d made l (set views id (with_mark v mark)) homes (laid d made l) refl (told d made l views id v v.floor mark v.readings v.raised_to l 0 o at live (omega arith) f.floor (omega arith) o.fixed o.small (omega arith) (omega arith) marked) in
       dite (ℕ_discrete made (v.weight + v.refused_splits))
-      (λ e. (with_mark v Sole, marks Sole (omega arith), ((λ _. refl), λ ne. absurd (ne e))))
-      (λ ne. (with_mark v Shared, marks Shared (lt_of_not-le (λ le. ne (omega arith))), ((λ e. absurd (ne e)), λ _. refl))))
+      (λ e.
+      let all : weights views ≡ v.weight = omega arith in
+      let whole : IsWhole v.terms v = subst (λ (t : Terms). IsWhole t v) (sym of) (is_whole k d made l views o id v at all) in
+      (with_mark v Sole, marks Sole all, ((λ _. (refl, whole)), λ ne. absurd (ne e))))
+      (λ ne.
+      let less : v.weight < weights views = lt_of_not-le (λ le. ne (omega arith)) in
+      let several : IsOneOfSeveral v.terms v = subst (λ (t : Terms). IsOneOfSeveral t v) (sym of) (is_one_of_several k d made l views o id v at less) in
+      (with_mark v Shared, marks Shared less, ((λ e. absurd (ne e)), λ _. (refl, several)))))
 
   pub reads_limit_ok : (n id : ℕ) (m : Sat) (st : Step ℕ) → 0 < m.0.weight → m.0.terms ≡ k → Allows (IsKept k) n id m limit_at (λ x. x) (reads_limit st m)
   reads_limit_ok n id m st live of = allows n id m limit_at (λ x. x) (reads_limit st m) (λ d made l views o at.

@@ -1,10 +1,10 @@
 -- What a split gives, and which refused numbers are used up.
-use Rattle.std.proofs.Common.{◌≡◌, ℕ, ◌+◌, ◌-◌, ◌<◌, ◌≤◌, Bool, true, false, List, [], ◌∷◌, ◌++◌, length, cond, sym, refl, ap, ◌∙◌, arith, lt_of_not-le, lt-ltb, le-ltb}
+use Rattle.std.proofs.Common.{◌≡◌, ℕ, ◌<◌, Bool, true, false, List, [], ◌++◌, cond, sym, refl, ap, ◌∙◌, arith, lt_of_not-le, lt-ltb, le-ltb}
 use mathlib.Core.Logic.{dite}
 use native.Mathlib.Decide.{dec_le}
 use Rattle.sched_ticket.specs.Lists.{Each}
 use Rattle.sched_ticket.specs.Parts.{part}
-use Rattle.sched_ticket.specs.View.{given, with_part, without_part, with_split, joined_view}
+use Rattle.sched_ticket.specs.View.{given, joined_view}
 use Rattle.sched_ticket.specs.Rule.{used_up, Fits}
 use Rattle.sched_ticket.specs.declared.view.Terms.{Terms}
 use Rattle.sched_ticket.specs.declared.view.Refusal.{Refusal}

@@ -1,17 +1,14 @@
--- A sole pass stands for all, so what it has is what was drawn.
-use Rattle.std.proofs.Common.{◌≡◌, ℕ, ◌+◌, ◌<◌, ◌≤◌, true, false, List, [], ◌∷◌, length, min, sym, refl, ap, ◌∙◌, subst, arith, lt_of_not-le}
+-- What a pass has that stands for all is what was drawn, and a pass that stands for less is one of several.
+use Rattle.std.proofs.Common.{◌≡◌, ℕ, ◌+◌, ◌<◌, ◌≤◌, false, List, [], ◌∷◌, length, min, sym, refl, ap, ◌∙◌, arith, lt_of_not-le}
 use mathlib.Core.Logic.{dite}
 use mathlib.Core.Option.{some}
 use native.Mathlib.Decide.{dec_le}
 use lib.ListN.{get_elem?}
-use Rattle.atomic_table.specs.Table.{State}
 use Rattle.sched_ticket.specs.Lists.{total, below, Each, is, times, once_below, AreBelow}
-use Rattle.sched_ticket.specs.Rule.{used_up, number_weight, weights, splits, IsMarked, IsRefusal, IsSpent, Fits, IsKept}
-use Rattle.sched_ticket.specs.Calls.{IsWhole}
+use Rattle.sched_ticket.specs.Rule.{used_up, number_weight, weights, splits, IsRefusal, IsSpent, Fits, IsOrderly}
+use Rattle.sched_ticket.specs.Whole.{IsWhole, IsOneOfSeveral}
 use Rattle.sched_ticket.specs.declared.view.Terms.{Terms}
 use Rattle.sched_ticket.specs.declared.view.Refusal.{Refusal}
-use Rattle.sched_ticket.specs.declared.view.Mark.{Mark}
-use Rattle.sched_ticket.specs.declared.view.Mark.TheVariants.{Sole}
 use Rattle.sched_ticket.specs.declared.view.View.{View}
 use Rattle.sched_ticket.proofs.Sums.{term_le, alone, total-one, below-one, below-is, below-once_below, is-other, once_below-yes, once_below-no, total-once_below, times-none}
 use Rattle.sched_ticket.proofs.Totals.{tickets_below, tickets_le}
@@ -45,78 +42,85 @@ pub first_late : (k : Terms) (limit drawn : ℕ) (xs : List Refusal) → 0 < len
 first_late k limit drawn [] some-there h late = absurd (omega arith)
 first_late k limit drawn (r ∷ rs) some-there h late = omega (arith, h.0.0, h.0.1, late.0)
 
-module _ (k : Terms) (s : State ℕ View) (kept : IsKept k s) (id : ℕ) (v : View) (at : get_elem? s.views id ≡ some v) (sole : v.mark ≡ Sole) where
-  fits : Fits k kept.drawn kept.made kept.limit (weights s.views) v
-  fits = kept.orderly.each id v at
+module _ (k : Terms) (drawn made limit : ℕ) (views : List View) (o : IsOrderly k drawn made limit views) (id : ℕ) (v : View) (at : get_elem? views id ≡ some v) where
+  -- a pass of less weight than all is one of several
+  pub is_one_of_several : v.weight < weights views → IsOneOfSeveral k v
+  is_one_of_several less = record {
+    all = weights views;
+    less = less;
+    parts = λ by. (o.parts by).0;
+    passes = λ by. let p = o.passes by in (omega (arith, p.0, term_le (λ (u : View). u.splits) views id v at), p.1);
+  }
 
-  below_limit : Each (λ t. t < kept.limit) v.tickets
-  below_limit = tickets_below k kept.drawn kept.made kept.limit (weights s.views) v fits
+module _ (k : Terms) (drawn made limit : ℕ) (views : List View) (o : IsOrderly k drawn made limit views) (id : ℕ) (v : View) (at : get_elem? views id ≡ some v) (all_here : weights views ≡ v.weight) where
+  fits : Fits k drawn made limit (weights views) v
+  fits = o.each id v at
 
-  all_here : weights s.views ≡ v.weight
-  all_here = subst (λ (m : Mark). IsMarked (weights s.views) m v.weight) sole fits.mark
+  below_limit : Each (λ t. t < limit) v.tickets
+  below_limit = tickets_below k drawn made limit (weights views) v fits
 
   -- a view of no weight has taken no number
-  spent : (h : ℕ → ℕ) (i : ℕ) (u : View) → get_elem? s.views i ≡ some u → u.weight ≡ 0 → number_weight h u ≡ 0
+  spent : (h : ℕ → ℕ) (i : ℕ) (u : View) → get_elem? views i ≡ some u → u.weight ≡ 0 → number_weight h u ≡ 0
   spent h i u there e =
-      let f : Fits k kept.drawn kept.made kept.limit (weights s.views) u = kept.orderly.each i u there in
+      let f : Fits k drawn made limit (weights views) u = o.each i u there in
       omega (arith, ap (total h) (f.spent e).0, ap (total (λ (r : Refusal). h r.number)) (used_up-none u (f.spent e).1))
 
-  numbers : (h : ℕ → ℕ) → number_weight h v ≡ below h kept.drawn
-  numbers h = sym (alone (number_weight h) (λ (u : View). u.weight) s.views id v (spent h) at all_here) ∙ kept.orderly.numbers h
+  numbers : (h : ℕ → ℕ) → number_weight h v ≡ below h drawn
+  numbers h = sym (alone (number_weight h) (λ (u : View). u.weight) views id v (spent h) at all_here) ∙ o.numbers h
 
-  drawn_is : kept.drawn ≡ length v.tickets + length (used_up v)
-  drawn_is = omega (arith, numbers (λ _. 1), total-one v.tickets, total-one (used_up v), below-one kept.drawn)
+  drawn_is : drawn ≡ length v.tickets + length (used_up v)
+  drawn_is = omega (arith, numbers (λ _. 1), total-one v.tickets, total-one (used_up v), below-one drawn)
 
-  splits_are : splits s.views ≡ v.splits
-  splits_are = alone (λ (u : View). u.splits) (λ (u : View). u.weight) s.views id v (λ i u there e. ((kept.orderly.each i u there).spent e).2) at all_here
+  splits_are : splits views ≡ v.splits
+  splits_are = alone (λ (u : View). u.splits) (λ (u : View). u.weight) views id v (λ i u there e. ((o.each i u there).spent e).2) at all_here
 
   -- where passes are counted each refusal used its number up
   counted_refusals : k.by_parts ≡ false → length (used_up v) ≡ length v.refusals
   counted_refusals by =
-      let live : 0 < v.weight = omega (arith, (kept.orderly.passes by).0, all_here) in
+      let live : 0 < v.weight = omega (arith, (o.passes by).0, all_here) in
       ap length (used_up-counted v (ap (λ (t : Terms). t.by_parts) (fits.live live).0 ∙ by))
 
-  module _ (first : kept.limit ≡ k.limit) where
-    refused : Each (IsRefusal k kept.limit) (used_up v)
-    refused = used_up-Each (IsRefusal k kept.limit) v fits.refusals
+  module _ (first : limit ≡ k.limit) where
+    refused : Each (IsRefusal k limit) (used_up v)
+    refused = used_up-Each (IsRefusal k limit) v fits.refusals
 
-    least : length v.tickets ≡ min kept.drawn kept.limit
-    least = omega (arith, numbers (λ x. once_below x kept.limit), total-once_below kept.limit v.tickets below_limit, high_refusals k kept.limit first (used_up v) refused, below-once_below kept.limit kept.drawn)
+    least : length v.tickets ≡ min drawn limit
+    least = omega (arith, numbers (λ x. once_below x limit), total-once_below limit v.tickets below_limit, high_refusals k limit first (used_up v) refused, below-once_below limit drawn)
 
-    count_is : length v.tickets ≡ min (length v.tickets + length v.refusals) kept.limit
+    count_is : length v.tickets ≡ min (length v.tickets + length v.refusals) limit
     count_is = either_way k.by_parts
         (λ by.
-        let drawn : kept.drawn ≡ length v.tickets = omega (arith, drawn_is, ap length (none-by_parts k kept.drawn kept.made kept.limit (weights s.views) v fits by)) in
+        let tickets : drawn ≡ length v.tickets = omega (arith, drawn_is, ap length (none-by_parts k drawn made limit (weights views) v fits by)) in
         dite (dec_le 1 (length v.refusals))
-        (λ some-refused. omega (arith, least, drawn, first, first_late k kept.limit kept.drawn v.refusals some-refused fits.refusals fits.late))
-        (λ none. omega (arith, least, drawn)))
+        (λ some-refused. omega (arith, least, tickets, first, first_late k limit drawn v.refusals some-refused fits.refusals fits.late))
+        (λ none. omega (arith, least, tickets)))
         (λ by. omega (arith, least, drawn_is, counted_refusals by))
 
     once_each : AreBelow v.tickets (length v.tickets)
     once_each x =
-        let all : times x v.tickets + total (λ (r : Refusal). is x r.number) (used_up v) ≡ once_below x kept.drawn = numbers (is x) ∙ below-is x kept.drawn in
+        let all : times x v.tickets + total (λ (r : Refusal). is x r.number) (used_up v) ≡ once_below x drawn = numbers (is x) ∙ below-is x drawn in
         let n : ℕ = length v.tickets in
-        let fewest : n ≡ min kept.drawn kept.limit = least in
-        dite (dec_le kept.limit x)
-        (λ high. omega (arith, times-none x kept.limit v.tickets high below_limit, once_below-no x n (omega arith)))
-        (λ not. let low : x < kept.limit = lt_of_not-le not in dite (dec_le kept.drawn x)
-        (λ past. omega (arith, once_below-no x kept.drawn past, once_below-no x n (omega arith)))
-        (λ near. let early : x < kept.drawn = lt_of_not-le near in
-        omega (arith, once_below-yes x kept.drawn early, once_below-yes x n (omega arith), other_refusals k kept.limit first x (used_up v) low refused)))
+        let fewest : n ≡ min drawn limit = least in
+        dite (dec_le limit x)
+        (λ high. omega (arith, times-none x limit v.tickets high below_limit, once_below-no x n (omega arith)))
+        (λ not. let low : x < limit = lt_of_not-le not in dite (dec_le drawn x)
+        (λ past. omega (arith, once_below-no x drawn past, once_below-no x n (omega arith)))
+        (λ near. let early : x < drawn = lt_of_not-le near in
+        omega (arith, once_below-yes x drawn early, once_below-yes x n (omega arith), other_refusals k limit first x (used_up v) low refused)))
 
   pub is_whole : IsWhole k v
   is_whole = record {
-    limit = kept.limit;
+    limit = limit;
     numbers = λ h. numbers h ∙ ap (below h) drawn_is;
-    passes = λ by. omega (arith, (kept.orderly.passes by).0, all_here, splits_are);
-    parts = λ by. sym all_here ∙ (kept.orderly.parts by).0;
-    limit_is = kept.orderly.limit_is ∙ greatest-alone k.limit s.views id v (λ i u there e. ((kept.orderly.each i u there).spent e).3) at all_here;
+    passes = λ by. omega (arith, (o.passes by).0, all_here, splits_are);
+    parts = λ by. sym all_here ∙ (o.parts by).0;
+    limit_is = o.limit_is ∙ greatest-alone k.limit views id v (λ i u there e. ((o.each i u there).spent e).3) at all_here;
     floor = fits.floor;
-    fixed = kept.orderly.fixed;
-    small = kept.orderly.small;
+    fixed = o.fixed;
+    small = o.small;
     below_limit = below_limit;
     high = fits.refusals;
-    few = omega (arith, term_le (λ (u : View). length u.tickets) s.views id v at, tickets_le k kept.drawn kept.made kept.limit s.views kept.orderly);
+    few = omega (arith, term_le (λ (u : View). length u.tickets) views id v at, tickets_le k drawn made limit views o);
     count = count_is;
     each_once = once_each;
   }

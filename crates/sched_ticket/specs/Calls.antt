@@ -1,11 +1,7 @@
 -- What each call does to a pass, and when each refusal comes.
-use Rattle.std.specs.Prelude.{◌≡◌, ℕ, ◌+◌, ◌<◌, ◌≤◌, ◌⊎◌, Bool, true, false, [], length, min, max}
-use Rattle.sched_ticket.specs.Parts.{all_parts}
-use Rattle.sched_ticket.specs.Lists.{below, Each, AreBelow}
+use Rattle.std.specs.Prelude.{◌≡◌, ℕ, ◌+◌, ◌<◌, ◌≤◌, ◌⊎◌, Bool, true, false, [], length}
 use Rattle.sched_ticket.specs.View.{draws_again, with_ticket, with_refusal, with_raise, with_refused_split}
-use Rattle.sched_ticket.specs.Rule.{used_up, number_weight, IsRefusal}
 use Rattle.sched_ticket.specs.Steps.{IsLater, IsLimit}
-use Rattle.sched_ticket.specs.declared.view.Terms.{Terms}
 use Rattle.sched_ticket.specs.declared.view.View.{View}
 use Rattle.sched_ticket.specs.declared.fault.TicketFault.{TicketFault}
 use Rattle.sched_ticket.specs.declared.fault.TicketFault.TheVariants.{LimitTooLarge, NoMemory, TooManyPasses, Fixed}
@@ -83,23 +79,3 @@ pub record Raised (v : View) (to n : ℕ) (w : View) : Type 0 where
   pub limit : IsLimit v n
   pub reached : to ≤ n
   pub gained : w ≡ with_raise v to n
-
--- What is true of a pass that stands for all passes of its budget: its tickets and the numbers that it used up are the
--- numbers from 0 on, each once. `limit` is the limit at the close.
-pub record IsWhole (k : Terms) (v : View) : Type 0 where
-  pub limit : ℕ
-  -- it stands for one pass more than were split from its passes, or has all parts
-  pub passes : k.by_parts ≡ false → v.weight ≡ v.splits + 1
-  pub parts : k.by_parts ≡ true → v.weight ≡ all_parts
-  pub numbers : (h : ℕ → ℕ) → number_weight h v ≡ below h (length v.tickets + length (used_up v))
-  -- the limit is the first one, or the greatest that a pass raised it to
-  pub limit_is : limit ≡ max k.limit v.raised_to
-  pub floor : v.floor ≤ limit
-  pub fixed : k.rises ≡ false → limit ≡ k.limit
-  pub small : limit ≤ 4294967296
-  pub below_limit : Each (λ t. t < limit) v.tickets
-  pub high : Each (IsRefusal k limit) v.refusals
-  pub few : length v.tickets ≤ limit
-  -- where the limit was never raised, the tickets are the numbers below the draws made and the limit
-  pub count : limit ≡ k.limit → length v.tickets ≡ min (length v.tickets + length v.refusals) limit
-  pub each_once : limit ≡ k.limit → AreBelow v.tickets (length v.tickets)

@@ -2,6 +2,7 @@ pub mod Lists
 pub mod Parts
 pub mod View
 pub mod Rule
+pub mod Whole
 pub mod Steps
 pub mod Held
 pub mod Calls

@@ -2,6 +2,7 @@
 use Rattle.std.specs.Prelude.{◌≡◌, ◌≢◌, ℕ, ◌+◌, ◌<◌, ◌≤◌, false, length, max}
 use Rattle.atomic_table.specs.Table.{Me, Step}
 use Rattle.sched_ticket.specs.Lists.{Each, times}
+use Rattle.sched_ticket.specs.Whole.{IsWhole, IsOneOfSeveral}
 use Rattle.sched_ticket.specs.View.{with_ticket, with_refusal, with_found, with_floor, with_raise, with_mark, with_refused_split, with_part}
 use Rattle.sched_ticket.specs.declared.view.Mark.TheVariants.{Sole, Shared}
 use Rattle.sched_ticket.specs.declared.view.View.{View}
@@ -59,10 +60,11 @@ pub record IsSound (v : View) : Type 0 where
 abbrev pub learns : Then
 learns s m found n = (n ≡ m) × IsSound m.0
 
+-- a pass that stands for all that were made is the whole, and another is one of several
 abbrev pub looks : Then
 looks s m made n =
-    (made ≡ m.0.weight + m.0.refused_splits → Sees m n (with_mark m.0 Sole))
-    × (made ≢ m.0.weight + m.0.refused_splits → Sees m n (with_mark m.0 Shared))
+    (made ≡ m.0.weight + m.0.refused_splits → Sees m n (with_mark m.0 Sole) × IsWhole m.0.terms m.0)
+    × (made ≢ m.0.weight + m.0.refused_splits → Sees m n (with_mark m.0 Shared) × IsOneOfSeveral m.0.terms m.0)
 
 -- a limit that a pass finds is none below its floor, and the first one where the budget keeps its limit
 pub record IsLimit (v : View) (limit : ℕ) : Type 0 where

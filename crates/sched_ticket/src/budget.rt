@@ -1,15 +1,16 @@
 //! The budget: making it, and closing it with the pass that stands for all.
-ghost use Rattle.std.specs.Prelude.{◌≡◌, ◌+◌, ◌<◌, ◌≤◌, true, false, length, min, IfOk, IfErr, OnOk, MatchBool};
+ghost use Rattle.std.specs.Prelude.{◌≡◌, ◌+◌, ◌≤◌, true, false, length, min, IfOk, IfErr, OnOk, OnErr};
 ghost use Rattle.sched_ticket.specs.View.{terms, parted_terms, first_weight, first_view, with_mark};
 ghost use Rattle.sched_ticket.specs.Held.{IsOf};
-ghost use Rattle.sched_ticket.specs.Calls.{RefusesLimit, IsWhole};
+ghost use Rattle.sched_ticket.specs.Calls.{RefusesLimit};
+ghost use Rattle.sched_ticket.specs.Whole.{IsWhole, IsOneOfSeveral};
 ghost use Rattle.sched_ticket.specs.Lists.{AreBelow};
 ghost use Rattle.sched_ticket.specs.declared.view.Mark.{Mark};
 
 use crate::fault::{PassesOut, TicketFault};
 use crate::parts::ALL_PARTS;
-use crate::pass::{Pass, Seat};
-use crate::rule::{LIMIT, Look, MADE, Rule};
+use crate::pass::Pass;
+use crate::rule::{LIMIT, MADE, Rule};
 use crate::view::{Terms, View};
 use atomic_table::Table;
 use std::alloc::Global;
@@ -133,7 +134,7 @@ impl Budget {
         }
     }
 
-    /// The number of tickets drawn, where this pass stands for all passes of the budget.
+    /// The number of tickets drawn, where this pass stands for all passes of the budget, as `Pass::total` tells.
     /// By parts that is the pass that has all 2^62. Otherwise another pass is alive or was dropped, and both come back,
     /// the pass marked as shared.
     pub fn close(self, pass: Pass) -> Result<u64, (Budget, Pass, PassesOut)>
@@ -144,50 +145,12 @@ impl Budget {
             (n ≡ min (n + length pass.has.refusals) self.terms.limit) × AreBelow pass.has.tickets n) }
         ensures err { IfErr result
             (λ r. (r.0 ≡ self) × IsOf r.0 r.1 × (r.1.has ≡ with_mark pass.has Mark.Shared)) }
+        ensures several { OnErr result (IsOneOfSeveral self.terms pass.has) }
     {
-        let Pass {
-            mut seat,
-            tickets,
-            weight,
-            refused_splits,
-            refused,
-        } = pass;
-        if self.look(&mut seat, weight + refused_splits) {
-            self.take_apart(seat);
-            Ok(tickets)
-        } else {
-            let pass = Pass {
-                seat,
-                tickets,
-                weight,
-                refused_splits,
-                refused,
-            };
-            Err((self, pass, PassesOut))
+        match pass.total(&self) {
+            Ok(tickets) => Ok(tickets),
+            Err(pass) => Err((self, pass, PassesOut)),
         }
-    }
-
-    /// Whether what was made is what the seat stands for. It marks the seat.
-    fn look(&self, seat: &mut Seat, known: u64) -> bool
-        requires of { seat.old.table_id ≡ self.now.table }
-        requires live { 0 < seat.old.me.0.weight }
-        requires known { known ≡ seat.old.me.0.weight + seat.old.me.0.refused_splits }
-        ensures seat { (seat.new.table_id ≡ seat.old.table_id) × (seat.new.me.1 ≡ seat.old.me.1) }
-        ensures mark { MatchBool result
-            (seat.new.me.0 ≡ with_mark seat.old.me.0 Mark.Sole) (seat.new.me.0 ≡ with_mark seat.old.me.0 Mark.Shared) }
-    {
-        self.table.shared.load::<Look>(seat, MADE) == known
-    }
-
-    /// Frees the table. Only a look gives the mark that it asks for.
-    fn take_apart(self, seat: Seat)
-        requires of { seat.table_id ≡ self.table }
-        requires live { 0 < seat.me.0.weight }
-        requires sole { seat.me.0.mark ≡ Mark.Sole }
-        ensures { IsWhole self.terms seat.me.0 }
-    {
-        let Budget { table, terms: _ } = self;
-        table.close_with(seat).free();
     }
 }
 

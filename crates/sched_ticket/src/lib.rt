@@ -2,7 +2,7 @@
 //!
 //! A `Budget` is a table of three words, drawn, made and limit, under one rule. A `Pass` is the right to step on
 //! them: a thread draws tickets with its pass, splits a pass for another thread, and joins the passes of threads that
-//! have ended. Whoever has joined every pass closes the budget and learns how many tickets were drawn. There is no
+//! have ended. Whoever has joined every pass learns how many tickets were drawn, and may close the budget. There is no
 //! lock, no call waits, and no memory is taken after the budget is made.
 #![tactic(auto)]
 

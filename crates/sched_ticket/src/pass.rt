@@ -1,16 +1,20 @@
 //! The pass: the right to draw tickets of a budget, and what was drawn with it.
-ghost use Rattle.std.specs.Prelude.{◌≡◌, ◌+◌, ◌<◌, ◌≤◌, true, false, [], ◌∷◌, length, None, IfOk, IfErr, OnOk, IfSome, IfNone, MatchOption};
-ghost use Rattle.sched_ticket.specs.View.{draws_again, fresh_view, part_of, with_split, joined_view};
+ghost use Rattle.std.specs.Prelude.{◌≡◌, ◌+◌, ◌<◌, ◌≤◌, true, false, [], ◌∷◌, length, min, None};
+ghost use Rattle.std.specs.Prelude.{IfOk, IfErr, OnOk, OnErr, IfSome, IfNone, MatchOption, MatchBool};
+ghost use Rattle.sched_ticket.specs.Lists.{AreBelow};
+ghost use Rattle.sched_ticket.specs.View.{draws_again, fresh_view, part_of, with_split, with_mark, joined_view};
+ghost use Rattle.sched_ticket.specs.Whole.{IsWhole, IsOneOfSeveral};
 ghost use Rattle.sched_ticket.specs.Steps.{IsSound, IsWithin};
 ghost use Rattle.sched_ticket.specs.Held.{IsOf};
 ghost use Rattle.sched_ticket.specs.Calls.{Asked, Took, TookNone, Drew, DrawRefused, MaySplit, SplitRefused};
 ghost use Rattle.sched_ticket.specs.Calls.{Raised, RefusesRaise};
+ghost use Rattle.sched_ticket.specs.declared.view.Mark.{Mark};
 
 use crate::budget::{Budget, MAX_LIMIT};
 use crate::fault::TicketFault;
 use crate::parts::given;
 use crate::rule::{
-    Count, DRAWN, Draw, Find, LIMIT, Learn, MADE, Merge, Part, Raise, ReadLimit, Win,
+    Count, DRAWN, Draw, Find, LIMIT, Learn, Look, MADE, Merge, Part, Raise, ReadLimit, Win,
 };
 use crate::view::View;
 use std::marker::Model;
@@ -205,6 +209,51 @@ impl Pass {
             .fetch_max::<Raise>(&mut self.seat, LIMIT, to);
         Ok(before.max(to))
     }
+
+    /// The number of tickets drawn of the budget, where this pass is the whole: it stands for all passes of the budget,
+    /// and by parts has all 2^62. Otherwise it is one of several, of which another is alive or was dropped, and it comes
+    /// back, marked as shared. It is one load, and waits for nobody.
+    pub fn total(self, budget: &Budget) -> Result<u64, Pass>
+        requires { IsOf budget.now self }
+        ensures count { IfOk result (λ n. n ≡ length self.has.tickets) }
+        ensures whole { OnOk result (IsWhole budget.now.terms self.has) }
+        ensures fixed { IfOk result (λ n. budget.now.terms.rises ≡ false →
+            (n ≡ min (n + length self.has.refusals) budget.now.terms.limit) × AreBelow self.has.tickets n) }
+        ensures err { IfErr result (λ p. IsOf budget.now p × (p.has ≡ with_mark self.has Mark.Shared)) }
+        ensures several { OnErr result (IsOneOfSeveral budget.now.terms self.has) }
+    {
+        let Pass {
+            mut seat,
+            tickets,
+            weight,
+            refused_splits,
+            refused,
+        } = self;
+        if is_whole(budget, &mut seat, weight + refused_splits) {
+            return Ok(tickets);
+        }
+        Err(Pass {
+            seat,
+            tickets,
+            weight,
+            refused_splits,
+            refused,
+        })
+    }
+}
+
+/// Whether all that were made are known to the pass of this seat. It marks the seat.
+fn is_whole(budget: &Budget, seat: &mut Seat, known: u64) -> bool
+    requires of { (seat.old.table_id ≡ budget.now.table) × (seat.old.me.0.terms ≡ budget.now.terms) }
+    requires live { 0 < seat.old.me.0.weight }
+    requires known { known ≡ seat.old.me.0.weight + seat.old.me.0.refused_splits }
+    ensures seat { (seat.new.table_id ≡ seat.old.table_id) × (seat.new.me.1 ≡ seat.old.me.1) }
+    ensures whole { result ≡ true → IsWhole budget.now.terms seat.old.me.0 }
+    ensures several { result ≡ false → IsOneOfSeveral budget.now.terms seat.old.me.0 }
+    ensures mark { MatchBool result
+        (seat.new.me.0 ≡ with_mark seat.old.me.0 Mark.Sole) (seat.new.me.0 ≡ with_mark seat.old.me.0 Mark.Shared) }
+{
+    budget.table.shared.load::<Look>(seat, MADE) == known
 }
 
 /// The limit that a draw goes by: that of a budget that keeps it, or what a rising one has now.

@@ -9,7 +9,7 @@
 //! | `Part` | none changes | gives that one, or parts, to a new pass |
 //! | `Merge` | none changes | takes in another pass, which is spent |
 //! | `Learn` | none changes | learns that its tickets are distinct |
-//! | `Look` | made is read | is marked sole or shared |
+//! | `Look` | made is read | is marked sole, and learns that it is the whole, or shared, and learns that it is not |
 //! | `ReadLimit` | limit is read | its floor becomes the limit |
 //! | `Raise` | limit becomes at least the number given | its floor becomes the limit; it keeps the greatest it gave |
 ghost use Rattle.sched_ticket.specs.Rule.{IsKept};

@@ -3,3 +3,5 @@ pub mod Grants
 pub mod Freely
 pub mod Budgets
 pub mod Quotas
+pub mod Splits
+pub mod Drawing

@@ -14,11 +14,13 @@ use Rattle.sched_ticket.proofs.Sums.{total-set, below_more, is-same}
 use Rattle.sched_ticket_quota.specs.Windows.{window_of, first_of, allowed, floor_of, count_in}
 use Rattle.sched_ticket_quota.specs.View.{with_reading, with_opening, with_request, with_found, with_ticket, with_loss, next_ticket}
 use Rattle.sched_ticket_quota.specs.Rule.{ticket_weight, request_weight, tickets_in, requests_in, weights, may_count, openings, IsDealt, IsCounted, IsSeen, IsFound, Fits, IsOrderly, IsKept}
+use Rattle.sched_ticket_quota.specs.Whole.{IsWhole}
 use Rattle.sched_ticket_quota.specs.Steps.{Sat, reads, opens, counts, finds, wins, learns}
 use Rattle.sched_ticket_quota.specs.declared.view.Terms.{Terms}
 use Rattle.sched_ticket_quota.specs.declared.view.View.{View}
 use Rattle.sched_ticket_quota.proofs.Numbers.{allowed-mono, allows-on, below-mono}
 use Rattle.sched_ticket_quota.proofs.Counts.{may_count-yes, may_count-no, all_may_count, total-same, total-more, seen_at, found_at, is_later, asked_le, drawn_le, no_later, is_sound}
+use Rattle.sched_ticket_quota.proofs.Whole.{is_whole}
 
 -- the draws fit where a view with the same tickets takes another's place
 dealt-same : (d window : ℕ) (views : List View) (j : ℕ) (v w : View) → get_elem? views j ≡ some v → w.tickets ≡ v.tickets → IsDealt d window views → IsDealt d window (set views j w)
@@ -155,7 +157,12 @@ module _ (k : Terms) where
         v,
         (λ homes. kept-draws ws (set views id v) homes window latest d long
             (told d window (slice_index ws 24) latest views id v v.seen v.found v.readings v.losses o at f.seen f.counted f.found f.given)),
-        (refl, is_sound k d window (slice_index ws 24) latest views o id v at),
+        (
+          refl,
+          is_sound k d window (slice_index ws 24) latest views o id v at,
+          λ all. let live : 0 < v.weight = omega arith in
+              subst (λ (t : Terms). IsWhole t v) (sym (f.live live)) (is_whole k d window (slice_index ws 24) latest views o id v at all),
+        ),
       ))
 
   -- a pass has opened a window, or found that another had

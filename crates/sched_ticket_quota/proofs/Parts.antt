@@ -1,21 +1,19 @@
--- A split, a join, the first state and the last keep the rule.
-use Rattle.std.proofs.Common.{◌≡◌, ◌≢◌, ℕ, zero, suc, ◌+◌, ◌<◌, ◌≤◌, max, List, [], ◌∷◌, ◌++◌, length, set, slice_index, sym, refl, ap, ◌∙◌, subst, arith, ⊎_elim, lt_of_not-le}
+-- A split, a join and the first state keep the rule.
+use Rattle.std.proofs.Common.{◌≡◌, ◌≢◌, ℕ, zero, suc, ◌+◌, ◌<◌, ◌≤◌, max, List, [], ◌∷◌, ◌++◌, length, set, slice_index, sym, refl, ◌∙◌, subst, arith, ⊎_elim, lt_of_not-le}
 use mathlib.Core.Logic.{dite}
 use mathlib.Core.Option.{Option, some, some-injective, some-ne-none}
 use native.Mathlib.Decide.{dec_le}
 use lib.ListN.{get_elem?}
-use Rattle.atomic_table.specs.Table.{State, Splits, Joins}
+use Rattle.atomic_table.specs.Table.{Splits, Joins}
 use Rattle.atomic_table.proofs.Lists.{at_set, at_snoc, set_else}
 use Rattle.sched_ticket.specs.Lists.{total, times, is}
-use Rattle.sched_ticket.proofs.Sums.{total-append, total-set, total-le, Each-append, alone}
+use Rattle.sched_ticket.proofs.Sums.{total-append, total-set, Each-append}
 use Rattle.sched_ticket.proofs.Ways.{part-some}
-use Rattle.sched_ticket_quota.specs.Windows.{first_of, allowed, within, count_in}
+use Rattle.sched_ticket_quota.specs.Windows.{first_of, within, count_in}
 use Rattle.sched_ticket_quota.specs.View.{first_view, without_part, part_of, joined_view, blank_view}
-use Rattle.sched_ticket_quota.specs.Rule.{ticket_weight, request_weight, tickets_in, requests_in, weights, may_count, IsAllowed, Fits, IsOrderly, drawn_of, asked_of, IsKept}
-use Rattle.sched_ticket_quota.specs.Calls.{IsWhole}
+use Rattle.sched_ticket_quota.specs.Rule.{ticket_weight, request_weight, tickets_in, requests_in, may_count, IsAllowed, Fits, IsOrderly, drawn_of, asked_of, IsKept}
 use Rattle.sched_ticket_quota.specs.declared.view.Terms.{Terms}
 use Rattle.sched_ticket_quota.specs.declared.view.View.{View}
-use Rattle.sched_ticket_quota.proofs.Numbers.{below-within, count_in-allowed}
 use Rattle.sched_ticket_quota.proofs.Counts.{may_count-yes, may_count-no, may_count-le}
 use Rattle.sched_ticket_quota.proofs.Moves.{Fits-on}
 
@@ -143,29 +141,6 @@ module _ (k : Terms) where
               (at_set views id by joined u e.1))
               (at_set middle other by blank_view u there');
         };
-      }
-
-  -- in each window the tickets are no more than its requests allow
-  pub windows_kept : (s : State ℕ View) → IsKept k s → (w : ℕ) → tickets_in s.views w ≤ allowed k (requests_in s.views w)
-  windows_kept s kept w =
-      let o = kept.orderly in
-      let n : ℕ = allowed k (requests_in s.views w) in
-      let h : ℕ → ℕ = within (first_of w) n in
-      let each : tickets_in s.views w ≤ total (ticket_weight h) s.views =
-      total-le (λ (v : View). count_in w v.tickets) (ticket_weight h) s.views (λ i u at. count_in-allowed k (requests_in s.views) w u.tickets (o.each i u at).allows) in
-      omega (arith, o.dealt.once h, below-within (first_of w) n (drawn_of s))
-
-  -- what all passes have is what the pass has that has all parts
-  pub is_whole : (s : State ℕ View) → IsKept k s → (id : ℕ) (v : View) → get_elem? s.views id ≡ some v → v.weight ≡ 4611686018427387904 → IsWhole k v
-  is_whole s kept id v at all =
-      let o = kept.orderly in
-      let here : weights s.views ≡ v.weight = o.parts ∙ sym all in
-      record {
-        all = all;
-        windows = λ w.
-            let tickets : tickets_in s.views w ≡ count_in w v.tickets = alone (λ (u : View). count_in w u.tickets) (λ (u : View). u.weight) s.views id v (λ i u there e. ap (count_in w) ((o.each i u there).spent e).0) at here in
-            let requests : requests_in s.views w ≡ count_in w v.requests = alone (λ (u : View). count_in w u.requests) (λ (u : View). u.weight) s.views id v (λ i u there e. ap (count_in w) ((o.each i u there).spent e).1) at here in
-            omega (arith, windows_kept s kept w, ap (allowed k) requests);
       }
 
   first-view : (by : ℕ) (v : View) → get_elem? (first_view k ∷ []) by ≡ some v → first_view k ≡ v

@@ -9,7 +9,7 @@ use Rattle.sched_ticket_quota.specs.Rule.{drawn_of, asked_of}
 use Rattle.sched_ticket_quota.specs.Laws.{TicketsStandOnce, RequestsStandOnce, WindowsAreKept, WindowsAreSmall, LatestIsCounted, RefusalsAreJust, SightIsTrue, WindowsWereOpened, PartsAreKept, SpentHasNothing, WordsStaySmall}
 use Rattle.sched_ticket_quota.proofs.Numbers.{below-within}
 use Rattle.sched_ticket_quota.proofs.Counts.{seen_at, asked_le, drawn_le}
-use Rattle.sched_ticket_quota.proofs.Parts.{windows_kept}
+use Rattle.sched_ticket_quota.proofs.Whole.{windows_kept}
 
 pub tickets_stand_once : TicketsStandOnce
 tickets_stand_once k s kept x = omega (arith, kept.orderly.dealt.once (is x), below-is x (drawn_of s), once_below-le x (drawn_of s))
@@ -18,10 +18,10 @@ pub requests_stand_once : RequestsStandOnce
 requests_stand_once k s kept x = omega (arith, kept.orderly.counted.once (is x), below-is x (asked_of s), once_below-le x (asked_of s))
 
 pub windows_are_kept : WindowsAreKept
-windows_are_kept k s kept w = omega (arith, windows_kept k s kept w)
+windows_are_kept k s kept w = omega (arith, windows_kept k (drawn_of s) kept.window (asked_of s) kept.latest s.views kept.orderly w)
 
 pub windows_are_small : WindowsAreSmall
-windows_are_small k s kept w = omega (arith, windows_kept k s kept w)
+windows_are_small k s kept w = omega (arith, windows_kept k (drawn_of s) kept.window (asked_of s) kept.latest s.views kept.orderly w)
 
 pub latest_is_counted : LatestIsCounted
 latest_is_counted k s kept = let at = seen_at (asked_of s) kept.latest s.views kept.orderly.counted in omega arith

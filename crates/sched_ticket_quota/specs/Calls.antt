@@ -1,6 +1,6 @@
 -- What each call does to a pass, and when each refusal comes.
 use Rattle.std.specs.Prelude.{◌≡◌, ℕ, ◌-◌, ◌<◌, ◌≤◌, ◌⊎◌, ◌%◌, max}
-use Rattle.sched_ticket_quota.specs.Windows.{window_of, first_of, window_at, opening, allowed, floor_of, count_in}
+use Rattle.sched_ticket_quota.specs.Windows.{window_of, first_of, window_at, opening, allowed, floor_of}
 use Rattle.sched_ticket_quota.specs.View.{with_reading, with_opening, with_request, with_ticket, next_ticket}
 use Rattle.sched_ticket_quota.specs.Steps.{IsNoLater, IsLater}
 use Rattle.sched_ticket_quota.specs.Held.{AreTerms}
@@ -86,9 +86,3 @@ pub record Told (k : Terms) (now : ℕ) (v w : View) (told : Usage) : Type 0 whe
   pub asked : told.asked ≡ w.seen % 4294967296
   pub given : told.given ≡ next_ticket w - first_of (window_of w.seen)
   pub left : told.left ≡ allowed k told.asked - told.given
-
--- What is true of a pass that stands for all passes of its quota: in each window it has no more tickets than its
--- requests allow.
-pub record IsWhole (k : Terms) (v : View) : Type 0 where
-  pub all : v.weight ≡ 4611686018427387904
-  pub windows : (w : ℕ) → count_in w v.tickets ≤ allowed k (count_in w v.requests)

@@ -2,7 +2,9 @@
 use Rattle.std.specs.Prelude.{◌≡◌, ◌≢◌, ℕ, ◌+◌, ◌<◌, ◌≤◌, length, max}
 use Rattle.atomic_table.specs.Table.{Me, Step}
 use Rattle.sched_ticket.specs.Lists.{Each, times}
+use Rattle.sched_ticket.specs.Parts.{all_parts}
 use Rattle.sched_ticket_quota.specs.Windows.{window_of, first_of}
+use Rattle.sched_ticket_quota.specs.Whole.{IsWhole}
 use Rattle.sched_ticket_quota.specs.View.{with_reading, with_opening, with_request, with_found, with_ticket, with_loss, next_ticket}
 use Rattle.sched_ticket_quota.specs.declared.view.View.{View}
 
@@ -55,5 +57,6 @@ pub record IsSound (v : View) : Type 0 where
   pub few_tickets : length v.tickets ≤ 17496587910722355200
   pub few_parts : v.weight ≤ 4611686018427387904
 
+-- a pass learns what holds of its tickets, and where it has all parts that it is the whole
 abbrev pub learns : Then
-learns s m found n = (n ≡ m) × IsSound m.0
+learns s m found n = (n ≡ m) × IsSound m.0 × (m.0.weight ≡ all_parts → IsWhole m.0.terms m.0)

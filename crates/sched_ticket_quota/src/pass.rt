@@ -6,6 +6,7 @@ ghost use Rattle.sched_ticket_quota.specs.View.{fresh_view, with_reading, with_o
 ghost use Rattle.sched_ticket_quota.specs.View.{without_part, part_of, joined_view};
 ghost use Rattle.sched_ticket_quota.specs.Steps.{IsLater, IsSound, IsNoLater};
 ghost use Rattle.sched_ticket_quota.specs.Held.{AreTerms, IsOf};
+ghost use Rattle.sched_ticket_quota.specs.Whole.{IsWhole};
 ghost use Rattle.sched_ticket_quota.specs.Calls.{Meets, Opens, Turned, Deposited, Tried};
 ghost use Rattle.sched_ticket_quota.specs.Calls.{Drew, DrawRefused, Won, WonNone, Told};
 
@@ -13,7 +14,7 @@ use crate::fault::QuotaFault;
 use crate::quota::{DRAWS, LAST_WINDOW, NUMBERS, Quota, REQUESTS};
 use crate::rule::{Count, Find, Learn, Merge, Open, Part, Read, Win};
 use crate::view::{Terms, View};
-use sched_ticket::parts::given;
+use sched_ticket::parts::{ALL_PARTS, given};
 use sched_time::Moment;
 use std::marker::Model;
 
@@ -161,6 +162,21 @@ impl Pass {
         self.weight += weight;
         self.told = self.told.max(told);
         self
+    }
+
+    /// The number of tickets that were given out, where this pass is the whole: it has all parts of the quota. Otherwise
+    /// it is one of several, of which another is alive or was dropped, and it comes back as it was.
+    pub fn total(mut self, quota: &Quota) -> Result<u64, Pass>
+        requires { IsOf quota.now self }
+        ensures granted { IfOk result (λ n. n ≡ length self.has.tickets) }
+        ensures whole { OnOk result (IsWhole quota.now.terms self.has) }
+        ensures err { IfErr result (λ p. (p ≡ self) × (self.has.weight < 4611686018427387904)) }
+    {
+        if self.weight < ALL_PARTS {
+            return Err(self);
+        }
+        quota.table.shared.load::<Learn>(&mut self.seat, DRAWS);
+        Ok(self.granted)
     }
 
     /// What was asked of the window of `now`, or of the latest one where that is later, what it has given and what it

@@ -2,10 +2,11 @@
 ghost use Rattle.std.specs.Prelude.{◌≡◌, ◌<◌, length, IfOk, IfErr, OnOk};
 ghost use Rattle.sched_ticket_quota.specs.View.{first_view};
 ghost use Rattle.sched_ticket_quota.specs.Held.{AreTerms, IsOf};
-ghost use Rattle.sched_ticket_quota.specs.Calls.{RefusesTerms, IsWhole};
+ghost use Rattle.sched_ticket_quota.specs.Calls.{RefusesTerms};
+ghost use Rattle.sched_ticket_quota.specs.Whole.{IsWhole};
 
 use crate::fault::{PassesOut, QuotaFault};
-use crate::pass::{Pass, Seat};
+use crate::pass::Pass;
 use crate::rule::Rule;
 use crate::view::{Terms, View};
 use atomic_table::Table;
@@ -71,7 +72,7 @@ impl Quota {
         }
     }
 
-    /// The number of tickets that were given out, where this pass has all parts.
+    /// The number of tickets that were given out, where this pass has all parts, as `Pass::total` tells.
     /// Otherwise another pass is alive or was dropped, and both come back as they were.
     pub fn close(self, pass: Pass) -> Result<u64, (Quota, Pass, PassesOut)>
         requires { IsOf self pass }
@@ -79,21 +80,9 @@ impl Quota {
         ensures whole { OnOk result (IsWhole self.terms pass.has) }
         ensures err { IfErr result (λ r. (r.0 ≡ self) × (r.1 ≡ pass) × (pass.has.weight < 4611686018427387904)) }
     {
-        if pass.weight < ALL_PARTS {
-            return Err((self, pass, PassesOut));
+        match pass.total(&self) {
+            Ok(granted) => Ok(granted),
+            Err(pass) => Err((self, pass, PassesOut)),
         }
-        let granted = pass.granted;
-        self.take_apart(pass.seat);
-        Ok(granted)
-    }
-
-    /// Frees the table.
-    fn take_apart(self, seat: Seat)
-        requires of { seat.table_id ≡ self.table }
-        requires all { seat.me.0.weight ≡ 4611686018427387904 }
-        ensures { IsWhole self.terms seat.me.0 }
-    {
-        let Quota { table, terms: _ } = self;
-        table.close_with(seat).free();
     }
 }

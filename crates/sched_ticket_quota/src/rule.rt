@@ -9,7 +9,7 @@
 //! | `Win` | draws become the one after its next ticket, where they are what it found | gains the ticket, or a loss where the draws are past what it found |
 //! | `Part` | none changes | gives some of its parts to a new pass |
 //! | `Merge` | none changes | takes in another pass, which is spent |
-//! | `Learn` | none changes | learns that its tickets are distinct |
+//! | `Learn` | none changes | learns that its tickets are distinct, and where it has all parts that it is the whole |
 ghost use Rattle.sched_ticket_quota.specs.Rule.{IsKept};
 ghost use Rattle.sched_ticket_quota.specs.View.{first_view, blank_view, without_part, part_of, joined_view};
 ghost use Rattle.sched_ticket_quota.specs.Steps.{reads, opens, counts, finds, wins, learns};

@@ -8,7 +8,7 @@ from dataclasses import dataclass
 from functools import partial
 from typing import Callable, NamedTuple, Optional
 
-from ._engine import MOST_SHARE, MOST_TICKETS, QuotaPass
+from ._engine import MOST_SHARE, MOST_TICKETS, Pass
 from ._granting import Granting
 from ._passes import Passes
 from ._time import Duration, moment, seconds, seconds_text
@@ -56,7 +56,7 @@ class Usage:
     lost: bool = False
 
 
-class Quota(Granting[QuotaPass]):
+class Quota(Granting):
     """Retries for a service: in each window of time no more than a reserve, and a share of the requests made in it.
 
     `reserve`
@@ -91,7 +91,7 @@ class Quota(Granting[QuotaPass]):
     ) -> None:
         self._terms = terms_of(reserve, share, per)
         self._clock = clock
-        self.passes = Passes("quota", partial(QuotaPass.of_quota, *self._terms))
+        self.passes = Passes("quota", partial(Pass.of_quota, *self._terms))
 
     @property
     def terms(self) -> Terms:

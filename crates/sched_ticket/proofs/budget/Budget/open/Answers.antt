@@ -1,4 +1,4 @@
-use Rattle.std.proofs.Common.{refl, ap, arith}
+use Rattle.std.proofs.Common.{ap, arith}
 use Rattle.sched_ticket.specs.Rule.{laid}
 use Rattle.sched_ticket.proofs.Moves.{first_kept}
 use Rattle.sched_ticket.proofs.budget.Budget.open.Goals as goal
