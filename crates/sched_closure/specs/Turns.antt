@@ -54,10 +54,3 @@ pub record Turn {T K C I F : Type 0} (turning : Turning T) (tells : K → ℕ �
   pub moment : Answered tells waits start s.clock tick.now t.clock
   pub lanes : (tick.words, t.words) ≡ next_four s.words
   pub poll : turning.polls s.task tick told t.task
-
--- the moment to wait for, if any
-abbrev pub start_in : Next → Option ℕ
-start_in (Wait start) = Some start
-start_in Poll = None
-start_in Run = None
-start_in (Over how) = None

@@ -4,7 +4,7 @@ ghost use Rattle.std.specs.List.{FoldsTo};
 ghost use Rattle.sched_time.specs.declared.numbers.Tick.{Tick as Ticked};
 ghost use Rattle.sched_effect.specs.Runs.{ran_by};
 ghost use Rattle.sched_retry.specs.Ending.{how_of, EndingFits};
-ghost use Rattle.sched_retry.specs.Retrying.{Retrying};
+ghost use Rattle.sched_run_machine.specs.Retrying.{Retrying};
 ghost use Rattle.sched_run_machine.specs.Machine.{StandsFor, EndsAs};
 ghost use Rattle.sched_closure.specs.Turns.{calling, Turn};
 ghost use Rattle.sched_closure.specs.Calls.{retry_turning, HandsOut};

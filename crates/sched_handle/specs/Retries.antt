@@ -15,7 +15,7 @@ use Rattle.sched_ticket_draws.specs.Quotas.{OfQuota}
 use Rattle.sched_ticket.specs.View.{part_of, with_split}
 use Rattle.sched_ticket_quota.specs.View.{part_of as quota_part_of, without_part}
 use Rattle.sched_task_law.specs.Past.{Past, schedule_is_done}
-use Rattle.sched_retry.specs.Retrying.{Retrying, gives_up}
+use Rattle.sched_run_machine.specs.Retrying.{Retrying, gives_up}
 use Rattle.sched_run_machine.specs.Deadline.{is_past, late, until_from}
 use Rattle.sched_run_machine.specs.Drives.{IsStepped, GoesByPlan}
 use Rattle.sched_run_machine.specs.Machine.{Machine, begins, unbegun, is_told, cancelled, StandsFor, Polls as PollsMachine}

@@ -17,7 +17,7 @@ use Rattle.sched_task_law.specs.Law.{Law, Ended}
 use Rattle.sched_task_law.proofs.Law.{or_false}
 use Rattle.sched_task_law.proofs.Lists.{by_test}
 use Rattle.sched_task_law.proofs.Fields.{none_of}
-use Rattle.sched_retry.specs.Retrying.{Retrying, RetryPoll, gives_up}
+use Rattle.sched_run_machine.specs.Retrying.{Retrying, RetryPoll, gives_up}
 use Rattle.sched_pool_job.specs.Jobs.{IsJob}
 use Rattle.sched_pool_job.specs.Ends.{is_refused, ended}
 

@@ -9,7 +9,7 @@ use Rattle.sched_task_law.specs.Poll.{Happened, stays, cannot_begin, runs_on, ca
 use Rattle.sched_wheel.specs.Polled.{Standing, Poll, polled, ArePolls}
 use Rattle.sched_ticket_quota.specs.Held.{Name}
 use Rattle.sched_ticket_draws.specs.Quotas.{OfQuota, quota_grants}
-use Rattle.sched_retry.specs.Retrying.{Retrying, DrawsIn, RetryPoll}
+use Rattle.sched_run_machine.specs.Retrying.{Retrying, DrawsIn, RetryPoll}
 use Rattle.sched_pool_job.proofs.Kept.{polled_untaken}
 use Rattle.sched_pool_scripted.specs.Driven.{IsDriven}
 use Rattle.sched_pool_scripted.proofs.Passes.{drew_requests, drew_none_requests}

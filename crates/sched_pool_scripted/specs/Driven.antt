@@ -3,7 +3,7 @@ use Rattle.std.specs.Prelude.{◌≡◌, [], length, is_some}
 use Rattle.sched_ticket_quota.specs.Held.{Name}
 use Rattle.sched_ticket_quota.specs.declared.view.View.{View}
 use Rattle.sched_ticket_draws.specs.Quotas.{OfQuota}
-use Rattle.sched_retry.specs.Retrying.{Retrying}
+use Rattle.sched_run_machine.specs.Retrying.{Retrying}
 
 -- a pass with which nothing was drawn and no request was counted
 pub record IsUnused (v : View) : Type 0 where

@@ -2,7 +2,7 @@
 ghost use Rattle.std.specs.Prelude.{◌≡◌, false, None};
 ghost use Rattle.sched_repeat.specs.Machine.{Looks, Polls};
 ghost use Rattle.sched_repeat.specs.Ending.{over_by, HasCode};
-ghost use Rattle.sched_repeat.specs.Runner.{polls_run, leaves_run, told_by};
+ghost use Rattle.sched_run_machine.specs.Runner.{polls_run, leaves_run, told_by};
 
 use crate::endings::{RepeatEnding, ending_of};
 use crate::machine::RepeatMachine;

@@ -24,12 +24,13 @@ use Rattle.sched_task_law.specs.Runner.{Runs, past_of}
 use Rattle.sched_task_law.proofs.Lists.{by_test}
 use Rattle.sched_task_law.proofs.Fields.{last_finished}
 use Rattle.sched_task_law.proofs.Law.{or_false, or_true, law_after}
-use Rattle.sched_retry.specs.Retrying.{Retrying, retrying, RetryLaw}
-use Rattle.sched_retry.specs.Comes.{Comes}
+use Rattle.sched_run_machine.specs.Retrying.{Retrying, retrying, RetryLaw}
+use Rattle.sched_retry_or.specs.Comes.{Comes}
 use Rattle.sched_retry.specs.Ending.{how_of}
 use Rattle.sched_retry.specs.declared.endings.Ending.{Ending}
 use Rattle.sched_retry.specs.declared.endings.Ending.TheVariants as ending
-use Rattle.sched_retry.proofs.Polls.{Settled, Ready, asks_fallback, rests_over, rests_waiting, untaken_false, ready_by, come_to, comes_to, last_stepped}
+use Rattle.sched_run_machine.proofs.Settles.{Settled, asks_fallback, rests, untaken_false}
+use Rattle.sched_retry_or.proofs.Attempts.{Ready, ready_by, come_to, comes_to, last_stepped}
 use Rattle.sched_retry_or.specs.Falling.{Falling, FallingLaw, FallingPoll, Asks, IsAsked, HasFallen, KeepsStop}
 use Rattle.sched_retry_or.specs.Ending.{RetryOrFits}
 use Rattle.sched_retry_or.specs.Stops.{or_stopped, stops_refused, Asked}
@@ -167,14 +168,18 @@ module _ {D : Type 0} (grants : Grants D) (lawful : Lawful grants) where
 
   pub falling_over : (v : Falling D) (t : Tick) → FallingLaw grants v → is_some v.retrying.past.over ≡ true → FallingPoll grants v t true v
   falling_over v t law over =
-      let was = rests_over grants lawful retry_or v.retrying t law.law over in
-      record { poll = was.poll; fallback = unasked v.retrying.past was.poll.poll.happened v v was.run refl refl }
+      record {
+        poll = rests grants lawful retry_or v.retrying t true (sym over) law.law (inl over);
+        fallback = unasked v.retrying.past stays v v refl refl refl;
+      }
 
   pub falling_waiting : (v : Falling D) (t : Tick) → FallingLaw grants v → v.retrying.past.over ≡ None →
       IsSomeAnd (waits_for v.retrying.past) (λ m. t.now < m) → FallingPoll grants v t false v
   falling_waiting v t law unended waits =
-      let was = rests_waiting grants lawful retry_or v.retrying t law.law unended waits in
-      record { poll = was.poll; fallback = unasked v.retrying.past was.poll.poll.happened v v was.run refl refl }
+      record {
+        poll = rests grants lawful retry_or v.retrying t false (ap is_some (sym unended)) law.law (inr waits);
+        fallback = unasked v.retrying.past stays v v refl refl refl;
+      }
 
   pub ready_or : (r : Runs) (over : Option How) (denied : Bool) (p : D) (had : ℕ)
       (untaken : Bool) (t : Tick) (asked : Option (ℕ × Datum)) (answered : Option Ran) (v : Falling D) →

@@ -15,7 +15,7 @@ use Rattle.sched_task_law.specs.Poll.{Happened, asks, cannot_ask, falls, stopped
 use Rattle.sched_task_law.specs.Law.{is_stop}
 use Rattle.sched_task_law.specs.Codes.{coded_ran}
 use Rattle.sched_retry_or.specs.declared.stopped.Stopped.{Stopped}
-use Rattle.sched_retry.specs.Retrying.{Retrying, coded_retrying, RetryLaw, RetryPoll, gives_up as retry_gives_up}
+use Rattle.sched_run_machine.specs.Retrying.{Retrying, coded_retrying, RetryLaw, RetryPoll, gives_up as retry_gives_up}
 
 pub record Falling (D : Type 0) : Type 0 where
   pub retrying : Retrying D

@@ -1,3 +1,4 @@
 pub mod Falling
 pub mod Ending
 pub mod Stops
+pub mod Comes

@@ -1,6 +1,7 @@
 //! Retries that ask a fallback in the end.
 #![tactic(auto)]
 
+mod attempts;
 mod endings;
 mod retry_or;
 mod stopped;

@@ -7,13 +7,13 @@ ghost use Rattle.sched_task_law.specs.Poll.{CanRun};
 ghost use Rattle.sched_retry_or.specs.Falling.{FallingLaw, FallingPoll, gives_up};
 ghost use Rattle.sched_retry_or.specs.Ending.{RetryOrFits};
 
+use crate::attempts::poll_attempt;
 use crate::endings::RetryOrEnding;
 use crate::stopped::Stopped;
 use crate::stops::{ask, or_stopped};
 use futures::task::{Context, Poll};
 use sched_driver::Driver;
 use sched_effect::{Coded, Effect, Fallback};
-use sched_retry::poll_attempt;
 use sched_task::{How, Task};
 use sched_task_law::Runner;
 use sched_ticket_draws::Draws;
@@ -36,7 +36,7 @@ pub struct RetryOr<X: Effect, D: Draws, F: Fallback<X>> {
 impl<X: Effect, D: Draws, F: Fallback<X>> Model for RetryOr<X, D, F> {
     ghost use Rattle.std.specs.Prelude.{◌-◌, is_some, IfSome};
     ghost use Rattle.sched_task_law.specs.Runner.{past_of};
-    ghost use Rattle.sched_retry.specs.Retrying.{retrying};
+    ghost use Rattle.sched_run_machine.specs.Retrying.{retrying};
     ghost use Rattle.sched_retry_or.specs.Falling.{Falling, coded_falling, FallingLaw, KeepsStop};
     ghost use Rattle.sched_retry_or.specs.Stops.{stops_refused};
 

@@ -58,13 +58,13 @@ pub trait Drives: Drop {
 
 impl Drives for Driver {
     ghost use Rattle.std.specs.Prelude.{◌≡◌, [], true, None, refl};
-    ghost use Rattle.sched_run_machine.specs.Drives.{unstepped_driver};
+    ghost use Rattle.sched_run_machine.specs.Drives.{IsDriven, PlanIs, unstepped_driver};
 
     ghost keeps = { true };
 
-    ghost stands = { λ v d. v ≡ d };
+    ghost stands = { IsDriven };
 
-    ghost goes_by = { λ v s. v.plan ≡ s };
+    ghost goes_by = { PlanIs };
 
     ghost plan = { λ v. v.plan };
 

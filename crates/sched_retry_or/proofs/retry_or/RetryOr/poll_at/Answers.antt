@@ -1,7 +1,7 @@
 use Rattle.std.proofs.Common.{◌-◌, is_some, sym, ap, ◌∙◌, refl, subst}
 use Rattle.sched_task_law.specs.Runner.{past_of}
 use Rattle.sched_task_law.proofs.Fields.{none_of}
-use Rattle.sched_retry.specs.Retrying.{retrying}
+use Rattle.sched_run_machine.specs.Retrying.{retrying}
 use Rattle.sched_retry_or.specs.Falling.{Falling, FallingLaw}
 use Rattle.sched_retry_or.specs.Stops.{stops_refused}
 use Rattle.sched_retry_or.proofs.Polls.{polled_as, can_run, falling_over, falling_waiting, stopped_kept, asks_on, asked_to, asked_fits, keeps_over}

@@ -4,10 +4,10 @@ use Rattle.sched_task_law.specs.Kind.{retry_or}
 use Rattle.sched_task_law.specs.Law.{is_stop}
 use Rattle.sched_task_law.specs.Runner.{past_of}
 use Rattle.sched_task_law.proofs.Fields.{if_none}
-use Rattle.sched_retry.specs.Retrying.{retrying}
-use Rattle.sched_retry.specs.Comes.{Comes}
+use Rattle.sched_run_machine.specs.Retrying.{retrying}
+use Rattle.sched_retry_or.specs.Comes.{Comes}
 use Rattle.sched_retry.specs.declared.endings.Ending.{Ending}
-use Rattle.sched_retry.proofs.Polls.{unended_untaken}
+use Rattle.sched_retry_or.proofs.Attempts.{unended_untaken}
 use Rattle.sched_retry_or.specs.Falling.{FallingLaw, FallingPoll, KeepsStop}
 use Rattle.sched_retry_or.specs.Ending.{RetryOrFits}
 use Rattle.sched_retry_or.specs.Stops.{stops_refused}

@@ -1,11 +1,13 @@
 //! An effect with the beginnings of its runs.
-ghost use Rattle.std.specs.Prelude.{◌≡◌, []};
+ghost use Rattle.std.specs.Prelude.{◌≡◌, [], is_some};
 ghost use Rattle.futures.specs.Task.{Keeps};
+ghost use Rattle.sched_task.specs.Polls.{is_ready};
 ghost use Rattle.sched_task_law.specs.Past.{is_under_way};
-ghost use Rattle.sched_repeat.specs.Runner.{Polls};
+ghost use Rattle.sched_run_machine.specs.Runner.{Polls};
 
 use futures::task::{Context, Poll};
 use sched_effect::Effect;
+use sched_task::How;
 use sched_task_law::Polled;
 use sched_time::{Moment, Tick};
 use std::alloc::Global;
@@ -13,13 +15,13 @@ use std::marker::Model;
 
 /// An effect, and the moments at which its runs were begun.
 #[derive(Drop)]
-pub(crate) struct Runner<X: Effect> {
+pub struct Runner<X: Effect> {
     effect: X,
     begun: Vec<Moment>,
 }
 
 impl<X: Effect> Model for Runner<X> {
-    ghost use Rattle.sched_repeat.specs.Runner.{Runs, coded_runs};
+    ghost use Rattle.sched_run_machine.specs.Runner.{Runs, coded_runs};
 
     ghost Value = { Runs };
 
@@ -30,7 +32,7 @@ impl<X: Effect> Model for Runner<X> {
 
 impl<X: Effect> Runner<X> {
     /// An effect of which no run has begun. It takes no memory.
-    pub(crate) fn new(alloc: Global, effect: X) -> Runner<X>
+    pub fn new(alloc: Global, effect: X) -> Runner<X>
         ensures runs { result.runs ≡ X.finished effect }
         ensures begun { result.begun ≡ [] }
     {
@@ -41,25 +43,26 @@ impl<X: Effect> Runner<X> {
     }
 
     /// The effect.
-    pub(crate) fn effect(&self) -> &X
+    pub fn effect(&self) -> &X
         ensures { X.finished result.now ≡ self.now.runs }
     {
         &self.effect
     }
 
     /// The moments at which runs were begun.
-    pub(crate) fn begun(&self) -> &[Moment]
+    pub fn begun(&self) -> &[Moment]
         ensures { result.now ≡ self.now.begun }
     {
         &self.begun
     }
 
-    /// The effect.
-    pub(crate) fn into_effect(self) -> X
-        ensures { X.finished result ≡ self.runs }
+    /// The effect and the beginnings.
+    pub fn into_parts(self) -> (X, Vec<Moment>)
+        ensures runs { X.finished result.0 ≡ self.runs }
+        ensures begun { result.1.items ≡ self.begun }
     {
-        let Runner { effect, begun: _ } = self;
-        effect
+        let Runner { effect, begun } = self;
+        (effect, begun)
     }
 
     // Whether a run was begun and has not finished.
@@ -70,7 +73,7 @@ impl<X: Effect> Runner<X> {
     }
 
     /// Polls the run under way once. Where none is, it first notes the tick's moment as the beginning of one.
-    pub(crate) fn poll_run(
+    pub fn poll_run(
         &mut self,
         tick: &Tick,
         cx: &mut Context<'_>,
@@ -86,5 +89,15 @@ impl<X: Effect> Runner<X> {
             Poll::Ready(Err(_)) => Polled::CannotRun,
             Poll::Ready(Ok(run)) => Polled::Finished(run),
         }
+    }
+}
+
+/// Ready where it is over.
+pub fn ready_where(over: Option<How>) -> Poll<()>
+    ensures { is_ready result ≡ is_some over }
+{
+    match over {
+        Some(_) => Poll::Ready(()),
+        None => Poll::Pending,
     }
 }

@@ -10,7 +10,7 @@ use Rattle.sched_task_law.specs.Law.{HasOneMore}
 use Rattle.sched_task_law.specs.declared.runner.Polled.{Polled}
 use Rattle.sched_task_law.specs.declared.runner.Polled.TheVariants.{CannotBegin, Pending, CannotRun, Finished}
 use Rattle.sched_task_law.proofs.Law.{under_way_then, finished_then}
-use Rattle.sched_repeat.specs.Runner.{Runs, begun_with, polls_run, leaves_run, told_by, Polls}
+use Rattle.sched_run_machine.specs.Runner.{Runs, begun_with, polls_run, leaves_run, told_by, Polls}
 
 -- whether runs finish
 abbrev pub finishes : List Ran → Bool
