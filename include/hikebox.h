@@ -72,6 +72,9 @@ extern "C" {
 /* The deadline of a retry that has none. */
 #define HIKEBOX_NO_DEADLINE UINT64_MAX
 
+/* The bound of a policy whose nodes give none. */
+#define HIKEBOX_NO_BOUND UINT64_MAX
+
 /* The most tickets of a budget, and the greatest reserve of a quota: 2^32. */
 #define HIKEBOX_MOST_TICKETS UINT64_C(4294967296)
 
@@ -183,6 +186,18 @@ HIKEBOX_CHECKED hikebox_status hikebox_policy_read(const char *json, size_t leng
                                                    hikebox_place *place);
 
 /*
+ * Makes the policy of one node, without a text, and puts it into `made`: the node of this name, of `length` bytes, with these
+ * `count` numbers, over the policies in `first` and `second`. It is the one that hikebox_policy_read reads of
+ * {"NAME":[numbers, first, second]}. A handle that holds nothing stands for no policy: a node over none has both so, and a
+ * node over one has `second` so. Both policies stay, and are copied; they are in two handles, also where they are the same
+ * one. `gate` and `gather` have words among their parameters, and are read from JSON alone. HIKEBOX_FULL; _WRONG_KIND;
+ * _NOT_A_POLICY: no node has this name with so many numbers and policies; _OUT_OF_RANGE; _TOO_DEEP; _TOO_MANY; _NO_MEMORY,
+ * at any point.
+ */
+HIKEBOX_CHECKED hikebox_status hikebox_policy_node(const char *name, size_t length, const uint64_t *numbers, size_t count,
+                                                   hikebox_policy *first, hikebox_policy *second, hikebox_policy *made);
+
+/*
  * Says what is wrong with a text that hikebox_policy_read refuses, and where, in the words of `zsched check`: the place
  * of the first fault, `top` or the steps to it, and what is wanted there and was found, as
  *     meet[1].cap[1]: no node is called "exponental"; did you mean "exponential"?
@@ -201,6 +216,17 @@ HIKEBOX_CHECKED hikebox_status hikebox_policy_share(hikebox_policy *policy, hike
 
 /* How many nodes the policy has, at most 256, and how deep it is, at most 32. HIKEBOX_EMPTY; _WRONG_KIND. */
 HIKEBOX_CHECKED hikebox_status hikebox_policy_size(hikebox_policy *policy, uint64_t *nodes, uint64_t *depth);
+
+/*
+ * The policy as JSON without spaces, which hikebox_policy_read reads as the same policy. Its bytes, with no zero byte after
+ * them, are written to `text`, which has room for `capacity`, and their number to `length`. HIKEBOX_EMPTY; _WRONG_KIND;
+ * _NO_MEMORY; _NO_ROOM, and then `length` is the room that is needed.
+ */
+HIKEBOX_CHECKED hikebox_status hikebox_policy_json(hikebox_policy *policy, char *text, size_t capacity, size_t *length);
+
+/* At how many events the policy goes on at most, whatever comes, or HIKEBOX_NO_BOUND where its nodes give no such number.
+ * HIKEBOX_EMPTY; _WRONG_KIND; _NO_MEMORY. */
+HIKEBOX_CHECKED hikebox_status hikebox_policy_bound(hikebox_policy *policy, uint64_t *most);
 
 /* Frees the handle's share of the policy. HIKEBOX_EMPTY; _WRONG_KIND. */
 hikebox_status hikebox_policy_free(hikebox_policy *policy);

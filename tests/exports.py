@@ -1,6 +1,6 @@
 """Compares the calls that include/hikebox.h declares with those that crates/hikebox_c exports: their names, and of each the
 types of its parameters in order. A handle's type is a struct of one pointer, whichever kind it is of. Each export makes the
-call of its name of crates/sched_calls or crates/sched_storm_call and nothing else, and has its parameters and clauses, word for word."""
+call of its name of one of the crates of CALLS and nothing else, and has its parameters and clauses, word for word."""
 import pathlib
 import re
 import sys
@@ -10,6 +10,7 @@ RATTLE = {
     "&mut Handle": ["handle *"],
     "&[u8]": ["const char *", "size_t"],
     "&mut [u8]": ["char *", "size_t"],
+    "&[u64]": ["const uint64_t *", "size_t"],
     "&[u32; 4]": ["const uint32_t *"],
     "&mut u64": ["uint64_t *"],
     "&mut usize": ["size_t *"],
@@ -36,7 +37,7 @@ STRUCTS = {
     "TotalsTold": "hikebox_totals",
 }
 #: The crates whose calls are exported.
-CALLS = ("sched_calls", "sched_storm_call")
+CALLS = ("sched_calls", "sched_policy_call", "sched_storm_call")
 FIELDS = {"u64": "uint64_t", "u32": "uint32_t", "[u32; 4]": "uint32_t[4]"}
 
 

@@ -75,6 +75,11 @@ static int plan(char **words) {
     read_input();
     hikebox_status status = read_policy(input, &policy);
     if (status != HIKEBOX_OK) return (int)status;
+    /* (what is written of the policy is stepped, and is the policy) */
+    wants(hikebox_policy_json(&policy, text, sizeof text - 1, &length), HIKEBOX_OK);
+    text[length] = 0;
+    wants(hikebox_policy_free(&policy), HIKEBOX_OK);
+    wants(read_policy(text, &policy), HIKEBOX_OK);
     wants(hikebox_driver_new(&policy, &driver), HIKEBOX_OK);
     for (uint64_t step = 0; step < steps && decision.goes_on; step++) {
         wants(hikebox_driver_next(&driver, now, lanes, given, &decision), HIKEBOX_OK);
@@ -158,6 +163,106 @@ static int faults(void) {
         }
         wants(say_fault(table[at][0], text, wanted, &length), HIKEBOX_OK);
         holds(length == wanted && memcmp(text, table[at][1], wanted) == 0 && text[wanted] == '#');
+    }
+    return wrong;
+}
+
+static hikebox_status make_node(const char *name, const uint64_t *numbers, size_t count, hikebox_policy *first,
+                                hikebox_policy *second, hikebox_policy *made) {
+    return hikebox_policy_node(name, strlen(name), numbers, count, first, second, made);
+}
+
+/* Nodes by their names and numbers: each refusal leaves all handles as they were. */
+static int nodes(void) {
+    static const uint64_t numbers[4] = {3, 100, 2000, 5000}, far[1] = {HIKEBOX_FAR + 1};
+    static const char wanted[] = "{\"follow\":[{\"cap\":[3,{\"decorrelated\":[3,100,2000,5000]}]},\"forever\"]}";
+    hikebox_policy none = HIKEBOX_INIT, nothing = HIKEBOX_INIT, leaf = HIKEBOX_INIT, capped = HIKEBOX_INIT;
+    hikebox_policy forever = HIKEBOX_INIT, both = HIKEBOX_INIT, spare = HIKEBOX_INIT;
+    hikebox_pass pass = HIKEBOX_INIT;
+    char text[128] = "";
+    size_t length;
+    wants(make_node("decorrelated", numbers, 4, &none, &nothing, &leaf), HIKEBOX_OK);
+    wants(make_node("cap", numbers, 1, &leaf, &nothing, &capped), HIKEBOX_OK);
+    wants(make_node("forever", numbers, 0, &none, &nothing, &forever), HIKEBOX_OK);
+    wants(make_node("follow", numbers, 0, &capped, &forever, &both), HIKEBOX_OK);
+    wants(hikebox_policy_json(&both, text, sizeof text, &length), HIKEBOX_OK);
+    holds(length == sizeof wanted - 1 && !memcmp(text, wanted, length));
+    wants(make_node("cap", numbers, 1, &leaf, &nothing, &capped), HIKEBOX_FULL);
+    wants(make_node("recurs", numbers, 0, &none, &nothing, &spare), HIKEBOX_NOT_A_POLICY);
+    wants(make_node("recurs", numbers, 2, &none, &nothing, &spare), HIKEBOX_NOT_A_POLICY);
+    wants(make_node("recur", numbers, 1, &none, &nothing, &spare), HIKEBOX_NOT_A_POLICY);
+    wants(make_node("\xff", numbers, 1, &none, &nothing, &spare), HIKEBOX_NOT_A_POLICY);
+    wants(make_node("recurs", numbers, 1, &leaf, &nothing, &spare), HIKEBOX_NOT_A_POLICY);
+    wants(make_node("meet", numbers, 0, &leaf, &nothing, &spare), HIKEBOX_NOT_A_POLICY);
+    wants(make_node("cap", numbers, 0, &leaf, &forever, &spare), HIKEBOX_NOT_A_POLICY);
+    wants(make_node("gather", numbers, 1, &leaf, &nothing, &spare), HIKEBOX_NOT_A_POLICY);
+    wants(make_node("recurs", far, 1, &none, &nothing, &spare), HIKEBOX_OUT_OF_RANGE);
+    wants(make_node("cap", far, 1, &leaf, &nothing, &spare), HIKEBOX_OUT_OF_RANGE);
+    wants(hikebox_budget_fixed(1, &pass), HIKEBOX_OK);
+    wants(make_node("cap", numbers, 1, (hikebox_policy *)&pass, &nothing, &spare), HIKEBOX_WRONG_KIND);
+    wants(make_node("meet", numbers, 0, &leaf, (hikebox_policy *)&pass, &spare), HIKEBOX_WRONG_KIND);
+    wants(hikebox_pass_free(&pass), HIKEBOX_OK);
+    for (int deep = 3; deep < 32; deep++) {
+        wants(make_node("nothing", numbers, 0, &both, &nothing, &spare), HIKEBOX_OK);
+        wants(hikebox_policy_free(&both), HIKEBOX_OK);
+        both = spare;
+        spare.held = NULL;
+    }
+    wants(make_node("nothing", numbers, 0, &both, &nothing, &spare), HIKEBOX_TOO_DEEP);
+    for (uint64_t has = 1, depth; has < 255; ) {
+        wants(hikebox_policy_share(&leaf, &none), HIKEBOX_OK);
+        wants(make_node("meet", numbers, 0, &leaf, &none, &spare), HIKEBOX_OK);
+        wants(hikebox_policy_free(&none), HIKEBOX_OK);
+        wants(hikebox_policy_free(&leaf), HIKEBOX_OK);
+        leaf = spare;
+        spare.held = NULL;
+        wants(hikebox_policy_size(&leaf, &has, &depth), HIKEBOX_OK);
+    }
+    wants(make_node("meet", numbers, 0, &leaf, &forever, &spare), HIKEBOX_TOO_MANY);
+    wants(make_node("first", numbers, 0, &leaf, &nothing, &spare), HIKEBOX_OK);
+    wants(make_node("first", numbers, 0, &spare, &nothing, &none), HIKEBOX_TOO_MANY);
+    holds(!none.held && !nothing.held);
+    wants(hikebox_policy_free(&spare), HIKEBOX_OK);
+    wants(hikebox_policy_free(&both), HIKEBOX_OK);
+    wants(hikebox_policy_free(&forever), HIKEBOX_OK);
+    wants(hikebox_policy_free(&capped), HIKEBOX_OK);
+    wants(hikebox_policy_free(&leaf), HIKEBOX_OK);
+    return wrong;
+}
+
+/* What is written of a policy, and its bound. */
+static int policies(void) {
+    static const struct {
+        const char *read, *written;
+        uint64_t most;
+    } table[] = {
+        {" \"forever\"\n", "\"forever\"", HIKEBOX_NO_BOUND},
+        {"{ \"recurs\" : 5 }", "{\"recurs\":5}", 5},
+        {"{\"lone\":4611686018427387903}", "{\"lone\":4611686018427387903}", 1},
+        {"{\"\\u0073paced\":0}", "{\"spaced\":0}", HIKEBOX_NO_BOUND},
+        {"{\"unfold\":[1,\n2,\n3]}", "{\"unfold\":[1,2,3]}", HIKEBOX_NO_BOUND},
+        {"{\"meet\":[{\"recurs\":5},{\"recurs\":3}]}", "{\"meet\":[{\"recurs\":5},{\"recurs\":3}]}", 3},
+        {"{\"join\":[{\"recurs\":5},{\"lone\":9}]}", "{\"join\":[{\"recurs\":5},{\"lone\":9}]}", 5},
+        {"{\"join\":[{\"recurs\":5},\"elapsed\"]}", "{\"join\":[{\"recurs\":5},\"elapsed\"]}", HIKEBOX_NO_BOUND},
+        {"{\"follow\":[{\"recurs\":5},{\"recurs\":4611686018427387903}]}",
+         "{\"follow\":[{\"recurs\":5},{\"recurs\":4611686018427387903}]}", HIKEBOX_FAR},
+        {"{\"renew\":[9, {\"recurs\":5}]}", "{\"renew\":[9,{\"recurs\":5}]}", HIKEBOX_NO_BOUND},
+        {"{\"gate\":[\"output\", false, \"at_least\", 7, {\"gather\":[\"max\", \"identity\"]}]}",
+         "{\"gate\":[\"output\",false,\"at_least\",7,{\"gather\":[\"max\",\"identity\"]}]}", HIKEBOX_NO_BOUND},
+    };
+    for (size_t at = 0; at < sizeof table / sizeof *table; at++) {
+        hikebox_policy policy = HIKEBOX_INIT;
+        char text[128] = "";
+        size_t length = 0, wanted = strlen(table[at].written);
+        uint64_t most = 7;
+        wants(read_policy(table[at].read, &policy), HIKEBOX_OK);
+        wants(hikebox_policy_json(&policy, text, wanted - 1, &length), HIKEBOX_NO_ROOM);
+        holds(length == wanted && text[0] == 0);
+        wants(hikebox_policy_json(&policy, text, wanted, &length), HIKEBOX_OK);
+        holds(length == wanted && !strcmp(text, table[at].written));
+        wants(hikebox_policy_bound(&policy, &most), HIKEBOX_OK);
+        holds(most == table[at].most);
+        wants(hikebox_policy_free(&policy), HIKEBOX_OK);
     }
     return wrong;
 }
@@ -317,6 +422,8 @@ static int handles(void) {
         if (kind != POLICY) {
             wants(hikebox_policy_share(handle, &spare), refused);
             wants(hikebox_policy_size(handle, &number, &other), refused);
+            wants(hikebox_policy_json(handle, text, sizeof text, &length), refused);
+            wants(hikebox_policy_bound(handle, &number), refused);
             wants(hikebox_driver_new(handle, (hikebox_driver *)&spare), refused);
             wants(hikebox_retry_new(handle, &other_pass, HIKEBOX_NO_DEADLINE, (hikebox_retry *)&spare), refused);
             wants(hikebox_retry_on_quota(handle, &other_quota, HIKEBOX_NO_DEADLINE, (hikebox_retry *)&spare), refused);
@@ -1087,7 +1194,7 @@ static void run_once(hikebox_policy *policy, hikebox_pass *pass) {
 }
 
 static int calls(void) {
-    hikebox_policy policy = HIKEBOX_INIT, second = HIKEBOX_INIT;
+    hikebox_policy policy = HIKEBOX_INIT, second = HIKEBOX_INIT, both = HIKEBOX_INIT;
     hikebox_driver driver = HIKEBOX_INIT;
     hikebox_pass pass = HIKEBOX_INIT, part = HIKEBOX_INIT, sole = HIKEBOX_INIT;
     hikebox_quota quota = HIKEBOX_INIT, quota_part = HIKEBOX_INIT;
@@ -1115,6 +1222,12 @@ static int calls(void) {
     holds(totals.requests == 4 && totals.lost == 4 && totals.calls == 12);
     again(hikebox_policy_size(&second, &number, &other));
     holds(number == 4 && other == 3);
+    again(hikebox_policy_json(&second, text, sizeof text, &length));
+    holds(length == sizeof json - 1 && memcmp(text, json, length) == 0);
+    again(hikebox_policy_bound(&second, &number));
+    holds(number == 2);
+    again(make_node("meet", &number, 0, &policy, &second, &both));
+    again(hikebox_policy_free(&both));
     again(hikebox_driver_new(&second, &driver));
     for (uint64_t now = 0; now < 30; now += 10) again(hikebox_driver_next(&driver, now, no_words, 0, &decision));
     again(hikebox_driver_next_start(&driver, &decision));
@@ -1185,6 +1298,8 @@ int main(int count, char **words) {
     if (!strcmp(what, "fault")) return fault();
     if (!strcmp(what, "faults")) return faults();
     if (!strcmp(what, "journals")) return journals();
+    if (!strcmp(what, "policies")) return policies();
+    if (!strcmp(what, "nodes")) return nodes();
     if (!strcmp(what, "storms")) return storms();
     if (!strcmp(what, "lasting")) return lasting();
     if (!strcmp(what, "shares")) return shares();

@@ -143,11 +143,11 @@ ends 5 '{"recurs":0}' '[{"won":1}]' won:1
 ends 5 '"forever"' '[{"lost":1},{"lost":2},{"lost":3},{"won":4}]' lost:1 lost:2 lost:3 won:4
 
 for program in linked loaded; do
-  for words in handles budgets deadlines quotas faults journals lasting shares storms; do
+  for words in handles budgets deadlines quotas faults journals policies nodes lasting shares storms; do
     "$work/$program" "$words" || wrong "$program $words"
   done
   "$work/$program" draw 16 10000000 || wrong "$program draw"
-  for words in handles budgets deadlines quotas faults journals shares storms calls 'draw 4 20000'; do
+  for words in handles budgets deadlines quotas faults journals policies nodes shares storms calls 'draw 4 20000'; do
     # shellcheck disable=SC2086
     valgrind --quiet --leak-check=full --show-leak-kinds=all --error-exitcode=9 "$work/$program" $words >"$work/out" ||
       wrong "valgrind $program $words"

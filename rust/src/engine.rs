@@ -145,6 +145,9 @@ pub(crate) const ON_QUOTA: u64 = 2;
 pub(crate) const FAR: u64 = (1 << 62) - 1;
 /// The deadline of a retry that has none.
 pub(crate) const NO_DEADLINE: u64 = u64::MAX;
+
+/// The bound of a policy whose nodes give none.
+const NO_BOUND: u64 = u64::MAX;
 /// The most tickets of a budget, and of a window of a quota.
 #[cfg(feature = "leased")]
 pub(crate) const MOST_TICKETS: u64 = 1 << 32;
@@ -159,6 +162,8 @@ extern "C" {
         length: *mut usize,
     ) -> u32;
     fn hikebox_policy_size(policy: *mut Raw, nodes: *mut u64, depth: *mut u64) -> u32;
+    fn hikebox_policy_json(policy: *mut Raw, text: *mut u8, capacity: usize, length: *mut usize) -> u32;
+    fn hikebox_policy_bound(policy: *mut Raw, most: *mut u64) -> u32;
     fn hikebox_policy_free(policy: *mut Raw) -> u32;
 
     fn hikebox_driver_new(policy: *mut Raw, driver: *mut Raw) -> u32;
@@ -376,6 +381,18 @@ impl Handle<PolicyKind> {
         let status = unsafe { hikebox_policy_size(self.raw(), &mut nodes, &mut depth) };
         debug_assert_eq!(status, OK);
         (nodes, depth)
+    }
+
+    /// Its JSON, without spaces.
+    pub(crate) fn json(&mut self) -> Result<String, Status> {
+        text(|text, room, length| unsafe { hikebox_policy_json(self.raw(), text, room, length) })
+    }
+
+    /// At how many events it goes on at most, or `None` where its nodes give no such number.
+    pub(crate) fn bound(&mut self) -> Result<Option<u64>, Status> {
+        let mut most = 0;
+        Status::of(unsafe { hikebox_policy_bound(self.raw(), &mut most) })?;
+        Ok((most != NO_BOUND).then_some(most))
     }
 }
 

@@ -29,6 +29,7 @@ pub struct Policy {
     handle: Arc<Mutex<Handle<PolicyKind>>>,
     nodes: u64,
     depth: u64,
+    most_retries: Option<u64>,
 }
 
 /// Why a text or a [`Schedule`] is no policy: its first fault, where that is, and what is wanted there.
@@ -99,10 +100,12 @@ impl Policy {
     pub fn from_json(json: &str) -> Result<Self, PolicyError> {
         let mut handle = Handle::read(json).map_err(|(status, place)| PolicyError::of_text(json, status, place))?;
         let (nodes, depth) = handle.size();
-        Ok(Self { json: json.into(), handle: Arc::new(Mutex::new(handle)), nodes, depth })
+        let most_retries = handle.bound().map_err(PolicyError::of)?;
+        let json = handle.json().map_err(PolicyError::of)?.into();
+        Ok(Self { json, handle: Arc::new(Mutex::new(handle)), nodes, depth, most_retries })
     }
 
-    /// The policy's JSON text, as it was read.
+    /// The policy's JSON text, without spaces.
     pub fn as_json(&self) -> &str {
         &self.json
     }
@@ -115,6 +118,21 @@ impl Policy {
     /// How deep it is.
     pub fn depth(&self) -> u64 {
         self.depth
+    }
+
+    /// At how many failures it goes on at most, whatever comes, or `None` where its nodes alone don't bound that.
+    ///
+    /// ```
+    /// use hikebox::Policy;
+    ///
+    /// let policy: Policy = r#"{ "follow": [{ "recurs": 2 }, { "recurs": 3 }] }"#.parse()?;
+    /// assert_eq!(policy.most_retries(), Some(5));
+    /// assert_eq!(policy.as_json(), r#"{"follow":[{"recurs":2},{"recurs":3}]}"#);
+    /// assert_eq!(Policy::from_json("\"forever\"")?.most_retries(), None);
+    /// # Ok::<(), hikebox::PolicyError>(())
+    /// ```
+    pub fn most_retries(&self) -> Option<u64> {
+        self.most_retries
     }
 
     /// What the policy would do, event by event, as `zsched plan` prints it: the first event is at 0, each further one
@@ -289,7 +307,7 @@ impl std::hash::Hash for Policy {
     }
 }
 
-/// Policies are equal where their texts are.
+/// Policies are equal where they have the same nodes with the same parameters.
 impl PartialEq for Policy {
     fn eq(&self, other: &Self) -> bool {
         self.json == other.json

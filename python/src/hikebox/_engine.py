@@ -57,6 +57,8 @@ MOST_SHARE = 1_000_000
 
 #: The deadline of a retry that has none.
 NO_DEADLINE = 2**64 - 1
+#: The bound of a policy whose nodes give none.
+NO_BOUND = 2**64 - 1
 
 NO_REPORT, WON, LOST = 0, 1, 2
 POLL, RUN, WAIT, OVER = 0, 1, 2, 3
@@ -126,9 +128,12 @@ _WORDS = POINTER(c_uint32)
 #: Each function of the header that is used here, with the types of its parameters.
 SIGNATURES: Dict[str, Tuple[Any, ...]] = {
     "hikebox_policy_read": (c_char_p, c_size_t, _HANDLE, POINTER(Place)),
+    "hikebox_policy_node": (c_char_p, c_size_t, _NUMBER, c_size_t, _HANDLE, _HANDLE, _HANDLE),
     "hikebox_policy_fault": (c_char_p, c_size_t, POINTER(c_uint8), c_size_t, POINTER(c_size_t)),
     "hikebox_policy_share": (_HANDLE, _HANDLE),
     "hikebox_policy_size": (_HANDLE, _NUMBER, _NUMBER),
+    "hikebox_policy_json": (_HANDLE, POINTER(c_uint8), c_size_t, POINTER(c_size_t)),
+    "hikebox_policy_bound": (_HANDLE, _NUMBER),
     "hikebox_policy_free": (_HANDLE,),
     "hikebox_driver_new": (_HANDLE, _HANDLE),
     "hikebox_driver_next": (_HANDLE, c_uint64, _WORDS, c_uint64, POINTER(Decision)),
@@ -193,6 +198,7 @@ def unchecked(call: str) -> Any:
 
 
 library = _load()
+_policy_node = unchecked("hikebox_policy_node")
 _pass_draw = unchecked("hikebox_pass_draw")
 _quota_deposit = unchecked("hikebox_quota_deposit")
 _quota_draw = unchecked("hikebox_quota_draw")
@@ -270,6 +276,25 @@ class PolicyHandle:
             return _refusal(status, text, place)
         raise refused("hikebox_policy_read", status)
 
+    @classmethod
+    def of_node(cls, name: str, numbers: Tuple[int, ...], *parts: PolicyHandle) -> Optional[PolicyHandle]:
+        """The policy of a node of this name with these numbers over these policies, or None where it is refused."""
+        made = cls()
+        first = parts[0] if parts else _NOTHING
+        second = parts[1] if len(parts) > 1 else _NOTHING
+        if second is first:
+            second = first.share() if parts[1:] else _NOTHING_ELSE
+        spelt = name.encode()
+        count = len(numbers)
+        status = _policy_node(
+            spelt, c_size_t(len(spelt)), (c_uint64 * count)(*numbers), c_size_t(count), first.at, second.at, made.at
+        )
+        if status == OK:
+            return made
+        if NOT_A_POLICY <= status <= TOO_MANY:
+            return None
+        raise refused("hikebox_policy_node", status)
+
     def share(self) -> PolicyHandle:
         """A second handle to the same policy, which is not copied."""
         other = PolicyHandle()
@@ -286,9 +311,25 @@ class PolicyHandle:
             raise refused("hikebox_policy_size", status)
         return nodes.value, depth.value
 
+    def bound(self) -> Optional[int]:
+        """At how many events the policy goes on at most, or None where its nodes give no such number."""
+        most = c_uint64()
+        status = library.hikebox_policy_bound(self.at, byref(most))
+        if status != OK:
+            raise refused("hikebox_policy_bound", status)
+        return None if most.value == NO_BOUND else most.value
+
+    def json(self) -> str:
+        """The policy as JSON, without spaces."""
+        return _text("hikebox_policy_json", lambda *room: library.hikebox_policy_json(self.at, *room)).decode()
+
     def __del__(self) -> None:
         if self.handle.held:
             self._free(self.at)
+
+
+#: Handles that hold nothing: they stand for no policy under a node.
+_NOTHING, _NOTHING_ELSE = PolicyHandle(), PolicyHandle()
 
 
 def play_storm(policy: PolicyHandle, storm: Storm) -> Tuple[List[Tuple[int, ...]], Totals]:

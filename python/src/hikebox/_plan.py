@@ -1,4 +1,4 @@
-"""A policy as the engine has it: its tree, its text, and handles that are lent to one user at a time."""
+"""A policy as the engine has it: its handle, its text, and handles that are lent to one user at a time."""
 
 from __future__ import annotations
 
@@ -19,9 +19,8 @@ _FAULTS = {
     _engine.TOO_MANY: Fault.TOO_MANY,
 }
 
-#: The most nodes of a policy, and how deep it may be.
-MOST_NODES = 256
-MOST_DEPTH = 32
+#: The nodes that have words among their parameters: the engine reads them from JSON.
+_WORDED = ("gate", "gather")
 
 #: The most handles of one policy that wait for their next use.
 _IDLE = 64
@@ -30,49 +29,52 @@ _IDLE = 64
 class Plan:
     """What a policy is made of. Threads may share it."""
 
-    __slots__ = ("tree", "nodes", "depth", "_text", "_handles", "_reads")
+    __slots__ = ("nodes", "depth", "_own", "_idle", "_text", "_tree", "_reads")
 
-    def __init__(self, tree: Any, nodes: int, depth: int) -> None:
-        #: The value of `json.loads` that spells it.
-        self.tree = tree
+    def __init__(self, handle: _engine.PolicyHandle, nodes: int, depth: int) -> None:
         #: How many nodes it has, and how deep it is.
         self.nodes = nodes
         self.depth = depth
+        # (it is lent to nobody: the calls on it keep the interpreter's lock)
+        self._own = handle
+        self._idle: List[_engine.PolicyHandle] = []
         self._text: Optional[str] = None
-        self._handles: List[_engine.PolicyHandle] = []
+        self._tree: Any = None
         self._reads: Optional[Tuple[List[int], bool]] = None
 
     @classmethod
     def of_text(cls, text: bytes) -> Plan:
         """The plan that this JSON text spells."""
         handle = _read(text)
-        made = cls(json.loads(text), *handle.size())
-        made.give_back(handle)
-        return made
+        return cls(handle, *handle.size())
 
     @classmethod
     def over(cls, name: str, own: Tuple[Any, ...], *parts: Plan) -> Plan:
-        """The plan of a node with these parameters, which its builder has looked at, over these plans. The engine reads
-        it when it is used, and here where it may be too large."""
-        items = [*own, *(part.tree for part in parts)]
-        tree = {name: items[0] if len(items) == 1 else items} if items else name
-        depth = 1 + max((part.depth for part in parts), default=0)
-        made = cls(tree, 1 + sum(part.nodes for part in parts), depth)
-        if made.nodes > MOST_NODES or depth > MOST_DEPTH:
-            made.is_used()
-        return made
-
-    def is_used(self) -> None:
-        """Has the engine read it, where it has not yet."""
-        if not self._handles:
-            self.give_back(self.lend())
+        """The plan of a node with these parameters, which its builder has looked at, over these plans."""
+        made = None if name in _WORDED else _engine.PolicyHandle.of_node(name, own, *(part._own for part in parts))
+        if made is None:  # it has words, or is refused: the text tells where and why
+            items = [*own, *(part.tree for part in parts)]
+            made = _read(_written({name: items[0] if len(items) == 1 else items} if items else name).encode())
+        return cls(made, 1 + sum([part.nodes for part in parts]), 1 + max([part.depth for part in parts], default=0))
 
     @property
     def text(self) -> str:
         """Its JSON, without spaces."""
         if self._text is None:
-            self._text = _written(self.tree)
+            self._text = self._own.json()
         return self._text
+
+    @property
+    def tree(self) -> Any:
+        """The value of `json.loads` that spells it."""
+        if self._tree is None:
+            self._tree = json.loads(self.text)
+        return self._tree
+
+    @property
+    def bound(self) -> Optional[int]:
+        """At how many events it goes on at most, or None where its nodes give no such number."""
+        return self._own.bound()
 
     @property
     def reads(self) -> Tuple[List[int], bool]:
@@ -84,17 +86,14 @@ class Plan:
     def lend(self) -> _engine.PolicyHandle:
         """A handle that nobody else uses until it is given back."""
         try:
-            handle = self._handles.pop()
-        except IndexError:  # another thread took the last one just now, and has not put a share of it here yet
-            return _read(self.text.encode())
-        if not self._handles:
-            self._handles.append(handle.share())
-        return handle
+            return self._idle.pop()
+        except IndexError:
+            return self._own.share()
 
     def give_back(self, handle: _engine.PolicyHandle) -> None:
         """Takes a handle back that was lent."""
-        if len(self._handles) < _IDLE:
-            self._handles.append(handle)
+        if len(self._idle) < _IDLE:
+            self._idle.append(handle)
 
 
 #: The JSON of a value, without spaces.

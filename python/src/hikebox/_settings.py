@@ -116,7 +116,6 @@ class Settings:
         for name, value in {**given, **self._derived()}.items():
             object.__setattr__(self, name, value)
         given_policy: Policy = given["policy"]  # type: ignore[assignment]
-        given_policy.plan.is_used()
         object.__setattr__(self, "most_millis", None if self.deadline is None else seconds(self.deadline, "deadline"))
         lanes, reads_codes = given_policy.plan.reads
         object.__setattr__(self, "lanes", lanes)

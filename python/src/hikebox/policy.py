@@ -8,7 +8,7 @@ from itertools import chain, islice, repeat
 from typing import Any, Callable, Dict, Iterable, List, Optional, Tuple, Union
 
 from ._checks import interval, ratio, whole
-from ._nodes import FOLDS, most_goes
+from ._nodes import FOLDS
 from ._plan import Plan
 from ._preview import Step, Words, played, word_of
 from ._spelling import spelt
@@ -145,7 +145,7 @@ found {"fixed":0}
         >>> (recurs(5) & spaced(1)).most_retries, spaced(1).up_to(60).most_retries
         (5, None)
         """
-        return most_goes(self._plan.tree)
+        return self._plan.bound
 
     def __repr__(self) -> str:
         return spelt(self._plan.tree)

@@ -1,0 +1,3 @@
+pub mod Policies
+pub mod Nodes
+pub use Rattle.sched_plan_bound.specs.Bound
