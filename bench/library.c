@@ -35,7 +35,7 @@ static uint64_t draw(uint64_t draws) {
     hikebox_pass pass = HIKEBOX_INIT;
     uint64_t ticket, tickets;
     check(hikebox_budget_fixed(draws, &pass));
-    for (uint64_t turn = 0; turn < draws; turn++) check(hikebox_pass_draw(&pass, &ticket));
+    for (uint64_t turn = 0; turn < draws; turn++) check(hikebox_pass_draw(&pass, 0, &ticket));
     check(hikebox_pass_close(&pass, &tickets));
     return tickets;
 }
@@ -59,10 +59,9 @@ static uint64_t retry(hikebox_policy *policy) {
 static uint64_t step(hikebox_policy *policy) {
     hikebox_driver driver = HIKEBOX_INIT;
     hikebox_decision decision;
-    uint64_t events;
+    uint64_t events = 0;
     check(hikebox_driver_new(policy, &driver));
-    for (uint64_t now = 0; now < ROUND; now++) check(hikebox_driver_next(&driver, now, words, CODE, &decision));
-    check(hikebox_driver_events(&driver, &events));
+    for (uint64_t now = 0; now < ROUND; now++, events++) check(hikebox_driver_next(&driver, now, words, CODE, &decision));
     check(hikebox_driver_free(&driver));
     return events;
 }
@@ -89,7 +88,8 @@ static uint64_t wait_for_it(hikebox_policy *policy) {
 struct on {
     hikebox_policy policy;
     hikebox_pass pass;
-    hikebox_quota quota;
+    // Whether requests are counted, as on a quota.
+    bool counts;
 };
 
 // An attempt: it succeeds where none is to fail any more.
@@ -98,48 +98,36 @@ __attribute__((noinline)) static bool attempt(uint64_t *state, uint64_t left) {
     return left == 0;
 }
 
-static void begin(struct on *on, hikebox_retry *machine) {
-    if (on->pass.held) check(hikebox_retry_new(&on->policy, &on->pass, HIKEBOX_NO_DEADLINE, machine));
-    else if (on->quota.held) check(hikebox_retry_on_quota(&on->policy, &on->quota, HIKEBOX_NO_DEADLINE, machine));
-    else check(hikebox_retry_unlimited(&on->policy, HIKEBOX_NO_DEADLINE, machine));
-}
-
-static void end(struct on *on, hikebox_retry *machine) {
-    if (on->pass.held) check(hikebox_retry_end(machine, &on->pass));
-    else if (on->quota.held) check(hikebox_retry_end_on_quota(machine, &on->quota));
-    else check(hikebox_retry_free(machine));
-}
-
 // The retry of a call whose first run has failed, which began at moment 0: it fails so often more. How many were granted.
 __attribute__((noinline)) static uint64_t retried(struct on *on, uint64_t *state, uint64_t left) {
     hikebox_retry machine = HIKEBOX_INIT;
     hikebox_next next;
-    begin(on, &machine);
+    check(hikebox_retry_new(&on->policy, &on->pass, HIKEBOX_NO_DEADLINE, &machine));
     check(hikebox_retry_poll(&machine, 0, words, HIKEBOX_NO_REPORT, 0, &next));
     do check(hikebox_retry_poll(&machine, 0, words, HIKEBOX_LOST, CODE, &next));
     while (next.what == HIKEBOX_RUN && !attempt(state, left--));
-    end(on, &machine);
+    check(hikebox_retry_end(&machine, &on->pass));
     return next.granted;
 }
 
 // A call that fails so often and then succeeds: the retry is begun where the first run fails. How many were granted.
 static uint64_t call(struct on *on, uint64_t *state, uint64_t failures) {
-    if (on->quota.held) check(hikebox_quota_deposit(&on->quota, 0));
+    if (on->counts) check(hikebox_pass_deposit(&on->pass, 0));
     return attempt(state, failures) ? 0 : retried(on, state, failures - 1);
 }
 
 static uint64_t calls(const char *what, const char *name, uint64_t many) {
-    struct on on = {HIKEBOX_INIT, HIKEBOX_INIT, HIKEBOX_INIT};
+    struct on on = {HIKEBOX_INIT, HIKEBOX_INIT, name[0] == 'q'};
     uint64_t state = 1, done = 0, tickets = what[0] == 'r' ? 0 : HIKEBOX_MOST_TICKETS;
     hikebox_place place;
     check(hikebox_policy_read("\"forever\"", 9, &on.policy, &place));
     if (name[0] == 'b') check(hikebox_budget_fixed(tickets, &on.pass));
-    if (name[0] == 'q') check(hikebox_quota_new(0, tickets, 0, 1000, &on.quota));
+    else if (on.counts) check(hikebox_quota_new(0, tickets, 0, 1000, &on.pass));
+    else check(hikebox_pass_unlimited(&on.pass));
     if (what[0] == 'c') for (uint64_t turn = 0; turn < many; turn++) done += attempt(&state, 0);
     else if (what[0] == 'g') done = call(&on, &state, many);
     else for (uint64_t turn = 0; turn < many; turn++) done += call(&on, &state, what[0] == 'r');
-    if (on.pass.held) check(hikebox_pass_free(&on.pass));
-    if (on.quota.held) check(hikebox_quota_free(&on.quota));
+    check(hikebox_pass_free(&on.pass));
     check(hikebox_policy_free(&on.policy));
     return done + (state == 0);
 }

@@ -24,10 +24,8 @@ const char *hikebox_status_text(unsigned status) {
     case 20: return "the moment is before the last event";
     case 21: return "the journal is full";
     case 22: return "there is no output yet";
-    case 23: return "the output is not a number";
-    case 24: return "there is no such event";
     case 30: return "the limit is more than 4294967296 tickets";
-    case 31: return "the budget keeps its limit";
+    case 31: return "there is no limit that can be raised";
     case 32: return "there is no ticket";
     case 33: return "no more passes can be split off";
     case 34: return "another pass is alive or was dropped";
@@ -37,7 +35,7 @@ const char *hikebox_status_text(unsigned status) {
     case 38: return "64 races with other draws were lost";
     case 40: return "there is no such report";
     case 41: return "no run is under way";
-    case 42: return "the retry draws on something else";
+    case 42: return "the pass draws on something else";
     default: return "no such status";
     }
 }

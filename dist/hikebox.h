@@ -22,9 +22,9 @@
  * milliseconds. Which moment is 0 is the program's choice, as the start of the process; moments given to one
  * driver or retry never fall.
  *
- * HANDLES. A policy, a driver, a pass of a budget or of a quota and a retry are each held by a handle, a struct of
- * one pointer that the program keeps and hands to each call by its address. A handle begins as HIKEBOX_INIT, which
- * holds nothing. A call that makes something puts it into an empty handle, and from then on the handle owns it,
+ * HANDLES. A policy, a driver, a pass (of a budget, of a quota or of nothing) and a retry are each held by a handle, a
+ * struct of one pointer that the program keeps and hands to each call by its address. A handle begins as HIKEBOX_INIT,
+ * which holds nothing. A call that makes something puts it into an empty handle, and from then on the handle owns it,
  * until a call frees it or takes it away and leaves the handle empty. A call on an empty handle, on a handle of
  * another kind (by a cast, or from a language that does not tell them apart) and a call that would fill a handle
  * that holds something are refused by a status.
@@ -118,16 +118,12 @@ enum {
     HIKEBOX_BACKWARDS = 20,
     /* The journal holds HIKEBOX_MOST_EVENTS events. */
     HIKEBOX_JOURNAL_FULL = 21,
-    /* There is no output, since no event came after the last reset. */
+    /* There is no output, since no event came yet. */
     HIKEBOX_NO_OUTPUT = 22,
-    /* The output, or the input of an event, is no number. */
-    HIKEBOX_NOT_A_NUMBER = 23,
-    /* The journal has no event of this number. */
-    HIKEBOX_NO_EVENT = 24,
 
     /* The limit is above HIKEBOX_MOST_TICKETS. */
     HIKEBOX_LIMIT_TOO_LARGE = 30,
-    /* The budget keeps its limit. */
+    /* There is no limit that can be raised: the budget keeps its limit, or the pass is of no budget. */
     HIKEBOX_FIXED = 31,
     /* The budget has no ticket left, or the window of a quota has given out its own: `next` of hikebox_usage tells when
      * the next begins. */
@@ -149,8 +145,7 @@ enum {
     HIKEBOX_NO_SUCH_REPORT = 40,
     /* A run is reported, and none is under way. */
     HIKEBOX_NO_RUN = 41,
-    /* The retry draws on something else: on a quota or on nothing where it is ended into a budget's pass, on a budget
-     * or on nothing where it is ended into a quota's. */
+    /* What is to be joined into a pass draws on another kind of thing than the pass: a budget, a quota or nothing. */
     HIKEBOX_DRAWS_ELSEWHERE = 42
 };
 
@@ -165,7 +160,6 @@ const char *hikebox_version(void);
 typedef struct { void *held; } hikebox_policy;
 typedef struct { void *held; } hikebox_driver;
 typedef struct { void *held; } hikebox_pass;
-typedef struct { void *held; } hikebox_quota;
 typedef struct { void *held; } hikebox_retry;
 
 /* A handle that holds nothing. */
@@ -233,13 +227,6 @@ HIKEBOX_CHECKED hikebox_status hikebox_driver_new(hikebox_policy *policy, hikebo
 HIKEBOX_CHECKED hikebox_status hikebox_driver_next(hikebox_driver *driver, uint64_t now, const uint32_t words[4],
                                                    uint64_t input, hikebox_decision *decision);
 
-/* What was decided at the last event; before the first one it does not go on, and `start` is 0.
- * HIKEBOX_EMPTY; _WRONG_KIND. */
-HIKEBOX_CHECKED hikebox_status hikebox_driver_next_start(hikebox_driver *driver, hikebox_decision *decision);
-
-/* The output of the last event, where it is a number. HIKEBOX_EMPTY; _WRONG_KIND; _NO_OUTPUT; _NOT_A_NUMBER. */
-HIKEBOX_CHECKED hikebox_status hikebox_driver_last_number(hikebox_driver *driver, uint64_t *number);
-
 /*
  * The output of the last event as text, as `zsched plan` prints it: `()`, a decimal number, `(a, b)` or `[a, b,
  * c]`. Its bytes, with no zero byte after them, are written to `text`, which has room for `capacity`, and their
@@ -249,38 +236,34 @@ HIKEBOX_CHECKED hikebox_status hikebox_driver_last_number(hikebox_driver *driver
 HIKEBOX_CHECKED hikebox_status hikebox_driver_last_text(hikebox_driver *driver, char *text, size_t capacity,
                                                         size_t *length);
 
-/* How many events came since the driver was made, or since it was reset. HIKEBOX_EMPTY; _WRONG_KIND. */
-HIKEBOX_CHECKED hikebox_status hikebox_driver_events(hikebox_driver *driver, uint64_t *events);
-
-/* An event of a journal. */
-typedef struct {
-    /* Its moment. */
-    uint64_t now;
-    /* Its input. */
-    uint64_t input;
-    /* Its random words. */
-    uint32_t words[4];
-} hikebox_event;
-
-/*
- * The event of this number, counted from 0, of those that hikebox_driver_events counts. HIKEBOX_EMPTY; _WRONG_KIND;
- * _NO_EVENT; _NOT_A_NUMBER, of its input: each event that came by hikebox_driver_next has a number.
- */
-HIKEBOX_CHECKED hikebox_status hikebox_driver_event(hikebox_driver *driver, uint64_t index, hikebox_event *event);
-
-/* Back to before the first event, whatever the moment of the next one. HIKEBOX_EMPTY; _WRONG_KIND. */
-hikebox_status hikebox_driver_reset(hikebox_driver *driver);
-
 /* Frees the driver. HIKEBOX_EMPTY; _WRONG_KIND. */
 hikebox_status hikebox_driver_free(hikebox_driver *driver);
 
-/* ---- Budgets ----------------------------------------------------------------------------------------------------- */
+/* ---- Passes ------------------------------------------------------------------------------------------------------ */
 
 /*
- * A budget is a number of tickets, from 0 on, of which each is drawn once; a retry needs one. A program holds
- * it by its passes: each thread draws with a pass of its own. The budget lives as long as a pass of it. A draw
- * takes no lock and no memory, and never waits. The first pass has 2^62 parts; a split gives 2^20 of them where the
- * pass has more, or else one, and a join gives them back: so passes are split and joined without end.
+ * What a retry draws on is a budget, a quota or nothing. A program holds it by its passes, which are one kind of handle:
+ * the makers differ, and the calls don't. Each thread draws with a pass of its own. A budget or a quota lives as long as a
+ * pass of it. A draw takes no lock and no memory, and never waits. The first pass has 2^62 parts; a split gives 2^20 of
+ * them where the pass has more, or else one, and a join gives them back: so passes are split and joined without end.
+ *
+ * A budget is a number of tickets, from 0 on, of which each is drawn once.
+ *
+ * A quota cuts time into windows of `period` milliseconds, which begin at its multiples. In each it gives out at most
+ * `reserve` tickets, and `share` thousandths of a ticket for each request that was counted in it so far, rounded down;
+ * never more than HIKEBOX_MOST_TICKETS. What a window has left is lost with it. The program counts each request once,
+ * before its first run, by hikebox_pass_deposit.
+ *
+ * Windows are counted from the one that the quota is made in. A deposit, a draw and a look open the window of their own
+ * moment for all passes of the quota, and no other: those that are left out give no ticket. From then on it is the latest,
+ * and a call with an earlier moment is of the latest window. So between two moments that are n periods apart there are at
+ * most n + 2 reserves and the shares of the requests, however long the quota was idle, where each clock is right; each
+ * call whose clock is ahead adds at most one reserve and its share, and no other window begins before `next` of
+ * hikebox_usage, which is then that far ahead. A window counts 2^32 requests: those past them open the next window, and
+ * its reserve, before its time. The last window is the one with the number 2999999999, and each later moment is in it;
+ * past so many requests it counts none.
+ *
+ * Nothing grants each draw, and counts it: a program bounds its retries by their policy alone.
  */
 
 /* Makes a budget of `limit` tickets and puts its first pass into `pass`. HIKEBOX_FULL; _LIMIT_TOO_LARGE; _NO_MEMORY. */
@@ -291,56 +274,48 @@ HIKEBOX_CHECKED hikebox_status hikebox_budget_fixed(uint64_t limit, hikebox_pass
 HIKEBOX_CHECKED hikebox_status hikebox_budget_rising(uint64_t limit, hikebox_pass *pass);
 
 /*
- * Draws a ticket, and writes its number: one below the limit that no other draw of the budget got.
- * HIKEBOX_EMPTY; _WRONG_KIND; _NO_TICKET: as many were drawn as the limit. Of a budget that keeps its limit a pass is
- * told so for good; of a rising one it draws again once the limit is raised.
+ * Makes a quota at the moment `now` and puts its first pass into `pass`. HIKEBOX_TOO_LARGE, of the moment; _FULL;
+ * _RESERVE_TOO_LARGE; _SHARE_TOO_LARGE; _PERIOD_TOO_SHORT; _TOO_LARGE, of the period; _NO_MEMORY.
  */
-HIKEBOX_CHECKED hikebox_status hikebox_pass_draw(hikebox_pass *pass, uint64_t *ticket);
+HIKEBOX_CHECKED hikebox_status hikebox_quota_new(uint64_t now, uint64_t reserve, uint64_t share, uint64_t period,
+                                                 hikebox_pass *pass);
 
-/* Puts a new pass of the same budget, which has no ticket, into `part`. HIKEBOX_FULL; _EMPTY; _WRONG_KIND; _NO_MEMORY;
- * _TOO_MANY_PASSES: the pass has one part. */
+/* Puts a pass that draws on nothing into `pass`. HIKEBOX_FULL; _NO_MEMORY. */
+HIKEBOX_CHECKED hikebox_status hikebox_pass_unlimited(hikebox_pass *pass);
+
+/*
+ * Draws a ticket at the moment `now`, and writes its number, which no other draw of the budget or of the quota got. Of a
+ * budget it is below the limit; of a quota it is of the window of `now`, or of the latest one where that is later, and the
+ * number divided by 2^32 is that of the window; of nothing it is how many this pass was granted before. A quota alone
+ * heeds the moment. HIKEBOX_TOO_LARGE; _EMPTY; _WRONG_KIND; _NO_TICKET; of a quota _RACES_LOST.
+ *
+ * _NO_TICKET of a budget: as many were drawn as the limit. Of one that keeps its limit a pass is told so for good; of a
+ * rising one it draws again once the limit is raised. Of a quota: the window has given out as many as its requests allow;
+ * _RACES_LOST: 64 other draws came first in this call. The pass may draw again: with more requests and in later windows
+ * there are more tickets. _NO_TICKET of nothing: 2^64 - 1 were granted.
+ */
+HIKEBOX_CHECKED hikebox_status hikebox_pass_draw(hikebox_pass *pass, uint64_t now, uint64_t *ticket);
+
+/* Counts a request of a quota in the window of `now`, or in the latest one where that is later. Past the last window none is
+ * counted, and a pass of a budget or of nothing counts none. HIKEBOX_TOO_LARGE; _EMPTY; _WRONG_KIND. */
+HIKEBOX_CHECKED hikebox_status hikebox_pass_deposit(hikebox_pass *pass, uint64_t now);
+
+/* Puts a new pass of the same budget or quota, or of nothing, which has no ticket, into `part`. HIKEBOX_FULL; _EMPTY;
+ * _WRONG_KIND; _NO_MEMORY; _TOO_MANY_PASSES: the pass has one part. */
 HIKEBOX_CHECKED hikebox_status hikebox_pass_split(hikebox_pass *pass, hikebox_pass *part);
 
 /*
- * Joins `other`, which is of the same budget and is then empty, into `pass`, which has the tickets and parts of both.
- * Of `pass`, then of `other`, HIKEBOX_EMPTY and _WRONG_KIND.
+ * Joins `other`, which is of the same budget or quota, or of nothing as `pass` is, into `pass`, which has the tickets and
+ * parts of both; `other` is then empty. Of `other`, then of `pass`, HIKEBOX_EMPTY and _WRONG_KIND; _DRAWS_ELSEWHERE.
  */
 HIKEBOX_CHECKED hikebox_status hikebox_pass_join(hikebox_pass *pass, hikebox_pass *other);
 
-/* Makes the limit of a rising budget the greater of itself and `to`, and writes it. HIKEBOX_EMPTY; _WRONG_KIND;
- * _LIMIT_TOO_LARGE; _FIXED. */
+/* Makes the limit of a rising budget the greater of itself and `to`, and writes it. HIKEBOX_EMPTY; _WRONG_KIND; of a budget
+ * _LIMIT_TOO_LARGE; _FIXED, also of a quota and of nothing. */
 HIKEBOX_CHECKED hikebox_status hikebox_pass_raise(hikebox_pass *pass, uint64_t to, uint64_t *limit);
 
 /* How many tickets were drawn with this pass, and with those joined into it. HIKEBOX_EMPTY; _WRONG_KIND. */
 HIKEBOX_CHECKED hikebox_status hikebox_pass_count(hikebox_pass *pass, uint64_t *tickets);
-
-/*
- * Closes the budget, where this pass has all its parts: frees it and writes how many tickets were drawn of it, exactly.
- * It takes no memory. HIKEBOX_EMPTY; _WRONG_KIND; _PASSES_OUT, exactly where the pass has fewer parts: another is held,
- * by a handle or a retry, or was freed. Then this one goes on as before.
- */
-HIKEBOX_CHECKED hikebox_status hikebox_pass_close(hikebox_pass *pass, uint64_t *tickets);
-
-/* Frees the pass, with its tickets: the budget can't be closed then, and its other passes go on. HIKEBOX_EMPTY;
- * _WRONG_KIND. */
-hikebox_status hikebox_pass_free(hikebox_pass *pass);
-
-/* ---- Quotas ------------------------------------------------------------------------------------------------------ */
-
-/*
- * A quota cuts time into windows of `period` milliseconds, which begin at its multiples. In each it gives out at most
- * `reserve` tickets, and `share` thousandths of a ticket for each request that was counted in it so far, rounded down;
- * never more than HIKEBOX_MOST_TICKETS. What a window has left is lost with it. The program counts each request once,
- * before its first run, by hikebox_quota_deposit. It holds the quota by its passes, as it does a budget.
- *
- * Windows are counted from the one that the quota is made in. A deposit, a draw and a look open the window of their own
- * moment for all passes, and no other: those that are left out give no ticket. From then on it is the latest, and a call
- * with an earlier moment is of the latest window. So between two moments that are n periods apart there are at most
- * n + 2 reserves and the shares of the requests, however long the quota was idle, where each clock is right; each call
- * whose clock is ahead adds at most one reserve and its share, and no other window begins before `next` of
- * hikebox_usage, which is then that far ahead. The last window is the one with the number 2999999999, and each later
- * moment is in it.
- */
 
 /* What is known of a window of a quota. */
 typedef struct {
@@ -356,54 +331,22 @@ typedef struct {
     uint64_t next;
 } hikebox_usage;
 
-/*
- * Makes a quota at the moment `now` and puts its first pass into `quota`. HIKEBOX_TOO_LARGE, of the moment; _FULL;
- * _RESERVE_TOO_LARGE; _SHARE_TOO_LARGE; _PERIOD_TOO_SHORT; _TOO_LARGE, of the period; _NO_MEMORY.
- */
-HIKEBOX_CHECKED hikebox_status hikebox_quota_new(uint64_t now, uint64_t reserve, uint64_t share, uint64_t period,
-                                                 hikebox_quota *quota);
-
-/* Counts a request in the window of `now`, or in the latest one where that is later. Past the last window none is
- * counted. HIKEBOX_TOO_LARGE; _EMPTY; _WRONG_KIND. */
-HIKEBOX_CHECKED hikebox_status hikebox_quota_deposit(hikebox_quota *quota, uint64_t now);
+/* Writes what the window of `now` of a quota, or the latest one where that is later, was asked, has given and has left,
+ * and when the next begins. HIKEBOX_TOO_LARGE; _EMPTY; _WRONG_KIND, also of a pass of a budget or of nothing: these have
+ * no windows. */
+HIKEBOX_CHECKED hikebox_status hikebox_pass_seen(hikebox_pass *pass, uint64_t now, hikebox_usage *usage);
 
 /*
- * Draws a ticket of the window of `now`, or of the latest one where that is later, and writes its number, which no
- * other draw of the quota got; the number divided by 2^32 is that of the window. HIKEBOX_TOO_LARGE; _EMPTY;
- * _WRONG_KIND; _NO_TICKET: the window has given out as many as its requests allow; _RACES_LOST: 64 other draws came
- * first in this call. The pass may draw again: with more requests and in later windows there are more tickets.
+ * Closes the budget or the quota, where this pass has all its parts: frees it and writes how many tickets were drawn of it,
+ * exactly; of a quota in all windows. It takes no memory. HIKEBOX_EMPTY; _WRONG_KIND; _PASSES_OUT, exactly where the pass
+ * has fewer parts: another is held, by a handle or a retry, or was freed. Then this one goes on as before. A pass of
+ * nothing is always closed, and its own tickets are written.
  */
-HIKEBOX_CHECKED hikebox_status hikebox_quota_draw(hikebox_quota *quota, uint64_t now, uint64_t *ticket);
+HIKEBOX_CHECKED hikebox_status hikebox_pass_close(hikebox_pass *pass, uint64_t *tickets);
 
-/* Writes what the window of `now`, or the latest one where that is later, was asked, has given and has left, and when
- * the next begins.
- * HIKEBOX_TOO_LARGE; _EMPTY; _WRONG_KIND. */
-HIKEBOX_CHECKED hikebox_status hikebox_quota_seen(hikebox_quota *quota, uint64_t now, hikebox_usage *usage);
-
-/*
- * Puts a new pass of the same quota, which has no ticket, into `part`. The first pass has 2^62 parts; a split gives
- * 2^20 of them where the pass has more, or else one, and a join gives them back. HIKEBOX_FULL; _EMPTY; _WRONG_KIND;
- * _NO_MEMORY; _TOO_MANY_PASSES: the pass has one part.
- */
-HIKEBOX_CHECKED hikebox_status hikebox_quota_split(hikebox_quota *quota, hikebox_quota *part);
-
-/* Joins `other`, which is of the same quota and is then empty, into `quota`, which has the tickets of both. Of `quota`,
- * then of `other`, HIKEBOX_EMPTY and _WRONG_KIND. */
-HIKEBOX_CHECKED hikebox_status hikebox_quota_join(hikebox_quota *quota, hikebox_quota *other);
-
-/* How many tickets were drawn with this pass, and with those joined into it. HIKEBOX_EMPTY; _WRONG_KIND. */
-HIKEBOX_CHECKED hikebox_status hikebox_quota_count(hikebox_quota *quota, uint64_t *tickets);
-
-/*
- * Closes the quota, where this pass has all its parts: frees it and writes how many tickets were drawn of it, in all
- * windows, exactly. It takes no memory. HIKEBOX_EMPTY; _WRONG_KIND; _PASSES_OUT, exactly where the pass has fewer
- * parts: another is held, by a handle or a retry, or was freed. Then this one goes on as before.
- */
-HIKEBOX_CHECKED hikebox_status hikebox_quota_close(hikebox_quota *quota, uint64_t *tickets);
-
-/* Frees the pass, with its tickets: the quota can't be closed then, and its other passes go on. HIKEBOX_EMPTY;
- * _WRONG_KIND. */
-hikebox_status hikebox_quota_free(hikebox_quota *quota);
+/* Frees the pass, with its tickets: the budget or the quota can't be closed then, and its other passes go on.
+ * HIKEBOX_EMPTY; _WRONG_KIND. */
+hikebox_status hikebox_pass_free(hikebox_pass *pass);
 
 /* How many tickets a window of so many requests may give, by a quota with this reserve and this share: `reserve`, and
  * `share` thousandths of a ticket for each request, of which HIKEBOX_MOST_TICKETS count; at most HIKEBOX_MOST_TICKETS.
@@ -475,7 +418,7 @@ enum {
 
 /* What the program is to do. */
 enum {
-    /* Poll: no run was begun yet. Only hikebox_retry_see answers it. */
+    /* Poll: no run was begun yet. No call answers it; it is where a hikebox_next of zeros begins. */
     HIKEBOX_POLL = 0,
     /* Run the call, and report at the next poll how it went. A run is under way until then. */
     HIKEBOX_RUN = 1,
@@ -521,8 +464,9 @@ typedef struct {
 
 /*
  * Puts a retry into `retry`, which has not begun. It has the policy, which is not copied, and a pass of its own, which is
- * split off `pass`; both handles stay as they are. It keeps none of its runs: there may be any number of failures, and it
- * takes no more memory for them (save where an output of the policy grows, as that of `gather`).
+ * split off `pass`; both handles stay as they are. It draws at the moment of the poll, and deposits nothing. It keeps none
+ * of its runs: there may be any number of failures, and it takes no more memory for them (save where an output of the
+ * policy grows, as that of `gather`).
  *
  * `deadline` is a moment, past which it has no run wait, or HIKEBOX_NO_DEADLINE: where the policy plans a later start, the
  * retry is over, as HIKEBOX_ENDED_DEADLINE, and draws no ticket for it; a start at the deadline is in time. The first run
@@ -533,19 +477,6 @@ typedef struct {
  */
 HIKEBOX_CHECKED hikebox_status hikebox_retry_new(hikebox_policy *policy, hikebox_pass *pass, uint64_t deadline,
                                                  hikebox_retry *retry);
-
-/*
- * The same with a pass that is split off a quota's. The retry draws at the moment of the poll, and deposits nothing.
- * HIKEBOX_TOO_LARGE, of the deadline; _FULL; _EMPTY, of either; _WRONG_KIND, of the policy; _NO_MEMORY; _WRONG_KIND, of the
- * pass; _TOO_MANY_PASSES.
- */
-HIKEBOX_CHECKED hikebox_status hikebox_retry_on_quota(hikebox_policy *policy, hikebox_quota *quota, uint64_t deadline,
-                                                      hikebox_retry *retry);
-
-/* The same with no pass: each retry that the policy goes on to is granted. It is freed by hikebox_retry_free.
- * HIKEBOX_TOO_LARGE, of the deadline; _FULL; _EMPTY; _WRONG_KIND; _NO_MEMORY. */
-HIKEBOX_CHECKED hikebox_status hikebox_retry_unlimited(hikebox_policy *policy, uint64_t deadline,
-                                                       hikebox_retry *retry);
 
 /*
  * Steps the retry at the moment `now`, with these random words, and writes what to do next. With HIKEBOX_WON
@@ -560,9 +491,6 @@ HIKEBOX_CHECKED hikebox_status hikebox_retry_unlimited(hikebox_policy *policy, u
 HIKEBOX_CHECKED hikebox_status hikebox_retry_poll(hikebox_retry *retry, uint64_t now, const uint32_t words[4],
                                                   uint32_t report, uint64_t code, hikebox_next *next);
 
-/* What to do next, without a step. HIKEBOX_EMPTY; _WRONG_KIND. */
-HIKEBOX_CHECKED hikebox_status hikebox_retry_see(hikebox_retry *retry, hikebox_next *next);
-
 /* Writes how many milliseconds it is from the moment `now` to the deadline of the retry, as the time that a run may be
  * given: 0 where that is past, and HIKEBOX_NO_DEADLINE where there is none. HIKEBOX_TOO_LARGE, of the moment; _EMPTY;
  * _WRONG_KIND. */
@@ -572,17 +500,13 @@ HIKEBOX_CHECKED hikebox_status hikebox_retry_left(hikebox_retry *retry, uint64_t
 hikebox_status hikebox_retry_cancel(hikebox_retry *retry);
 
 /*
- * Frees the retry, whether it is over or not, and gives its pass back with the tickets that it was granted:
- * joined into `pass`, which is of the same budget. HIKEBOX_EMPTY and _WRONG_KIND, of the retry first, then of
- * the pass; _DRAWS_ELSEWHERE, where the retry draws on no budget.
+ * Frees the retry, whether it is over or not, and gives its pass back with the tickets that it was granted: joined into
+ * `pass`, which is of the same budget or quota, or of nothing where the retry draws on nothing. HIKEBOX_EMPTY and
+ * _WRONG_KIND, of the retry first, then of the pass; _DRAWS_ELSEWHERE.
  */
 HIKEBOX_CHECKED hikebox_status hikebox_retry_end(hikebox_retry *retry, hikebox_pass *pass);
 
-/* The same of a retry that draws on a quota, into a pass of that quota. HIKEBOX_EMPTY and _WRONG_KIND, of the retry
- * first, then of the pass; _DRAWS_ELSEWHERE, where the retry draws on no quota. */
-HIKEBOX_CHECKED hikebox_status hikebox_retry_end_on_quota(hikebox_retry *retry, hikebox_quota *quota);
-
-/* Frees the retry and its pass, where it has one: the budget or the quota can't be closed then. HIKEBOX_EMPTY;
+/* Frees the retry and its pass: the budget or the quota can't be closed then. HIKEBOX_EMPTY;
  * _WRONG_KIND. */
 hikebox_status hikebox_retry_free(hikebox_retry *retry);
 

@@ -1,7 +1,6 @@
 """Compares the calls that include/hikebox.h declares with those that crates/hikebox_c exports: their names, and of each the
-types of its parameters in order. A handle's type is a struct of one pointer, whichever kind it is of. Each export makes the
-call of its name of crates/sched_calls, crates/sched_storm_call or crates/sched_lease_call and nothing else, and has its
-parameters and clauses, word for word."""
+types of its parameters in order. A handle's type is a struct of one pointer, whichever kind it is of. The export of
+crates/sched_storm_call makes the call of its name there and nothing else, and has its parameters and clauses, word for word."""
 import pathlib
 import re
 import sys
@@ -16,7 +15,6 @@ RATTLE = {
     "&mut usize": ["size_t *"],
     "&mut Place": ["hikebox_place *"],
     "&mut Decided": ["hikebox_decision *"],
-    "&mut Noted": ["hikebox_event *"],
     "&mut Reply": ["hikebox_next *"],
     "&mut Usage": ["hikebox_usage *"],
     "&StormGiven": ["const hikebox_storm *"],
@@ -32,7 +30,6 @@ RATTLE = {
 STRUCTS = {
     "Place": "hikebox_place",
     "Decided": "hikebox_decision",
-    "Noted": "hikebox_event",
     "Reply": "hikebox_next",
     "Usage": "hikebox_usage",
     "StormGiven": "hikebox_storm",
@@ -42,10 +39,10 @@ STRUCTS = {
     "Stored": "hikebox_stored",
     "Range": "hikebox_range",
 }
-#: The crates whose calls are exported.
-CALLS = ("sched_calls", "sched_storm_call", "sched_lease_call")
+#: The crate whose calls are exported as they are.
+CALLS = ("sched_storm_call",)
 #: The crates whose structs have the layout of C.
-LAID_OUT = ("sched_reply", "sched_storm_call", "sched_ticket_lease", "sched_lease_call")
+LAID_OUT = ("sched_handle", "sched_storm_call", "sched_ticket_lease", "hikebox_c")
 FIELDS = {"u64": "uint64_t", "u32": "uint32_t", "[u32; 4]": "uint32_t[4]"}
 
 
@@ -61,7 +58,7 @@ def declared():
         for parameter in parameters.split(","):
             kind, _, array = re.fullmatch(r"\s*(.*?[\s*])(\w+)(\[\d+\])?\s*", parameter, re.S).groups()
             kind = " ".join((kind + ("*" if array else "")).replace("*", " * ").split())
-            types.append(re.sub(r"hikebox_(policy|driver|pass|quota|retry) \*", "handle *", kind))
+            types.append(re.sub(r"hikebox_(policy|driver|pass|retry) \*", "handle *", kind))
         calls[name] = types
     return calls
 
@@ -90,7 +87,7 @@ def passed_on():
     """Each export with what it should be by the call that it makes, where it is something else."""
     calls = {name: (crate, *parts) for crate in CALLS for name, parts in functions(crate, "^pub fn ")}
     exports = dict(functions("hikebox_c", r'^pub extern "C" fn hikebox_'))
-    for name in sorted({*calls, *exports}):
+    for name in sorted(calls):
         crate, parameters, clauses, _ = calls.get(name, ("", "", "", ""))
         words = ", ".join(re.findall(r"(\w+):", parameters))
         call = f"{crate}::{name}({words})"

@@ -47,13 +47,18 @@ static hikebox_status read_policy(const char *json, hikebox_policy *policy) {
     return hikebox_policy_read(json, strlen(json), policy, &place);
 }
 
-static hikebox_status say_fault(const char *json, char *text, size_t capacity, size_t *length) {
-    return hikebox_policy_fault(json, strlen(json), text, capacity, length);
+// A retry that draws on nothing.
+static hikebox_status retry_on_nothing(hikebox_policy *policy, uint64_t deadline, hikebox_retry *retry) {
+    hikebox_pass nothing = HIKEBOX_INIT;
+    hikebox_status status = hikebox_pass_unlimited(&nothing);
+    if (status) return status;
+    status = hikebox_retry_new(policy, &nothing, deadline, retry);
+    hikebox_status freed = hikebox_pass_free(&nothing);
+    return status ? status : freed;
 }
 
-static bool is_event(const hikebox_event *event, uint64_t now, uint64_t input, uint32_t word) {
-    return event->now == now && event->input == input && event->words[0] == word && event->words[1] == word + 1 &&
-           event->words[2] == word + 2 && event->words[3] == word + 3;
+static hikebox_status say_fault(const char *json, char *text, size_t capacity, size_t *length) {
+    return hikebox_policy_fault(json, strlen(json), text, capacity, length);
 }
 
 static void read_input(void) {
@@ -168,23 +173,12 @@ static int journals(void) {
     hikebox_policy policy = HIKEBOX_INIT;
     hikebox_driver driver = HIKEBOX_INIT;
     hikebox_decision decision;
-    hikebox_event event = {1, 2, {3, 4, 5, 6}};
     static const uint32_t first[4] = {10, 11, 12, 13}, second[4] = {20, 21, 22, 23}, third[4] = {30, 31, 32, 33};
     wants(read_policy("{\"meet\":[{\"recurs\":2},{\"spaced\":100}]}", &policy), HIKEBOX_OK);
     wants(hikebox_driver_new(&policy, &driver), HIKEBOX_OK);
-    wants(hikebox_driver_event(&driver, 0, &event), HIKEBOX_NO_EVENT);
     wants(hikebox_driver_next(&driver, 5, first, 7, &decision), HIKEBOX_OK);
     wants(hikebox_driver_next(&driver, 5, second, HIKEBOX_FAR, &decision), HIKEBOX_OK);
     wants(hikebox_driver_next(&driver, 4, third, 0, &decision), HIKEBOX_BACKWARDS);
-    wants(hikebox_driver_event(&driver, 2, &event), HIKEBOX_NO_EVENT);
-    wants(hikebox_driver_event(&driver, UINT64_MAX, &event), HIKEBOX_NO_EVENT);
-    holds(is_event(&event, 1, 2, 3));
-    wants(hikebox_driver_event(&driver, 0, &event), HIKEBOX_OK);
-    holds(is_event(&event, 5, 7, 10));
-    wants(hikebox_driver_event(&driver, 1, &event), HIKEBOX_OK);
-    holds(is_event(&event, 5, HIKEBOX_FAR, 20));
-    wants(hikebox_driver_reset(&driver), HIKEBOX_OK);
-    wants(hikebox_driver_event(&driver, 0, &event), HIKEBOX_NO_EVENT);
     wants(hikebox_driver_free(&driver), HIKEBOX_OK);
     wants(hikebox_policy_free(&policy), HIKEBOX_OK);
     return wrong;
@@ -207,7 +201,7 @@ static void past_the_journal(void) {
     wants(read_policy("\"forever\"", &policy), HIKEBOX_OK);
     wants(hikebox_budget_fixed(100000, &pass), HIKEBOX_OK);
     wants(hikebox_retry_new(&policy, &pass, HIKEBOX_NO_DEADLINE, &machine), HIKEBOX_OK);
-    wants(hikebox_retry_unlimited(&policy, HIKEBOX_NO_DEADLINE, &other), HIKEBOX_OK);
+    wants(retry_on_nothing(&policy, HIKEBOX_NO_DEADLINE, &other), HIKEBOX_OK);
     wants(hikebox_policy_free(&policy), HIKEBOX_OK);
     wants(hikebox_retry_poll(&machine, 0, no_words, HIKEBOX_NO_REPORT, 0, &next), HIKEBOX_OK);
     wants(hikebox_retry_poll(&other, 0, no_words, HIKEBOX_NO_REPORT, 0, &next), HIKEBOX_OK);
@@ -232,14 +226,11 @@ static void full_journal(void) {
     hikebox_policy policy = HIKEBOX_INIT;
     hikebox_driver driver = HIKEBOX_INIT;
     hikebox_decision decision;
-    uint64_t number;
     wants(read_policy("\"forever\"", &policy), HIKEBOX_OK);
     wants(hikebox_driver_new(&policy, &driver), HIKEBOX_OK);
     for (uint64_t now = 0; now < HIKEBOX_MOST_EVENTS; now++)
         wants(hikebox_driver_next(&driver, now, no_words, 7, &decision), HIKEBOX_OK);
     wants(hikebox_driver_next(&driver, HIKEBOX_MOST_EVENTS, no_words, 7, &decision), HIKEBOX_JOURNAL_FULL);
-    wants(hikebox_driver_events(&driver, &number), HIKEBOX_OK);
-    holds(number == 65536);
     wants(hikebox_driver_free(&driver), HIKEBOX_OK);
     wants(hikebox_policy_free(&policy), HIKEBOX_OK);
 }
@@ -290,13 +281,12 @@ static int handles(void) {
     hikebox_policy policy = HIKEBOX_INIT, copy = HIKEBOX_INIT, other_policy = HIKEBOX_INIT;
     hikebox_driver driver = HIKEBOX_INIT;
     hikebox_pass pass = HIKEBOX_INIT, part = HIKEBOX_INIT, other_pass = HIKEBOX_INIT;
-    hikebox_quota quota = HIKEBOX_INIT, other_quota = HIKEBOX_INIT;
+    hikebox_pass quota = HIKEBOX_INIT, other_quota = HIKEBOX_INIT;
     hikebox_retry machine = HIKEBOX_INIT, other_machine = HIKEBOX_INIT, quota_machine = HIKEBOX_INIT;
     hikebox_usage usage = {6, 6, 6, 6, 6};
     hikebox_place place = {7, 7};
     hikebox_decision decision = {5, true};
     hikebox_next next = {9, 9, 9, 9, 9};
-    hikebox_event event = {1, 2, {3, 4, 5, 6}};
     uint64_t number = 77, other = 78;
     size_t length = 79;
     char text[8] = "unread";
@@ -308,8 +298,8 @@ static int handles(void) {
     wants(hikebox_pass_split(&pass, &other_pass), HIKEBOX_OK);
     wants(hikebox_retry_new(&policy, &other_pass, HIKEBOX_NO_DEADLINE, &other_machine), HIKEBOX_OK);
     wants(hikebox_quota_new(0, 1, 0, 100, &quota), HIKEBOX_OK);
-    wants(hikebox_quota_split(&quota, &other_quota), HIKEBOX_OK);
-    wants(hikebox_retry_on_quota(&policy, &quota, HIKEBOX_NO_DEADLINE, &quota_machine), HIKEBOX_OK);
+    wants(hikebox_pass_split(&quota, &other_quota), HIKEBOX_OK);
+    wants(hikebox_retry_new(&policy, &quota, HIKEBOX_NO_DEADLINE, &quota_machine), HIKEBOX_OK);
     void *kinds[] = {&policy, &driver, &pass, &quota, &machine, &part};
     enum { POLICY, DRIVER, PASS, QUOTA, RETRY, NOTHING, KINDS };
     for (int kind = 0; kind < KINDS; kind++) {
@@ -321,52 +311,43 @@ static int handles(void) {
             wants(hikebox_policy_size(handle, &number, &other), refused);
             wants(hikebox_driver_new(handle, (hikebox_driver *)&spare), refused);
             wants(hikebox_retry_new(handle, &other_pass, HIKEBOX_NO_DEADLINE, (hikebox_retry *)&spare), refused);
-            wants(hikebox_retry_on_quota(handle, &other_quota, HIKEBOX_NO_DEADLINE, (hikebox_retry *)&spare), refused);
-            wants(hikebox_retry_unlimited(handle, HIKEBOX_NO_DEADLINE, (hikebox_retry *)&spare), refused);
+            wants(hikebox_retry_new(handle, &other_quota, HIKEBOX_NO_DEADLINE, (hikebox_retry *)&spare), refused);
+            wants(retry_on_nothing(handle, HIKEBOX_NO_DEADLINE, (hikebox_retry *)&spare), refused);
             wants(hikebox_policy_free(handle), refused);
         }
         if (kind != DRIVER) {
             wants(hikebox_driver_next(handle, 0, no_words, 0, &decision), refused);
-            wants(hikebox_driver_next_start(handle, &decision), refused);
-            wants(hikebox_driver_last_number(handle, &number), refused);
             wants(hikebox_driver_last_text(handle, text, sizeof text, &length), refused);
-            wants(hikebox_driver_events(handle, &number), refused);
-            wants(hikebox_driver_event(handle, 0, &event), refused);
-            wants(hikebox_driver_reset(handle), refused);
             wants(hikebox_driver_free(handle), refused);
         }
-        if (kind != PASS) {
-            wants(hikebox_pass_draw(handle, &number), refused);
+        if (kind != PASS && kind != QUOTA) {
+            wants(hikebox_pass_draw(handle, 0, &number), refused);
+            wants(hikebox_pass_deposit(handle, 0), refused);
             wants(hikebox_pass_split(handle, (hikebox_pass *)&spare), refused);
             wants(hikebox_pass_join(handle, &other_pass), refused);
             wants(hikebox_pass_join(&other_pass, handle), refused);
+            wants(hikebox_pass_join(handle, &other_quota), refused);
+            wants(hikebox_pass_join(&other_quota, handle), refused);
             wants(hikebox_pass_raise(handle, 9, &number), refused);
             wants(hikebox_pass_count(handle, &number), refused);
             wants(hikebox_pass_close(handle, &number), refused);
             wants(hikebox_pass_free(handle), refused);
             wants(hikebox_retry_new(&other_policy, handle, HIKEBOX_NO_DEADLINE, (hikebox_retry *)&spare), refused);
             wants(hikebox_retry_end(&other_machine, handle), refused);
+            wants(hikebox_retry_end(&quota_machine, handle), refused);
         }
-        if (kind != QUOTA) {
-            wants(hikebox_quota_deposit(handle, 0), refused);
-            wants(hikebox_quota_draw(handle, 0, &number), refused);
-            wants(hikebox_quota_seen(handle, 0, &usage), refused);
-            wants(hikebox_quota_split(handle, (hikebox_quota *)&spare), refused);
-            wants(hikebox_quota_join(handle, &other_quota), refused);
-            wants(hikebox_quota_join(&other_quota, handle), refused);
-            wants(hikebox_quota_count(handle, &number), refused);
-            wants(hikebox_quota_close(handle, &number), refused);
-            wants(hikebox_quota_free(handle), refused);
-            wants(hikebox_retry_on_quota(&other_policy, handle, HIKEBOX_NO_DEADLINE, (hikebox_retry *)&spare), refused);
-            wants(hikebox_retry_end_on_quota(&quota_machine, handle), refused);
-        }
+        // A budget has no windows, and a quota no limit.
+        if (kind != QUOTA) wants(hikebox_pass_seen(handle, 0, &usage), refused);
+        if (kind == QUOTA) wants(hikebox_pass_raise(handle, 9, &number), HIKEBOX_FIXED);
+        // Each draws elsewhere than the others.
+        if (kind == PASS) wants(hikebox_pass_join(handle, &other_quota), HIKEBOX_DRAWS_ELSEWHERE);
+        if (kind == QUOTA) wants(hikebox_pass_join(handle, &other_pass), HIKEBOX_DRAWS_ELSEWHERE);
         if (kind != RETRY) {
             wants(hikebox_retry_poll(handle, 0, no_words, HIKEBOX_NO_REPORT, 0, &next), refused);
-            wants(hikebox_retry_see(handle, &next), refused);
             wants(hikebox_retry_left(handle, 0, &number), refused);
             wants(hikebox_retry_cancel(handle), refused);
             wants(hikebox_retry_end(handle, &other_pass), refused);
-            wants(hikebox_retry_end_on_quota(handle, &other_quota), refused);
+            wants(hikebox_retry_end(handle, &other_quota), refused);
             wants(hikebox_retry_free(handle), refused);
         }
         holds(spare.held == NULL);
@@ -380,31 +361,27 @@ static int handles(void) {
         wants(hikebox_pass_split(&other_pass, handle), HIKEBOX_FULL);
         wants(hikebox_retry_new(&other_policy, &other_pass, HIKEBOX_NO_DEADLINE, handle), HIKEBOX_FULL);
         wants(hikebox_quota_new(0, 1, 0, 0, handle), HIKEBOX_FULL);
-        wants(hikebox_quota_split(&other_quota, handle), HIKEBOX_FULL);
-        wants(hikebox_retry_on_quota(&other_policy, &other_quota, HIKEBOX_NO_DEADLINE, handle), HIKEBOX_FULL);
-        wants(hikebox_retry_unlimited(&other_policy, HIKEBOX_NO_DEADLINE, handle), HIKEBOX_FULL);
+        wants(hikebox_pass_unlimited(handle), HIKEBOX_FULL);
+        wants(hikebox_pass_split(&other_quota, handle), HIKEBOX_FULL);
+        wants(hikebox_retry_new(&other_policy, &other_quota, HIKEBOX_NO_DEADLINE, handle), HIKEBOX_FULL);
+        wants(retry_on_nothing(&other_policy, HIKEBOX_NO_DEADLINE, handle), HIKEBOX_FULL);
         holds(place.line == 0 && place.column == 0);
     }
     wants(hikebox_retry_end(&other_machine, &other_pass), HIKEBOX_OK);
     wants(hikebox_pass_join(&pass, &other_pass), HIKEBOX_OK);
-    wants(hikebox_retry_end_on_quota(&quota_machine, &other_quota), HIKEBOX_OK);
-    wants(hikebox_quota_join(&quota, &other_quota), HIKEBOX_OK);
+    wants(hikebox_retry_end(&quota_machine, &other_quota), HIKEBOX_OK);
+    wants(hikebox_pass_join(&quota, &other_quota), HIKEBOX_OK);
     wants(hikebox_policy_free(&other_policy), HIKEBOX_OK);
     // Nothing was lost and no result was written.
     holds(number == 77 && other == 78 && length == 79 && decision.start == 5 && next.what == 9 && next.granted == 9);
     holds(strcmp(text, "unread") == 0 && usage.window == 6 && usage.left == 6 && usage.next == 6);
-    holds(is_event(&event, 1, 2, 3));
-    wants(hikebox_quota_close(&quota, &number), HIKEBOX_OK);
+    wants(hikebox_pass_close(&quota, &number), HIKEBOX_OK);
     holds(number == 0);
-    wants(hikebox_quota_free(&quota), HIKEBOX_EMPTY);
+    wants(hikebox_pass_free(&quota), HIKEBOX_EMPTY);
     wants(hikebox_policy_size(&policy, &number, &other), HIKEBOX_OK);
     holds(number == 1 && other == 1);
-    wants(hikebox_driver_events(&driver, &number), HIKEBOX_OK);
-    holds(number == 0);
     wants(hikebox_pass_count(&pass, &number), HIKEBOX_OK);
     holds(number == 0);
-    wants(hikebox_retry_see(&machine, &next), HIKEBOX_OK);
-    holds(next.what == HIKEBOX_POLL && next.how == HIKEBOX_UNENDED && next.granted == 0 && next.runs == 0);
     // Numbers and reports that are none, and reports out of turn.
     wants(hikebox_driver_next(&driver, HIKEBOX_FAR + 1, no_words, 0, &decision), HIKEBOX_TOO_LARGE);
     wants(hikebox_driver_next(&driver, 0, no_words, HIKEBOX_FAR + 1, &decision), HIKEBOX_TOO_LARGE);
@@ -420,23 +397,17 @@ static int handles(void) {
     holds(next.what == HIKEBOX_OVER && next.how == HIKEBOX_ENDED_BACKWARDS && next.granted == 1 && next.runs == 2);
     wants(hikebox_retry_poll(&machine, 9, no_words, HIKEBOX_WON, 5, &next), HIKEBOX_NO_RUN);
     wants(hikebox_retry_cancel(&machine), HIKEBOX_OK);
-    wants(hikebox_retry_see(&machine, &next), HIKEBOX_OK);
-    holds(next.how == HIKEBOX_ENDED_BACKWARDS);
+    wants(hikebox_retry_poll(&machine, 0, no_words, HIKEBOX_NO_REPORT, 0, &next), HIKEBOX_OK);
+    holds(next.what == HIKEBOX_OVER && next.how == HIKEBOX_ENDED_BACKWARDS && next.granted == 1 && next.runs == 2);
     // The driver refuses what is before its last event, and answers what it has.
-    wants(hikebox_driver_last_number(&driver, &number), HIKEBOX_NO_OUTPUT);
     wants(hikebox_driver_last_text(&driver, text, sizeof text, &length), HIKEBOX_NO_OUTPUT);
     wants(hikebox_driver_next(&driver, 5, no_words, 0, &decision), HIKEBOX_OK);
     wants(hikebox_driver_next(&driver, 4, no_words, 0, &decision), HIKEBOX_BACKWARDS);
-    wants(hikebox_driver_last_number(&driver, &number), HIKEBOX_OK);
-    holds(number == 0 && decision.goes_on && decision.start == 5);
+    holds(decision.goes_on && decision.start == 5);
     wants(hikebox_driver_last_text(&driver, text, 0, &length), HIKEBOX_NO_ROOM);
     holds(length == 1 && strcmp(text, "unread") == 0);
     wants(hikebox_driver_last_text(&driver, text, 1, &length), HIKEBOX_OK);
     holds(length == 1 && strcmp(text, "0nread") == 0);
-    wants(hikebox_driver_reset(&driver), HIKEBOX_OK);
-    wants(hikebox_driver_next_start(&driver, &decision), HIKEBOX_OK);
-    holds(!decision.goes_on && decision.start == 0);
-    wants(hikebox_driver_next(&driver, 4, no_words, 0, &decision), HIKEBOX_OK);
     // Budgets: what a limit may be, and when one is closed.
     wants(hikebox_budget_fixed(HIKEBOX_MOST_TICKETS + 1, &part), HIKEBOX_LIMIT_TOO_LARGE);
     wants(hikebox_pass_raise(&pass, HIKEBOX_MOST_TICKETS + 1, &number), HIKEBOX_LIMIT_TOO_LARGE);
@@ -450,7 +421,7 @@ static int handles(void) {
     wants(hikebox_pass_count(&pass, &number), HIKEBOX_OK);
     holds(number == 1);
     wants(hikebox_pass_split(&pass, &part), HIKEBOX_OK);
-    wants(hikebox_pass_draw(&part, &number), HIKEBOX_OK);
+    wants(hikebox_pass_draw(&part, 0, &number), HIKEBOX_OK);
     holds(number == 1);
     wants(hikebox_pass_join(&pass, &part), HIKEBOX_OK);
     wants(hikebox_pass_count(&part, &number), HIKEBOX_EMPTY);
@@ -459,7 +430,7 @@ static int handles(void) {
     wants(hikebox_pass_free(&pass), HIKEBOX_EMPTY);
     wants(hikebox_budget_fixed(0, &pass), HIKEBOX_OK);
     wants(hikebox_pass_raise(&pass, 1, &number), HIKEBOX_FIXED);
-    wants(hikebox_pass_draw(&pass, &number), HIKEBOX_NO_TICKET);
+    wants(hikebox_pass_draw(&pass, 0, &number), HIKEBOX_NO_TICKET);
     wants(hikebox_pass_split(&pass, &part), HIKEBOX_OK);
     wants(hikebox_pass_free(&part), HIKEBOX_OK);
     wants(hikebox_pass_close(&pass, &number), HIKEBOX_PASSES_OUT);
@@ -499,7 +470,7 @@ static int budgets(void) {
         wants(rises ? hikebox_budget_rising(70001, &pass) : hikebox_budget_fixed(70001, &pass), HIKEBOX_OK);
         for (uint64_t times = 0; times < 70000; times++) {
             wants(hikebox_pass_split(&pass, &part), HIKEBOX_OK);
-            wants(hikebox_pass_draw(&part, &number), HIKEBOX_OK);
+            wants(hikebox_pass_draw(&part, 0, &number), HIKEBOX_OK);
             holds(number == times);
             wants(hikebox_pass_join(&pass, &part), HIKEBOX_OK);
             wants(hikebox_retry_new(&policy, &pass, HIKEBOX_NO_DEADLINE, &machine), HIKEBOX_OK);
@@ -511,7 +482,7 @@ static int budgets(void) {
         holds(next.granted == 1);
         wants(hikebox_pass_close(&pass, &number), HIKEBOX_PASSES_OUT);
         wants(hikebox_retry_end(&machine, &pass), HIKEBOX_OK);
-        wants(hikebox_pass_draw(&pass, &number), HIKEBOX_NO_TICKET);
+        wants(hikebox_pass_draw(&pass, 0, &number), HIKEBOX_NO_TICKET);
         wants(hikebox_pass_close(&pass, &number), HIKEBOX_OK);
         holds(number == 70001);
     }
@@ -519,14 +490,14 @@ static int budgets(void) {
     wants(hikebox_pass_split(&pass, &part), HIKEBOX_OK);
     wants(hikebox_pass_split(&part, &last), HIKEBOX_OK);
     wants(hikebox_pass_split(&last, &none), HIKEBOX_TOO_MANY_PASSES);
-    wants(hikebox_pass_draw(&last, &number), HIKEBOX_OK);
-    for (int times = 0; times < 1000; times++) wants(hikebox_pass_draw(&part, &number), HIKEBOX_NO_TICKET);
+    wants(hikebox_pass_draw(&last, 0, &number), HIKEBOX_OK);
+    for (int times = 0; times < 1000; times++) wants(hikebox_pass_draw(&part, 0, &number), HIKEBOX_NO_TICKET);
     wants(hikebox_pass_raise(&pass, 3, &number), HIKEBOX_OK);
-    wants(hikebox_pass_draw(&part, &number), HIKEBOX_OK);
+    wants(hikebox_pass_draw(&part, 0, &number), HIKEBOX_OK);
     holds(number == 1);
-    wants(hikebox_pass_draw(&last, &number), HIKEBOX_OK);
+    wants(hikebox_pass_draw(&last, 0, &number), HIKEBOX_OK);
     holds(number == 2);
-    wants(hikebox_pass_draw(&pass, &number), HIKEBOX_NO_TICKET);
+    wants(hikebox_pass_draw(&pass, 0, &number), HIKEBOX_NO_TICKET);
     wants(hikebox_pass_join(&last, &part), HIKEBOX_OK);
     wants(hikebox_pass_close(&last, &number), HIKEBOX_PASSES_OUT);
     wants(hikebox_pass_join(&last, &pass), HIKEBOX_OK);
@@ -541,31 +512,31 @@ static uint64_t first_of(uint64_t window) {
     return window << 32;
 }
 
-static void sees_at(int line, hikebox_quota *quota, uint64_t now, hikebox_usage wanted) {
+static void sees_at(int line, hikebox_pass *quota, uint64_t now, hikebox_usage wanted) {
     hikebox_usage got;
-    wants_at(line, hikebox_quota_seen(quota, now, &got), HIKEBOX_OK);
+    wants_at(line, hikebox_pass_seen(quota, now, &got), HIKEBOX_OK);
     holds_at(line, got.window == wanted.window && got.asked == wanted.asked && got.given == wanted.given
                        && got.left == wanted.left && got.next == wanted.next);
 }
 #define sees(quota, now, ...) sees_at(__LINE__, quota, now, (hikebox_usage){__VA_ARGS__})
 
-static void draws_at(int line, hikebox_quota *quota, uint64_t now, uint64_t wanted) {
+static void draws_at(int line, hikebox_pass *quota, uint64_t now, uint64_t wanted) {
     uint64_t ticket = 0;
-    wants_at(line, hikebox_quota_draw(quota, now, &ticket), HIKEBOX_OK);
+    wants_at(line, hikebox_pass_draw(quota, now, &ticket), HIKEBOX_OK);
     holds_at(line, ticket == wanted);
 }
 #define draws(quota, now, wanted) draws_at(__LINE__, quota, now, wanted)
 
-static void closes_at(int line, hikebox_quota *quota, uint64_t wanted) {
+static void closes_at(int line, hikebox_pass *quota, uint64_t wanted) {
     uint64_t tickets = 0;
-    wants_at(line, hikebox_quota_close(quota, &tickets), HIKEBOX_OK);
+    wants_at(line, hikebox_pass_close(quota, &tickets), HIKEBOX_OK);
     holds_at(line, tickets == wanted);
 }
 #define closes(quota, wanted) closes_at(__LINE__, quota, wanted)
 
 // What a quota may be made with.
 static void terms(void) {
-    hikebox_quota quota = HIKEBOX_INIT;
+    hikebox_pass quota = HIKEBOX_INIT;
     uint64_t tickets = HIKEBOX_MOST_TICKETS, share = HIKEBOX_MOST_SHARE, far = HIKEBOX_FAR;
     wants(hikebox_quota_new(far + 1, tickets + 1, share + 1, 0, &quota), HIKEBOX_TOO_LARGE);
     wants(hikebox_quota_new(0, tickets + 1, share + 1, 0, &quota), HIKEBOX_RESERVE_TOO_LARGE);
@@ -587,47 +558,47 @@ static void terms(void) {
 
 // Windows of 100 ms, each of 2 tickets and half a ticket a request; then no reserve, no share, and windows far apart.
 static void windows(void) {
-    hikebox_quota quota = HIKEBOX_INIT;
+    hikebox_pass quota = HIKEBOX_INIT;
     uint64_t ticket = 77;
     wants(hikebox_quota_new(0, 2, 500, 100, &quota), HIKEBOX_OK);
     sees(&quota, 0, 0, 0, 0, 2, 100);
     draws(&quota, 0, 0);
     draws(&quota, 99, 1);
-    wants(hikebox_quota_draw(&quota, 99, &ticket), HIKEBOX_NO_TICKET);
-    wants(hikebox_quota_deposit(&quota, 99), HIKEBOX_OK);
-    wants(hikebox_quota_draw(&quota, 99, &ticket), HIKEBOX_NO_TICKET);
+    wants(hikebox_pass_draw(&quota, 99, &ticket), HIKEBOX_NO_TICKET);
+    wants(hikebox_pass_deposit(&quota, 99), HIKEBOX_OK);
+    wants(hikebox_pass_draw(&quota, 99, &ticket), HIKEBOX_NO_TICKET);
     holds(ticket == 77);
-    wants(hikebox_quota_deposit(&quota, 0), HIKEBOX_OK);
+    wants(hikebox_pass_deposit(&quota, 0), HIKEBOX_OK);
     sees(&quota, 50, 0, 2, 2, 1, 100);
     draws(&quota, 99, 2);
     sees(&quota, 99, 0, 2, 3, 0, 100);
     draws(&quota, 100, first_of(1));
     draws(&quota, 99, first_of(1) + 1);
-    wants(hikebox_quota_draw(&quota, 199, &ticket), HIKEBOX_NO_TICKET);
+    wants(hikebox_pass_draw(&quota, 199, &ticket), HIKEBOX_NO_TICKET);
     sees(&quota, 0, 1, 0, 2, 0, 200);
-    wants(hikebox_quota_deposit(&quota, 250), HIKEBOX_OK);
+    wants(hikebox_pass_deposit(&quota, 250), HIKEBOX_OK);
     sees(&quota, 200, 2, 1, 0, 2, 300);
     draws(&quota, 300, first_of(3));
-    wants(hikebox_quota_draw(&quota, HIKEBOX_FAR + 1, &ticket), HIKEBOX_TOO_LARGE);
+    wants(hikebox_pass_draw(&quota, HIKEBOX_FAR + 1, &ticket), HIKEBOX_TOO_LARGE);
     closes(&quota, 6);
     wants(hikebox_quota_new(0, 0, 1000, 100, &quota), HIKEBOX_OK);
-    wants(hikebox_quota_draw(&quota, 5, &ticket), HIKEBOX_NO_TICKET);
-    wants(hikebox_quota_deposit(&quota, 5), HIKEBOX_OK);
+    wants(hikebox_pass_draw(&quota, 5, &ticket), HIKEBOX_NO_TICKET);
+    wants(hikebox_pass_deposit(&quota, 5), HIKEBOX_OK);
     draws(&quota, 5, 0);
-    wants(hikebox_quota_draw(&quota, 5, &ticket), HIKEBOX_NO_TICKET);
+    wants(hikebox_pass_draw(&quota, 5, &ticket), HIKEBOX_NO_TICKET);
     closes(&quota, 1);
     wants(hikebox_quota_new(0, 1, 0, 100, &quota), HIKEBOX_OK);
-    for (int request = 0; request < 5; request++) wants(hikebox_quota_deposit(&quota, 99), HIKEBOX_OK);
+    for (int request = 0; request < 5; request++) wants(hikebox_pass_deposit(&quota, 99), HIKEBOX_OK);
     draws(&quota, 99, 0);
-    wants(hikebox_quota_draw(&quota, 99, &ticket), HIKEBOX_NO_TICKET);
+    wants(hikebox_pass_draw(&quota, 99, &ticket), HIKEBOX_NO_TICKET);
     draws(&quota, 100, first_of(1));
     closes(&quota, 2);
     // Windows are counted from the one that the quota was made in; a call opens its own, and those between give nothing.
     wants(hikebox_quota_new(1700000000042, 1, 0, 100, &quota), HIKEBOX_OK);
     draws(&quota, 1700000000099, 0);
-    wants(hikebox_quota_draw(&quota, 0, &ticket), HIKEBOX_NO_TICKET);
+    wants(hikebox_pass_draw(&quota, 0, &ticket), HIKEBOX_NO_TICKET);
     draws(&quota, 1700000500000, first_of(5000));
-    wants(hikebox_quota_draw(&quota, 1700000500099, &ticket), HIKEBOX_NO_TICKET);
+    wants(hikebox_pass_draw(&quota, 1700000500099, &ticket), HIKEBOX_NO_TICKET);
     sees(&quota, 1700000000200, 5000, 0, 1, 0, 1700000500100);
     closes(&quota, 2);
     wants(hikebox_quota_new(0, 1, 0, 100, &quota), HIKEBOX_OK);
@@ -635,44 +606,44 @@ static void windows(void) {
     sees(&quota, 0, 2999999999, 0, 1, 0, HIKEBOX_FAR);
     closes(&quota, 1);
     // The moment is looked at before the handle.
-    wants(hikebox_quota_deposit(&quota, HIKEBOX_FAR + 1), HIKEBOX_TOO_LARGE);
-    wants(hikebox_quota_draw(&quota, HIKEBOX_FAR + 1, &ticket), HIKEBOX_TOO_LARGE);
+    wants(hikebox_pass_deposit(&quota, HIKEBOX_FAR + 1), HIKEBOX_TOO_LARGE);
+    wants(hikebox_pass_draw(&quota, HIKEBOX_FAR + 1, &ticket), HIKEBOX_TOO_LARGE);
     holds(ticket == 77);
 }
 
 // Passes of a quota: splits down to one part, joins, and when it is closed.
 static void passes(void) {
-    hikebox_quota quota = HIKEBOX_INIT, part = HIKEBOX_INIT, least = HIKEBOX_INIT, none = HIKEBOX_INIT;
+    hikebox_pass quota = HIKEBOX_INIT, part = HIKEBOX_INIT, least = HIKEBOX_INIT, none = HIKEBOX_INIT;
     uint64_t tickets = 77;
     wants(hikebox_quota_new(0, 9, 0, 100, &quota), HIKEBOX_OK);
-    wants(hikebox_quota_split(&quota, &part), HIKEBOX_OK);
-    wants(hikebox_quota_split(&part, &least), HIKEBOX_OK);
-    wants(hikebox_quota_split(&least, &none), HIKEBOX_TOO_MANY_PASSES);
+    wants(hikebox_pass_split(&quota, &part), HIKEBOX_OK);
+    wants(hikebox_pass_split(&part, &least), HIKEBOX_OK);
+    wants(hikebox_pass_split(&least, &none), HIKEBOX_TOO_MANY_PASSES);
     holds(none.held == NULL);
     draws(&quota, 0, 0);
     draws(&part, 0, 1);
     draws(&least, 0, 2);
     draws(&least, 0, 3);
-    wants(hikebox_quota_count(&least, &tickets), HIKEBOX_OK);
+    wants(hikebox_pass_count(&least, &tickets), HIKEBOX_OK);
     holds(tickets == 2);
-    wants(hikebox_quota_close(&quota, &tickets), HIKEBOX_PASSES_OUT);
-    wants(hikebox_quota_join(&part, &least), HIKEBOX_OK);
-    wants(hikebox_quota_count(&least, &tickets), HIKEBOX_EMPTY);
-    wants(hikebox_quota_count(&part, &tickets), HIKEBOX_OK);
+    wants(hikebox_pass_close(&quota, &tickets), HIKEBOX_PASSES_OUT);
+    wants(hikebox_pass_join(&part, &least), HIKEBOX_OK);
+    wants(hikebox_pass_count(&least, &tickets), HIKEBOX_EMPTY);
+    wants(hikebox_pass_count(&part, &tickets), HIKEBOX_OK);
     holds(tickets == 3);
-    wants(hikebox_quota_join(&quota, &part), HIKEBOX_OK);
+    wants(hikebox_pass_join(&quota, &part), HIKEBOX_OK);
     closes(&quota, 4);
     // It counts no passes.
     wants(hikebox_quota_new(0, 1, 0, 100, &quota), HIKEBOX_OK);
     for (int times = 0; times < 70000; times++) {
-        wants(hikebox_quota_split(&quota, &part), HIKEBOX_OK);
-        wants(hikebox_quota_join(&quota, &part), HIKEBOX_OK);
+        wants(hikebox_pass_split(&quota, &part), HIKEBOX_OK);
+        wants(hikebox_pass_join(&quota, &part), HIKEBOX_OK);
     }
-    wants(hikebox_quota_split(&quota, &part), HIKEBOX_OK);
-    wants(hikebox_quota_free(&part), HIKEBOX_OK);
-    wants(hikebox_quota_close(&quota, &tickets), HIKEBOX_PASSES_OUT);
+    wants(hikebox_pass_split(&quota, &part), HIKEBOX_OK);
+    wants(hikebox_pass_free(&part), HIKEBOX_OK);
+    wants(hikebox_pass_close(&quota, &tickets), HIKEBOX_PASSES_OUT);
     draws(&quota, 0, 0);
-    wants(hikebox_quota_free(&quota), HIKEBOX_OK);
+    wants(hikebox_pass_free(&quota), HIKEBOX_OK);
 }
 
 // One failed run, begun at `from` and over at `to`: what is to be done then, and what was granted so far.
@@ -685,54 +656,89 @@ static void fails_at(int line, hikebox_retry *machine, uint64_t from, uint64_t t
 }
 #define fails(machine, from, to, what, granted) fails_at(__LINE__, machine, from, to, what, granted)
 
-// How a retry ended, after so many runs.
+// How a retry ended, after so many runs. A poll of one that is over changes nothing.
 static void ended_at(int line, hikebox_retry *machine, uint32_t how, uint64_t runs) {
     hikebox_next next;
-    wants_at(line, hikebox_retry_see(machine, &next), HIKEBOX_OK);
+    wants_at(line, hikebox_retry_poll(machine, 0, no_words, HIKEBOX_NO_REPORT, 0, &next), HIKEBOX_OK);
     holds_at(line, next.what == HIKEBOX_OVER && next.how == how && next.runs == runs);
 }
 #define ended(machine, how, runs) ended_at(__LINE__, machine, how, runs)
 
+// A pass of nothing: each draw is granted, and counted; and what a budget makes of calls that are meant for a quota.
+static void nothings(void) {
+    hikebox_policy policy = HIKEBOX_INIT;
+    hikebox_pass nothing = HIKEBOX_INIT, part = HIKEBOX_INIT, budget = HIKEBOX_INIT;
+    hikebox_retry machine = HIKEBOX_INIT;
+    hikebox_usage usage = {6, 6, 6, 6, 6};
+    uint64_t number = 9;
+    wants(hikebox_pass_unlimited(&nothing), HIKEBOX_OK);
+    for (uint64_t ticket = 0; ticket < 3; ticket++) {
+        wants(hikebox_pass_draw(&nothing, 7, &number), HIKEBOX_OK);
+        holds(number == ticket);
+    }
+    wants(hikebox_pass_draw(&nothing, HIKEBOX_FAR + 1, &number), HIKEBOX_TOO_LARGE);
+    wants(hikebox_pass_deposit(&nothing, 7), HIKEBOX_OK);
+    wants(hikebox_pass_raise(&nothing, HIKEBOX_MOST_TICKETS + 1, &number), HIKEBOX_FIXED);
+    wants(hikebox_pass_seen(&nothing, 7, &usage), HIKEBOX_WRONG_KIND);
+    wants(hikebox_pass_split(&nothing, &part), HIKEBOX_OK);
+    wants(hikebox_pass_draw(&part, 0, &number), HIKEBOX_OK);
+    holds(number == 0 && usage.window == 6);
+    wants(hikebox_pass_join(&nothing, &part), HIKEBOX_OK);
+    // A retry on nothing gives back what it was granted.
+    wants(read_policy("{\"recurs\":3}", &policy), HIKEBOX_OK);
+    wants(hikebox_retry_new(&policy, &nothing, HIKEBOX_NO_DEADLINE, &machine), HIKEBOX_OK);
+    fails(&machine, 0, 0, HIKEBOX_RUN, 1);
+    wants(hikebox_budget_fixed(2, &budget), HIKEBOX_OK);
+    wants(hikebox_pass_join(&budget, &nothing), HIKEBOX_DRAWS_ELSEWHERE);
+    wants(hikebox_retry_end(&machine, &nothing), HIKEBOX_OK);
+    wants(hikebox_pass_count(&nothing, &number), HIKEBOX_OK);
+    holds(number == 5 && part.held == NULL);
+    closes(&nothing, 5);
+    wants(hikebox_pass_deposit(&budget, 3), HIKEBOX_OK);
+    wants(hikebox_pass_raise(&budget, 9, &number), HIKEBOX_FIXED);
+    closes(&budget, 0);
+    wants(hikebox_policy_free(&policy), HIKEBOX_OK);
+}
+
 // Retries on a quota draw at the moment of the poll; those on nothing are granted all; each ends where it draws.
 static void drawings(void) {
     hikebox_policy policy = HIKEBOX_INIT, often = HIKEBOX_INIT;
-    hikebox_quota quota = HIKEBOX_INIT, no_quota = HIKEBOX_INIT;
-    hikebox_pass pass = HIKEBOX_INIT, no_pass = HIKEBOX_INIT;
+    hikebox_pass quota = HIKEBOX_INIT, pass = HIKEBOX_INIT, none = HIKEBOX_INIT;
     hikebox_retry machine = HIKEBOX_INIT, free_machine = HIKEBOX_INIT, on_budget = HIKEBOX_INIT;
     uint64_t tickets;
     wants(read_policy("{\"meet\":[{\"recurs\":3},{\"spaced\":60}]}", &policy), HIKEBOX_OK);
     wants(read_policy("{\"recurs\":3}", &often), HIKEBOX_OK);
     wants(hikebox_quota_new(0, 1, 0, 100, &quota), HIKEBOX_OK);
-    wants(hikebox_retry_on_quota(&policy, &quota, HIKEBOX_NO_DEADLINE, &machine), HIKEBOX_OK);
+    wants(hikebox_retry_new(&policy, &quota, HIKEBOX_NO_DEADLINE, &machine), HIKEBOX_OK);
     fails(&machine, 0, 99, HIKEBOX_WAIT, 1);
     fails(&machine, 159, 160, HIKEBOX_WAIT, 2);
     fails(&machine, 220, 230, HIKEBOX_WAIT, 3);
     fails(&machine, 290, 299, HIKEBOX_OVER, 3);
     ended(&machine, HIKEBOX_ENDED_DONE, 4);
     sees(&quota, 299, 2, 0, 1, 0, 300);
-    wants(hikebox_retry_end_on_quota(&machine, &quota), HIKEBOX_OK);
-    wants(hikebox_quota_count(&quota, &tickets), HIKEBOX_OK);
+    wants(hikebox_retry_end(&machine, &quota), HIKEBOX_OK);
+    wants(hikebox_pass_count(&quota, &tickets), HIKEBOX_OK);
     holds(machine.held == NULL && tickets == 3);
     // A second one is refused in the window that has given its ticket, and a later one draws again.
-    wants(hikebox_retry_on_quota(&often, &quota, HIKEBOX_NO_DEADLINE, &machine), HIKEBOX_OK);
+    wants(hikebox_retry_new(&often, &quota, HIKEBOX_NO_DEADLINE, &machine), HIKEBOX_OK);
     fails(&machine, 290, 290, HIKEBOX_OVER, 0);
     ended(&machine, HIKEBOX_ENDED_REFUSED, 1);
-    wants(hikebox_retry_end_on_quota(&machine, &quota), HIKEBOX_OK);
-    wants(hikebox_retry_on_quota(&often, &quota, HIKEBOX_NO_DEADLINE, &machine), HIKEBOX_OK);
+    wants(hikebox_retry_end(&machine, &quota), HIKEBOX_OK);
+    wants(hikebox_retry_new(&often, &quota, HIKEBOX_NO_DEADLINE, &machine), HIKEBOX_OK);
     fails(&machine, 300, 300, HIKEBOX_RUN, 1);
     // Ends into what a retry does not draw on.
     wants(hikebox_budget_fixed(1, &pass), HIKEBOX_OK);
     wants(hikebox_retry_new(&often, &pass, HIKEBOX_NO_DEADLINE, &on_budget), HIKEBOX_OK);
-    wants(hikebox_retry_unlimited(&often, HIKEBOX_NO_DEADLINE, &free_machine), HIKEBOX_OK);
-    wants(hikebox_retry_end(&machine, &no_pass), HIKEBOX_EMPTY);
-    wants(hikebox_retry_end(&machine, (hikebox_pass *)&quota), HIKEBOX_WRONG_KIND);
+    wants(retry_on_nothing(&often, HIKEBOX_NO_DEADLINE, &free_machine), HIKEBOX_OK);
+    wants(hikebox_retry_end(&machine, &none), HIKEBOX_EMPTY);
+    wants(hikebox_retry_end(&machine, (hikebox_pass *)&often), HIKEBOX_WRONG_KIND);
     wants(hikebox_retry_end(&machine, &pass), HIKEBOX_DRAWS_ELSEWHERE);
     wants(hikebox_retry_end(&free_machine, &pass), HIKEBOX_DRAWS_ELSEWHERE);
-    wants(hikebox_retry_end_on_quota(&on_budget, &no_quota), HIKEBOX_EMPTY);
-    wants(hikebox_retry_end_on_quota(&on_budget, (hikebox_quota *)&pass), HIKEBOX_WRONG_KIND);
-    wants(hikebox_retry_end_on_quota(&on_budget, &quota), HIKEBOX_DRAWS_ELSEWHERE);
-    wants(hikebox_retry_end_on_quota(&free_machine, &quota), HIKEBOX_DRAWS_ELSEWHERE);
-    wants(hikebox_retry_end_on_quota(&machine, &quota), HIKEBOX_OK);
+    wants(hikebox_retry_end(&on_budget, &none), HIKEBOX_EMPTY);
+    wants(hikebox_retry_end(&on_budget, (hikebox_pass *)&often), HIKEBOX_WRONG_KIND);
+    wants(hikebox_retry_end(&on_budget, &quota), HIKEBOX_DRAWS_ELSEWHERE);
+    wants(hikebox_retry_end(&free_machine, &quota), HIKEBOX_DRAWS_ELSEWHERE);
+    wants(hikebox_retry_end(&machine, &quota), HIKEBOX_OK);
     wants(hikebox_retry_end(&on_budget, &pass), HIKEBOX_OK);
     closes(&quota, 4);
     wants(hikebox_pass_close(&pass, &tickets), HIKEBOX_OK);
@@ -742,10 +748,10 @@ static void drawings(void) {
     wants(hikebox_retry_free(&free_machine), HIKEBOX_OK);
     // A retry that is freed keeps its pass.
     wants(hikebox_quota_new(0, 1, 0, 100, &quota), HIKEBOX_OK);
-    wants(hikebox_retry_on_quota(&often, &quota, HIKEBOX_NO_DEADLINE, &machine), HIKEBOX_OK);
+    wants(hikebox_retry_new(&often, &quota, HIKEBOX_NO_DEADLINE, &machine), HIKEBOX_OK);
     wants(hikebox_retry_free(&machine), HIKEBOX_OK);
-    wants(hikebox_quota_close(&quota, &tickets), HIKEBOX_PASSES_OUT);
-    wants(hikebox_quota_free(&quota), HIKEBOX_OK);
+    wants(hikebox_pass_close(&quota, &tickets), HIKEBOX_PASSES_OUT);
+    wants(hikebox_pass_free(&quota), HIKEBOX_OK);
     wants(hikebox_policy_free(&often), HIKEBOX_OK);
     wants(hikebox_policy_free(&policy), HIKEBOX_OK);
 }
@@ -786,9 +792,10 @@ static void spaced_deadlines(void) {
         wants(hikebox_retry_new(&policy, &pass, rows[row].deadline, &machine), HIKEBOX_OK);
         for (uint64_t run = 1; run < rows[row].runs; run++) {
             fails(&machine, now, now, HIKEBOX_WAIT, run);
-            wants(hikebox_retry_see(&machine, &next), HIKEBOX_OK);
+            // (it waits on)
+            wants(hikebox_retry_poll(&machine, now, no_words, HIKEBOX_NO_REPORT, 0, &next), HIKEBOX_OK);
             now += 450;
-            holds(next.until == now);
+            holds(next.what == HIKEBOX_WAIT && next.until == now);
         }
         fails(&machine, now, now, HIKEBOX_OVER, rows[row].runs - 1);
         ended(&machine, rows[row].how, rows[row].runs);
@@ -801,7 +808,7 @@ static void spaced_deadlines(void) {
 
 static int deadlines(void) {
     hikebox_policy policy = HIKEBOX_INIT, at_once = HIKEBOX_INIT, no_policy = HIKEBOX_INIT;
-    hikebox_quota quota = HIKEBOX_INIT;
+    hikebox_pass quota = HIKEBOX_INIT;
     hikebox_pass pass = HIKEBOX_INIT;
     hikebox_retry machine = HIKEBOX_INIT, empty = HIKEBOX_INIT;
     hikebox_next next;
@@ -813,7 +820,7 @@ static int deadlines(void) {
     wants(hikebox_budget_fixed(9, &pass), HIKEBOX_OK);
     // On a quota, from 5000 on: runs that take 60 fail at 5060 and 5570, and the next start would be 6020. What is left is
     // the same whatever the retry does.
-    wants(hikebox_retry_on_quota(&policy, &quota, 6019, &machine), HIKEBOX_OK);
+    wants(hikebox_retry_new(&policy, &quota, 6019, &machine), HIKEBOX_OK);
     has_left(&machine, 5000, 1019);
     fails(&machine, 5000, 5060, HIKEBOX_WAIT, 1);
     has_left(&machine, 5510, 509);
@@ -822,10 +829,10 @@ static int deadlines(void) {
     has_left(&machine, 6018, 1);
     has_left(&machine, 6019, 0);
     has_left(&machine, HIKEBOX_FAR, 0);
-    wants(hikebox_retry_end_on_quota(&machine, &quota), HIKEBOX_OK);
+    wants(hikebox_retry_end(&machine, &quota), HIKEBOX_OK);
     closes(&quota, 1);
     // On nothing: runs at once, of which one fails past the deadline.
-    wants(hikebox_retry_unlimited(&at_once, 100, &machine), HIKEBOX_OK);
+    wants(retry_on_nothing(&at_once, 100, &machine), HIKEBOX_OK);
     fails(&machine, 0, 60, HIKEBOX_RUN, 1);
     fails(&machine, 60, 100, HIKEBOX_RUN, 2);
     fails(&machine, 100, 101, HIKEBOX_OVER, 2);
@@ -848,15 +855,15 @@ static int deadlines(void) {
     wants(hikebox_retry_cancel(&machine), HIKEBOX_OK);
     ended(&machine, HIKEBOX_ENDED_CANCELLED, 1);
     wants(hikebox_retry_new(&policy, &pass, HIKEBOX_FAR + 1, &machine), HIKEBOX_TOO_LARGE);
-    wants(hikebox_retry_on_quota(&policy, &quota, HIKEBOX_NO_DEADLINE - 1, &empty), HIKEBOX_TOO_LARGE);
-    wants(hikebox_retry_unlimited(&no_policy, HIKEBOX_FAR + 1, &empty), HIKEBOX_TOO_LARGE);
+    wants(hikebox_retry_new(&policy, &quota, HIKEBOX_NO_DEADLINE - 1, &empty), HIKEBOX_TOO_LARGE);
+    wants(retry_on_nothing(&no_policy, HIKEBOX_FAR + 1, &empty), HIKEBOX_TOO_LARGE);
     wants(hikebox_retry_left(&empty, HIKEBOX_FAR + 1, &left), HIKEBOX_TOO_LARGE);
     wants(hikebox_retry_left(&empty, 0, &left), HIKEBOX_EMPTY);
     wants(hikebox_retry_left((hikebox_retry *)&policy, 0, &left), HIKEBOX_WRONG_KIND);
     holds(left == 77 && empty.held == NULL);
     wants(hikebox_retry_end(&machine, &pass), HIKEBOX_OK);
     // Without one there is none.
-    wants(hikebox_retry_unlimited(&policy, HIKEBOX_NO_DEADLINE, &machine), HIKEBOX_OK);
+    wants(retry_on_nothing(&policy, HIKEBOX_NO_DEADLINE, &machine), HIKEBOX_OK);
     has_left(&machine, 0, HIKEBOX_NO_DEADLINE);
     wants(hikebox_retry_free(&machine), HIKEBOX_OK);
     wants(hikebox_pass_close(&pass, &left), HIKEBOX_OK);
@@ -868,6 +875,7 @@ static int deadlines(void) {
 
 static int quotas(void) {
     terms();
+    nothings();
     windows();
     passes();
     drawings();
@@ -980,7 +988,7 @@ static void policy_shares(void) {
 // What a thread draws of a quota by a clock of its own: a pass, the window that it begins in, and its tickets.
 enum { APART = 8, TURNS = 300, RESERVE = 5 };
 struct drawer {
-    hikebox_quota pass;
+    hikebox_pass pass;
     uint64_t from, count, tickets[(APART + TURNS) * RESERVE];
 };
 
@@ -989,7 +997,7 @@ static void *draw_by_windows(void *given) {
     struct drawer *drawer = given;
     uint64_t window = drawer->from, ticket;
     for (; window < drawer->from + TURNS; window++)
-        while (hikebox_quota_draw(&drawer->pass, window * 100, &ticket) == HIKEBOX_OK)
+        while (hikebox_pass_draw(&drawer->pass, window * 100, &ticket) == HIKEBOX_OK)
             drawer->tickets[drawer->count++] = ticket;
     return NULL;
 }
@@ -1003,7 +1011,7 @@ static void windows_at_once(void) {
     uint64_t tickets, total = 0;
     wants(hikebox_quota_new(0, RESERVE, 0, 100, &drawers[0].pass), HIKEBOX_OK);
     for (int at = 1; at < APART; at++) {
-        wants(hikebox_quota_split(&drawers[0].pass, &drawers[at].pass), HIKEBOX_OK);
+        wants(hikebox_pass_split(&drawers[0].pass, &drawers[at].pass), HIKEBOX_OK);
         drawers[at].from = at;
     }
     for (int at = 0; at < APART; at++) pthread_create(&threads[at], NULL, draw_by_windows, &drawers[at]);
@@ -1017,11 +1025,11 @@ static void windows_at_once(void) {
             given[window] |= 1u << ticket;
         }
         total += drawer->count;
-        if (at > 0) wants(hikebox_quota_join(&drawers[0].pass, &drawer->pass), HIKEBOX_OK);
+        if (at > 0) wants(hikebox_pass_join(&drawers[0].pass, &drawer->pass), HIKEBOX_OK);
     }
     for (int window = 0; window < APART + TURNS; window++) holds((given[window] & (given[window] + 1)) == 0);
     holds(given[APART + TURNS - 2] == (1u << RESERVE) - 1);
-    wants(hikebox_quota_close(&drawers[0].pass, &tickets), HIKEBOX_OK);
+    wants(hikebox_pass_close(&drawers[0].pass, &tickets), HIKEBOX_OK);
     holds(tickets == total);
 }
 
@@ -1156,7 +1164,7 @@ static uint8_t *drawn;
 
 static void *draw_all(void *handle) {
     uint64_t ticket;
-    while (hikebox_pass_draw(handle, &ticket) == HIKEBOX_OK)
+    while (hikebox_pass_draw(handle, 0, &ticket) == HIKEBOX_OK)
         if (__atomic_fetch_or(&drawn[ticket / 8], 1 << ticket % 8, __ATOMIC_SEQ_CST) & 1 << ticket % 8) wrong = 1;
     return NULL;
 }
@@ -1210,12 +1218,11 @@ static int calls(void) {
     hikebox_policy policy = HIKEBOX_INIT, second = HIKEBOX_INIT;
     hikebox_driver driver = HIKEBOX_INIT;
     hikebox_pass pass = HIKEBOX_INIT, part = HIKEBOX_INIT, sole = HIKEBOX_INIT;
-    hikebox_quota quota = HIKEBOX_INIT, quota_part = HIKEBOX_INIT;
+    hikebox_pass quota = HIKEBOX_INIT, quota_part = HIKEBOX_INIT;
     hikebox_retry machine = HIKEBOX_INIT;
     hikebox_usage usage;
     hikebox_decision decision;
     hikebox_next next;
-    hikebox_event event;
     hikebox_storm storm = HIKEBOX_STORM;
     hikebox_totals totals;
     uint64_t number, other;
@@ -1237,52 +1244,44 @@ static int calls(void) {
     holds(number == 4 && other == 3);
     again(hikebox_driver_new(&second, &driver));
     for (uint64_t now = 0; now < 30; now += 10) again(hikebox_driver_next(&driver, now, no_words, 0, &decision));
-    again(hikebox_driver_next_start(&driver, &decision));
     holds(!decision.goes_on);
-    wants(hikebox_driver_last_number(&driver, &number), HIKEBOX_NOT_A_NUMBER);
     again(hikebox_driver_last_text(&driver, text, sizeof text, &length));
     holds(length == 16 && memcmp(text, "[(0, 0), (1, 1)]", 16) == 0);
-    again(hikebox_driver_events(&driver, &number));
-    holds(number == 3);
-    again(hikebox_driver_event(&driver, 2, &event));
-    holds(event.now == 20);
-    again(hikebox_driver_reset(&driver));
     again(hikebox_budget_rising(3, &pass));
     again(hikebox_pass_split(&pass, &part));
-    again(hikebox_pass_draw(&part, &number));
+    again(hikebox_pass_draw(&part, 0, &number));
     again(hikebox_pass_raise(&part, 9, &number));
     holds(number == 9);
     again(hikebox_pass_join(&pass, &part));
     run_once(&policy, &pass);
     run_once(&second, &pass);
     again(hikebox_retry_new(&policy, &pass, HIKEBOX_NO_DEADLINE, &machine));
-    again(hikebox_retry_see(&machine, &next));
     again(hikebox_retry_left(&machine, 0, &number));
     again(hikebox_retry_cancel(&machine));
-    again(hikebox_retry_see(&machine, &next));
+    again(hikebox_retry_poll(&machine, 0, no_words, HIKEBOX_NO_REPORT, 0, &next));
     holds(next.what == HIKEBOX_OVER && next.how == HIKEBOX_ENDED_CANCELLED);
     again(hikebox_retry_end(&machine, &pass));
     again(hikebox_pass_count(&pass, &number));
     again(hikebox_pass_close(&pass, &other));
     holds(number == other);
     again(hikebox_quota_new(0, 1, 1000, 100, &quota));
-    again(hikebox_quota_split(&quota, &quota_part));
-    again(hikebox_quota_deposit(&quota_part, 0));
-    again(hikebox_quota_draw(&quota_part, 0, &number));
-    again(hikebox_quota_seen(&quota_part, 0, &usage));
+    again(hikebox_pass_split(&quota, &quota_part));
+    again(hikebox_pass_deposit(&quota_part, 0));
+    again(hikebox_pass_draw(&quota_part, 0, &number));
+    again(hikebox_pass_seen(&quota_part, 0, &usage));
     holds(number == 0 && usage.asked == 1 && usage.given == 1 && usage.left == 1);
-    again(hikebox_retry_on_quota(&policy, &quota, HIKEBOX_NO_DEADLINE, &machine));
-    again(hikebox_retry_end_on_quota(&machine, &quota));
-    again(hikebox_quota_join(&quota, &quota_part));
-    again(hikebox_quota_count(&quota, &number));
-    again(hikebox_quota_close(&quota, &other));
+    again(hikebox_retry_new(&policy, &quota, HIKEBOX_NO_DEADLINE, &machine));
+    again(hikebox_retry_end(&machine, &quota));
+    again(hikebox_pass_join(&quota, &quota_part));
+    again(hikebox_pass_count(&quota, &number));
+    again(hikebox_pass_close(&quota, &other));
     holds(number == 1 && other == 1);
     again(hikebox_quota_new(0, 1, 0, 100, &quota));
-    again(hikebox_retry_on_quota(&policy, &quota, HIKEBOX_NO_DEADLINE, &machine));
+    again(hikebox_retry_new(&policy, &quota, HIKEBOX_NO_DEADLINE, &machine));
     again(hikebox_retry_free(&machine));
-    wants(hikebox_quota_close(&quota, &number), HIKEBOX_PASSES_OUT);
-    again(hikebox_quota_free(&quota));
-    again(hikebox_retry_unlimited(&policy, HIKEBOX_NO_DEADLINE, &machine));
+    wants(hikebox_pass_close(&quota, &number), HIKEBOX_PASSES_OUT);
+    again(hikebox_pass_free(&quota));
+    again(retry_on_nothing(&policy, HIKEBOX_NO_DEADLINE, &machine));
     again(hikebox_retry_free(&machine));
     again(hikebox_budget_fixed(1, &sole));
     again(hikebox_retry_new(&policy, &sole, HIKEBOX_NO_DEADLINE, &machine));

@@ -73,11 +73,13 @@ int main(int count, char **words) {
     uint16_t port = count == 2 ? (uint16_t)atoi(words[1]) : 0;
     static const uint32_t no_words[4]; /* (this policy has no jitter) */
     hikebox_policy policy = HIKEBOX_INIT;
+    hikebox_pass pass = HIKEBOX_INIT;
     hikebox_retry retry = HIKEBOX_INIT;
     hikebox_place place;
     hikebox_next next = {0};
     check(hikebox_policy_read(policy_json, strlen(policy_json), &policy, &place));
-    check(hikebox_retry_unlimited(&policy, HIKEBOX_NO_DEADLINE, &retry));
+    check(hikebox_pass_unlimited(&pass));
+    check(hikebox_retry_new(&policy, &pass, HIKEBOX_NO_DEADLINE, &retry));
 
     struct pollfd fds[2] = {{.fd = 0, .events = POLLIN}, {.fd = -1, .events = POLLOUT}};
     uint32_t report = HIKEBOX_NO_REPORT;
@@ -105,7 +107,8 @@ int main(int count, char **words) {
     }
     printf("%s after %s\n", next.how == HIKEBOX_ENDED_WON ? "connected" : strerror((int)code),
            next.granted > 0 ? "retries" : "one run");
-    check(hikebox_retry_free(&retry));
+    check(hikebox_retry_end(&retry, &pass));
+    check(hikebox_pass_free(&pass));
     check(hikebox_policy_free(&policy));
     return next.how == HIKEBOX_ENDED_WON ? 0 : 1;
 }

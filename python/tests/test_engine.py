@@ -11,7 +11,7 @@ import pytest
 from conftest import TOP
 
 from hikebox import _engine, _structs
-from hikebox._engine import Handle, Pass, PolicyHandle, QuotaPass
+from hikebox._engine import Handle, Pass, PolicyHandle
 from hikebox._machine import Machine
 from hikebox._plan import Plan
 from hikebox.errors import EngineError
@@ -37,7 +37,7 @@ TYPES: Dict[str, Any] = {
     "hikebox_stored *": (ctypes.POINTER(_structs.Stored),),
     "const hikebox_asking *": (ctypes.POINTER(_structs.Asking),),
     "hikebox_range *": (ctypes.POINTER(_structs.Range),),
-    **{f"hikebox_{kind} *": (ctypes.POINTER(Handle),) for kind in ("policy", "driver", "pass", "quota", "retry")},
+    **{f"hikebox_{kind} *": (ctypes.POINTER(Handle),) for kind in ("policy", "driver", "pass", "retry")},
 }
 
 CTYPES: Dict[str, Any] = {"uint64_t": c_uint64, "uint32_t": ctypes.c_uint32, "bool": ctypes.c_bool}
@@ -141,8 +141,8 @@ def test_wrong_handles_are_refused_and_nothing_is_lost() -> None:
     library = _engine.library
     empty = Handle()
     number, words = c_uint64(), _structs.Words()
-    assert library.hikebox_pass_draw(byref(empty), byref(number)) == 1
-    assert library.hikebox_pass_draw(policy.at, byref(number)) == 2
+    assert library.hikebox_pass_draw(byref(empty), 0, byref(number)) == 1
+    assert library.hikebox_pass_draw(policy.at, 0, byref(number)) == 2
     assert library.hikebox_policy_free(byref(empty)) == 1
     assert library.hikebox_policy_free(drawn.at) == 2
     assert library.hikebox_budget_fixed(1, drawn.at) == 3
@@ -174,7 +174,7 @@ def test_a_retry_as_a_machine() -> None:
 
 
 def test_a_retry_on_a_quota_as_a_machine() -> None:
-    machine, policy, drawn = Machine(), read(b'{"spaced":100}'), QuotaPass.of_quota(0, 1, 500, 1000)
+    machine, policy, drawn = Machine(), read(b'{"spaced":100}'), Pass.of_quota(0, 1, 500, 1000)
     drawn.deposit(5_010)
     assert drawn.seen(5_010) == (5, 1, 0, 1, 6_000)
     assert machine.begin(policy, drawn)
@@ -191,7 +191,7 @@ def test_a_retry_on_a_quota_as_a_machine() -> None:
 def test_a_retry_with_a_deadline_as_a_machine() -> None:
     # starts at 450 and 900, and the one at 1350 is too late: it ends so, and draws nothing for it
     machine, policy = Machine(), read(b'{"spaced":450}')
-    budget, quota = Pass.of_budget(9, False), QuotaPass.of_quota(0, 9, 0, 60_000)
+    budget, quota = Pass.of_budget(9, False), Pass.of_quota(0, 9, 0, 60_000)
     for drawn in (budget, quota, None):
         if drawn is None:
             machine.begin_unlimited(policy, 1000)
@@ -220,14 +220,14 @@ def test_a_retry_on_nothing_as_a_machine() -> None:
         machine.end(Pass.of_budget(1, False))
     assert caught.value.status == 42
     with pytest.raises(EngineError) as caught:
-        machine.end(QuotaPass.of_quota(0, 1, 0, 100))
+        machine.end(Pass.of_quota(0, 1, 0, 100))
     assert caught.value.status == 42
     machine.free()
     machine.free()
 
 
 def test_a_retry_ends_on_what_it_draws_on_alone() -> None:
-    policy, quota, budget = read(b'{"recurs":2}'), QuotaPass.of_quota(0, 1, 0, 100), Pass.of_budget(3, False)
+    policy, quota, budget = read(b'{"recurs":2}'), Pass.of_quota(0, 1, 0, 100), Pass.of_budget(3, False)
     machine = Machine()
     assert machine.begin(policy, quota)
     with pytest.raises(EngineError) as caught:
@@ -241,9 +241,9 @@ def test_a_retry_ends_on_what_it_draws_on_alone() -> None:
     machine.end(budget)
     assert (quota.close(), budget.close()) == (0, 0)
     library = _engine.library
-    assert library.hikebox_quota_draw(policy.at, 0, byref(c_uint64())) == 2
-    assert library.hikebox_quota_draw(quota.at, 0, byref(c_uint64())) == 1
-    assert library.hikebox_quota_deposit(quota.at, 2**62) == 5
+    assert library.hikebox_pass_draw(policy.at, 0, byref(c_uint64())) == 2
+    assert library.hikebox_pass_draw(quota.at, 0, byref(c_uint64())) == 1
+    assert library.hikebox_pass_deposit(quota.at, 2**62) == 5
 
 
 def test_a_pass_that_was_freed_keeps_the_budget_open() -> None:

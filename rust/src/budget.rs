@@ -134,7 +134,7 @@ impl Pass {
     #[must_use = "the ticket is drawn, if there is one"]
     pub fn draw(&mut self) -> Option<u64> {
         let pass = self.handle.as_mut().expect("a pass has its handle until it is dropped");
-        match pass.draw() {
+        match pass.draw(0) {
             Ok(ticket) => {
                 self.tickets += 1;
                 Some(ticket)

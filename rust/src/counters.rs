@@ -1,6 +1,6 @@
 //! Passes of a quota that count requests, each for some of the threads: so that no two threads wait for one lock.
 
-use crate::engine::{Handle, QuotaKind};
+use crate::engine::{Handle, PassKind};
 use std::sync::atomic::{AtomicUsize, Ordering};
 use std::sync::{Mutex, MutexGuard, PoisonError};
 use std::time::Instant;
@@ -19,7 +19,7 @@ struct Slot(Mutex<Counter>);
 #[derive(Default)]
 pub(crate) struct Counter {
     /// A pass, once a request was counted here.
-    pub(crate) pass: Option<Handle<QuotaKind>>,
+    pub(crate) pass: Option<Handle<PassKind>>,
     /// The window of that request.
     pub(crate) latest: Option<Window>,
 }
@@ -50,7 +50,7 @@ impl Counters {
     }
 
     /// All passes.
-    pub(crate) fn into_passes(self) -> impl Iterator<Item = Handle<QuotaKind>> {
+    pub(crate) fn into_passes(self) -> impl Iterator<Item = Handle<PassKind>> {
         self.0.into_iter().filter_map(|Slot(counter)| counter.into_inner().unwrap_or_else(PoisonError::into_inner).pass)
     }
 }

@@ -204,27 +204,19 @@ extern "C" {
 
     fn hikebox_budget_fixed(limit: u64, pass: *mut Raw) -> u32;
     fn hikebox_budget_rising(limit: u64, pass: *mut Raw) -> u32;
-    fn hikebox_pass_draw(pass: *mut Raw, ticket: *mut u64) -> u32;
+    fn hikebox_quota_new(now: u64, reserve: u64, share: u64, period: u64, pass: *mut Raw) -> u32;
+    fn hikebox_pass_unlimited(pass: *mut Raw) -> u32;
+    fn hikebox_pass_draw(pass: *mut Raw, now: u64, ticket: *mut u64) -> u32;
+    fn hikebox_pass_deposit(pass: *mut Raw, now: u64) -> u32;
     fn hikebox_pass_split(pass: *mut Raw, part: *mut Raw) -> u32;
     fn hikebox_pass_join(pass: *mut Raw, other: *mut Raw) -> u32;
     fn hikebox_pass_raise(pass: *mut Raw, to: u64, limit: *mut u64) -> u32;
     fn hikebox_pass_count(pass: *mut Raw, tickets: *mut u64) -> u32;
+    fn hikebox_pass_seen(pass: *mut Raw, now: u64, usage: *mut Used) -> u32;
     fn hikebox_pass_close(pass: *mut Raw, tickets: *mut u64) -> u32;
     fn hikebox_pass_free(pass: *mut Raw) -> u32;
 
-    fn hikebox_quota_new(now: u64, reserve: u64, share: u64, period: u64, quota: *mut Raw) -> u32;
-    fn hikebox_quota_deposit(quota: *mut Raw, now: u64) -> u32;
-    fn hikebox_quota_draw(quota: *mut Raw, now: u64, ticket: *mut u64) -> u32;
-    fn hikebox_quota_seen(quota: *mut Raw, now: u64, usage: *mut Used) -> u32;
-    fn hikebox_quota_split(quota: *mut Raw, part: *mut Raw) -> u32;
-    fn hikebox_quota_join(quota: *mut Raw, other: *mut Raw) -> u32;
-    fn hikebox_quota_count(quota: *mut Raw, tickets: *mut u64) -> u32;
-    fn hikebox_quota_close(quota: *mut Raw, tickets: *mut u64) -> u32;
-    fn hikebox_quota_free(quota: *mut Raw) -> u32;
-
     fn hikebox_retry_new(policy: *mut Raw, pass: *mut Raw, deadline: u64, retry: *mut Raw) -> u32;
-    fn hikebox_retry_on_quota(policy: *mut Raw, quota: *mut Raw, deadline: u64, retry: *mut Raw) -> u32;
-    fn hikebox_retry_unlimited(policy: *mut Raw, deadline: u64, retry: *mut Raw) -> u32;
     fn hikebox_retry_poll(
         retry: *mut Raw,
         now: u64,
@@ -233,11 +225,9 @@ extern "C" {
         code: u64,
         next: *mut Next,
     ) -> u32;
-    fn hikebox_retry_see(retry: *mut Raw, next: *mut Next) -> u32;
     fn hikebox_retry_left(retry: *mut Raw, now: u64, left: *mut u64) -> u32;
     fn hikebox_retry_cancel(retry: *mut Raw) -> u32;
     fn hikebox_retry_end(retry: *mut Raw, pass: *mut Raw) -> u32;
-    fn hikebox_retry_end_on_quota(retry: *mut Raw, quota: *mut Raw) -> u32;
     fn hikebox_retry_free(retry: *mut Raw) -> u32;
 
     #[cfg(feature = "leased")]
@@ -347,8 +337,6 @@ pub(crate) enum DriverKind {}
 #[derive(Debug)]
 pub(crate) enum PassKind {}
 #[derive(Debug)]
-pub(crate) enum QuotaKind {}
-#[derive(Debug)]
 pub(crate) enum RetryKind {}
 
 impl Kind for PolicyKind {
@@ -361,10 +349,6 @@ impl Kind for DriverKind {
 
 impl Kind for PassKind {
     const FREE: unsafe extern "C" fn(*mut Raw) -> u32 = hikebox_pass_free;
-}
-
-impl Kind for QuotaKind {
-    const FREE: unsafe extern "C" fn(*mut Raw) -> u32 = hikebox_quota_free;
 }
 
 impl Kind for RetryKind {
@@ -460,17 +444,34 @@ impl Handle<PassKind> {
         Self::filled(|pass| unsafe { hikebox_budget_rising(limit, pass) })
     }
 
-    pub(crate) fn draw(&mut self) -> Result<u64, Status> {
+    /// The first pass of a quota, whose windows are counted from the one of this moment, up to [`FAR`].
+    pub(crate) fn quota(now: u64, reserve: u64, share: u64, period: u64) -> Result<Self, Status> {
+        Self::filled(|pass| unsafe { hikebox_quota_new(now, reserve, share, period, pass) })
+    }
+
+    /// A pass that draws on nothing.
+    pub(crate) fn unlimited() -> Result<Self, Status> {
+        Self::filled(|pass| unsafe { hikebox_pass_unlimited(pass) })
+    }
+
+    /// A ticket at this moment, which a quota alone heeds.
+    pub(crate) fn draw(&mut self, now: u64) -> Result<u64, Status> {
         let mut ticket = 0;
-        Status::of(unsafe { hikebox_pass_draw(self.raw(), &mut ticket) })?;
+        Status::of(unsafe { hikebox_pass_draw(self.raw(), now, &mut ticket) })?;
         Ok(ticket)
+    }
+
+    /// Counts a request of a quota.
+    pub(crate) fn deposit(&mut self, now: u64) {
+        let status = unsafe { hikebox_pass_deposit(self.raw(), now) };
+        debug_assert_eq!(status, OK);
     }
 
     pub(crate) fn split(&mut self) -> Result<Self, Status> {
         Self::filled(|part| unsafe { hikebox_pass_split(self.raw(), part) })
     }
 
-    /// Takes the tickets and parts of another pass of the budget, which is then empty.
+    /// Takes the tickets and parts of another pass of the same, which is then empty.
     pub(crate) fn join(&mut self, mut other: Self) {
         let status = unsafe { hikebox_pass_join(self.raw(), other.raw()) };
         debug_assert_eq!(status, OK);
@@ -480,6 +481,14 @@ impl Handle<PassKind> {
         let mut limit = 0;
         Status::of(unsafe { hikebox_pass_raise(self.raw(), to, &mut limit) })?;
         Ok(limit)
+    }
+
+    /// What is known of the latest window of a quota.
+    pub(crate) fn seen(&mut self, now: u64) -> Used {
+        let mut used = Used::default();
+        let status = unsafe { hikebox_pass_seen(self.raw(), now, &mut used) };
+        debug_assert_eq!(status, OK);
+        used
     }
 
     pub(crate) fn count(&mut self) -> u64 {
@@ -496,57 +505,9 @@ impl Handle<PassKind> {
     }
 }
 
-impl Handle<QuotaKind> {
-    /// The first pass of a quota, whose windows are counted from the one of this moment, up to [`FAR`].
-    pub(crate) fn new(now: u64, reserve: u64, share: u64, period: u64) -> Result<Self, Status> {
-        Self::filled(|quota| unsafe { hikebox_quota_new(now, reserve, share, period, quota) })
-    }
-
-    pub(crate) fn deposit(&mut self, now: u64) {
-        let status = unsafe { hikebox_quota_deposit(self.raw(), now) };
-        debug_assert_eq!(status, OK);
-    }
-
-    pub(crate) fn draw(&mut self, now: u64) -> Result<u64, Status> {
-        let mut ticket = 0;
-        Status::of(unsafe { hikebox_quota_draw(self.raw(), now, &mut ticket) })?;
-        Ok(ticket)
-    }
-
-    pub(crate) fn seen(&mut self, now: u64) -> Used {
-        let mut used = Used::default();
-        let status = unsafe { hikebox_quota_seen(self.raw(), now, &mut used) };
-        debug_assert_eq!(status, OK);
-        used
-    }
-
-    pub(crate) fn split(&mut self) -> Result<Self, Status> {
-        Self::filled(|part| unsafe { hikebox_quota_split(self.raw(), part) })
-    }
-
-    /// Takes the tickets and parts of another pass of the quota, which is then empty.
-    pub(crate) fn join(&mut self, mut other: Self) {
-        let status = unsafe { hikebox_quota_join(self.raw(), other.raw()) };
-        debug_assert_eq!(status, OK);
-    }
-
-    pub(crate) fn count(&mut self) -> u64 {
-        let mut tickets = 0;
-        let status = unsafe { hikebox_quota_count(self.raw(), &mut tickets) };
-        debug_assert_eq!(status, OK);
-        tickets
-    }
-
-    pub(crate) fn close(&mut self) -> Result<u64, Status> {
-        let mut tickets = 0;
-        Status::of(unsafe { hikebox_quota_close(self.raw(), &mut tickets) })?;
-        Ok(tickets)
-    }
-}
-
 impl Handle<RetryKind> {
     /// A retry with a pass of its own, and a deadline up to [`FAR`], or [`NO_DEADLINE`].
-    pub(crate) fn on_budget(
+    pub(crate) fn begun(
         policy: &mut Handle<PolicyKind>,
         pass: &mut Handle<PassKind>,
         deadline: u64,
@@ -554,16 +515,9 @@ impl Handle<RetryKind> {
         Self::filled(|retry| unsafe { hikebox_retry_new(policy.raw(), pass.raw(), deadline, retry) })
     }
 
-    pub(crate) fn on_quota(
-        policy: &mut Handle<PolicyKind>,
-        quota: &mut Handle<QuotaKind>,
-        deadline: u64,
-    ) -> Result<Self, Status> {
-        Self::filled(|retry| unsafe { hikebox_retry_on_quota(policy.raw(), quota.raw(), deadline, retry) })
-    }
-
-    pub(crate) fn unlimited(policy: &mut Handle<PolicyKind>, deadline: u64) -> Result<Self, Status> {
-        Self::filled(|retry| unsafe { hikebox_retry_unlimited(policy.raw(), deadline, retry) })
+    /// The same, drawing on nothing.
+    pub(crate) fn on_nothing(policy: &mut Handle<PolicyKind>, deadline: u64) -> Result<Self, Status> {
+        Self::begun(policy, &mut Handle::unlimited()?, deadline)
     }
 
     /// How many milliseconds it has at this moment up to its deadline, or [`NO_DEADLINE`].
@@ -580,27 +534,16 @@ impl Handle<RetryKind> {
         Ok(next)
     }
 
-    pub(crate) fn see(&mut self) -> Next {
-        let mut next = Next::default();
-        let status = unsafe { hikebox_retry_see(self.raw(), &mut next) };
-        debug_assert_eq!(status, OK);
-        next
-    }
-
-    pub(crate) fn cancel(&mut self) {
+    /// Ends it as cancelled where it is not over, and tells how it ended: a poll of what is over changes nothing.
+    pub(crate) fn cancel(&mut self) -> Next {
         let status = unsafe { hikebox_retry_cancel(self.raw()) };
         debug_assert_eq!(status, OK);
+        self.poll(0, &[0; 4], NO_REPORT, 0).unwrap_or_default()
     }
 
-    /// Gives its pass back to the budget's.
+    /// Gives its pass back to one of the same.
     pub(crate) fn end(mut self, pass: &mut Handle<PassKind>) {
         let status = unsafe { hikebox_retry_end(self.raw(), pass.raw()) };
-        debug_assert_eq!(status, OK);
-    }
-
-    /// The same to the quota's.
-    pub(crate) fn end_on_quota(mut self, quota: &mut Handle<QuotaKind>) {
-        let status = unsafe { hikebox_retry_end_on_quota(self.raw(), quota.raw()) };
         debug_assert_eq!(status, OK);
     }
 }

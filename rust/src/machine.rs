@@ -38,6 +38,8 @@ use std::time::Duration;
 pub struct Machine {
     handle: Option<Handle<RetryKind>>,
     draws_on: DrawsOn,
+    /// What its last step told.
+    told: Next,
 }
 
 /// What a retry draws on.
@@ -146,11 +148,12 @@ impl Machine {
 
     pub(crate) fn on(policy: &Policy, source: Source, deadline: u64) -> Result<Self, BudgetError> {
         let handle = policy.with(|policy| match &source {
-            Source::Budget(budget) => budget.with(|root| Handle::on_budget(policy, root, deadline)),
-            Source::Quota(quota) => quota.with(|root| Handle::on_quota(policy, root, deadline)),
-            Source::Store(_) | Source::Unlimited => Handle::unlimited(policy, deadline),
+            Source::Budget(budget) => budget.with(|root| Handle::begun(policy, root, deadline)),
+            Source::Quota(quota) => quota.with(|root| Handle::begun(policy, root, deadline)),
+            Source::Store(_) | Source::Unlimited => Handle::on_nothing(policy, deadline),
         });
-        Ok(Self { handle: Some(handle.map_err(BudgetError::of)?), draws_on: DrawsOn::of(source) })
+        let handle = Some(handle.map_err(BudgetError::of)?);
+        Ok(Self { handle, draws_on: DrawsOn::of(source), told: Next::default() })
     }
 
     /// Steps it at the moment `now`, which is not before that of the step before, with random words of its own. A
@@ -191,20 +194,23 @@ impl Machine {
             Some(Report::Won(code)) => (engine::WON, code.min(FAR)),
             Some(Report::Lost(code)) => (engine::LOST, code.min(FAR)),
         };
-        self.handle().poll(now, words, report, code).unwrap_or_else(|_| self.see())
+        if let Ok(next) = self.handle().poll(now, words, report, code) {
+            self.told = next;
+        }
+        self.told
     }
 
     /// How many retries it was granted.
     pub fn granted(&mut self) -> u64 {
         match &self.draws_on {
             DrawsOn::Store(drawn) => drawn.granted,
-            _ => self.see().granted,
+            _ => self.told.granted,
         }
     }
 
     /// How many runs were reported.
     pub fn runs(&mut self) -> u64 {
-        self.see().runs
+        self.told.runs
     }
 
     /// How long it is from a moment to the deadline, as the time that a run may be given: none where that is past. `None`
@@ -226,11 +232,7 @@ impl Machine {
 
     /// Ends it as cancelled, where it is not over.
     pub fn cancel(&mut self) {
-        self.handle().cancel();
-    }
-
-    fn see(&mut self) -> Next {
-        self.handle().see()
+        self.told = self.handle().cancel();
     }
 
     fn handle(&mut self) -> &mut Handle<RetryKind> {
@@ -247,7 +249,7 @@ impl Drop for Machine {
         };
         match &self.draws_on {
             DrawsOn::Budget(budget) => budget.with(|root| handle.end(root)),
-            DrawsOn::Quota(quota) => quota.with(|root| handle.end_on_quota(root)),
+            DrawsOn::Quota(quota) => quota.with(|root| handle.end(root)),
             DrawsOn::Store(_) | DrawsOn::Nothing => (),
         }
     }

@@ -5,7 +5,7 @@ use crate::clock::{now, whole_millis};
 use crate::counters::{Counter, Counters, Window};
 #[cfg(feature = "leased")]
 use crate::engine::{quota_allows, FAR, MOST_TICKETS};
-use crate::engine::{Handle, QuotaKind, Status, Used};
+use crate::engine::{Handle, PassKind, Status, Used};
 use std::fmt;
 use std::sync::{Arc, Mutex, MutexGuard, PoisonError};
 use std::time::{Duration, Instant};
@@ -40,7 +40,7 @@ pub struct Quota {
 
 struct Shared {
     /// The first pass, which others are split off.
-    root: Mutex<Handle<QuotaKind>>,
+    root: Mutex<Handle<PassKind>>,
     /// Those by which threads count their requests.
     counters: Counters,
     /// Moment 0.
@@ -70,7 +70,7 @@ struct Shared {
 #[derive(Debug)]
 pub struct QuotaPass {
     /// `None` only while it is dropped.
-    handle: Option<Handle<QuotaKind>>,
+    handle: Option<Handle<PassKind>>,
     quota: Quota,
     tickets: u64,
 }
@@ -137,11 +137,11 @@ impl Quota {
 
     fn made(moment: Duration, began: Instant, terms: Terms) -> Result<Self, BudgetError> {
         let Terms { reserve, share, period } = terms;
-        let root = Handle::<QuotaKind>::new(whole_millis(moment), reserve, share, period).map_err(BudgetError::of)?;
+        let root = Handle::quota(whole_millis(moment), reserve, share, period).map_err(BudgetError::of)?;
         Ok(Self::of(root, began, period))
     }
 
-    fn of(root: Handle<QuotaKind>, began: Instant, period: u64) -> Self {
+    fn of(root: Handle<PassKind>, began: Instant, period: u64) -> Self {
         let (root, counters) = (Mutex::new(root), Counters::default());
         Self { shared: Arc::new(Shared { root, counters, began, period }) }
     }
@@ -238,11 +238,11 @@ impl Quota {
     }
 
     /// Lends the first pass to one call.
-    pub(crate) fn with<T>(&self, call: impl FnOnce(&mut Handle<QuotaKind>) -> T) -> T {
+    pub(crate) fn with<T>(&self, call: impl FnOnce(&mut Handle<PassKind>) -> T) -> T {
         call(&mut self.lock())
     }
 
-    fn lock(&self) -> MutexGuard<'_, Handle<QuotaKind>> {
+    fn lock(&self) -> MutexGuard<'_, Handle<PassKind>> {
         self.shared.root.lock().unwrap_or_else(PoisonError::into_inner)
     }
 }
@@ -306,7 +306,7 @@ impl QuotaPass {
         self.tickets
     }
 
-    fn handle(&mut self) -> &mut Handle<QuotaKind> {
+    fn handle(&mut self) -> &mut Handle<PassKind> {
         self.handle.as_mut().expect("a pass has its handle until it is dropped")
     }
 }

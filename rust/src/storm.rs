@@ -2,7 +2,7 @@
 
 use crate::budget::BudgetError;
 use crate::clock::whole_millis;
-use crate::engine::{self, Handle, PassKind, PolicyKind, QuotaKind, Status, ON_BUDGET, ON_NOTHING, ON_QUOTA};
+use crate::engine::{self, Handle, PassKind, PolicyKind, Status, ON_BUDGET, ON_NOTHING, ON_QUOTA};
 use crate::policy::Policy;
 use crate::quota::Terms;
 use std::error::Error;
@@ -276,7 +276,7 @@ impl Storm {
         self.fault = match Terms::new(reserve, share, per) {
             Ok(Terms { reserve, share, period }) => {
                 self.storm = engine::Storm { draws_on: ON_QUOTA, reserve, share, period, ..self.storm };
-                Handle::<QuotaKind>::new(0, reserve, share, period).err().map(BudgetError::of)
+                Handle::quota(0, reserve, share, period).err().map(BudgetError::of)
             }
             Err(fault) => Some(fault),
         };

@@ -1,12 +1,35 @@
 //! Leases, and what a window of a quota allows.
 ghost use Rattle.std.specs.Prelude.{◌≡◌};
 ghost use Rattle.sched_ticket_lease.specs.Leases.{allows};
-ghost use Rattle.sched_lease_call.specs.Calls.{quota_of, Leases, Refuses};
+ghost use Rattle.hikebox_c.specs.Leases.{quota_of, Leases, Refuses};
 ghost use Rattle.sched_ticket_lease.specs.declared.lease.Grants.TheVariants.{Budget};
 
-use sched_lease_call::{Asking, Range};
-use sched_ticket_lease::Stored;
+use sched_handle::Status;
+use sched_ticket_lease::{Ask, Grants, Stored};
+use sched_ticket_quota::Terms;
+use sched_time::Millis;
 
+/// What a process asks of a store.
+#[repr(C)]
+#[derive(Clone, Copy)]
+pub struct Asking {
+    /// The present window, by the store's clock.
+    pub window: u64,
+    /// The requests of that window that it has to tell.
+    pub told: u64,
+    /// How many tickets it wants.
+    pub wanted: u64,
+}
+
+/// A range of tickets: so many from the number `first` on.
+#[repr(C)]
+#[derive(Clone, Copy)]
+pub struct Range {
+    pub first: u64,
+    pub tickets: u64,
+}
+
+/// Leases tickets of a budget that has so many: writes what the store is to keep, and the range.
 #[unsafe(no_mangle)]
 pub extern "C" fn hikebox_lease_of_budget(
     limit: u64,
@@ -17,9 +40,11 @@ pub extern "C" fn hikebox_lease_of_budget(
     ensures leases { Leases (Budget limit) asking.now stored.old result stored.new range.new }
     ensures refuses { Refuses asking.now stored.old range.old result stored.new range.new }
 {
-    sched_lease_call::lease_of_budget(limit, asking, stored, range)
+    tell_lease(Grants::Budget(limit), asking, stored, range)
 }
 
+/// Leases tickets of a window of a quota that has this reserve and this share: writes what the store is to keep, and the
+/// range.
 #[unsafe(no_mangle)]
 pub extern "C" fn hikebox_lease_of_quota(
     reserve: u64,
@@ -31,9 +56,10 @@ pub extern "C" fn hikebox_lease_of_quota(
     ensures leases { Leases (quota_of reserve share) asking.now stored.old result stored.new range.new }
     ensures refuses { Refuses asking.now stored.old range.old result stored.new range.new }
 {
-    sched_lease_call::lease_of_quota(reserve, share, asking, stored, range)
+    tell_lease(quota(reserve, share), asking, stored, range)
 }
 
+/// Writes how many tickets a window of so many requests may give, by a quota that has this reserve and this share.
 #[unsafe(no_mangle)]
 pub extern "C" fn hikebox_quota_allows(
     reserve: u64,
@@ -44,5 +70,44 @@ pub extern "C" fn hikebox_quota_allows(
     ensures code { result ≡ 0 }
     ensures tickets { tickets.new ≡ allows (quota_of reserve share) asked }
 {
-    sched_lease_call::quota_allows(reserve, share, asked, tickets)
+    *tickets = quota(reserve, share).allows(asked);
+    0
+}
+
+// The quota of these terms.
+fn quota(reserve: u64, share: u64) -> Grants
+    ensures { result ≡ quota_of reserve share }
+{
+    Grants::Quota(Terms {
+        reserve,
+        share,
+        period: Millis::from(1000),
+    })
+}
+
+// Takes a lease, and writes what comes of it.
+fn tell_lease(grants: Grants, asking: &Asking, stored: &mut Stored, range: &mut Range) -> u32
+    ensures leases { Leases grants asking.now stored.old result stored.new range.new }
+    ensures refuses { Refuses asking.now stored.old range.old result stored.new range.new }
+{
+    let Asking {
+        window,
+        told,
+        wanted,
+    } = *asking;
+    let ask = Ask {
+        grants,
+        window,
+        told,
+        wanted,
+    };
+    let Some(lease) = stored.lease(ask) else {
+        return Status::Backwards.code();
+    };
+    *stored = lease.stored;
+    *range = Range {
+        first: lease.first,
+        tickets: lease.tickets,
+    };
+    0
 }

@@ -1,11 +1,12 @@
-//! Hikebox for C, as include/hikebox.h declares it: calls for programs in C, or in any language that calls C.
+//! Hikebox for C, as include/hikebox.h declares it: calls for programs in C, or in any language that calls C. The header
+//! lists the refusals of each, and what the caller owes.
 #![tactic(auto)]
 
-mod budgets;
 mod drivers;
 mod faults;
+mod joins;
 mod leases;
+mod passes;
 mod policies;
-mod quotas;
 mod retries;
 mod storms;

@@ -2,19 +2,23 @@
 ghost use Rattle.std.specs.Prelude.{◌≡◌, ◌<◌, ◌≤◌, Err};
 ghost use Rattle.sched_time.specs.declared.numbers.TheConstants.{FAR};
 ghost use Rattle.sched_handle.specs.Fills.{Frees};
-ghost use Rattle.sched_handle.specs.Passes.{Joins};
-ghost use Rattle.sched_handle.specs.Quotas.{JoinsQuota};
-ghost use Rattle.sched_handle.specs.Retries.{Retries, RetriesOnQuota};
-ghost use Rattle.sched_handle.specs.Retries.{Sees, Leaves, Cancels, IsOfItsBudget, IsOfItsQuota};
-ghost use Rattle.sched_reply.specs.Status.{told};
+ghost use Rattle.sched_handle.specs.Passes.{AreOfOne};
+ghost use Rattle.sched_handle.specs.Retries.{Leaves, Cancels};
+ghost use Rattle.sched_handle.specs.Status.{told};
 ghost use Rattle.sched_handle.specs.declared.held.Kind.TheVariants as kind;
-ghost use Rattle.sched_reply.specs.declared.status.Status.TheVariants as status;
-ghost use Rattle.sched_calls.specs.Calls.{Tells, Kept, OnHeld};
-ghost use Rattle.sched_calls.specs.Retries.{deadline_of, NewRetryBy, NewUnlimited, PollsAt, EndsHeld};
+ghost use Rattle.sched_handle.specs.declared.status.Status.TheVariants as status;
+ghost use Rattle.hikebox_c.specs.Calls.{Tells, Kept, OnHeld};
+ghost use Rattle.hikebox_c.specs.Passes.{JoinsHeld};
+ghost use Rattle.hikebox_c.specs.Retries.{deadline_of, NewRetry, NewRetryBy, Reports, PollsAt};
 
-use sched_handle::{Handle, Reply};
+use crate::joins::join_into;
+use sched_effect::Ran;
+use sched_handle::{Handle, Held, Kind, Reply, Status, tell, tick_at};
+use sched_time::{Millis, Moment};
 use std::alloc::Global;
 
+/// Puts a retry that has not begun into `retry`, with the policy and a pass split off `pass`. It plans no run past the
+/// deadline, and 2^64 - 1 is none.
 #[unsafe(no_mangle)]
 pub extern "C" fn hikebox_retry_new(
     alloc: Global,
@@ -23,41 +27,57 @@ pub extern "C" fn hikebox_retry_new(
     deadline: u64,
     retry: &mut Handle,
 ) -> u32
-    ensures retry { NewRetryBy Retries (deadline_of deadline) policy.old.held pass.old.held pass.new.held
+    ensures retry { NewRetryBy (deadline_of deadline) policy.old.held pass.old.held pass.new.held
         retry.old.held result retry.new.held }
     ensures policy { policy.new.held ≡ policy.old.held }
 {
-    sched_calls::retry_new(alloc, policy, pass, deadline, retry)
+    match deadline_at(deadline) {
+        Ok(deadline) => new_retry(alloc, policy, pass, deadline, retry),
+        Err(status) => status.code(),
+    }
 }
 
-#[unsafe(no_mangle)]
-pub extern "C" fn hikebox_retry_on_quota(
+fn new_retry(
     alloc: Global,
     policy: &mut Handle,
-    quota: &mut Handle,
-    deadline: u64,
+    pass: &mut Handle,
+    deadline: Option<Moment>,
     retry: &mut Handle,
 ) -> u32
-    ensures retry { NewRetryBy RetriesOnQuota (deadline_of deadline) policy.old.held quota.old.held quota.new.held
+    ensures retry { NewRetry deadline policy.old.held pass.old.held pass.new.held
         retry.old.held result retry.new.held }
     ensures policy { policy.new.held ≡ policy.old.held }
 {
-    sched_calls::retry_on_quota(alloc, policy, quota, deadline, retry)
+    if retry.is_full(alloc) {
+        return Status::Full.code();
+    }
+    let Some(plan) = policy.take(alloc) else {
+        return Status::Empty.code();
+    };
+    let Some(mut held) = pass.take(alloc) else {
+        policy.put(plan);
+        return Status::Empty.code();
+    };
+    let made = Held::retry(alloc, &plan, &mut held, deadline);
+    policy.put(plan);
+    pass.put(held);
+    retry.fill(made)
 }
 
-#[unsafe(no_mangle)]
-pub extern "C" fn hikebox_retry_unlimited(
-    alloc: Global,
-    policy: &mut Handle,
-    deadline: u64,
-    retry: &mut Handle,
-) -> u32
-    ensures { NewUnlimited (deadline_of deadline) policy.old.held policy.new.held
-        retry.old.held result retry.new.held }
+// The deadline that is meant, if any.
+fn deadline_at(deadline: u64) -> Result<Option<Moment>, Status>
+    ensures { result ≡ deadline_of deadline }
 {
-    sched_calls::retry_unlimited(alloc, policy, deadline, retry)
+    if deadline == u64::MAX {
+        return Ok(None);
+    }
+    match Moment::new(deadline) {
+        Some(deadline) => Ok(Some(deadline)),
+        None => Err(Status::TooLarge),
+    }
 }
 
+/// Steps the retry at `now`, with what is reported of its run, and writes what is to be done.
 #[unsafe(no_mangle)]
 pub extern "C" fn hikebox_retry_poll(
     alloc: Global,
@@ -73,16 +93,43 @@ pub extern "C" fn hikebox_retry_poll(
     ensures too_large { FAR < now → (retry.new.held ≡ retry.old.held)
         × Tells result next.old next.new (Err status.TooLarge) }
 {
-    sched_calls::retry_poll(alloc, retry, now, words, report, code, next)
+    let Ok(tick) = tick_at(now, words) else {
+        return Status::TooLarge.code();
+    };
+    let report = match reported(report, code) {
+        Ok(report) => report,
+        Err(status) => return status.code(),
+    };
+    let Some(mut held) = retry.take(alloc) else {
+        return Status::Empty.code();
+    };
+    let answer = held.poll(alloc, &tick, report);
+    retry.put(held);
+    tell(answer, next)
 }
 
-#[unsafe(no_mangle)]
-pub extern "C" fn hikebox_retry_see(alloc: Global, retry: &mut Handle, next: &mut Reply) -> u32
-    ensures { OnHeld (Kept Sees) retry.old.held retry.new.held (Tells result next.old next.new) }
+// The run that is reported, if any.
+fn reported(report: u32, code: u64) -> Result<Option<Ran>, Status>
+    ensures { Reports report code result }
 {
-    sched_calls::retry_see(alloc, retry, next)
+    if report == 0 {
+        return Ok(None);
+    }
+    if report > 2 {
+        return Err(Status::NoSuchReport);
+    }
+    match Millis::new(code) {
+        None => Err(Status::TooLarge),
+        Some(code) => Ok(Some(if report == 1 {
+            Ran::Won(code)
+        } else {
+            Ran::Lost(code)
+        })),
+    }
 }
 
+/// Writes how many milliseconds the retry has at `now` up to its deadline: 0 where that is past, and 2^64 - 1 where it has
+/// none.
 #[unsafe(no_mangle)]
 pub extern "C" fn hikebox_retry_left(
     alloc: Global,
@@ -90,43 +137,51 @@ pub extern "C" fn hikebox_retry_left(
     now: u64,
     left: &mut u64,
 ) -> u32
-    ensures left { now ≤ FAR → OnHeld (Kept (Leaves now)) retry.old.held retry.new.held (Tells result left.old left.new) }
+    ensures left { now ≤ FAR →
+        OnHeld (Kept (Leaves now)) retry.old.held retry.new.held (Tells result left.old left.new) }
     ensures too_large { FAR < now → (retry.new.held ≡ retry.old.held)
         × Tells result left.old left.new (Err status.TooLarge) }
 {
-    sched_calls::retry_left(alloc, retry, now, left)
+    let Some(now) = Moment::new(now) else {
+        return Status::TooLarge.code();
+    };
+    let Some(held) = retry.take(alloc) else {
+        return Status::Empty.code();
+    };
+    let answer = held.left(now);
+    retry.put(held);
+    tell(answer, left)
 }
 
+/// Ends a retry that is not over as cancelled, whatever run is under way.
 #[unsafe(no_mangle)]
 pub extern "C" fn hikebox_retry_cancel(alloc: Global, retry: &mut Handle) -> u32
     ensures { OnHeld Cancels retry.old.held retry.new.held (λ r. result ≡ told r) }
 {
-    sched_calls::retry_cancel(alloc, retry)
+    let Some(mut held) = retry.take(alloc) else {
+        return Status::Empty.code();
+    };
+    let answer = held.cancel();
+    retry.put(held);
+    match answer {
+        Ok(()) => 0,
+        Err(status) => status.code(),
+    }
 }
 
+/// Frees the retry and joins its pass, with the tickets that it was granted, into `pass`.
 #[unsafe(no_mangle)]
 pub extern "C" fn hikebox_retry_end(alloc: Global, retry: &mut Handle, pass: &mut Handle) -> u32
-    requires { IsOfItsBudget retry.old.held pass.old.held }
-    ensures { EndsHeld kind.Pass Joins retry.old.held pass.old.held result retry.new.held pass.new.held }
+    requires { AreOfOne pass.old.held retry.old.held }
+    ensures { JoinsHeld kind.Retry retry.old.held pass.old.held result retry.new.held pass.new.held }
 {
-    sched_calls::retry_end(alloc, retry, pass)
+    join_into(alloc, Kind::Retry, retry, pass)
 }
 
-#[unsafe(no_mangle)]
-pub extern "C" fn hikebox_retry_end_on_quota(
-    alloc: Global,
-    retry: &mut Handle,
-    quota: &mut Handle,
-) -> u32
-    requires { IsOfItsQuota retry.old.held quota.old.held }
-    ensures { EndsHeld kind.Quota JoinsQuota retry.old.held quota.old.held result retry.new.held quota.new.held }
-{
-    sched_calls::retry_end_on_quota(alloc, retry, quota)
-}
-
+/// Frees the retry and its pass: what it drew on can't be closed then.
 #[unsafe(no_mangle)]
 pub extern "C" fn hikebox_retry_free(alloc: Global, retry: &mut Handle) -> u32
     ensures { Frees kind.Retry retry.old.held result retry.new.held }
 {
-    sched_calls::retry_free(alloc, retry)
+    retry.free(alloc, Kind::Retry)
 }

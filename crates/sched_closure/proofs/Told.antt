@@ -5,54 +5,27 @@ use Rattle.std.proofs.lemmas.Fn.{FoldsTo-push}
 use Rattle.std.proofs.lemmas.List.{append-nil}
 use Rattle.sched_time.specs.declared.numbers.Tick.{Tick}
 use Rattle.sched_plan.specs.Schedule.{Schedule}
-use Rattle.sched_driver.specs.Driven.{Driven, next_start_of}
+use Rattle.sched_driver.specs.Driven.{Driven}
 use Rattle.sched_ticket_draws.specs.Grants.{Grants}
 use Rattle.sched_effect.specs.Runs.{ran_by}
 use Rattle.sched_effect.specs.declared.ran.Ran.{Ran}
 use Rattle.sched_task.specs.Course.{Answered}
 use Rattle.sched_task.specs.Words.{next_four}
 use Rattle.sched_task.specs.declared.endings.How.{How}
-use Rattle.sched_task_law.specs.Kind.{Kind, a_retry, a_repeat, falls_back}
+use Rattle.sched_task_law.specs.Kind.{a_retry, a_repeat}
 use Rattle.sched_task_law.specs.Lists.{last_element}
-use Rattle.sched_task_law.specs.Past.{Past, is_under_way, schedule_is_done, waits_for}
-use Rattle.sched_task_law.specs.Law.{Law}
-use Rattle.sched_task_law.proofs.Lists.{by_test, last_element-push}
-use Rattle.sched_task_law.proofs.Law.{or_false}
-use Rattle.sched_run_machine.specs.Machine.{Machine, StandsFor, Finds as FindsOf}
-use Rattle.sched_run_machine.specs.Next.{next_of, next_by_start}
+use Rattle.sched_task_law.specs.Past.{Past}
+use Rattle.sched_task_law.proofs.Lists.{last_element-push}
+use Rattle.sched_run_machine.specs.Machine.{StandsFor}
+use Rattle.sched_run_machine.specs.Next.{Finds}
 use Rattle.sched_run_machine.specs.declared.next.Next.{Next}
-use Rattle.sched_run_machine.specs.declared.next.Next.TheVariants.{Poll, Run, Wait, Over}
+use Rattle.sched_run_machine.specs.declared.next.Next.TheVariants.{Poll, Wait}
 use Rattle.sched_run_machine.proofs.Calls.{plan_after}
-use Rattle.sched_retry.specs.Retrying.{Retrying}
-use Rattle.sched_repeat.specs.Machine.{Finds, StandsFor as StandsForRepeat}
+use Rattle.sched_run_machine.specs.Retrying.{Retrying}
+use Rattle.sched_repeat.specs.Machine.{StandsFor as StandsForRepeat}
 use Rattle.sched_repeat.proofs.Calls.{plan_told}
-use Rattle.sched_closure.specs.Turns.{Turning, Calling, calling, Finishes, Turn, start_in}
+use Rattle.sched_closure.specs.Turns.{Turning, Calling, calling, Finishes, Turn}
 use Rattle.sched_closure.specs.Calls.{retry_turning, machine_turning, repeat_turning, repeat_machine_turning}
-
--- a start is waited for, or none
-start_by : (start : Option ℕ) → start_in (next_by_start start) ≡ start
-start_by None = refl
-start_by (Some start) = refl
-
--- the moment to wait for is that for which the task waits
-pub waited : (kind : Kind) (v : Past) → falls_back kind ≡ false → Law kind v → start_in (next_of v) ≡ waits_for v
-waited kind v falls law =
-    elim v.over as (λ over. v.over ≡ over → start_in (next_of v) ≡ waits_for v) [
-      | None ↦ λ unended.
-          let live = (rw unended at law.ended) falls in
-          let undenied = (or_false v.denied (schedule_is_done v.driver) live).0 in
-          by_test (is_under_way v.runs v.begun)
-          (λ running. rw (unended, undenied, running) refl)
-          (λ idle. rw (unended, undenied, idle) (start_by (next_start_of v.driver)))
-      | Some how ↦ λ over. rw over refl
-    ] refl
-
--- what is found of a machine of a retry
-pub found : {R D : Type 0} (m : Machine R D) (next : Next) → FindsOf m next → Finds m.over m.under_way next
-found m (Over how) finds = finds
-found m Run finds = finds
-found m Poll finds = finds
-found m (Wait start) finds = finds
 
 -- where nothing is to be run, no run is under way
 pub idle_found : (over : Option How) (running : Bool) (next : Next) → Finds over running next →

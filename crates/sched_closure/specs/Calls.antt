@@ -5,7 +5,7 @@ use Rattle.sched_driver.specs.Driven.{Driven}
 use Rattle.sched_ticket_draws.specs.Grants.{Grants}
 use Rattle.sched_task_law.specs.Kind.{a_retry, a_repeat}
 use Rattle.sched_task_law.specs.Past.{Past, is_under_way, waits_for}
-use Rattle.sched_retry.specs.Retrying.{Retrying}
+use Rattle.sched_run_machine.specs.Retrying.{Retrying}
 use Rattle.sched_run_machine.specs.Machine.{Machine, StandsFor, Polls}
 use Rattle.sched_run_machine.specs.Next.{HostPoll}
 use Rattle.sched_repeat.specs.Machine.{RepeatMachine, ToldPoll, StandsFor as StandsForRepeat, Polls as PollsRepeat}

@@ -1,13 +1,11 @@
 -- How a closure is called again and again: turns by a clock and a generator of random words.
-use Rattle.std.specs.Prelude.{◌≡◌, ℕ, Bool, true, false, List, [], ◌∷◌, Option, Some, None, Result}
+use Rattle.std.specs.Prelude.{◌≡◌, ℕ, Bool, true, false, List, [], ◌∷◌, Option, Some, Result}
 use Rattle.rand_core.specs.Stream.{Stream}
 use Rattle.sched_time.specs.declared.numbers.Tick.{Tick}
 use Rattle.sched_effect.specs.Runs.{ran_by}
 use Rattle.sched_effect.specs.declared.ran.Ran.{Ran}
 use Rattle.sched_task.specs.Course.{Answered}
 use Rattle.sched_task.specs.Words.{next_four}
-use Rattle.sched_run_machine.specs.declared.next.Next.{Next}
-use Rattle.sched_run_machine.specs.declared.next.Next.TheVariants.{Poll, Run, Wait, Over}
 
 -- What takes turns, as a retry or a repeat does, and so does a machine that may stand for one.
 pub record Turning (T : Type 0) : Type 1 where
@@ -54,10 +52,3 @@ pub record Turn {T K C I F : Type 0} (turning : Turning T) (tells : K → ℕ �
   pub moment : Answered tells waits start s.clock tick.now t.clock
   pub lanes : (tick.words, t.words) ≡ next_four s.words
   pub poll : turning.polls s.task tick told t.task
-
--- the moment to wait for, if any
-abbrev pub start_in : Next → Option ℕ
-start_in (Wait start) = Some start
-start_in Poll = None
-start_in Run = None
-start_in (Over how) = None

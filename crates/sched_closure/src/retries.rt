@@ -2,7 +2,7 @@
 ghost use Rattle.std.specs.Prelude.{◌≡◌, List, Some, None};
 ghost use Rattle.std.specs.List.{FoldsTo};
 ghost use Rattle.sched_time.specs.declared.numbers.Tick.{Tick as Ticked};
-ghost use Rattle.sched_retry.specs.Retrying.{Retrying};
+ghost use Rattle.sched_run_machine.specs.Retrying.{Retrying};
 ghost use Rattle.sched_run_machine.specs.Machine.{StandsFor};
 ghost use Rattle.sched_closure.specs.Turns.{calling, Turn};
 ghost use Rattle.sched_closure.specs.Calls.{retry_turning};

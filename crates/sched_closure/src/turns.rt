@@ -7,8 +7,8 @@ ghost use Rattle.sched_effect.specs.declared.ran.Ran.{Ran as Finished};
 ghost use Rattle.sched_task.specs.Course.{Answered};
 ghost use Rattle.sched_task.specs.Words.{next_four};
 ghost use Rattle.sched_task.specs.declared.endings.How.{How as Ended};
-ghost use Rattle.sched_repeat.specs.Machine.{Finds};
-ghost use Rattle.sched_closure.specs.Turns.{Turning, Turn, calling, start_in};
+ghost use Rattle.sched_run_machine.specs.Next.{Finds, start_in};
+ghost use Rattle.sched_closure.specs.Turns.{Turning, Turn, calling};
 
 use rand_core::Rng;
 use sched_effect::{Coded, Ran, ran_of};

@@ -1,2 +1,4 @@
 mod AsBox
 mod Deadlines
+pub mod Quotas
+pub mod Splits

@@ -2,11 +2,11 @@
 use Rattle.std.specs.Prelude.{◌≡◌, ◌≢◌, ◌⊎◌, ℕ, Option, Some, None, Result, Ok, Err}
 use Rattle.std.specs.Global.{Global}
 use Rattle.std_alloc.specs.declared.boxed.Box.{Box}
-use Rattle.sched_reply.specs.Status.{code_of}
+use Rattle.sched_handle.specs.Status.{code_of}
 use Rattle.sched_handle.specs.Held.{kind_of}
 use Rattle.sched_handle.specs.declared.held.Held.{Held}
 use Rattle.sched_handle.specs.declared.held.Kind.{Kind}
-use Rattle.sched_reply.specs.declared.status.Status.{Status}
+use Rattle.sched_handle.specs.declared.status.Status.{Status}
 
 -- what was made is put in, or the reason is told
 abbrev pub Fills : Result (Box Held Global) Status → Option Held → ℕ → Option Held → Type 0

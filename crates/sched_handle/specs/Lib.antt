@@ -1,8 +1,10 @@
 pub mod Handle
+pub mod Status
+pub mod Replies
 pub mod Held
 pub mod Fills
 pub mod Policies
 pub mod Drivers
+pub mod Drawing
 pub mod Passes
-pub mod Quotas
 pub mod Retries

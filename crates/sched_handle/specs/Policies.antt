@@ -3,33 +3,23 @@ use Rattle.std.specs.Prelude.{◌≡◌, ℕ, List, [], Result, Ok, Err}
 use Rattle.sched_plan.specs.Schedule.{Schedule, nodes_of, depth_of}
 use Rattle.sched_driver.specs.Driven.{Driven}
 use Rattle.sched_plan_json.specs.Texts.{ReadsText}
-use Rattle.sched_plan_json.specs.declared.texts.TextFault.TheVariants as text
 use Rattle.sched_handle.specs.Held.{kind_of, IsOther, Wants}
 use Rattle.sched_handle.specs.declared.held.Held.{Held}
 use Rattle.sched_handle.specs.declared.held.Held.TheVariants.{Policy, Driver}
 use Rattle.sched_handle.specs.declared.held.Kind.TheVariants as kind
-use Rattle.sched_reply.specs.declared.replies.Place.{Place}
-use Rattle.sched_reply.specs.declared.replies.Size.{Size}
-use Rattle.sched_reply.specs.declared.status.Status.{Status}
-use Rattle.sched_reply.specs.declared.status.Status.TheVariants.{NotJson, NotAPolicy, OutOfRange, TooDeep}
-use Rattle.sched_reply.specs.declared.status.Status.TheVariants.{TooMany, NoMemory}
+use Rattle.sched_handle.specs.Replies.{nowhere}
+use Rattle.sched_handle.specs.Status.{By, of_text}
+use Rattle.sched_handle.specs.declared.replies.Place.{Place}
+use Rattle.sched_handle.specs.declared.replies.Size.{Size}
+use Rattle.sched_handle.specs.declared.status.Status.{Status}
+use Rattle.sched_handle.specs.declared.status.Status.TheVariants.{NotJson}
 use Rattle.std.specs.Global.{Global}
 use Rattle.std_alloc.specs.declared.boxed.Box.{Box}
 
 -- the bytes spell this policy, or their first fault
 abbrev pub ReadsPolicy : List ℕ → Result (Box Held Global) Status → Type 0
 ReadsPolicy bytes (Ok b) = (s : Schedule) × (b.value ≡ Policy s) × ReadsText bytes (Ok s)
-ReadsPolicy bytes (Err NotJson) = ReadsText bytes (Err (text.NotJson 0 0))
-ReadsPolicy bytes (Err NotAPolicy) = ReadsText bytes (Err text.NotAPlan)
-ReadsPolicy bytes (Err OutOfRange) = ReadsText bytes (Err text.OutOfRange)
-ReadsPolicy bytes (Err TooDeep) = ReadsText bytes (Err text.TooDeep)
-ReadsPolicy bytes (Err TooMany) = ReadsText bytes (Err text.TooMany)
-ReadsPolicy bytes (Err NoMemory) = Unit {0}
-ReadsPolicy bytes (Err _) = ⊥
-
--- no place
-abbrev pub nowhere : Place
-nowhere = record { line = 0; column = 0 }
+ReadsPolicy bytes (Err s) = By of_text (λ fault. ReadsText bytes (Err fault)) s
 
 -- a place is told only of bytes that are no JSON
 abbrev pub TellsPlace : Result (Box Held Global) Status → Place → Type 0

@@ -10,32 +10,25 @@ use Rattle.sched_effect.specs.declared.ran.Ran.{Ran}
 use Rattle.sched_task.specs.declared.endings.How.{How}
 use Rattle.sched_task.specs.declared.endings.How.TheVariants as how
 use Rattle.sched_task.specs.declared.endings.RunFault.TheVariants as fault
-use Rattle.sched_ticket_draws.specs.Budgets.{OfBudget}
-use Rattle.sched_ticket_draws.specs.Quotas.{OfQuota}
-use Rattle.sched_ticket.specs.View.{part_of, with_split}
-use Rattle.sched_ticket_quota.specs.View.{part_of as quota_part_of, without_part}
 use Rattle.sched_task_law.specs.Past.{Past, schedule_is_done}
-use Rattle.sched_retry.specs.Retrying.{Retrying, gives_up}
+use Rattle.sched_run_machine.specs.Retrying.{Retrying, gives_up}
 use Rattle.sched_run_machine.specs.Deadline.{is_past, late, until_from}
 use Rattle.sched_run_machine.specs.Drives.{IsStepped, GoesByPlan}
 use Rattle.sched_run_machine.specs.Machine.{Machine, begins, unbegun, is_told, cancelled, StandsFor, Polls as PollsMachine}
 use Rattle.sched_run_machine.specs.Next.{next_of}
 use Rattle.sched_run_machine.specs.Until.{Until, unstepped_until, beneath, StandsUntil, GoesUntil}
-use Rattle.sched_host.specs.Drawing.{drawing_grants}
-use Rattle.sched_host.specs.declared.drawing.Drawing.{Drawing}
-use Rattle.sched_host.specs.declared.drawing.Drawing.TheVariants as by
+use Rattle.sched_ticket_draws.specs.Drawing.{drawing_grants}
+use Rattle.sched_ticket_draws.specs.declared.drawing.Drawing.{Drawing}
 use Rattle.sched_run_machine.specs.declared.next.Next.{Next}
 use Rattle.sched_run_machine.specs.declared.next.Next.TheVariants as next
-use Rattle.sched_handle.specs.Held.{kind_of, IsOther, OtherKind, Wants}
-use Rattle.sched_handle.specs.Passes.{IsPassOf, NoSplit}
-use Rattle.sched_handle.specs.Quotas.{IsQuotaOf, NoQuotaSplit}
+use Rattle.sched_handle.specs.Held.{IsOther, OtherKind}
+use Rattle.sched_handle.specs.Drawing.{Parted, NoSplit}
 use Rattle.sched_handle.specs.declared.held.Held.{Held}
-use Rattle.sched_handle.specs.declared.held.Held.TheVariants.{Room, Policy, Pass, Quota, Retry}
-use Rattle.sched_handle.specs.declared.held.Kind.{Kind}
+use Rattle.sched_handle.specs.declared.held.Held.TheVariants.{Policy, Pass, Retry}
 use Rattle.sched_handle.specs.declared.held.Kind.TheVariants as kind
-use Rattle.sched_reply.specs.declared.replies.Reply.{Reply}
-use Rattle.sched_reply.specs.declared.status.Status.{Status}
-use Rattle.sched_reply.specs.declared.status.Status.TheVariants.{WrongKind, NoMemory, NoRun}
+use Rattle.sched_handle.specs.declared.replies.Reply.{Reply}
+use Rattle.sched_handle.specs.declared.status.Status.{Status}
+use Rattle.sched_handle.specs.declared.status.Status.TheVariants.{WrongKind, NoMemory, NoRun}
 
 -- A retry as its handle holds it: a machine whose driver keeps no journal, so that it may stand for many lists of runs,
 -- and has a deadline or none.
@@ -98,13 +91,11 @@ pub record IsUnbegun (plan : Schedule) (deadline : Option ℕ) (m : Hosted) : Ty
 abbrev pub IsFresh : Schedule → Option ℕ → Drawing → Held → Type 0
 IsFresh plan deadline d v = (m : Hosted) × (v ≡ Retry m) × (m.drawing ≡ d) × IsUnbegun plan deadline m
 
--- a retry of a policy is made with a part of a pass, which has no ticket
-abbrev pub PassRetries : Option ℕ → Schedule → OfBudget → Result (Box Held Global) Status → Held → Type 0
-PassRetries deadline plan s (Ok b) v =
-    IsPassOf s v (λ t. t.pass.has ≡ with_split s.pass.has)
-    × (d : OfBudget) × IsFresh plan deadline (by.Budget d) b.value × (d.budget ≡ s.budget)
-    × (d.pass.has ≡ part_of s.pass.has)
-PassRetries deadline plan s (Err e) v = IsPassOf s v (λ t. NoSplit s t e)
+-- a retry of a policy is made with a pass that is split off, which has no ticket
+abbrev pub PassRetries : Option ℕ → Schedule → Drawing → Result (Box Held Global) Status → Held → Type 0
+PassRetries deadline plan d (Ok b) v =
+    (e part : Drawing) × (v ≡ Pass e) × Parted d part e × IsFresh plan deadline part b.value
+PassRetries deadline plan d (Err s) v = (e : Drawing) × (v ≡ Pass e) × NoSplit d s e
 
 -- with what is no pass, a retry is refused for this reason
 abbrev pub OtherRetries : Held → Result (Box Held Global) Status → Held → Type 0
@@ -114,28 +105,9 @@ OtherRetries u (Err _) v = ⊥
 OtherRetries u (Ok b) v = ⊥
 
 abbrev pub Retries : Option ℕ → Held → Held → Result (Box Held Global) Status → Held → Type 0
-Retries deadline (Policy plan) (Pass s) r v = PassRetries deadline plan s r v
+Retries deadline (Policy plan) (Pass d) r v = PassRetries deadline plan d r v
 Retries deadline (Policy plan) u r v = OtherRetries u r v
 Retries deadline policy u r v = OtherKind u r v
-
--- the same with a part of a pass of a quota
-abbrev pub QuotaRetries : Option ℕ → Schedule → OfQuota → Result (Box Held Global) Status → Held → Type 0
-QuotaRetries deadline plan s (Ok b) v =
-    IsQuotaOf s v (λ t. t.pass.has ≡ without_part s.pass.has)
-    × (d : OfQuota) × IsFresh plan deadline (by.Quota d) b.value × (d.quota ≡ s.quota)
-    × (d.pass.has ≡ quota_part_of s.pass.has)
-QuotaRetries deadline plan s (Err e) v = (v ≡ Quota s) × NoQuotaSplit s e
-
-abbrev pub RetriesOnQuota : Option ℕ → Held → Held → Result (Box Held Global) Status → Held → Type 0
-RetriesOnQuota deadline (Policy plan) (Quota s) r v = QuotaRetries deadline plan s r v
-RetriesOnQuota deadline (Policy plan) u r v = OtherRetries u r v
-RetriesOnQuota deadline policy u r v = OtherKind u r v
-
--- a retry of a policy is made that draws on nothing, or none for this reason
-abbrev pub RetriesUnlimited : Option ℕ → Held → Result (Box Held Global) Status → Type 0
-RetriesUnlimited deadline u (Ok b) =
-    (plan : Schedule) × (u ≡ Policy plan) × IsFresh plan deadline (by.Unlimited 0) b.value
-RetriesUnlimited deadline u (Err s) = Wants kind.Policy u s
 
 -- One poll, in which the runs that finish are those told, of each retry that it may stand for; its deadline stays.
 pub record IsPoll (m : Hosted) (t : Tick) (told : List Ran) (n : Hosted) : Type 0 where
@@ -157,11 +129,6 @@ abbrev pub Polls : Tick → Option Ran → Held → Result Reply Status → Held
 Polls t report (Retry m) x v = (n : Hosted) × (v ≡ Retry n) × RetryPolls t report m x n
 Polls t report u x v = OtherKind u x v
 
--- what a retry is at
-abbrev pub Sees : Held → Result Reply Status → Type 0
-Sees u (Ok x) = (m : Hosted) × (u ≡ Retry m) × Shows m x
-Sees u (Err s) = IsOther kind.Retry u s
-
 -- how long a retry has at a moment up to its deadline: 0 where that is past, and 2^64 - 1 without one
 abbrev pub left_number : Option ℕ → ℕ
 left_number None = 18446744073709551615
@@ -182,30 +149,3 @@ pub record GivesUp (m n : Hosted) : Type 0 where
 abbrev pub Cancels : Held → Result (Unit {0}) Status → Held → Type 0
 Cancels (Retry m) x v = (x ≡ Ok tt) × (n : Hosted) × (v ≡ Retry n) × GivesUp m n
 Cancels u x v = OtherKind u x v
-
--- the pass of what draws, as a handle holds it; room where it draws on nothing
-abbrev pub pass_of : Drawing → Held
-pass_of (by.Budget d) = Pass d
-pass_of (by.Quota d) = Quota d
-pass_of (by.Unlimited n) = Room
-
--- the kind of a retry's pass
-abbrev pub drawn_on : Held → Kind
-drawn_on (Retry m) = kind_of (pass_of m.drawing)
-drawn_on u = kind.Room
-
--- the pass of a retry, with all its tickets
-abbrev pub GivesBack : Held → Held → Type 0
-GivesBack u v = (m : Hosted) × (u ≡ Retry m) × (v ≡ pass_of m.drawing)
-
--- handles of a retry and of a pass of its budget
-abbrev pub IsOfItsBudget : Option Held → Option Held → Type 0
-IsOfItsBudget u v =
-    (m : Hosted) (d s : OfBudget) → u ≡ Some (Retry m) → pass_of m.drawing ≡ Pass d → v ≡ Some (Pass s) →
-    d.budget ≡ s.budget
-
--- handles of a retry and of a pass of its quota
-abbrev pub IsOfItsQuota : Option Held → Option Held → Type 0
-IsOfItsQuota u v =
-    (m : Hosted) (d s : OfQuota) → u ≡ Some (Retry m) → pass_of m.drawing ≡ Quota d → v ≡ Some (Quota s) →
-    d.quota ≡ s.quota

@@ -3,15 +3,16 @@ ghost use Rattle.std.specs.Prelude.{◌≡◌, IfOk, IfErr};
 ghost use Rattle.std.specs.Borrow.{LendsIfOk, sem};
 ghost use Rattle.sched_driver.specs.contracts.drivers.Driver.{the_row as driver_row};
 ghost use Rattle.sched_handle.specs.Held.{IsOther};
-ghost use Rattle.sched_handle.specs.Drivers.{Nexts, Resets, Planned, CountsEvents, DriverNoted, LastNumber, LastText};
+ghost use Rattle.sched_handle.specs.Drivers.{Nexts, LastText};
 ghost use Rattle.sched_handle.specs.contracts.held.Held.{the_row as held_row};
 ghost use Rattle.sched_handle.specs.declared.held.Held.TheVariants as what;
 ghost use Rattle.sched_handle.specs.declared.held.Kind.TheVariants as kind;
 
 use crate::held::Held;
-use sched_driver::{DriveFault, Driver};
+use crate::replies::Decided;
+use crate::status::Status;
+use sched_driver::Driver;
 use sched_plan::Val;
-use sched_reply::{Decided, Noted, Status, noted_at};
 use sched_time::{Millis, Tick};
 use std::alloc::Global;
 
@@ -21,21 +22,8 @@ impl Held {
         ensures { Nexts self.old tick input result self.new }
     {
         let driver = self.driver_mut()?;
-        match driver.next(alloc, tick, Val::from(input)) {
-            Ok(decision) => Ok(Decided::of(decision.start())),
-            Err(DriveFault::Backwards { floor: _ }) => Err(Status::Backwards),
-            Err(DriveFault::JournalFull) => Err(Status::JournalFull),
-            Err(DriveFault::NoMemory) => Err(Status::NoMemory),
-        }
-    }
-
-    /// Back to before the first event.
-    pub fn reset(&mut self) -> Result<(), Status>
-        ensures { Resets self.old result self.new }
-    {
-        let driver = self.driver_mut()?;
-        driver.reset();
-        Ok(())
+        let decision = driver.next(alloc, tick, Val::from(input))?;
+        Ok(Decided::of(decision.start()))
     }
 
     // The driver, where it is one.
@@ -59,44 +47,6 @@ impl Held {
             Ok(driver)
         } else {
             Err(Status::WrongKind)
-        }
-    }
-
-    /// What was decided at the last event.
-    pub fn planned(&self) -> Result<Decided, Status>
-        ensures { Planned self.now result }
-    {
-        let driver = self.driven()?;
-        Ok(Decided::of(driver.next_start()))
-    }
-
-    /// How many events the journal has.
-    pub fn events(&self) -> Result<u64, Status>
-        ensures { CountsEvents self.now result }
-    {
-        let driver = self.driven()?;
-        Ok(driver.journal().len() as u64)
-    }
-
-    /// The event of this number, counted from 0, of the journal.
-    pub fn driver_event(&self, index: u64) -> Result<Noted, Status>
-        ensures { DriverNoted index self.now result }
-    {
-        let driver = self.driven()?;
-        noted_at(driver.journal(), index)
-    }
-
-    /// The output last given, where it is a number.
-    pub fn last_number(&self) -> Result<u64, Status>
-        ensures { LastNumber self.now result }
-    {
-        let driver = self.driven()?;
-        let Some(output) = driver.last() else {
-            return Err(Status::NoOutput);
-        };
-        match output.as_num() {
-            Some(number) => Ok(number.get()),
-            None => Err(Status::NotANumber),
         }
     }
 

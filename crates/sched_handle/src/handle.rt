@@ -7,8 +7,8 @@ ghost use Rattle.sched_handle.specs.Fills.{Fills, Frees};
 mod parts;
 
 use crate::held::{Held, Kind};
+use crate::status::Status;
 use parts::Parts;
-use sched_reply::Status;
 use std::alloc::Global;
 use std::marker::Model;
 use std::mem;

@@ -1,14 +1,14 @@
 //! What a handle holds.
 ghost use Rattle.std.specs.Prelude.{◌≡◌, IfOk, IfErr};
 ghost use Rattle.sched_handle.specs.Held.{kind_of};
-ghost use Rattle.sched_reply.specs.declared.status.Status.TheVariants as status;
+ghost use Rattle.sched_handle.specs.declared.status.Status.TheVariants as status;
 
+use crate::status::Status;
 use sched_driver::Driver;
 use sched_driver_stepper::Stepper;
-use sched_host::{Drawing, QuotaWorker, Worker};
 use sched_plan::SharedPlan;
-use sched_reply::Status;
 use sched_run_machine::{Machine, Until};
+use sched_ticket_draws::Drawing;
 use std::alloc::Global;
 use std::mem;
 
@@ -21,28 +21,19 @@ pub enum Held {
     Policy(SharedPlan),
     /// A driver.
     Driver(Driver),
-    /// A pass, with its budget.
-    Pass(Worker),
-    /// A pass of a quota, with its quota.
-    Quota(QuotaWorker),
+    /// A pass, with what it draws on.
+    Pass(Drawing),
     /// A retry, which keeps no journal, and has a deadline or none.
     Retry(Machine<Until<Stepper>, Drawing>),
 }
 
-/// Which kind of thing a handle holds.
+/// Which kind of thing a handle holds, by the names that `Held` has for them.
 #[derive(Clone, Copy, PartialEq, Eq)]
 pub enum Kind {
-    /// Room for what is being made.
     Room,
-    /// A policy.
     Policy,
-    /// A driver.
     Driver,
-    /// A pass of a budget.
     Pass,
-    /// A pass of a quota.
-    Quota,
-    /// A retry.
     Retry,
 }
 
@@ -56,10 +47,10 @@ impl Held {
             Held::Policy(_) => Kind::Policy,
             Held::Driver(_) => Kind::Driver,
             Held::Pass(_) => Kind::Pass,
-            Held::Quota(_) => Kind::Quota,
             Held::Retry(_) => Kind::Retry,
         }
     }
+
     /// The same in a block of its own.
     pub(crate) fn boxed(self, alloc: Global) -> Result<Box<Held>, Status>
         ensures ok { IfOk result (λ b. b.value ≡ self) }

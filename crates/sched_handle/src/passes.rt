@@ -1,19 +1,22 @@
 //! Calls on passes.
-ghost use Rattle.std.specs.Prelude.{◌≡◌, ◌≢◌, true, false, IfOk, IfErr, OnOk, IfSome, IfNone};
+ghost use Rattle.std.specs.Prelude.{◌≡◌, true, false, Some, None, IfOk, IfErr, IfSome, IfNone};
 ghost use Rattle.std.specs.Borrow.{LendsIfOk, sem};
-ghost use Rattle.sched_ticket.specs.View.{part_of, with_split};
-ghost use Rattle.sched_host.specs.contracts.worker.Worker.{the_row as worker_row};
-ghost use Rattle.sched_handle.specs.Held.{kind_of, IsOther};
-ghost use Rattle.sched_handle.specs.Passes.{MakesBudget, Draws, Splits, NoSplit, Raises, CountsTickets};
-ghost use Rattle.sched_handle.specs.Passes.{IsShareOf, Joins, Closes};
+ghost use Rattle.sched_ticket_draws.specs.contracts.drawing.Drawing.{the_row as drawing_row};
+ghost use Rattle.sched_handle.specs.Drawing.{Draws, Parted, NoSplit, Raises, Sees};
+ghost use Rattle.sched_handle.specs.Held.{IsOther};
+ghost use Rattle.sched_handle.specs.Passes.{MakesBudget, terms_of, MakesQuota, MakesUnlimited, OnPass, DepositsAt, Splits};
+ghost use Rattle.sched_handle.specs.Passes.{CountsTickets, Closes, drawing_of, draw_alike, DrawOnOne, Joins};
 ghost use Rattle.sched_handle.specs.contracts.held.Held.{the_row as held_row};
 ghost use Rattle.sched_handle.specs.declared.held.Held.TheVariants as what;
 ghost use Rattle.sched_handle.specs.declared.held.Kind.TheVariants as kind;
 
-use crate::held::{Held, Kind};
-use sched_host::Worker;
-use sched_reply::Status;
-use sched_ticket::TicketFault;
+use crate::drawing;
+use crate::held::Held;
+use crate::replies::Usage;
+use crate::status::Status;
+use sched_ticket_draws::{Drawing, Draws, OnBudget, OnQuota, Unlimited};
+use sched_ticket_quota::{MAX_RESERVE, MAX_SHARE, Terms};
+use sched_time::{Millis, Moment};
 use std::alloc::Global;
 use std::mem;
 
@@ -22,60 +25,95 @@ impl Held {
     pub fn fixed(alloc: Global, limit: u64) -> Result<Box<Held>, Status>
         ensures { MakesBudget limit false result }
     {
-        match Worker::fixed(alloc, limit) {
-            Ok(worker) => Held::Pass(worker).boxed(alloc),
-            Err(TicketFault::LimitTooLarge) => Err(Status::LimitTooLarge),
-            Err(TicketFault::NoMemory) => Err(Status::NoMemory),
-            Err(TicketFault::TooManyPasses) => Err(Status::TooManyPasses),
-            Err(TicketFault::Fixed) => Err(Status::Fixed),
-        }
+        let pass = OnBudget::fixed(alloc, limit)?;
+        Held::Pass(Drawing::Budget(pass)).boxed(alloc)
     }
 
     /// A budget by parts whose limit is `limit` and may rise, and its first pass.
     pub fn rising(alloc: Global, limit: u64) -> Result<Box<Held>, Status>
         ensures { MakesBudget limit true result }
     {
-        match Worker::rising(alloc, limit) {
-            Ok(worker) => Held::Pass(worker).boxed(alloc),
-            Err(TicketFault::LimitTooLarge) => Err(Status::LimitTooLarge),
-            Err(TicketFault::NoMemory) => Err(Status::NoMemory),
-            Err(TicketFault::TooManyPasses) => Err(Status::TooManyPasses),
-            Err(TicketFault::Fixed) => Err(Status::Fixed),
-        }
+        let pass = OnBudget::rising(alloc, limit)?;
+        Held::Pass(Drawing::Budget(pass)).boxed(alloc)
+    }
+
+    /// A quota of `reserve` tickets and `share` thousandths of a ticket for each request, in each window of `period`
+    /// milliseconds, and its first pass. The window of `now` is open, and windows are counted from it on.
+    #[tactic(auto, using(crate::proofs::Quotas::no_quota))]
+    pub fn quota(
+        alloc: Global,
+        now: Moment,
+        reserve: u64,
+        share: u64,
+        period: u64,
+    ) -> Result<Box<Held>, Status>
+        ensures { MakesQuota now (terms_of reserve share period) result }
+    {
+        let Some(period) = Millis::new(period) else {
+            return Err(if reserve > MAX_RESERVE {
+                Status::ReserveTooLarge
+            } else if share > MAX_SHARE {
+                Status::ShareTooLarge
+            } else {
+                Status::TooLarge
+            });
+        };
+        let terms = Terms {
+            reserve,
+            share,
+            period,
+        };
+        let pass = OnQuota::of_terms(alloc, now, terms)?;
+        Held::Pass(Drawing::Quota(pass)).boxed(alloc)
+    }
+
+    /// A pass that draws on nothing.
+    pub fn unlimited(alloc: Global) -> Result<Box<Held>, Status>
+        ensures { MakesUnlimited result }
+    {
+        Held::Pass(Drawing::Unlimited(Unlimited::new())).boxed(alloc)
     }
 
     /// Draws a ticket.
-    pub fn draw(&mut self) -> Result<u64, Status>
-        ensures { Draws self.old result self.new }
+    pub fn draw(&mut self, now: Moment) -> Result<u64, Status>
+        ensures { OnPass (Draws now) self.old result self.new }
     {
-        let worker = self.pass_mut()?;
-        match worker.draw() {
-            Some(ticket) => Ok(ticket),
-            None => Err(Status::NoTicket),
-        }
+        let pass = self.pass_mut()?;
+        drawing::ticket(pass, now)
+    }
+
+    /// Counts a request, where it is a pass of a quota. A pass of anything else counts none.
+    pub fn deposit(&mut self, now: Moment) -> Result<(), Status>
+        ensures { OnPass (DepositsAt now) self.old result self.new }
+    {
+        let pass = self.pass_mut()?;
+        pass.deposit(now);
+        Ok(())
     }
 
     /// Splits a pass off, for which there is no memory wanted once it is split.
     pub fn split(&mut self, alloc: Global) -> Result<Box<Held>, Status>
-        ensures { Splits self.old result self.new }
+        ensures { OnPass Splits self.old result self.new }
     {
-        let worker = self.pass_mut()?;
-        let (part, room) = split_off(alloc, worker)?;
+        let pass = self.pass_mut()?;
+        let (part, room) = split_off(alloc, pass)?;
         Ok(Held::Pass(part).within(room))
     }
 
     /// Makes the limit of a rising budget the greater of itself and `to`, and answers it.
     pub fn raise(&mut self, to: u64) -> Result<u64, Status>
-        ensures { Raises to self.old result self.new }
+        ensures { OnPass (Raises to) self.old result self.new }
     {
-        let worker = self.pass_mut()?;
-        match worker.raise(to) {
-            Ok(limit) => Ok(limit),
-            Err(TicketFault::LimitTooLarge) => Err(Status::LimitTooLarge),
-            Err(TicketFault::NoMemory) => Err(Status::NoMemory),
-            Err(TicketFault::TooManyPasses) => Err(Status::TooManyPasses),
-            Err(TicketFault::Fixed) => Err(Status::Fixed),
-        }
+        let pass = self.pass_mut()?;
+        drawing::raise(pass, to)
+    }
+
+    /// What is known of the latest window of a quota.
+    pub fn usage(&mut self, now: Moment) -> Result<Usage, Status>
+        ensures { OnPass (Sees now) self.old result self.new }
+    {
+        let pass = self.pass_mut()?;
+        drawing::seen(pass, now)
     }
 
     /// How many tickets were drawn with this pass, and with those joined into it.
@@ -83,103 +121,118 @@ impl Held {
         ensures { CountsTickets self.now result }
     {
         match self {
-            Held::Pass(worker) => Ok(worker.count()),
+            Held::Pass(pass) => Ok(pass.granted()),
             _ => Err(Status::WrongKind),
         }
     }
 
-    /// Joins another pass of the same budget into this one.
-    pub fn join(&mut self, other: Held)
-        requires this { kind_of self.old ≡ kind.Pass }
-        requires that { kind_of other ≡ kind.Pass }
-        requires same { IsShareOf self.old other }
-        ensures { Joins self.old other self.new }
-    {
-        let this = mem::replace(self, Held::Room);
-        let Some(this) = this.into_worker() else {
-            return;
-        };
-        let Some(other) = other.into_worker() else {
-            return;
-        };
-        drop(mem::replace(self, Held::Pass(this.join(other))));
-    }
-
-    /// Closes the budget where this pass stands for all its passes: then room is left of it. Otherwise another pass is
+    /// Closes what this pass draws on, where it has all parts of that: then room is left of it. Otherwise another pass is
     /// alive or was freed, and this one stays.
     pub fn close(&mut self) -> Result<u64, Status>
         ensures { Closes self.old result self.new }
     {
-        if self.kind() != Kind::Pass {
-            return Err(Status::WrongKind);
-        }
         let this = mem::replace(self, Held::Room);
-        let Some(this) = this.into_worker() else {
-            return Err(Status::WrongKind);
-        };
-        match this.close() {
-            Ok(tickets) => Ok(tickets),
-            Err(worker) => {
-                drop(mem::replace(self, Held::Pass(worker)));
-                Err(Status::PassesOut)
+        match this {
+            Held::Pass(pass) => match pass.close() {
+                Ok(tickets) => Ok(tickets),
+                Err(pass) => {
+                    drop(mem::replace(self, Held::Pass(pass)));
+                    Err(Status::PassesOut)
+                }
+            },
+            other => {
+                drop(mem::replace(self, other));
+                Err(Status::WrongKind)
             }
         }
     }
 
-    // The worker to be changed, where it is a pass.
-    pub(crate) fn pass_mut(&mut self) -> Result<&mut Worker, Status>
-        ensures* lends { sem 𝓛 (LendsIfOk held_row worker_row self.entry result what.Pass self.old) }
-        ensures ok { IfOk result (λ worker. self.old ≡ what.Pass worker.now) }
-        ensures err { IfErr result (IsOther kind.Pass self.old) }
+    /// Whether this and the other, each a pass or a retry, draw on the same kind of thing.
+    pub fn draws_alike(&self, other: &Held) -> bool
+        ensures { result ≡ draw_alike (drawing_of self.now) (drawing_of other.now) }
     {
-        if let Held::Pass(worker) = self {
-            Ok(worker)
-        } else {
-            Err(Status::WrongKind)
+        let Some(this) = self.drawing() else {
+            return false;
+        };
+        let Some(other) = other.drawing() else {
+            return false;
+        };
+        this.is_like(other)
+    }
+
+    /// Joins what another pass or a retry draws by into this pass. A retry ends so.
+    pub fn join(&mut self, other: Held)
+        requires alike { draw_alike (drawing_of self.old) (drawing_of other) ≡ true }
+        requires one { DrawOnOne (drawing_of self.old) (drawing_of other) }
+        ensures { Joins (drawing_of self.old) (drawing_of other) self.new }
+    {
+        let this = mem::replace(self, Held::Room);
+        let Some(this) = this.into_drawing() else {
+            unreachable!()
+        };
+        let Some(other) = other.into_drawing() else {
+            unreachable!()
+        };
+        drop(mem::replace(self, Held::Pass(this.join(other))));
+    }
+
+    // What a pass or a retry draws by.
+    fn drawing(&self) -> Option<&Drawing>
+        ensures some { IfSome result (λ d. drawing_of self.now ≡ Some d.now) }
+        ensures none { IfNone result (drawing_of self.now ≡ None) }
+    {
+        match self {
+            Held::Pass(pass) => Some(pass),
+            Held::Retry(retry) => Some(retry.drawing()),
+            Held::Room => None,
+            Held::Policy(_) => None,
+            Held::Driver(_) => None,
         }
     }
 
-    // The worker, where it is a pass.
-    fn into_worker(self) -> Option<Worker>
-        ensures some { IfSome result (λ worker. self ≡ what.Pass worker) }
-        ensures none { IfNone result (kind_of self ≢ kind.Pass) }
+    // The same, taken out of it.
+    fn into_drawing(self) -> Option<Drawing>
+        ensures { result ≡ drawing_of self }
     {
         match self {
-            Held::Pass(worker) => Some(worker),
-            other => {
-                drop(other);
+            Held::Pass(pass) => Some(pass),
+            Held::Retry(retry) => {
+                let (_, pass) = retry.into_parts();
+                Some(pass)
+            }
+            Held::Room => None,
+            Held::Policy(policy) => {
+                drop(policy);
+                None
+            }
+            Held::Driver(driver) => {
+                drop(driver);
                 None
             }
         }
     }
+
+    // The pass to be changed, where it is one.
+    pub(crate) fn pass_mut(&mut self) -> Result<&mut Drawing, Status>
+        ensures* lends { sem 𝓛 (LendsIfOk held_row drawing_row self.entry result what.Pass self.old) }
+        ensures ok { IfOk result (λ pass. self.old ≡ what.Pass pass.now) }
+        ensures err { IfErr result (IsOther kind.Pass self.old) }
+    {
+        if let Held::Pass(pass) = self {
+            Ok(pass)
+        } else {
+            Err(Status::WrongKind)
+        }
+    }
 }
 
-// A worker that is split off this one, and room for what is to hold it.
-pub(crate) fn split_off(alloc: Global, worker: &mut Worker) -> Result<(Worker, Box<Held>), Status>
-    ensures budget { worker.new.budget ≡ worker.old.budget }
-    ensures ok { IfOk result
-        (λ part. (part.0.budget ≡ worker.old.budget) × (part.0.pass.has ≡ part_of worker.old.pass.has)) }
-    ensures kept { OnOk result (worker.new.pass.has ≡ with_split worker.old.pass.has) }
-    ensures err { IfErr result (NoSplit worker.old worker.new) }
+// A pass that is split off this one, and room for what is to hold it.
+#[tactic(auto, using(crate::proofs::Splits::no_room))]
+pub(crate) fn split_off(alloc: Global, pass: &mut Drawing) -> Result<(Drawing, Box<Held>), Status>
+    ensures ok { IfOk result (λ part. Parted pass.old part.0 pass.new) }
+    ensures err { IfErr result (λ status. NoSplit pass.old status pass.new) }
 {
     let room = Held::Room.boxed(alloc)?;
-    let part = parted(worker)?;
+    let part = drawing::split(pass)?;
     Ok((part, room))
-}
-
-// A worker that is split off this one.
-fn parted(worker: &mut Worker) -> Result<Worker, Status>
-    ensures budget { worker.new.budget ≡ worker.old.budget }
-    ensures ok { IfOk result
-        (λ part. (part.budget ≡ worker.old.budget) × (part.pass.has ≡ part_of worker.old.pass.has)) }
-    ensures kept { OnOk result (worker.new.pass.has ≡ with_split worker.old.pass.has) }
-    ensures err { IfErr result (NoSplit worker.old worker.new) }
-{
-    match worker.split() {
-        Ok(part) => Ok(part),
-        Err(TicketFault::LimitTooLarge) => Err(Status::LimitTooLarge),
-        Err(TicketFault::NoMemory) => Err(Status::NoMemory),
-        Err(TicketFault::TooManyPasses) => Err(Status::TooManyPasses),
-        Err(TicketFault::Fixed) => Err(Status::Fixed),
-    }
 }

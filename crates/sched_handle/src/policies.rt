@@ -7,11 +7,12 @@ ghost use Rattle.sched_handle.specs.declared.held.Held.TheVariants as what;
 ghost use Rattle.sched_handle.specs.declared.held.Kind.TheVariants as kind;
 
 use crate::held::Held;
+use crate::replies::{Place, Size};
+use crate::status::Status;
 use sched_driver::Driver;
 use sched_driver_stepper::Stepper;
 use sched_plan::SharedPlan;
 use sched_plan_json::{TextFault, read_text};
-use sched_reply::{Place, Size, Status};
 use std::alloc::Global;
 
 impl Held {
@@ -20,7 +21,7 @@ impl Held {
         ensures policy { ReadsPolicy json.now result }
         ensures place { TellsPlace result place.new }
     {
-        *place = Place { line: 0, column: 0 };
+        *place = Place::nowhere();
         let plan = match read_text(alloc, json) {
             Ok(plan) => plan,
             Err(TextFault::NotJson { line, column }) => {
@@ -30,11 +31,7 @@ impl Held {
                 };
                 return Err(Status::NotJson);
             }
-            Err(TextFault::NotAPlan) => return Err(Status::NotAPolicy),
-            Err(TextFault::OutOfRange) => return Err(Status::OutOfRange),
-            Err(TextFault::TooDeep) => return Err(Status::TooDeep),
-            Err(TextFault::TooMany) => return Err(Status::TooMany),
-            Err(TextFault::NoMemory) => return Err(Status::NoMemory),
+            Err(fault) => return Err(Status::from(fault)),
         };
         match SharedPlan::new(alloc, plan) {
             Ok(plan) => Held::Policy(plan).boxed(alloc),

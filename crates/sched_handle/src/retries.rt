@@ -1,22 +1,19 @@
 //! Calls on retries.
 ghost use Rattle.std.specs.Prelude.{◌≡◌, []};
 ghost use Rattle.sched_driver_stepper.specs.Standing.{standing_after};
-ghost use Rattle.sched_handle.specs.Held.{kind_of};
-ghost use Rattle.sched_handle.specs.Retries.{IsFresh, Retries, RetriesOnQuota, RetriesUnlimited};
-ghost use Rattle.sched_handle.specs.Retries.{IsPoll, RetryPolls, Polls, Shows, Sees, Leaves, Cancels, drawn_on, GivesBack};
+ghost use Rattle.sched_handle.specs.Retries.{IsFresh, Retries};
+ghost use Rattle.sched_handle.specs.Retries.{IsPoll, RetryPolls, Polls, Shows, Leaves, Cancels};
 ghost use Rattle.sched_handle.specs.Retries.{reply_to, how_number, left_number};
-ghost use Rattle.sched_handle.specs.declared.held.Kind.TheVariants as kind;
 
-use crate::held::{Held, Kind};
+use crate::held::Held;
 use crate::passes::split_off;
-use crate::quotas::split_off_quota;
+use crate::replies::Reply;
+use crate::status::Status;
 use sched_driver_stepper::Stepper;
 use sched_effect::Ran;
-use sched_host::{Drawing, QuotaWorker, Worker};
-use sched_reply::{Reply, Status};
 use sched_run_machine::{Machine, Next, Until};
 use sched_task::{How, RunFault};
-use sched_ticket_draws::Unlimited;
+use sched_ticket_draws::Drawing;
 use sched_time::{Millis, Moment, Tick};
 use std::alloc::Global;
 
@@ -32,38 +29,9 @@ impl Held {
         ensures { Retries deadline policy.now pass.old result pass.new }
     {
         let stepper = policy.stepper(alloc)?;
-        let worker = pass.pass_mut()?;
-        let (part, room) = split_off(alloc, worker)?;
-        let drawing = Drawing::Budget(part.into_drawing());
-        Ok(fresh(stepper, deadline, drawing).within(room))
-    }
-
-    /// The same with a pass that is split off a quota's.
-    pub fn retry_on_quota(
-        alloc: Global,
-        policy: &Held,
-        quota: &mut Held,
-        deadline: Option<Moment>,
-    ) -> Result<Box<Held>, Status>
-        ensures { RetriesOnQuota deadline policy.now quota.old result quota.new }
-    {
-        let stepper = policy.stepper(alloc)?;
-        let worker = quota.quota_mut()?;
-        let (part, room) = split_off_quota(alloc, worker)?;
-        let drawing = Drawing::Quota(part.into_drawing());
-        Ok(fresh(stepper, deadline, drawing).within(room))
-    }
-
-    /// The same, drawing on nothing.
-    pub fn retry_unlimited(
-        alloc: Global,
-        policy: &Held,
-        deadline: Option<Moment>,
-    ) -> Result<Box<Held>, Status>
-        ensures { RetriesUnlimited deadline policy.now result }
-    {
-        let stepper = policy.stepper(alloc)?;
-        fresh(stepper, deadline, Drawing::Unlimited(Unlimited::new())).boxed(alloc)
+        let drawing = pass.pass_mut()?;
+        let (part, room) = split_off(alloc, drawing)?;
+        Ok(fresh(stepper, deadline, part).within(room))
     }
 
     /// Ends the run under way as it is reported, where one is, and begins one where one may begin.
@@ -76,17 +44,6 @@ impl Held {
             Held::Policy(_) => Err(Status::WrongKind),
             Held::Driver(_) => Err(Status::WrongKind),
             Held::Pass(_) => Err(Status::WrongKind),
-            Held::Quota(_) => Err(Status::WrongKind),
-        }
-    }
-
-    /// What the retry is at.
-    pub fn see(&self) -> Result<Reply, Status>
-        ensures { Sees self.now result }
-    {
-        match self {
-            Held::Retry(retry) => Ok(reply(retry)),
-            _ => Err(Status::WrongKind),
         }
     }
 
@@ -114,47 +71,6 @@ impl Held {
             Held::Policy(_) => Err(Status::WrongKind),
             Held::Driver(_) => Err(Status::WrongKind),
             Held::Pass(_) => Err(Status::WrongKind),
-            Held::Quota(_) => Err(Status::WrongKind),
-        }
-    }
-
-    /// Of which kind a handle is that a retry's pass can be joined into: room where it draws on nothing, or this is no
-    /// retry.
-    pub fn draws_on(&self) -> Kind
-        ensures { result ≡ drawn_on self.now }
-    {
-        match self {
-            Held::Retry(retry) => match retry.drawing() {
-                Drawing::Budget(_) => Kind::Pass,
-                Drawing::Quota(_) => Kind::Quota,
-                Drawing::Unlimited(_) => Kind::Room,
-            },
-            Held::Room => Kind::Room,
-            Held::Policy(_) => Kind::Room,
-            Held::Driver(_) => Kind::Room,
-            Held::Pass(_) => Kind::Room,
-            Held::Quota(_) => Kind::Room,
-        }
-    }
-
-    /// The pass of a retry, which is dropped; room where it drew on nothing.
-    pub fn into_pass(self) -> Held
-        requires { kind_of self ≡ kind.Retry }
-        ensures { GivesBack self result }
-    {
-        match self {
-            Held::Retry(retry) => {
-                let (_, drawing) = retry.into_parts();
-                match drawing {
-                    Drawing::Budget(drawing) => Held::Pass(Worker::of_drawing(drawing)),
-                    Drawing::Quota(drawing) => Held::Quota(QuotaWorker::of_drawing(drawing)),
-                    Drawing::Unlimited(_) => Held::Room,
-                }
-            }
-            other => {
-                drop(other);
-                Held::Room
-            }
         }
     }
 }

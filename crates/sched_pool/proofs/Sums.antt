@@ -15,7 +15,7 @@ use Rattle.sched_task_law.specs.Past.{Past}
 use Rattle.sched_task_law.specs.Law.{Law}
 use Rattle.sched_task_law.proofs.Lists.{by_test}
 use Rattle.sched_pool_job.specs.Ends.{is_refused, IsRefusedBy}
-use Rattle.sched_pool_job.proofs.Kept.{denied_by}
+use Rattle.sched_task_law.proofs.Events.{denied_is}
 use Rattle.sched_pool.specs.Ends.{joined, IsEnd, has_refused, Agrees}
 
 append_none : (xs : List ℕ) → xs ++ [] ≡ xs
@@ -127,7 +127,7 @@ was_refused : (pass : Held) (ends : List Past) → All (Law retry) ends → All 
 was_refused pass [] laws refused some = absurd (cc)
 was_refused pass (v ∷ ends) laws refused some =
     by_test (is_refused v.over)
-    (λ yes. refused 0 v (omega arith) (denied_by v v.over (laws 0 v (omega arith)).ended ∙ yes))
+    (λ yes. refused 0 v (omega arith) (denied_is true v v.over (laws 0 v (omega arith)).ended ∙ yes))
     (λ no. was_refused pass ends (λ k d small. laws (suc k) d (omega (arith, small))) (λ k d small. refused (suc k) d (omega (arith, small))) (rw no at some))
 
 pub agrees : (b : Name) (n : ℕ) (before : Held) (ends : List Past) (pass : Held) (granted : ℕ) →

@@ -6,20 +6,20 @@ use Rattle.sched_plan.specs.declared.history.Event.{Event}
 use Rattle.sched_driver.specs.Driven.{Driven, next_start_of}
 use Rattle.sched_effect.specs.declared.ran.Ran.{Ran}
 use Rattle.sched_task.specs.declared.endings.How.{How}
-use Rattle.sched_task.specs.declared.endings.How.TheVariants.{Won, ScheduleDone, BudgetRefused, Failed, Cancelled, Broken}
 use Rattle.sched_ticket.specs.Held.{Name}
 use Rattle.sched_ticket_draws.specs.Grants.{Grants}
 use Rattle.sched_ticket_draws.specs.Budgets.{OfBudget, budget_grants}
 use Rattle.sched_task_law.specs.Kind.{Kind, retry}
-use Rattle.sched_task_law.specs.Past.{Past, schedule_is_done, is_under_way, waits_for}
+use Rattle.sched_task_law.specs.Past.{Past, is_under_way, waits_for}
 use Rattle.sched_task_law.specs.Poll.{Happened, stays, cannot_begin, runs_on, cannot_run, ends, breaks, stops_done, stops_denied, recurs, asks, cannot_ask, falls, May, after}
-use Rattle.sched_task_law.specs.Law.{Law, Ended}
+use Rattle.sched_task_law.specs.Law.{Law}
 use Rattle.sched_task_law.proofs.Law.{or_false}
+use Rattle.sched_task_law.proofs.Events.{denied_is}
 use Rattle.sched_task_law.proofs.Lists.{by_test}
 use Rattle.sched_task_law.proofs.Fields.{none_of}
-use Rattle.sched_retry.specs.Retrying.{Retrying, RetryPoll, gives_up}
+use Rattle.sched_run_machine.specs.Retrying.{Retrying, RetryPoll, gives_up}
 use Rattle.sched_pool_job.specs.Jobs.{IsJob}
-use Rattle.sched_pool_job.specs.Ends.{is_refused, ended}
+use Rattle.sched_pool_job.specs.Ends.{ended}
 
 none_is : (o : Option How) → o ≡ None → is_some o ≡ true → ⊥
 none_is o none some = let bad = rw none at some in cc
@@ -75,18 +75,9 @@ pub waits_unended : (v : Past) → IfSome (waits_for v) (λ _. (v.over ≡ None)
 waits_unended v = by_test (is_some v.over || (is_under_way v.runs v.begun || v.denied)) (λ yes. rw yes tt)
     (λ no. rw no (planned v.driver.plan v.driver.journal _ (λ some. (none_of v.over (or_false (is_some v.over) _ no).0, some))))
 
-pub denied_by : (v : Past) (over : Option How) → Ended retry v over → v.denied ≡ is_refused over
-denied_by v None ended = (or_false v.denied (schedule_is_done v.driver) (ended refl)).0
-denied_by v (Some Won) ended = (or_false v.denied (schedule_is_done v.driver) ended.1).0
-denied_by v (Some ScheduleDone) ended = ended.1
-denied_by v (Some BudgetRefused) ended = ended
-denied_by v (Some Failed) ended = absurd (let bad = ended.0 in cc)
-denied_by v (Some Cancelled) ended = (or_false v.denied (schedule_is_done v.driver) (ended refl)).0
-denied_by v (Some (Broken fault)) ended = (or_false v.denied (schedule_is_done v.driver) (ended.0 refl)).0
-
 -- what is left of a retry says what it has done
 pub end_is : (v : Past) → Law retry v → ended v.driver v.runs v.begun v.over v.granted ≡ v
-end_is v law = ap (λ b. record v { denied = b }) (sym (denied_by v v.over law.ended))
+end_is v law = ap (λ b. record v { denied = b }) (sym (denied_is true v v.over law.ended))
 
 -- and keeps its law
 pub law_left : (v : Past) (driver : Driven) (runs : List Ran) (begun : List ℕ) (over : Option How) (granted : ℕ) → Law retry v →

@@ -6,7 +6,7 @@ use Rattle.sched_ticket_draws.specs.Budgets.{OfBudget}
 use Rattle.sched_ticket_draws.specs.declared.on_budget.OnBudget.{the_code}
 use Rattle.sched_task_law.specs.Past.{bit}
 use Rattle.sched_task_law.specs.Law.{is_stop}
-use Rattle.sched_retry.specs.Retrying.{Retrying}
+use Rattle.sched_run_machine.specs.Retrying.{Retrying}
 use Rattle.sched_pool_job.specs.declared.sights.Seen.{Seen}
 
 -- the code of a budget with a pass of it, whatever refers to the budget

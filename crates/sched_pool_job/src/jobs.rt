@@ -28,7 +28,7 @@ pub struct Job<'a, X: Effect, N: Naming> {
 
 impl<'a, X: Effect, N: Naming> Model for Job<'a, X, N> {
     ghost use Rattle.sched_ticket_draws.specs.Budgets.{OfBudget};
-    ghost use Rattle.sched_retry.specs.Retrying.{Retrying, coded_retrying};
+    ghost use Rattle.sched_run_machine.specs.Retrying.{Retrying, coded_retrying};
     ghost use Rattle.sched_pool_job.specs.Jobs.{IsJob, coded_of_budget};
 
     ghost Value = { Retrying OfBudget };
@@ -91,7 +91,7 @@ impl<'a, X: Effect, N: Naming> Task for Job<'a, X, N> {
     ghost use Rattle.sched_task_law.specs.Kind.{retry};
     ghost use Rattle.sched_task_law.specs.Past.{waits_for as start_of, waits_for-over};
     ghost use Rattle.sched_ticket_draws.specs.Budgets.{budget_grants};
-    ghost use Rattle.sched_retry.specs.Retrying.{RetryPoll, gives_up as given_up};
+    ghost use Rattle.sched_run_machine.specs.Retrying.{RetryPoll, gives_up as given_up};
 
     ghost ended = { λ v. v.past.over };
 

@@ -1,5 +1,5 @@
 -- A retry stays on its quota through all polls of a loop.
-use Rattle.std.proofs.Common.{◌≡◌, ℕ, Bool, List, [], ◌∷◌, length, Option, ap, ◌∙◌, subst}
+use Rattle.std.proofs.Common.{◌≡◌, ℕ, Bool, List, [], ◌∷◌, length, Option, sym, ap, ◌∙◌, subst}
 use Rattle.std.specs.Prelude.{All}
 use Rattle.std.proofs.lemmas.List.Elements.{All-set}
 use Rattle.sched_time.specs.declared.numbers.Tick.{Tick}
@@ -7,12 +7,14 @@ use Rattle.sched_task.specs.declared.endings.How.{How}
 use Rattle.sched_task_law.specs.Kind.{retry}
 use Rattle.sched_task_law.specs.Poll.{Happened, stays, cannot_begin, runs_on, cannot_run, ends, breaks, stops_done, stops_denied, recurs, asks, cannot_ask, falls}
 use Rattle.sched_wheel.specs.Polled.{Standing, Poll, polled, ArePolls}
+use Rattle.sched_ticket.specs.Lists.{Each}
+use Rattle.sched_ticket_quota.specs.Windows.{window_of}
 use Rattle.sched_ticket_quota.specs.Held.{Name}
 use Rattle.sched_ticket_draws.specs.Quotas.{OfQuota, quota_grants}
-use Rattle.sched_retry.specs.Retrying.{Retrying, DrawsIn, RetryPoll}
+use Rattle.sched_run_machine.specs.Retrying.{Retrying, DrawsIn, RetryPoll}
 use Rattle.sched_pool_job.proofs.Kept.{polled_untaken}
 use Rattle.sched_pool_scripted.specs.Driven.{IsDriven}
-use Rattle.sched_pool_scripted.proofs.Passes.{drew_requests, drew_none_requests}
+use Rattle.sched_pool_scripted.proofs.Passes.{kept_of, drew_kept, drew_none_kept}
 
 module _ {T C : Type 0} (ended : T → Option How) (waits_for : T → Option ℕ) (one_poll : T → Tick → Bool → T → Type 0)
     (tells : C → ℕ → C → Type 0) (waits : C → ℕ → ℕ → C → Type 0) (P : T → Type 0)
@@ -29,21 +31,21 @@ module _ {T C : Type 0} (ended : T → Option How) (waits_for : T → Option ℕ
       all_after (polled before poll) after polls are.3
       (All-set P before.tasks poll.place poll.task (keeps is.task poll.tick poll.ready poll.task was is.poll_is) here)
 
--- what a poll draws keeps the pass's requests
-draws_requests : (h : Happened) (now : ℕ) (d e : OfQuota) → DrawsIn quota_grants h now d e →
-    e.pass.has.requests ≡ d.pass.has.requests
-draws_requests (recurs r) now d e drew = drew_requests d now e drew
-draws_requests (stops_denied r) now d e drew = drew_none_requests d now e drew
-draws_requests stays now d e same = ap (λ (d : OfQuota). d.pass.has.requests) same
-draws_requests cannot_begin now d e same = ap (λ (d : OfQuota). d.pass.has.requests) same
-draws_requests runs_on now d e same = ap (λ (d : OfQuota). d.pass.has.requests) same
-draws_requests cannot_run now d e same = ap (λ (d : OfQuota). d.pass.has.requests) same
-draws_requests (ends r) now d e same = ap (λ (d : OfQuota). d.pass.has.requests) same
-draws_requests (breaks r fault) now d e same = ap (λ (d : OfQuota). d.pass.has.requests) same
-draws_requests (stops_done r) now d e same = ap (λ (d : OfQuota). d.pass.has.requests) same
-draws_requests asks now d e same = ap (λ (d : OfQuota). d.pass.has.requests) same
-draws_requests cannot_ask now d e same = ap (λ (d : OfQuota). d.pass.has.requests) same
-draws_requests falls now d e same = ap (λ (d : OfQuota). d.pass.has.requests) same
+-- what a poll draws keeps the pass's requests, and the terms that it has set
+draws_kept : (h : Happened) (now : ℕ) (d e : OfQuota) → DrawsIn quota_grants h now d e →
+    kept_of e.pass.has ≡ kept_of d.pass.has
+draws_kept (recurs r) now d e drew = drew_kept d now e drew
+draws_kept (stops_denied r) now d e drew = drew_none_kept d now e drew
+draws_kept stays now d e same = ap (λ (d : OfQuota). kept_of d.pass.has) same
+draws_kept cannot_begin now d e same = ap (λ (d : OfQuota). kept_of d.pass.has) same
+draws_kept runs_on now d e same = ap (λ (d : OfQuota). kept_of d.pass.has) same
+draws_kept cannot_run now d e same = ap (λ (d : OfQuota). kept_of d.pass.has) same
+draws_kept (ends r) now d e same = ap (λ (d : OfQuota). kept_of d.pass.has) same
+draws_kept (breaks r fault) now d e same = ap (λ (d : OfQuota). kept_of d.pass.has) same
+draws_kept (stops_done r) now d e same = ap (λ (d : OfQuota). kept_of d.pass.has) same
+draws_kept asks now d e same = ap (λ (d : OfQuota). kept_of d.pass.has) same
+draws_kept cannot_ask now d e same = ap (λ (d : OfQuota). kept_of d.pass.has) same
+draws_kept falls now d e same = ap (λ (d : OfQuota). kept_of d.pass.has) same
 
 pub stays_driven : (quota : Name) (v : Retrying OfQuota) (t : Tick) (ready : Bool) (u : Retrying OfQuota) →
     IsDriven quota v → RetryPoll quota_grants retry v t ready u → IsDriven quota u
@@ -51,5 +53,7 @@ stays_driven quota v t ready u was poll = record {
   of = poll.budget ∙ was.of;
   had = poll.had ∙ was.had;
   untaken = polled_untaken quota_grants v u t ready was.untaken poll;
-  asked = ap length (draws_requests poll.poll.happened t.now v.drawing u.drawing poll.drawing) ∙ was.asked;
+  asked = ap (λ (xs : List ℕ × List ℕ). length xs.0) (draws_kept poll.poll.happened t.now v.drawing u.drawing poll.drawing) ∙ was.asked;
+  unchanged = ap (λ (xs : List ℕ × List ℕ). xs.1) (draws_kept poll.poll.happened t.now v.drawing u.drawing poll.drawing) ∙ was.unchanged;
+  early = subst (Each (λ n. window_of n ≡ 0)) (sym (ap (λ (xs : List ℕ × List ℕ). xs.0) (draws_kept poll.poll.happened t.now v.drawing u.drawing poll.drawing))) was.early;
 }

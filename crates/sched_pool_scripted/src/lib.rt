@@ -6,6 +6,7 @@ mod batches;
 mod boards;
 mod ends;
 mod quota_batches;
+mod refusals;
 mod requests;
 mod retries;
 mod tallies;

@@ -1,5 +1,7 @@
 //! Running jobs on one quota.
 ghost use Rattle.std.specs.Prelude.{◌≡◌, length, All, IfOk, OnOk};
+ghost use Rattle.std.specs.List.Sorted.{IsSorted};
+ghost use Rattle.std.specs.Ordering.{nat_cmp};
 ghost use Rattle.sched_ticket_quota.specs.Held.{AreTerms, IsOf, Name};
 ghost use Rattle.sched_ticket_quota.specs.Whole.{IsWhole};
 ghost use Rattle.sched_pool_scripted.specs.Driven.{IsDriven, IsUnused};
@@ -7,6 +9,7 @@ ghost use Rattle.sched_pool_scripted.specs.QuotaBatch.{AreRunOnQuota, AreTaken};
 ghost use Rattle.sched_pool_scripted.specs.Windows.{HasDistinct};
 
 use crate::ends::are_ends_of;
+use crate::refusals::are_just;
 use crate::requests::{QuotaRetry, retries_of};
 use sched_effect::Scripted;
 use sched_pool_job::JobEnd;
@@ -37,7 +40,8 @@ pub enum QuotaBatchFault {
     /// A growth was refused, or the system gave no random bytes for the name of the loop's queue.
     #[error("no memory")]
     NoMemory,
-    /// An ended job is not the one that was read at its place, or the quota was not closed: no right run meets that.
+    /// An ended job is not the one that was read at its place, or it was refused where tickets were left, or a request was
+    /// counted in a later window than the first, or the quota was not closed: no right run meets that.
     #[error("the jobs were mixed up")]
     Mixed,
 }
@@ -54,7 +58,7 @@ impl From<NoMemory> for QuotaBatchFault {
     }
 }
 
-// The jobs that were taken back, one pass for all of them, and the windows of its tickets.
+// The jobs that were taken back, one pass for all of them, and the window of each of its tickets.
 #[derive(Drop)]
 struct TakenBack {
     ends: Vec<JobEnd<Scripted>>,
@@ -95,8 +99,9 @@ impl TakenBack {
 /// and all of them draw on one quota of these terms. Each job's first run is a request at moment 0; all requests are
 /// counted before the first run begins.
 ///
-/// Refused as `NoMemory`; and as `Mixed` where an ended job is not the one that was read at its place, or the quota was
-/// not closed: no right run meets that.
+/// Refused as `NoMemory`; and as `Mixed`, which no right run meets: where an ended job is not the one that was read at its
+/// place, or it was refused where tickets were left, or a request was counted in a later window than the first, or the
+/// quota was not closed.
 pub fn run_on_quota<R>(
     rt: &R,
     alloc: Global,
@@ -112,7 +117,7 @@ where
     let Some(start) = Moment::new(0) else {
         unreachable!()
     };
-    let (quota, pass) = match Quota::new(alloc, start, terms) {
+    let (quota, pass) = match Quota::new(alloc, start, copied(&terms)) {
         Ok(made) => made,
         Err(QuotaFault::NoMemory) => return Err(QuotaBatchFault::NoMemory),
         Err(_) => unreachable!(),
@@ -120,9 +125,13 @@ where
     let TakenBack {
         ends,
         pass,
-        windows,
+        mut windows,
     } = run_beside(rt, alloc, jobs, &quota, pass, turns)?;
+    windows.sort_unstable();
     if !are_ends_of(jobs, &ends) {
+        return Err(QuotaBatchFault::Mixed);
+    }
+    if !are_just(&ends, &windows, &terms, jobs.len()) {
         return Err(QuotaBatchFault::Mixed);
     }
     let windows = count_windows(windows);
@@ -132,6 +141,17 @@ where
         granted,
         windows,
     })
+}
+
+// The same terms.
+fn copied(terms: &Terms) -> Terms
+    ensures { result ≡ terms.now }
+{
+    Terms {
+        reserve: terms.reserve,
+        share: terms.share,
+        period: terms.period,
+    }
 }
 
 // Runs the jobs on the quota, and takes them back.
@@ -198,11 +218,11 @@ fn take_back(
     Ok(back)
 }
 
-// How many windows these are, each counted once.
+// How many windows these are, each counted once, which rise.
 fn count_windows(mut windows: Vec<u64>) -> usize
+    requires { IsSorted nat_cmp windows.items }
     ensures { HasDistinct result windows.items }
 {
-    windows.sort_unstable();
     windows.dedup();
     windows.len()
 }

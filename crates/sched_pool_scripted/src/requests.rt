@@ -17,7 +17,7 @@ use std::alloc::Global;
 pub(crate) type QuotaRetry<'a> = Retry<Scripted, Tally<&'a Quota>>;
 
 /// A retry of each job, in order. Each has a pass of its own, which has counted the request of its first run at the
-/// moment `now`. The pass that these were split off stays without tickets and requests.
+/// moment `now`, in the window 0. The pass that these were split off stays without tickets and requests.
 pub(crate) fn retries_of<'a>(
     alloc: Global,
     jobs: &[JobRead],
@@ -58,6 +58,9 @@ fn requested<'a>(
         return Err(QuotaBatchFault::Mixed);
     };
     own.deposit(quota, now);
+    if own.seen(quota, now).window != 0 {
+        return Err(QuotaBatchFault::Mixed);
+    }
     let retry = retry_of(alloc, job, Tally::new(alloc, own, quota))?;
     Ok(retry)
 }

@@ -1,9 +1,8 @@
 //! Draws on a quota that tell the windows of the tickets.
-ghost use Rattle.std.specs.Prelude.{◌≡◌, ◌∷◌, [], map, IfSome, IsSomeAnd, IsTrue};
-ghost use Rattle.std.specs.List.{Contains};
+ghost use Rattle.std.specs.Prelude.{◌≡◌, ◌∷◌, [], map, IfSome, IsSomeAnd};
+ghost use Rattle.sched_ticket.specs.Lists.{IsSame};
 ghost use Rattle.sched_ticket_quota.specs.Held.{IsOf};
 ghost use Rattle.sched_ticket_quota.specs.Windows.{window_of};
-ghost use Rattle.sched_pool_scripted.specs.Windows.{HaveSame};
 
 use sched_ticket_draws::{Draws, RefersTo};
 use sched_ticket_quota::{Pass, Quota};
@@ -14,7 +13,7 @@ use std::marker::Model;
 // The numbers of a window: the ticket `n` is of the window `n / NUMBERS`.
 const NUMBERS: u64 = 4294967296;
 
-/// A pass of a quota, with its quota, that notes the windows of its tickets. Contracts see it as both.
+/// A pass of a quota, with its quota, that notes the window of each of its tickets. Contracts see it as both.
 #[derive(Drop)]
 pub struct Tally<Q: RefersTo<Quota>> {
     pass: Pass,
@@ -25,17 +24,17 @@ pub struct Tally<Q: RefersTo<Quota>> {
 
 impl<Q: RefersTo<Quota>> Model for Tally<Q> {
     ghost use Rattle.std.specs.Prelude.{map, IfSome};
+    ghost use Rattle.sched_ticket.specs.Lists.{IsSame};
     ghost use Rattle.sched_ticket_quota.specs.Held.{IsOf};
     ghost use Rattle.sched_ticket_quota.specs.Windows.{window_of};
     ghost use Rattle.sched_ticket_draws.specs.Quotas.{OfQuota};
-    ghost use Rattle.sched_pool_scripted.specs.Windows.{HaveSame};
 
     ghost Value = { OfQuota };
 
     ghost view = { λ d. record { pass = d.pass; quota = Q.target d.quota } };
 
     ghost invariant = { λ d. IsOf (Q.target d.quota) d.pass
-        × IfSome d.windows (λ ws. HaveSame ws.items (map window_of d.pass.has.tickets)) };
+        × IfSome d.windows (λ ws. IsSame ws.items (map window_of d.pass.has.tickets)) };
 }
 
 impl<Q: RefersTo<Quota>> Tally<Q> {
@@ -53,11 +52,11 @@ impl<Q: RefersTo<Quota>> Tally<Q> {
         }
     }
 
-    /// The pass, with all its tickets, and the windows of these, or `None` where memory for one was refused.
+    /// The pass, with all its tickets, and the window of each of these, or `None` where memory for one was refused.
     pub fn into_parts(self) -> (Pass, Option<Vec<u64>>)
         ensures pass { result.0 ≡ self.pass }
         ensures of { IsOf self.quota result.0 }
-        ensures windows { IfSome result.1 (λ ws. HaveSame ws.items (map window_of result.0.has.tickets)) }
+        ensures windows { IfSome result.1 (λ ws. IsSame ws.items (map window_of result.0.has.tickets)) }
     {
         let Tally {
             pass,
@@ -90,21 +89,13 @@ impl<Q: RefersTo<Quota>> Draws for Tally<Q> {
     }
 }
 
-// The windows with this one, which is noted where it is not the last of them. `None` where memory is refused.
+// The windows with this one. `None` where memory is refused.
 fn with_window(windows: Option<Vec<u64>>, window: u64) -> Option<Vec<u64>>
-    ensures { IfSome result (λ more. IsSomeAnd windows (λ ws. HaveSame more.items (window ∷ ws.items))) }
+    ensures { IfSome result (λ more. IsSomeAnd windows (λ ws. IsSame more.items (window ∷ ws.items))) }
 {
     let mut windows = windows?;
-    if !is_last(&windows, window) && windows.push(window).is_err() {
+    if windows.push(window).is_err() {
         return None;
     }
     Some(windows)
-}
-
-// Whether this is the last of the windows.
-fn is_last(windows: &[u64], window: u64) -> bool
-    ensures { IsTrue result → Contains windows.now window }
-{
-    let count = windows.len();
-    count > 0 && windows[count - 1] == window
 }

@@ -12,26 +12,12 @@ use Rattle.sched_task.specs.declared.endings.How.TheVariants as how
 use Rattle.sched_task_law.specs.Kind.{Kind, a_repeat}
 use Rattle.sched_task_law.specs.Past.{Past, nothing_yet, is_under_way, waits_for}
 use Rattle.sched_task_law.specs.Law.{Law}
-use Rattle.sched_task_law.specs.Poll.{Happened, stays, cannot_begin, runs_on, cannot_run, ends, breaks, stops_done, stops_denied, recurs, asks, cannot_ask, falls, begun_by, after, CanRun, Steps, May, cancelled}
+use Rattle.sched_task_law.specs.Poll.{Happened, stays, cannot_begin, runs_on, cannot_run, ends, breaks, stops_done, recurs, begun_by, after, CanRun, Steps, May, cancelled}
 use Rattle.sched_task_law.proofs.Lists.{by_test}
 use Rattle.sched_task_law.proofs.Law.{under_way_then, finished_then, law_after, law_of_nothing, law_cancelled}
 use Rattle.sched_run_machine.specs.Drives.{unstepped, SteppedOn}
+use Rattle.sched_run_machine.proofs.Calls.{same_plan}
 use Rattle.sched_repeat.specs.Machine.{RepeatMachine, begins, due_of, breaks_off, gives_up, ToldPoll, StandsFor, IsMachine, Looks, Polls, Ends}
-
--- whatever happens in a poll, the schedule stays
-same_plan : (kind : Kind) (v : Past) (t : Tick) (h : Happened) → (after kind v t h).driver.plan ≡ v.driver.plan
-same_plan kind v t stays = refl
-same_plan kind v t cannot_begin = refl
-same_plan kind v t runs_on = refl
-same_plan kind v t cannot_run = refl
-same_plan kind v t (ends r) = refl
-same_plan kind v t (breaks r fault) = refl
-same_plan kind v t (stops_done r) = refl
-same_plan kind v t (stops_denied r) = refl
-same_plan kind v t (recurs r) = refl
-same_plan kind v t asks = refl
-same_plan kind v t cannot_ask = refl
-same_plan kind v t falls = refl
 
 -- a told poll leaves the schedule
 pub plan_told : (kind : Kind) (v : Past) (t : Tick) (told : List Ran) (u : Past) → ToldPoll kind v t told u → u.driver.plan ≡ v.driver.plan

@@ -9,17 +9,17 @@ use Rattle.sched_task_law.specs.Kind.{a_repeat, repeat}
 use Rattle.sched_task_law.specs.Lists.{last_element}
 use Rattle.sched_task_law.specs.Past.{Past, nothing_yet, waits_for}
 use Rattle.sched_task_law.specs.Poll.{Happened, stays, cannot_begin, runs_on, cannot_run, ends, breaks, stops_done, stops_denied, recurs, asks, cannot_ask, falls, after, May, OnePoll}
-use Rattle.sched_task_law.specs.declared.runner.Polled.{Polled}
+use Rattle.sched_run_machine.specs.declared.runner.Polled.{Polled}
 use Rattle.sched_task_law.proofs.Lists.{by_test, last_element-push}
-use Rattle.sched_run_machine.specs.Drives.{unstepped_driver}
+use Rattle.sched_run_machine.specs.Drives.{IsDriven, PlanIs, unstepped_driver}
 use Rattle.sched_repeat.specs.Machine.{RepeatMachine, begins, due_of, StandsFor, Looks, Polls, gives_up as machine_gives_up}
-use Rattle.sched_repeat.specs.Repeating.{past_of, repeating, IsDriven, GoesByPlan, IsOf, RepeatLaw, RepeatPoll}
+use Rattle.sched_repeat.specs.Repeating.{past_of, repeating, IsOf, RepeatLaw, RepeatPoll}
 use Rattle.sched_repeat.specs.Ending.{over_by, HandsOut, HasCode, RepeatFits}
 use Rattle.sched_repeat.specs.declared.endings.RepeatEnding.{RepeatEnding}
 use Rattle.sched_repeat.specs.declared.endings.RepeatEnding.TheVariants.{ScheduleDone, Failed, Cancelled, Broken}
-use Rattle.sched_repeat.specs.Runner.{Runs, begun_with, leaves_run, told_by, Polls as RunPolls}
+use Rattle.sched_run_machine.specs.Runner.{Runs, begun_with, leaves_run, told_by, Polls as RunPolls}
 use Rattle.sched_repeat.proofs.Calls.{cancels, due_is}
-use Rattle.sched_repeat.proofs.Runs.{finishes, begun_then, Grows, grows}
+use Rattle.sched_run_machine.proofs.Runs.{finishes, begun_then, Grows, grows}
 
 -- no poll of a repeat draws
 undrawn_after : (keeps : Bool) (v : Past) (t : Tick) (h : Happened) → May (a_repeat keeps) v t h →
@@ -74,7 +74,7 @@ record Told (m n : RepeatMachine Driven) (t : Tick) (r s : Runs) : Type 0 where
   of : IsOf n s
 
 told_so : (m n : RepeatMachine Driven) (t : Tick) (r s : Runs) (told : List Ran) → IsOf m r → Looks IsDriven true m t false →
-    Polls IsDriven true GoesByPlan m t told n → Grows r s t told n.under_way → Told m n t r s
+    Polls IsDriven true PlanIs m t told n → Grows r s t told n.under_way → Told m n t r s
 told_so m n t r s told of looks polls grown =
     let v = past_of m r in
     let was = polls.leads v of (sym (polls.narrows n.driver.plan refl)) in
@@ -109,7 +109,7 @@ module _ {I F : Type 0} (item_code : I → ℕ) (fault_code : F → ℕ) (m n : 
     pub looks : Looks IsDriven true m t false
     pub unended : m.over ≡ None
     pub ran : RunPolls item_code fault_code r t polled s
-    pub polls : Polls IsDriven true GoesByPlan m t (told_by item_code fault_code polled) n
+    pub polls : Polls IsDriven true PlanIs m t (told_by item_code fault_code polled) n
     pub under_way : n.under_way ≡ leaves_run polled
     pub over : n.over ≡ over_by ending
     pub code : HasCode fault_code (told_by item_code fault_code polled) ending
@@ -157,7 +157,7 @@ pub gives_up_so : {F : Type 0} (fault_code : F → ℕ) (m n : RepeatMachine Dri
     IsRepeat fault_code m r ending → m.over ≡ None → n ≡ machine_gives_up m → IsRepeat fault_code n r (Some Cancelled)
 gives_up_so fc m n r ending is unended same =
     subst (λ (n : RepeatMachine Driven). IsRepeat fc n r (Some Cancelled)) (sym same)
-    (let of : IsOf (machine_gives_up m) r = cancels IsDriven true GoesByPlan m (past_of m r) is.1 in (
+    (let of : IsOf (machine_gives_up m) r = cancels IsDriven true PlanIs m (past_of m r) is.1 in (
       record { law = of.law; untaken = λ _. rw unended refl },
       of,
       rw unended refl,
@@ -183,4 +183,4 @@ is_new fc d m r same stands =
 
 -- what it waits for
 pub waits_so : (m : RepeatMachine Driven) (r : Runs) → IsOf m r → due_of m ≡ waits_for (past_of m r)
-waits_so m r of = due_is IsDriven true GoesByPlan m (past_of m r) of
+waits_so m r of = due_is IsDriven true PlanIs m (past_of m r) of

@@ -1,4 +1,3 @@
 pub mod Machine
-pub mod Runner
 pub mod Repeating
 pub mod Ending

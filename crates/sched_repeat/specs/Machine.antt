@@ -16,8 +16,6 @@ use Rattle.sched_task_law.specs.Poll.{stays, CanRun, May, OnePoll}
 use Rattle.sched_task_law.specs.Law.{Law}
 use Rattle.sched_task_law.specs.Codes.{coded_how}
 use Rattle.sched_run_machine.specs.Drives.{Stepped, Refused}
-use Rattle.sched_run_machine.specs.declared.next.Next.{Next}
-use Rattle.sched_run_machine.specs.declared.next.Next.TheVariants.{Poll, Run, Wait, Over}
 
 -- a machine with a driver of R
 pub record RepeatMachine (R : Type 0) : Type 0 where
@@ -47,13 +45,6 @@ due_of m = if is_some m.over || m.under_way then None else m.start
 -- what is over waits for nothing
 pub due_of-over : {R : Type 0} (m : RepeatMachine R) → is_some m.over ≡ true → due_of m ≡ None
 due_of-over m over = ap (λ b. if b || m.under_way then None else m.start) over
-
--- what is to be done tells how a machine is over, and whether a run is under way
-abbrev pub Finds : Option How → Bool → Next → Type 0
-Finds over running (Over ended) = over ≡ Some ended
-Finds over running Run = (over ≡ None) × (running ≡ true)
-Finds over running Poll = (over ≡ None) × (running ≡ false)
-Finds over running (Wait start) = (over ≡ None) × (running ≡ false)
 
 -- how a run may end it: a failure does, and a success where the schedule is done or its step was refused
 abbrev pub EndsAs : Ran → Option How → Type 0

@@ -2,14 +2,14 @@
 use Rattle.std.specs.Prelude.{◌≡◌, Bool, true, false, if◌then◌else◌, is_some, refl}
 use Rattle.std.specs.Coded.{Coded, code_by, coded×, coded_bool}
 use Rattle.sched_time.specs.declared.numbers.Tick.{Tick}
-use Rattle.sched_plan.specs.Schedule.{Schedule}
 use Rattle.sched_driver.specs.Driven.{Driven}
 use Rattle.sched_task_law.specs.Kind.{repeat}
 use Rattle.sched_task_law.specs.Past.{Past}
 use Rattle.sched_task_law.specs.Poll.{OnePoll, cancelled}
 use Rattle.sched_task_law.specs.Law.{Law}
 use Rattle.sched_task_law.specs.Codes.{coded_past}
-use Rattle.sched_repeat.specs.Runner.{Runs}
+use Rattle.sched_run_machine.specs.Drives.{IsDriven}
+use Rattle.sched_run_machine.specs.Runner.{Runs}
 use Rattle.sched_repeat.specs.Machine.{RepeatMachine, StandsFor}
 
 pub record Repeating : Type 0 where
@@ -36,13 +36,6 @@ past_of m r = record {
 
 abbrev pub repeating : RepeatMachine Driven → Runs → Bool → Repeating
 repeating m r untaken = record { past = past_of m r; untaken = untaken }
-
--- a driver with its journal stands for that alone, and goes by its plan
-abbrev pub IsDriven : Driven → Driven → Type 0
-IsDriven v d = v ≡ d
-
-abbrev pub GoesByPlan : Driven → Schedule → Type 0
-GoesByPlan v s = v.plan ≡ s
 
 -- the machine is that of a repeat with these runs
 abbrev pub IsOf : RepeatMachine Driven → Runs → Type 0

@@ -2,14 +2,13 @@
 ghost use Rattle.std.specs.Prelude.{◌≡◌, false, None};
 ghost use Rattle.sched_repeat.specs.Machine.{Looks, Polls};
 ghost use Rattle.sched_repeat.specs.Ending.{over_by, HasCode};
-ghost use Rattle.sched_repeat.specs.Runner.{polls_run, leaves_run, told_by};
+ghost use Rattle.sched_run_machine.specs.Runner.{polls_run, leaves_run, told_by};
 
 use crate::endings::{RepeatEnding, ending_of};
 use crate::machine::RepeatMachine;
 use sched_effect::{Coded, ran_of};
-use sched_run_machine::Drives;
+use sched_run_machine::{Drives, Polled};
 use sched_task::RunFault;
-use sched_task_law::Polled;
 use sched_time::Tick;
 use std::alloc::Global;
 

@@ -5,7 +5,6 @@ mod attempts;
 mod endings;
 mod machine;
 mod repeat;
-mod runner;
 
 pub use endings::RepeatEnding;
 pub use machine::RepeatMachine;

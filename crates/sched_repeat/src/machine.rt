@@ -1,13 +1,13 @@
 //! The machine of a repeat.
-ghost use Rattle.std.specs.Prelude.{◌≡◌, ◌<◌, ◌≤◌, [], ◌∷◌, true, false, None, IfSome, IsSomeAnd, MatchBool};
+ghost use Rattle.std.specs.Prelude.{◌≡◌, [], ◌∷◌, true, false, None};
 ghost use Rattle.sched_plan.specs.Schedule.{Schedule};
 ghost use Rattle.sched_task_law.specs.Past.{Past, nothing_yet};
 ghost use Rattle.sched_task_law.specs.Poll.{cancelled};
-ghost use Rattle.sched_run_machine.specs.Next.{next_of};
-ghost use Rattle.sched_repeat.specs.Machine.{begins, due_of, breaks_off, gives_up, StandsFor, IsMachine, Looks, Polls, Finds, Ends, EndsAs};
+ghost use Rattle.sched_run_machine.specs.Next.{next_of, Finds};
+ghost use Rattle.sched_repeat.specs.Machine.{begins, due_of, breaks_off, gives_up, StandsFor, IsMachine, Looks, Polls, Ends, EndsAs};
 
 use sched_effect::Ran;
-use sched_run_machine::{Drives, Next};
+use sched_run_machine::{Drives, Next, is_later};
 use sched_task::{How, RunFault};
 use sched_time::{Moment, Tick};
 use std::alloc::Global;
@@ -187,16 +187,6 @@ impl<R: Drives> RepeatMachine<R> {
             over: _,
         } = self;
         driver
-    }
-}
-
-// Whether this moment is waited for, and is later than `now`.
-fn is_later(due: Option<Moment>, now: Moment) -> bool
-    ensures { MatchBool result (IsSomeAnd due (λ m. now < m)) (IfSome due (λ m. m ≤ now)) }
-{
-    match due {
-        Some(start) => now.get() < start.get(),
-        None => false,
     }
 }
 

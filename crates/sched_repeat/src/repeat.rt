@@ -9,10 +9,10 @@ ghost use Rattle.sched_repeat.specs.Ending.{RepeatFits};
 use crate::attempts::tell;
 use crate::endings::RepeatEnding;
 use crate::machine::RepeatMachine;
-use crate::runner::Runner;
 use futures::task::{Context, Poll};
 use sched_driver::Driver;
 use sched_effect::{Coded, Effect};
+use sched_run_machine::{Runner, ready_where};
 use sched_task::{How, Task};
 use sched_time::{Moment, Tick};
 use std::alloc::Global;
@@ -143,17 +143,8 @@ impl<X: Effect> Repeat<X> {
             machine,
             ending: _,
         } = self;
-        (runner.into_effect(), machine.into_driver())
-    }
-}
-
-// Ready where it is over.
-fn ready_where(over: Option<How>) -> Poll<()>
-    ensures { is_ready result ≡ is_some over }
-{
-    match over {
-        Some(_) => Poll::Ready(()),
-        None => Poll::Pending,
+        let (effect, _) = runner.into_parts();
+        (effect, machine.into_driver())
     }
 }
 

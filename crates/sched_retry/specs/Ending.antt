@@ -1,5 +1,5 @@
 -- What a task hands out once it is over.
-use Rattle.std.specs.Prelude.{◌≡◌, ℕ, List, Option, Some}
+use Rattle.std.specs.Prelude.{◌≡◌, ℕ, List, [], ◌∷◌, Option, Some, None, Result, Ok, Err}
 use Rattle.sched_effect.specs.declared.ran.Ran.{Ran}
 use Rattle.sched_effect.specs.declared.ran.Ran.TheVariants as ran
 use Rattle.sched_task.specs.declared.endings.How.{How}
@@ -16,6 +16,19 @@ how_of (BudgetRefused fault) = how.BudgetRefused
 how_of Cancelled = how.Cancelled
 how_of (Broken fault) = how.Broken fault
 
+-- how a retry is over by the ending that a run came to, or that it goes on
+abbrev pub over_by : {I F : Type 0} → Option (Ending I F) → Option How
+over_by None = None
+over_by (Some ending) = Some (how_of ending)
+
+-- what an ending hands out is the very value that the last run gave
+abbrev pub HandsOut : {I F : Type 0} → Option (Result I F) → Ending I F → Type 0
+HandsOut last (Won item) = last ≡ Some (Ok item)
+HandsOut last (ScheduleDone fault) = last ≡ Some (Err fault)
+HandsOut last (BudgetRefused fault) = last ≡ Some (Err fault)
+HandsOut last Cancelled = ⊥
+HandsOut last (Broken fault) = Unit {0}
+
 module _ {I F : Type 0} (item_code : I → ℕ) (fault_code : F → ℕ) where
   -- an ending says how the task is over; an item or a fault in it has the code of the last run
   abbrev pub EndingFits : Option How → List Ran → Ending I F → Type 0
@@ -26,3 +39,10 @@ module _ {I F : Type 0} (item_code : I → ℕ) (fault_code : F → ℕ) where
       (over ≡ Some how.BudgetRefused) × (last_element runs ≡ Some (ran.Lost (fault_code fault)))
   EndingFits over runs Cancelled = over ≡ Some how.Cancelled
   EndingFits over runs (Broken fault) = over ≡ Some (how.Broken fault)
+
+  -- the ending that a run came to has the code of that run, where it has an item or a fault
+  abbrev pub HasCode : List Ran → Option (Ending I F) → Type 0
+  HasCode told (Some (Won item)) = told ≡ ran.Won (item_code item) ∷ []
+  HasCode told (Some (ScheduleDone fault)) = told ≡ ran.Lost (fault_code fault) ∷ []
+  HasCode told (Some (BudgetRefused fault)) = told ≡ ran.Lost (fault_code fault) ∷ []
+  HasCode told _ = Unit {0}

@@ -1,3 +1,2 @@
-pub mod Retrying
-pub mod Comes
 pub mod Ending
+pub mod Of

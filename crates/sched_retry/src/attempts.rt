@@ -1,46 +1,50 @@
-//! One poll of an attempt.
-ghost use Rattle.futures.specs.Task.{Keeps};
-ghost use Rattle.sched_retry.specs.Comes.{Comes};
+//! What a poll of a run comes to.
+ghost use Rattle.std.specs.Prelude.{◌≡◌, true, false, None};
+ghost use Rattle.sched_run_machine.specs.Machine.{Looks, Polls};
+ghost use Rattle.sched_run_machine.specs.Runner.{polls_run, leaves_run, told_by};
+ghost use Rattle.sched_retry.specs.Ending.{over_by, HasCode};
 
-use crate::endings::Ending;
-use futures::task::{Context, Poll};
-use sched_effect::{Coded, Effect};
+use crate::endings::{Ending, ending_of};
+use sched_effect::{Coded, ran_of};
+use sched_run_machine::{Drives, Machine, Polled};
 use sched_task::RunFault;
-use sched_task_law::{Polled, Runner};
 use sched_ticket_draws::Draws;
 use sched_time::Tick;
 use std::alloc::Global;
 
-/// Polls the run under way, or begins one. A failure steps the schedule, and draws a ticket where it goes on.
-/// Answers the ending that this comes to, or `None` where the retry goes on.
-pub fn poll_attempt<X: Effect, D: Draws>(
+// Tells the machine what a poll of its run gave. Answers the ending that this comes to, or `None` where the retry goes
+// on.
+pub(crate) fn tell<I: Coded + Drop, F: Coded + Drop, R: Drives, D: Draws>(
     alloc: Global,
-    runner: &mut Runner<X>,
-    drawing: &mut D,
+    machine: &mut Machine<R, D>,
     tick: &Tick,
-    cx: &mut Context<'_>,
-) -> Option<Ending<X::Item, X::Fault>>
-    requires { D.grants.stands drawing.old }
-    ensures stands { D.grants.stands drawing.new }
-    ensures comes { Comes D.grants X.Item.coded X.Fault.coded
-        runner.old drawing.old tick.entry.now result runner.new drawing.new }
-    ensures kept { Keeps cx.old cx.new }
+    polled: Polled<I, F>,
+) -> Option<Ending<I, F>>
+    requires looks { Looks R.stands R.keeps D.grants machine.old tick.now false }
+    requires unended { machine.old.over ≡ None }
+    requires idle { polls_run polled ≡ false → machine.old.under_way ≡ false }
+    ensures polls { Polls R.stands R.keeps R.goes_by D.grants machine.old tick.entry.now
+        (told_by I.coded F.coded polled) machine.new }
+    ensures under_way { machine.new.under_way ≡ leaves_run polled }
+    ensures over { machine.new.over ≡ over_by result }
+    ensures code { HasCode I.coded F.coded (told_by I.coded F.coded polled) result }
 {
-    match runner.poll_run(tick, cx) {
-        Polled::Pending => None,
-        Polled::CannotBegin => Some(Ending::Broken(RunFault::NoMemory)),
-        Polled::CannotRun => Some(Ending::Broken(RunFault::NoMemory)),
-        Polled::Finished(Ok(item)) => Some(Ending::Won(item)),
-        Polled::Finished(Err(fault)) => match runner.step(alloc, tick, fault.code()) {
-            Err(cause) => Some(Ending::Broken(cause)),
-            Ok(None) => Some(Ending::ScheduleDone(fault)),
-            Ok(Some(_)) => {
-                if drawing.draw(tick.now) {
-                    None
-                } else {
-                    Some(Ending::BudgetRefused(fault))
-                }
-            }
-        },
+    match polled {
+        Polled::Pending => {
+            machine.begin(tick);
+            None
+        }
+        Polled::CannotBegin => {
+            machine.break_off(tick, false);
+            Some(Ending::Broken(RunFault::NoMemory))
+        }
+        Polled::CannotRun => {
+            machine.break_off(tick, true);
+            Some(Ending::Broken(RunFault::NoMemory))
+        }
+        Polled::Finished(run) => {
+            machine.finish(alloc, tick, ran_of(&run));
+            ending_of(run, machine.over())
+        }
     }
 }

@@ -6,7 +6,6 @@ mod endings;
 mod retry;
 mod whole;
 
-pub use attempts::poll_attempt;
 pub use endings::Ending;
 pub use retry::Retry;
 pub use whole::Whole;

@@ -1,22 +1,21 @@
 //! Retries.
-ghost use Rattle.std.specs.Prelude.{◌≡◌, ◌+◌, ◌≤◌, true, false, [], length, ◌<◌, is_some, IfSome, IsSomeAnd, MatchBool};
+ghost use Rattle.std.specs.Prelude.{◌≡◌, ◌+◌, [], false, length, is_some, IfSome};
 ghost use Rattle.futures.specs.Task.{Keeps};
 ghost use Rattle.sched_task.specs.Polls.{is_ready};
 ghost use Rattle.sched_task_law.specs.Kind.{retry};
 ghost use Rattle.sched_task_law.specs.Past.{nothing_yet, waits_for, bit};
-ghost use Rattle.sched_task_law.specs.Poll.{CanRun};
-ghost use Rattle.sched_retry.specs.Retrying.{RetryLaw, RetryPoll, gives_up};
 ghost use Rattle.sched_task_law.specs.Law.{is_stop};
+ghost use Rattle.sched_run_machine.specs.Retrying.{RetryLaw, RetryPoll, gives_up};
 ghost use Rattle.sched_retry.specs.Ending.{EndingFits};
 
-use crate::attempts::poll_attempt;
+use crate::attempts::tell;
 use crate::endings::Ending;
 use crate::whole::Whole;
 use futures::task::{Context, Poll};
 use sched_driver::Driver;
 use sched_effect::{Coded, Effect};
+use sched_run_machine::{Machine, Runner, ready_where};
 use sched_task::{How, Task};
-use sched_task_law::Runner;
 use sched_ticket_draws::Draws;
 use sched_time::{Moment, Tick};
 use std::alloc::Global;
@@ -27,17 +26,14 @@ use std::marker::Model;
 #[derive(Drop)]
 pub struct Retry<X: Effect, D: Draws> {
     runner: Runner<X>,
-    over: Option<How>,
+    machine: Machine<Driver, D>,
     ending: Option<Ending<X::Item, X::Fault>>,
-    drawing: D,
-    had: u64,
 }
 
 impl<X: Effect, D: Draws> Model for Retry<X, D> {
     ghost use Rattle.std.specs.Prelude.{is_some, IfSome};
-    ghost use Rattle.sched_task_law.specs.Kind.{retry};
-    ghost use Rattle.sched_task_law.specs.Law.{is_refused};
-    ghost use Rattle.sched_retry.specs.Retrying.{Retrying, coded_retrying, retrying, RetryLaw};
+    ghost use Rattle.sched_run_machine.specs.Retrying.{Retrying, coded_retrying};
+    ghost use Rattle.sched_retry.specs.Of.{retry_of, IsOf};
 
     ghost Value = { Retrying D };
 
@@ -45,12 +41,10 @@ impl<X: Effect, D: Draws> Model for Retry<X, D> {
 
     ghost use Rattle.sched_retry.specs.Ending.{EndingFits};
 
-    ghost view = { λ r. retrying D.grants r.runner r.over (is_refused r.over) r.drawing r.had (is_some r.ending) };
+    ghost view = { λ r. retry_of D.grants r.machine r.runner (is_some r.ending) };
 
-    ghost invariant = { λ r.
-        RetryLaw D.grants retry
-        (retrying D.grants r.runner r.over (is_refused r.over) r.drawing r.had (is_some r.ending))
-        × IfSome r.ending (EndingFits X.Item.coded X.Fault.coded r.over r.runner.runs) };
+    ghost invariant = { λ r. IsOf D.grants r.machine r.runner (is_some r.ending)
+        × IfSome r.ending (EndingFits X.Item.coded X.Fault.coded r.machine.over r.runner.runs) };
 }
 
 impl<X: Effect, D: Draws> Retry<X, D> {
@@ -63,13 +57,10 @@ impl<X: Effect, D: Draws> Retry<X, D> {
         ensures had { result.had ≡ D.grants.granted drawing }
         ensures untaken { result.untaken ≡ false }
     {
-        let had = drawing.granted();
         Retry {
-            runner: Runner::new(alloc, effect, driver),
-            over: None,
+            runner: Runner::new(alloc, effect),
+            machine: Machine::new(driver, drawing),
             ending: None,
-            drawing,
-            had,
         }
     }
 
@@ -83,55 +74,19 @@ impl<X: Effect, D: Draws> Retry<X, D> {
         ensures answers { is_ready result ≡ is_some self.new.past.over }
         ensures kept { Keeps cx.old cx.new }
     {
-        if self.over.is_some() {
-            return Poll::Ready(());
+        if self.machine.stays(tick) {
+            return ready_where(self.machine.over());
         }
-        if self.rests(tick.now) {
-            return Poll::Pending;
-        }
-        self.poll_now(alloc, tick, cx)
-    }
-
-    // The same where it is not over and waits for no later moment.
-    fn poll_now(&mut self, alloc: Global, tick: &Tick, cx: &mut Context<'_>) -> Poll<()>
-        requires { CanRun self.old.past tick.now }
-        ensures poll { RetryPoll D.grants retry self.old tick.entry.now (is_ready result) self.new }
-        ensures answers { is_ready result ≡ is_some self.new.past.over }
-        ensures kept { Keeps cx.old cx.new }
-    {
-        let runner = &mut self.runner;
-        let drawing = &mut self.drawing;
-        match poll_attempt(alloc, runner, drawing, tick, cx) {
-            None => Poll::Pending,
-            Some(ending) => {
-                self.over = Some(ending.how());
-                self.ending = Some(ending);
-                Poll::Ready(())
-            }
-        }
-    }
-
-    // Whether it waits for a moment after this one.
-    fn rests(&self, now: Moment) -> bool
-        ensures { MatchBool result
-            (IsSomeAnd (waits_for self.now.past) (λ m. now < m))
-            (IfSome (waits_for self.now.past) (λ m. m ≤ now)) }
-    {
-        match self.due() {
-            Some(start) => now.get() < start.get(),
-            None => false,
-        }
+        let polled = self.runner.poll_run(tick, cx);
+        self.ending = tell(alloc, &mut self.machine, tick, polled);
+        ready_where(self.machine.over())
     }
 
     /// The moment that it waits for, or `None` where it waits for none.
     pub fn due(&self) -> Option<Moment>
         ensures { result ≡ waits_for self.now.past }
     {
-        if self.over.is_some() {
-            None
-        } else {
-            self.runner.due()
-        }
+        self.machine.due()
     }
 
     /// How it ended, or `None` where it is not over. Whenever it is asked, the law of a retry holds.
@@ -139,17 +94,18 @@ impl<X: Effect, D: Draws> Retry<X, D> {
         ensures over { result ≡ self.now.past.over }
         ensures law { RetryLaw D.grants retry self.now }
     {
-        self.over
+        self.machine.over()
     }
 
     /// Ends a retry that is not over as `Cancelled`; one that is over stays as it is.
     pub fn cancel(&mut self)
         ensures { self.new ≡ gives_up self.old }
     {
-        if self.over.is_none() {
-            self.over = Some(How::Cancelled);
-            self.ending = Some(Ending::Cancelled);
+        if self.machine.over().is_some() {
+            return;
         }
+        self.machine.cancel();
+        self.ending = Some(Ending::Cancelled);
     }
 
     /// The ending, once, where the retry is over; `None` before that and after it was taken.
@@ -165,7 +121,7 @@ impl<X: Effect, D: Draws> Retry<X, D> {
     pub fn driver(&self) -> &Driver
         ensures { result.now ≡ self.now.past.driver }
     {
-        self.runner.driver()
+        self.machine.driver()
     }
 
     /// The effect, with its finished runs.
@@ -189,7 +145,7 @@ impl<X: Effect, D: Draws> Retry<X, D> {
         ensures tickets { self.now.had + result ≡ D.grants.granted self.now.drawing }
         ensures events { result + bit (is_stop self.now.past.over) ≡ length self.now.past.driver.journal }
     {
-        self.drawing.granted() - self.had
+        self.machine.granted()
     }
 
     /// The effect, the driver, and what it drew by, with all its tickets.
@@ -201,12 +157,11 @@ impl<X: Effect, D: Draws> Retry<X, D> {
     {
         let Retry {
             runner,
-            over: _,
+            machine,
             ending: _,
-            drawing,
-            had: _,
         } = self;
-        let (effect, driver, _) = runner.into_parts();
+        let (effect, _) = runner.into_parts();
+        let (driver, drawing) = machine.into_parts();
         (effect, driver, drawing)
     }
 
@@ -225,12 +180,13 @@ impl<X: Effect, D: Draws> Retry<X, D> {
     {
         let Retry {
             runner,
-            over,
+            machine,
             ending,
-            drawing,
-            had,
         } = self;
-        let (effect, driver, begun) = runner.into_parts();
+        let over = machine.over();
+        let had = machine.had();
+        let (effect, begun) = runner.into_parts();
+        let (driver, drawing) = machine.into_parts();
         Whole {
             effect,
             driver,
@@ -247,7 +203,7 @@ impl<X: Effect, D: Draws> Task for Retry<X, D> {
     ghost use Rattle.std.specs.Prelude.{◌≡◌};
     ghost use Rattle.sched_task_law.specs.Kind.{retry};
     ghost use Rattle.sched_task_law.specs.Past.{waits_for as start_of, waits_for-over};
-    ghost use Rattle.sched_retry.specs.Retrying.{RetryPoll, gives_up as given_up};
+    ghost use Rattle.sched_run_machine.specs.Retrying.{RetryPoll, gives_up as given_up};
 
     ghost ended = { λ v. v.past.over };
 

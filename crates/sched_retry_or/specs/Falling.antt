@@ -1,5 +1,5 @@
 -- What contracts see of a retry with a fallback, what is true of it between any two polls, and one poll of it.
-use Rattle.std.specs.Prelude.{◌≡◌, ℕ, Bool, true, false, Option, Some, None, IsSome, refl}
+use Rattle.std.specs.Prelude.{◌≡◌, ℕ, Bool, true, Option, Some, None, is_some, IsSome, IfSome, refl}
 use Rattle.std.specs.Coded.{Coded, code_by, coded×, coded_ℕ, coded_option}
 use Rattle.sched_time.specs.declared.numbers.Tick.{Tick}
 use Rattle.sched_plan.specs.Datum.{Datum}
@@ -8,14 +8,17 @@ use Rattle.sched_ticket_draws.specs.Grants.{Grants}
 use Rattle.sched_driver.specs.Driven.{last_output}
 use Rattle.sched_effect.specs.declared.ran.Ran.{Ran}
 use Rattle.sched_effect.specs.declared.ran.Ran.TheVariants.{Lost}
+use Rattle.sched_task.specs.declared.endings.How.{How}
 use Rattle.sched_task_law.specs.Kind.{retry_or}
 use Rattle.sched_task_law.specs.Lists.{last_element}
 use Rattle.sched_task_law.specs.Past.{Past, is_stopped}
 use Rattle.sched_task_law.specs.Poll.{Happened, asks, cannot_ask, falls, stopped_by}
 use Rattle.sched_task_law.specs.Law.{is_stop}
 use Rattle.sched_task_law.specs.Codes.{coded_ran}
+use Rattle.sched_run_machine.specs.Retrying.{Retrying, coded_retrying, RetryLaw, RetryPoll, gives_up as retry_gives_up}
+use Rattle.sched_retry_or.specs.Ending.{RetryOrFits}
+use Rattle.sched_retry_or.specs.declared.endings.RetryOrEnding.{RetryOrEnding}
 use Rattle.sched_retry_or.specs.declared.stopped.Stopped.{Stopped}
-use Rattle.sched_retry.specs.Retrying.{Retrying, coded_retrying, RetryLaw, RetryPoll, gives_up as retry_gives_up}
 
 pub record Falling (D : Type 0) : Type 0 where
   pub retrying : Retrying D
@@ -65,8 +68,27 @@ module _ {D : Type 0} (grants : Grants D) where
 abbrev pub gives_up : {D : Type 0} → Falling D → Falling D
 gives_up v = record v { retrying = retry_gives_up v.retrying }
 
--- Where the task is stopped, it is kept why, with the fault of the last run, with which the fallback is asked.
-abbrev pub KeepsStop : {F : Type 0} → (F → ℕ) → Past → Option (Stopped F) → Type 0
-KeepsStop code v None = v.over ≡ None → is_stopped v ≡ false
-KeepsStop code v (Some stopped) =
+-- a retry seen as one that is over so, and with what its fallback was asked and has answered
+abbrev pub as_over : {D : Type 0} → Retrying D → Option How → Bool → Retrying D
+as_over v over untaken = record v { past = record v.past { over = over }; untaken = untaken }
+
+abbrev pub falling : {D : Type 0} → Retrying D → Option How → Bool → Option (ℕ × Datum) → Option Ran → Falling D
+falling v over untaken asked answered = record { retrying = as_over v over untaken; asked = asked; answered = answered }
+
+-- why a retry stopped, with the fault of its last run, with which the fallback is asked
+abbrev pub IsWhy : {F : Type 0} → (F → ℕ) → Past → Stopped F → Type 0
+IsWhy code v stopped =
     (is_stopped v ≡ true) × (last_element v.runs ≡ Some (Lost (code stopped.fault))) × (stopped.how ≡ stopped_by v)
+
+-- It is over as the retry beneath, unless that stopped; then it is kept why.
+abbrev pub KeepsStop : {F : Type 0} → (F → ℕ) → Past → Option How → Option (Stopped F) → Type 0
+KeepsStop code v over None = over ≡ v.over
+KeepsStop code v over (Some stopped) = (v.over ≡ Some stopped.how) × IsWhy code v stopped
+
+-- What is true of a retry with a fallback, of the retry beneath, how it is over, and what it keeps.
+pub record IsFalling {D I F : Type 0} (grants : Grants D) (item_code : I → ℕ) (fault_code : F → ℕ) (v : Retrying D)
+    (over : Option How) (stopped : Option (Stopped F)) (ending : Option (RetryOrEnding I F)) (asked : Option (ℕ × Datum))
+    (answered : Option Ran) : Type 0 where
+  pub law : FallingLaw grants (falling v over (is_some ending) asked answered)
+  pub fits : IfSome ending (RetryOrFits item_code fault_code over v.past.runs answered)
+  pub keeps : KeepsStop fault_code v.past over stopped

@@ -1,30 +1,30 @@
 -- How a retry goes on to its fallback.
-use Rattle.std.specs.Prelude.{◌≡◌, ℕ, Bool, false, Option, Some, None, Result, Ok, Err}
+use Rattle.std.specs.Prelude.{◌≡◌, ℕ, if◌then◌else◌, Option, Some, None}
 use Rattle.sched_plan.specs.Datum.{Datum}
 use Rattle.sched_effect.specs.Runs.{ran_by}
 use Rattle.sched_effect.specs.declared.ran.Ran.{Ran}
 use Rattle.sched_task.specs.declared.endings.How.{How}
 use Rattle.sched_task.specs.declared.endings.How.TheVariants as how
 use Rattle.sched_task.specs.declared.endings.RunFault.TheVariants.{NoMemory}
-use Rattle.sched_task_law.specs.Law.{is_refused}
+use Rattle.sched_task_law.specs.Law.{is_stop}
 use Rattle.sched_retry.specs.declared.endings.Ending.{Ending}
 use Rattle.sched_retry.specs.declared.endings.Ending.TheVariants as ending
 use Rattle.sched_retry_or.specs.declared.endings.RetryOrEnding.{RetryOrEnding}
 use Rattle.sched_retry_or.specs.declared.endings.RetryOrEnding.TheVariants.{Won, Fallen, Cancelled, Broken}
 use Rattle.sched_retry_or.specs.declared.stopped.Stopped.{Stopped}
 
--- A retry that stops asks its fallback; any other ending is its own.
-abbrev pub or_stopped : {I F : Type 0} → Ending I F → Result (RetryOrEnding I F) (Stopped F)
-or_stopped (ending.Won item) = Ok (Won item)
-or_stopped (ending.ScheduleDone fault) = Err (record { how = how.ScheduleDone; fault = fault })
-or_stopped (ending.BudgetRefused fault) = Err (record { how = how.BudgetRefused; fault = fault })
-or_stopped ending.Cancelled = Ok Cancelled
-or_stopped (ending.Broken fault) = Ok (Broken fault)
+-- how it is over where the retry beneath is over so: where that stops, the fallback is asked
+abbrev pub unless_stop : Option How → Option How
+unless_stop over = if is_stop over then None else over
 
--- it stopped where its draw was refused
-abbrev pub stops_refused : {F : Type 0} → Option (Stopped F) → Bool
-stops_refused None = false
-stops_refused (Some stopped) = is_refused (Some stopped.how)
+-- what the ending of the retry beneath leaves: why that stopped, or an ending
+abbrev pub or_stopped : {I F : Type 0} → Option (Ending I F) → Option (Stopped F) × Option (RetryOrEnding I F)
+or_stopped None = (None, None)
+or_stopped (Some (ending.Won item)) = (None, Some (Won item))
+or_stopped (Some (ending.ScheduleDone fault)) = (Some (record { how = how.ScheduleDone; fault = fault }), None)
+or_stopped (Some (ending.BudgetRefused fault)) = (Some (record { how = how.BudgetRefused; fault = fault }), None)
+or_stopped (Some ending.Cancelled) = (None, Some Cancelled)
+or_stopped (Some (ending.Broken fault)) = (None, Some (Broken fault))
 
 module _ {I F : Type 0} (item_code : I → ℕ) (fault_code : F → ℕ) where
   -- What a poll of the fallback comes to, with what it was asked and has answered then. Nothing is said of one that

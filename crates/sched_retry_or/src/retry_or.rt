@@ -1,21 +1,20 @@
 //! Retries with a fallback.
-ghost use Rattle.std.specs.Prelude.{◌≡◌, ◌+◌, ◌<◌, ◌≤◌, false, [], is_some, IfSome, IsSomeAnd, MatchBool};
+ghost use Rattle.std.specs.Prelude.{◌≡◌, ◌+◌, false, [], is_some, IfSome};
 ghost use Rattle.futures.specs.Task.{Keeps};
 ghost use Rattle.sched_task.specs.Polls.{is_ready};
 ghost use Rattle.sched_task_law.specs.Past.{nothing_yet, waits_for};
-ghost use Rattle.sched_task_law.specs.Poll.{CanRun};
 ghost use Rattle.sched_retry_or.specs.Falling.{FallingLaw, FallingPoll, gives_up};
 ghost use Rattle.sched_retry_or.specs.Ending.{RetryOrFits};
 
 use crate::endings::RetryOrEnding;
 use crate::stopped::Stopped;
-use crate::stops::{ask, or_stopped};
+use crate::stops::{ask, or_stopped, unless_stop};
 use futures::task::{Context, Poll};
 use sched_driver::Driver;
 use sched_effect::{Coded, Effect, Fallback};
-use sched_retry::poll_attempt;
+use sched_retry::Retry;
+use sched_run_machine::ready_where;
 use sched_task::{How, Task};
-use sched_task_law::Runner;
 use sched_ticket_draws::Draws;
 use sched_time::{Moment, Tick};
 use std::alloc::Global;
@@ -24,42 +23,25 @@ use std::marker::Model;
 /// A retry that asks a fallback where its schedule is done or it is refused a ticket, and answers what that gives.
 #[derive(Drop)]
 pub struct RetryOr<X: Effect, D: Draws, F: Fallback<X>> {
-    runner: Runner<X>,
+    retry: Retry<X, D>,
     over: Option<How>,
     stopped: Option<Stopped<X::Fault>>,
     ending: Option<RetryOrEnding<X::Item, X::Fault>>,
-    drawing: D,
-    had: u64,
     fallback: F,
 }
 
 impl<X: Effect, D: Draws, F: Fallback<X>> Model for RetryOr<X, D, F> {
-    ghost use Rattle.std.specs.Prelude.{◌-◌, is_some, IfSome};
-    ghost use Rattle.sched_task_law.specs.Runner.{past_of};
-    ghost use Rattle.sched_retry.specs.Retrying.{retrying};
-    ghost use Rattle.sched_retry_or.specs.Falling.{Falling, coded_falling, FallingLaw, KeepsStop};
-    ghost use Rattle.sched_retry_or.specs.Stops.{stops_refused};
+    ghost use Rattle.std.specs.Prelude.{is_some};
+    ghost use Rattle.sched_retry_or.specs.Falling.{Falling, coded_falling, falling, IsFalling};
 
     ghost Value = { Falling D };
 
     ghost coded = { coded_falling D.code };
 
-    ghost use Rattle.sched_retry_or.specs.Ending.{RetryOrFits};
+    ghost view = { λ r. falling r.retry r.over (is_some r.ending) (F.asked r.fallback) (F.answered r.fallback) };
 
-    ghost view = { λ r. record {
-      retrying = retrying D.grants r.runner r.over (stops_refused r.stopped) r.drawing r.had (is_some r.ending);
-      asked = F.asked r.fallback;
-      answered = F.answered r.fallback;
-    } };
-
-    ghost invariant = { λ r. FallingLaw D.grants record {
-      retrying = retrying D.grants r.runner r.over (stops_refused r.stopped) r.drawing r.had (is_some r.ending);
-      asked = F.asked r.fallback;
-      answered = F.answered r.fallback;
-    }
-        × IfSome r.ending (RetryOrFits X.Item.coded X.Fault.coded r.over r.runner.runs (F.answered r.fallback))
-        × KeepsStop X.Fault.coded
-        (past_of r.runner r.over (stops_refused r.stopped) (D.grants.granted r.drawing - r.had)) r.stopped };
+    ghost invariant = { λ r. IsFalling D.grants X.Item.coded X.Fault.coded
+        r.retry r.over r.stopped r.ending (F.asked r.fallback) (F.answered r.fallback) };
 }
 
 impl<X: Effect, D: Draws, F: Fallback<X>> RetryOr<X, D, F> {
@@ -80,14 +62,13 @@ impl<X: Effect, D: Draws, F: Fallback<X>> RetryOr<X, D, F> {
         ensures asked { result.asked ≡ F.asked fallback }
         ensures answered { result.answered ≡ F.answered fallback }
     {
-        let had = drawing.granted();
+        let retry = Retry::new(alloc, effect, driver, drawing);
+        let over = retry.over();
         RetryOr {
-            runner: Runner::new(alloc, effect, driver),
-            over: None,
+            retry,
+            over,
             stopped: None,
             ending: None,
-            drawing,
-            had,
             fallback,
         }
     }
@@ -105,11 +86,8 @@ impl<X: Effect, D: Draws, F: Fallback<X>> RetryOr<X, D, F> {
         if self.over.is_some() {
             return Poll::Ready(());
         }
-        if self.rests(tick.now) {
-            return Poll::Pending;
-        }
         if let Some(stopped) = &self.stopped {
-            return match ask(&self.runner, stopped, &mut self.fallback, cx) {
+            return match ask(&self.retry, stopped, &mut self.fallback, cx) {
                 None => Poll::Pending,
                 Some((how, ending)) => {
                     self.over = Some(how);
@@ -118,56 +96,20 @@ impl<X: Effect, D: Draws, F: Fallback<X>> RetryOr<X, D, F> {
                 }
             };
         }
-        self.poll_now(alloc, tick, cx)
-    }
-
-    // The same where it is not over, asks no fallback and waits for no later moment.
-    fn poll_now(&mut self, alloc: Global, tick: &Tick, cx: &mut Context<'_>) -> Poll<()>
-        requires { CanRun self.old.retrying.past tick.now }
-        ensures poll { FallingPoll D.grants self.old tick.entry.now (is_ready result) self.new }
-        ensures answers { is_ready result ≡ is_some self.new.retrying.past.over }
-        ensures kept { Keeps cx.old cx.new }
-    {
-        let runner = &mut self.runner;
-        let drawing = &mut self.drawing;
-        let Some(ending) = poll_attempt(alloc, runner, drawing, tick, cx) else {
-            return Poll::Pending;
-        };
-        let how = ending.how();
-        match or_stopped(ending) {
-            Err(stopped) => {
-                self.stopped = Some(stopped);
-                Poll::Pending
-            }
-            Ok(ending) => {
-                self.over = Some(how);
-                self.ending = Some(ending);
-                Poll::Ready(())
-            }
-        }
-    }
-
-    // Whether it waits for a moment after this one.
-    fn rests(&self, now: Moment) -> bool
-        ensures { MatchBool result
-            (IsSomeAnd (waits_for self.now.retrying.past) (λ m. now < m))
-            (IfSome (waits_for self.now.retrying.past) (λ m. m ≤ now)) }
-    {
-        match self.due() {
-            Some(start) => now.get() < start.get(),
-            None => false,
-        }
+        let _ = self.retry.poll_at(alloc, tick, cx);
+        let over = self.retry.over();
+        let (stopped, ending) = or_stopped(self.retry.take_ending());
+        self.over = unless_stop(over);
+        self.stopped = stopped;
+        self.ending = ending;
+        ready_where(self.over)
     }
 
     /// The moment that it waits for, or `None` where it waits for none, as while its fallback is asked.
     pub fn due(&self) -> Option<Moment>
         ensures { result ≡ waits_for self.now.retrying.past }
     {
-        if self.over.is_some() || self.stopped.is_some() {
-            None
-        } else {
-            self.runner.due()
-        }
+        self.retry.due()
     }
 
     /// How it ended, or `None` where it is not over. Whenever it is asked, the law of a retry holds.
@@ -182,10 +124,12 @@ impl<X: Effect, D: Draws, F: Fallback<X>> RetryOr<X, D, F> {
     pub fn cancel(&mut self)
         ensures { self.new ≡ gives_up self.old }
     {
-        if self.over.is_none() {
-            self.over = Some(How::Cancelled);
-            self.ending = Some(RetryOrEnding::Cancelled);
+        if self.over.is_some() {
+            return;
         }
+        self.retry.cancel();
+        self.over = Some(How::Cancelled);
+        self.ending = Some(RetryOrEnding::Cancelled);
     }
 
     /// The ending, once, where the retry is over; `None` before that and after it was taken.
@@ -202,21 +146,21 @@ impl<X: Effect, D: Draws, F: Fallback<X>> RetryOr<X, D, F> {
     pub fn driver(&self) -> &Driver
         ensures { result.now ≡ self.now.retrying.past.driver }
     {
-        self.runner.driver()
+        self.retry.driver()
     }
 
     /// The effect, with its finished runs.
     pub fn effect(&self) -> &X
         ensures { X.finished result.now ≡ self.now.retrying.past.runs }
     {
-        self.runner.effect()
+        self.retry.effect()
     }
 
     /// The moments at which runs were begun.
     pub fn begun(&self) -> &[Moment]
         ensures { result.now ≡ self.now.retrying.past.begun }
     {
-        self.runner.begun()
+        self.retry.begun()
     }
 
     /// How many tickets it was granted, without those of earlier retries.
@@ -224,7 +168,7 @@ impl<X: Effect, D: Draws, F: Fallback<X>> RetryOr<X, D, F> {
         ensures granted { result ≡ self.now.retrying.past.granted }
         ensures tickets { self.now.retrying.had + result ≡ D.grants.granted self.now.retrying.drawing }
     {
-        self.drawing.granted() - self.had
+        self.retry.granted()
     }
 
     /// The effect, the driver, what it drew by, with all its tickets, and the fallback.
@@ -237,15 +181,13 @@ impl<X: Effect, D: Draws, F: Fallback<X>> RetryOr<X, D, F> {
         ensures answered { F.answered result.3 ≡ self.answered }
     {
         let RetryOr {
-            runner,
+            retry,
             over: _,
             stopped: _,
             ending: _,
-            drawing,
-            had: _,
             fallback,
         } = self;
-        let (effect, driver, _) = runner.into_parts();
+        let (effect, driver, drawing) = retry.into_parts();
         (effect, driver, drawing, fallback)
     }
 }

@@ -2,51 +2,62 @@
 ghost use Rattle.std.specs.Prelude.{◌≡◌, true, is_some, IsSomeAnd};
 ghost use Rattle.futures.specs.Task.{Keeps};
 ghost use Rattle.sched_driver.specs.Driven.{last_output};
-ghost use Rattle.sched_retry_or.specs.Stops.{or_stopped, Asked};
+ghost use Rattle.sched_retry_or.specs.Stops.{or_stopped, unless_stop, Asked};
 
 use crate::endings::RetryOrEnding;
 use crate::stopped::Stopped;
 use futures::task::{Context, Poll};
 use sched_effect::{Coded, Effect, Fallback};
-use sched_retry::Ending;
+use sched_retry::{Ending, Retry};
 use sched_task::{How, RunFault};
-use sched_task_law::Runner;
+use sched_ticket_draws::Draws;
 
-// A retry that stops asks its fallback; any other ending is its own.
+// What the ending of the retry beneath leaves: why that stopped, or an ending.
 pub(crate) fn or_stopped<I: Drop, F: Drop>(
-    ending: Ending<I, F>,
-) -> Result<RetryOrEnding<I, F>, Stopped<F>>
+    ending: Option<Ending<I, F>>,
+) -> (Option<Stopped<F>>, Option<RetryOrEnding<I, F>>)
     ensures { result ≡ or_stopped ending }
 {
     match ending {
-        Ending::Won(item) => Ok(RetryOrEnding::Won(item)),
-        Ending::ScheduleDone(fault) => Err(Stopped {
-            how: How::ScheduleDone,
-            fault,
-        }),
-        Ending::BudgetRefused(fault) => Err(Stopped {
-            how: How::BudgetRefused,
-            fault,
-        }),
-        Ending::Cancelled => Ok(RetryOrEnding::Cancelled),
-        Ending::Broken(cause) => Ok(RetryOrEnding::Broken(cause)),
+        None => (None, None),
+        Some(Ending::Won(item)) => (None, Some(RetryOrEnding::Won(item))),
+        Some(Ending::ScheduleDone(fault)) => {
+            let how = How::ScheduleDone;
+            (Some(Stopped { how, fault }), None)
+        }
+        Some(Ending::BudgetRefused(fault)) => {
+            let how = How::BudgetRefused;
+            (Some(Stopped { how, fault }), None)
+        }
+        Some(Ending::Cancelled) => (None, Some(RetryOrEnding::Cancelled)),
+        Some(Ending::Broken(cause)) => (None, Some(RetryOrEnding::Broken(cause))),
+    }
+}
+
+// How a retry with a fallback is over where the retry beneath is over so: where that stops, the fallback is asked.
+pub(crate) fn unless_stop(over: Option<How>) -> Option<How>
+    ensures { result ≡ unless_stop over }
+{
+    match over {
+        Some(How::ScheduleDone | How::BudgetRefused) => None,
+        None | Some(How::Won | How::Failed | How::Cancelled | How::Broken(_)) => over,
     }
 }
 
 // Asks the fallback with the last failure and the driver's last output. Answers how the retry is then over, with its
 // ending, or `None` where the fallback has no answer yet.
-pub(crate) fn ask<X: Effect, F: Fallback<X>>(
-    runner: &Runner<X>,
+pub(crate) fn ask<X: Effect, D: Draws, F: Fallback<X>>(
+    retry: &Retry<X, D>,
     stopped: &Stopped<X::Fault>,
     fallback: &mut F,
     cx: &mut Context<'_>,
 ) -> Option<(How, RetryOrEnding<X::Item, X::Fault>)>
-    requires { is_some (last_output runner.now.driver) ≡ true }
-    ensures asked { IsSomeAnd (last_output runner.now.driver) (λ output. Asked X.Item.coded X.Fault.coded
+    requires { is_some (last_output retry.now.past.driver) ≡ true }
+    ensures asked { IsSomeAnd (last_output retry.now.past.driver) (λ output. Asked X.Item.coded X.Fault.coded
         stopped.now output result (F.asked fallback.new) (F.answered fallback.new)) }
     ensures kept { Keeps cx.old cx.new }
 {
-    let output = runner.driver().last().unwrap();
+    let output = retry.driver().last().unwrap();
     match fallback.poll_fallback(&stopped.fault, output, cx) {
         Poll::Pending => None,
         Poll::Ready(Err(_)) => {

@@ -23,7 +23,7 @@ pub use Rattle.sched_effect.specs.Called
 pub use Rattle.sched_task_law.specs.Kind
 pub use Rattle.sched_task_law.specs.Past
 pub use Rattle.sched_task_law.specs.Law
-pub use Rattle.sched_retry.specs.Retrying
+pub use Rattle.sched_run_machine.specs.Retrying
 pub use Rattle.sched_retry.specs.Ending
 pub use Rattle.sched_retry_or.specs.Falling
 pub use Rattle.sched_retry_or.specs.Ending as FallbackEnding

@@ -1,5 +1,6 @@
 -- Each call on a machine is one poll of each retry that it may stand for.
-use Rattle.std.proofs.Common.{◌≡◌, ℕ, if◌then◌else◌, ◌+◌, ◌≤◌, Bool, true, false, List, [], ◌∷◌, ◌++◌, length, min, Option, Some, None, is_some, IfSome, refl, sym, ap, ◌∙◌, subst, arith}
+use Rattle.std.proofs.Common.{◌≡◌, ℕ, if◌then◌else◌, ◌+◌, ◌<◌, ◌≤◌, inl, inr, Bool, true, false, List, [], ◌∷◌, ◌++◌, length, min, Option, Some, None, is_some, IfSome, IsSomeAnd, refl, sym, ap, ◌∙◌, subst, arith}
+use Rattle.std.specs.Bool.{MatchBool}
 use Rattle.std.proofs.lemmas.List.{append-nil, length_push}
 use Rattle.sched_time.specs.declared.numbers.Tick.{Tick}
 use Rattle.sched_plan.specs.Schedule.{Schedule}
@@ -12,15 +13,16 @@ use Rattle.sched_ticket_draws.specs.Grants.{Grants, Lawful}
 use Rattle.sched_task_law.specs.Kind.{Kind, a_retry}
 use Rattle.sched_task_law.specs.Past.{Past, is_under_way, waits_for}
 use Rattle.sched_task_law.specs.Poll.{Happened, stays, cannot_begin, runs_on, cannot_run, ends, breaks, stops_done, stops_denied, recurs, asks, cannot_ask, falls, after, CanRun, Steps, May}
+use Rattle.sched_task_law.proofs.Lists.{by_test}
 use Rattle.sched_task_law.proofs.Law.{under_way_then, finished_then, law_of_nothing, law_cancelled}
-use Rattle.sched_retry.specs.Retrying.{Retrying, RetryPoll, DrawsIn, gives_up}
-use Rattle.sched_retry.proofs.Polls.{Settled, asks_fallback, next, settles, rests_over, rests_waiting}
+use Rattle.sched_run_machine.specs.Retrying.{Retrying, DrawsIn, gives_up}
+use Rattle.sched_run_machine.proofs.Settles.{next, settles, rests}
 use Rattle.sched_run_machine.specs.Drives.{unstepped, SteppedOn}
-use Rattle.sched_run_machine.specs.Machine.{Machine, begins, unbegun, cancelled, StandsFor, IsMachine, Polls, Ends}
-use Rattle.sched_run_machine.specs.Next.{HostPoll, Rests}
+use Rattle.sched_run_machine.specs.Machine.{Machine, begins, unbegun, breaks_off, cancelled, StandsFor, Looks, IsMachine, Polls, Ends}
+use Rattle.sched_run_machine.specs.Next.{HostPoll}
 
 -- whatever happens in a poll, the schedule stays
-same_plan : (kind : Kind) (v : Past) (t : Tick) (h : Happened) → (after kind v t h).driver.plan ≡ v.driver.plan
+pub same_plan : (kind : Kind) (v : Past) (t : Tick) (h : Happened) → (after kind v t h).driver.plan ≡ v.driver.plan
 same_plan kind v t stays = refl
 same_plan kind v t cannot_begin = refl
 same_plan kind v t runs_on = refl
@@ -64,14 +66,14 @@ module _ {R D : Type 0} (stands : R → Driven → Type 0) (keeps : Bool) (goes_
     -- the retry after a poll in which this happened, and the machine n that may stand for it
     polled : (n : Machine R D) (v : Retrying D) → StandsFor stands keeps grants m v → (h : Happened) (q : D) (told : List Ran) →
         v.past.over ≡ None → May (a_retry keeps) v.past t h → DrawsIn grants h t.now v.drawing q → grants.stands q →
-        asks_fallback h ≡ false → (after (a_retry keeps) v.past t h).runs ≡ v.past.runs ++ told →
+        (after (a_retry keeps) v.past t h).runs ≡ v.past.runs ++ told →
         stands n.driver (after (a_retry keeps) v.past t h).driver →
         n.under_way ≡ is_under_way (after (a_retry keeps) v.past t h).runs (after (a_retry keeps) v.past t h).begun →
         n.over ≡ (after (a_retry keeps) v.past t h).over → n.drawing ≡ q → n.had ≡ m.had →
         n.told ≡ min (length (v.past.runs ++ told)) 18446744073709551615 →
         (u : Retrying D) × HostPoll grants (a_retry keeps) v t told u × StandsFor stands keeps grants n u
-    polled n v st h q told unended may draws holds run runs driver under_way over drawing had count =
-        let was = settles grants lawful (a_retry keeps) v t h q refl st.law unended may draws holds run in (
+    polled n v st h q told unended may draws holds runs driver under_way over drawing had count =
+        let was = settles grants lawful (a_retry keeps) v t h q refl st.law unended may draws holds in (
           next grants lawful (a_retry keeps) v t h q,
           record { poll = was.poll; runs = runs },
           record {
@@ -109,58 +111,79 @@ module _ {R D : Type 0} (stands : R → Driven → Type 0) (keeps : Bool) (goes_
     }
 
     -- a retry that stays as it is
-    stayed : (v : Retrying D) (ready : Bool) → StandsFor stands keeps grants m v → Settled grants lawful (a_retry keeps) v t ready v →
+    stayed : (v : Retrying D) → StandsFor stands keeps grants m v → May (a_retry keeps) v.past t stays →
         (u : Retrying D) × HostPoll grants (a_retry keeps) v t [] u × StandsFor stands keeps grants m u
-    stayed v ready st was = (
-      v,
-      record {
-        poll = subst (λ (ready : Bool). RetryPoll grants (a_retry keeps) v t ready v) was.poll.poll.ready_is was.poll;
-        runs = sym (append-nil v.past.runs);
-      },
-      st,
-    )
+    stayed v st may =
+        (v, record { poll = rests grants lawful (a_retry keeps) v t (is_some v.past.over) refl st.law may; runs = sym (append-nil v.past.runs) }, st)
 
-    pub stays_over : is_some m.over ≡ true → Polls stands keeps goes_by grants m t [] m
-    stays_over over =
-        same_driver_polls m [] refl (λ v st.
-        stayed v true st (rests_over grants lawful (a_retry keeps) v t st.law (ap is_some (sym st.over) ∙ over)))
+    pub stays_as : Looks stands keeps grants m t true → Polls stands keeps goes_by grants m t [] m
+    stays_as may = same_driver_polls m [] refl (λ v st. stayed v st (may v st))
 
-    pub stays_waiting : m.over ≡ None → ((v : Retrying D) → StandsFor stands keeps grants m v → Rests v.past t.now true) →
-        Polls stands keeps goes_by grants m t [] m
-    stays_waiting unended waits =
-        same_driver_polls m [] refl (λ v st.
-        stayed v false st (rests_waiting grants lawful (a_retry keeps) v t st.law (sym st.over ∙ unended) (waits v st)))
+    -- What a look tells: one that is over stays as it is, and so does one that waits for a later moment; else a run can
+    -- be polled.
+    pub looks_over : is_some m.over ≡ true → Looks stands keeps grants m t true
+    looks_over over v st = inl (ap is_some (sym st.over) ∙ over)
 
-    can_run : m.over ≡ None → (v : Retrying D) → StandsFor stands keeps grants m v → IfSome (waits_for v.past) (λ s. s ≤ t.now) →
-        CanRun v.past t
-    can_run unended v st due =
+    pub looks : (due : Option ℕ) (later : Bool) → m.over ≡ None →
+        ((v : Retrying D) → StandsFor stands keeps grants m v → due ≡ waits_for v.past) →
+        MatchBool later (IsSomeAnd due (λ s. t.now < s)) (IfSome due (λ s. s ≤ t.now)) → Looks stands keeps grants m t later
+    looks due true unended is later =
+        λ v st. inr (subst (λ (due : Option ℕ). IsSomeAnd due (λ s. t.now < s)) (is v st) later)
+    looks due false unended is later = λ v st.
         let none = sym st.over ∙ unended in
-        record { unended = none; unstopped = rw none at st.law.law.ended refl; due = due }
+        record {
+          unended = none;
+          unstopped = rw none at st.law.law.ended refl;
+          due = subst (λ (due : Option ℕ). IfSome due (λ s. s ≤ t.now)) (is v st) later;
+        }
 
-    -- a run begins, or is under way
-    begins_run : m.over ≡ None → ((v : Retrying D) → StandsFor stands keeps grants m v → Rests v.past t.now false) →
-        Polls stands keeps goes_by grants m t [] (record m { under_way = true })
-    begins_run unended due =
-        same_driver_polls (record m { under_way = true }) [] refl (λ v st.
-        let can = can_run unended v st (due v st) in
-        polled (record m { under_way = true }) v st runs_on v.drawing [] can.unended can refl st.law.stands refl
-        (sym (append-nil v.past.runs)) st.driver (sym (under_way_then v.past t st.law.law.counted)) st.over st.drawing refl
-        (st.told ∙ ap (λ (runs : List Ran). min (length runs) 18446744073709551615) (sym (append-nil v.past.runs))))
+    -- a run that is under way can be polled
+    pub can_end : m.over ≡ None → m.under_way ≡ true → Looks stands keeps grants m t false
+    can_end unended running v st =
+        let none = sym st.over ∙ unended in
+        let under = sym st.under_way ∙ running in
+        record { unended = none; unstopped = rw none at st.law.law.ended refl; due = rw (none, under) tt }
 
-    pub begins_as : (w : Machine R D) → m ≡ w → m.over ≡ None →
-        ((v : Retrying D) → StandsFor stands keeps grants w v → Rests v.past t.now false) →
-        Polls stands keeps goes_by grants w t [] (record m { under_way = true })
-    begins_as w same unended due =
-        polled_as w (record m { under_way = true }) [] same (begins_run unended (λ v st.
-        due v (subst (λ (m : Machine R D). StandsFor stands keeps grants m v) same st)))
+    -- no run finishes, and none is told
+    none_told : (v : Retrying D) → StandsFor stands keeps grants m v →
+        m.told ≡ min (length (v.past.runs ++ [])) 18446744073709551615
+    none_told v st =
+        st.told ∙ ap (λ (runs : List Ran). min (length runs) 18446744073709551615) (sym (append-nil v.past.runs))
 
-    -- the run under way ends as it went
-    module _ (unended : m.over ≡ None) (running : m.under_way ≡ true) where
-      can_end : (v : Retrying D) → StandsFor stands keeps grants m v → CanRun v.past t
-      can_end v st =
-          let none = sym st.over ∙ unended in let under = sym st.under_way ∙ running in
-          can_run unended v st (rw (none, under) tt)
+    -- Polls of the value w that a contract sees, of which a run can be polled.
+    module _ (w : Machine R D) (same : m ≡ w) (can_run : Looks stands keeps grants w t false) where
+      can : (v : Retrying D) → StandsFor stands keeps grants m v → CanRun v.past t
+      can v st = can_run v (subst (λ (m : Machine R D). StandsFor stands keeps grants m v) same st)
 
+      -- a run begins, or is under way
+      pub begins_run : Polls stands keeps goes_by grants w t [] (record m { under_way = true })
+      begins_run =
+          polled_as w (record m { under_way = true }) [] same (same_driver_polls (record m { under_way = true }) [] refl (λ v st.
+          polled (record m { under_way = true }) v st runs_on v.drawing [] (can v st).unended (can v st) refl st.law.stands
+          (sym (append-nil v.past.runs)) st.driver (sym (under_way_then v.past t st.law.law.counted)) st.over st.drawing refl
+          (none_told v st)))
+
+      -- memory is refused to it, or to its beginning
+      broken : (begun : Bool) → (m.under_way ≡ true → begun ≡ true) → (v : Retrying D) → StandsFor stands keeps grants m v →
+          (u : Retrying D) × HostPoll grants (a_retry keeps) v t [] u × StandsFor stands keeps grants (breaks_off begun m) u
+      broken true begun v st =
+          polled (breaks_off true m) v st cannot_run v.drawing [] (can v st).unended (can v st) refl st.law.stands
+          (sym (append-nil v.past.runs)) st.driver (sym (under_way_then v.past t st.law.law.counted)) refl st.drawing refl
+          (none_told v st)
+      broken false begun v st =
+          let unbegun : m.under_way ≡ false =
+          by_test m.under_way (λ running. absurd (let bad : false ≡ true = begun running in cc)) (λ isnt. isnt) in
+          let none : is_under_way v.past.runs v.past.begun ≡ false = sym st.under_way ∙ unbegun in
+          polled (breaks_off false m) v st cannot_begin v.drawing [] (can v st).unended (can v st, none) refl st.law.stands
+          (sym (append-nil v.past.runs)) st.driver (sym none) refl st.drawing refl (none_told v st)
+
+      pub breaks_run : (begun : Bool) → (w.under_way ≡ true → begun ≡ true) →
+          Polls stands keeps goes_by grants w t [] (breaks_off begun m)
+      breaks_run begun running =
+          polled_as w (breaks_off begun m) [] same (same_driver_polls (breaks_off begun m) [] refl (broken begun (λ is.
+          running (sym (ap (λ (m : Machine R D). m.under_way) same) ∙ is))))
+
+      -- the run ends as it went
       abbrev pub ended : R → Option How → D → Machine R D
       ended s over q =
           record m { driver = s; under_way = false; over = over; drawing = q; told = min (m.told + 1) 18446744073709551615 }
@@ -183,36 +206,36 @@ module _ {R D : Type 0} (stands : R → Driven → Type 0) (keeps : Bool) (goes_
 
       steps : (v : Retrying D) (s : R) (code : ℕ) (done : Bool) → StandsFor stands keeps grants m v →
           SteppedOn stands keeps v.past.driver t code done s → Steps (a_retry keeps) v.past t (Lost code)
-      steps v s code done st step = record { can = can_end v st; called = refl; room = step.room }
+      steps v s code done st step = record { can = can v st; called = refl; room = step.room }
 
       ends_leads : (r : Ran) (over : Option How) (s : R) (q : D) → Ends stands keeps goes_by grants m.driver m.drawing t r over s q →
           grants.stands q → (v : Retrying D) → StandsFor stands keeps grants m v → goes_by s v.past.driver.plan →
           (u : Retrying D) × HostPoll grants (a_retry keeps) v t (r ∷ []) u × StandsFor stands keeps grants (ended s over q) u
       ends_leads (Won code) over s q came holds v st by =
-          let can = can_end v st in
-          polled (ended s over q) v st (ends (Won code)) q (Won code ∷ []) can.unended (can, refl) (came.2 ∙ st.drawing) holds refl
+          let can_be = can v st in
+          polled (ended s over q) v st (ends (Won code)) q (Won code ∷ []) can_be.unended (can_be, refl) (came.2 ∙ st.drawing) holds
           refl (same_driver v s st came.1) (idle v (Won code) st) came.0 refl refl
           (counted v (Won code) st)
       ends_leads (Lost code) None s q came holds v st by =
           let step = came.0 v.past.driver st.driver by in let steps = steps v s code false st step in
           polled (ended s None q) v st (recurs (Lost code)) q (Lost code ∷ []) steps.can.unended (steps, step.done_is)
-          (drew_by v true q st came.1) holds refl refl step.stands_on (idle v (Lost code) st) (sym steps.can.unended) refl refl
+          (drew_by v true q st came.1) holds refl step.stands_on (idle v (Lost code) st) (sym steps.can.unended) refl refl
           (counted v (Lost code) st)
       ends_leads (Lost code) (Some how.ScheduleDone) s q came holds v st by =
           let step = came.0 v.past.driver st.driver by in let steps = steps v s code true st step in
           polled (ended s (Some how.ScheduleDone) q) v st (stops_done (Lost code)) q (Lost code ∷ []) steps.can.unended
-          (steps, step.done_is) (came.1 ∙ st.drawing) holds refl refl step.stands_on (idle v (Lost code) st) refl refl refl
+          (steps, step.done_is) (came.1 ∙ st.drawing) holds refl step.stands_on (idle v (Lost code) st) refl refl refl
           (counted v (Lost code) st)
       ends_leads (Lost code) (Some how.BudgetRefused) s q came holds v st by =
           let step = came.0 v.past.driver st.driver by in let steps = steps v s code false st step in
           polled (ended s (Some how.BudgetRefused) q) v st (stops_denied (Lost code)) q (Lost code ∷ []) steps.can.unended
-          (steps, step.done_is, refl) (drew_by v false q st came.1) holds refl refl step.stands_on (idle v (Lost code) st)
+          (steps, step.done_is, refl) (drew_by v false q st came.1) holds refl step.stands_on (idle v (Lost code) st)
           refl refl refl
           (counted v (Lost code) st)
       ends_leads (Lost code) (Some (how.Broken fault)) s q came holds v st by =
-          let can = can_end v st in
-          polled (ended s (Some (how.Broken fault)) q) v st (breaks (Lost code) fault) q (Lost code ∷ []) can.unended
-          (can, refl, came.0 v.past.driver st.driver) (came.2 ∙ st.drawing) holds refl refl (same_driver v s st came.1)
+          let can_be = can v st in
+          polled (ended s (Some (how.Broken fault)) q) v st (breaks (Lost code) fault) q (Lost code ∷ []) can_be.unended
+          (can_be, refl, came.0 v.past.driver st.driver) (came.2 ∙ st.drawing) holds refl (same_driver v s st came.1)
           (idle v (Lost code) st) refl refl refl
           (counted v (Lost code) st)
       ends_leads (Lost code) (Some how.Won) s q came holds v st by = absurd came
@@ -221,8 +244,9 @@ module _ {R D : Type 0} (stands : R → Driven → Type 0) (keeps : Bool) (goes_
 
       pub ends_run : (r : Ran) (over : Option How) (s : R) (q : D) → Ends stands keeps goes_by grants m.driver m.drawing t r over s q →
           grants.stands q → ((c : Schedule) → goes_by s c → goes_by m.driver c) →
-          Polls stands keeps goes_by grants m t (r ∷ []) (ended s over q)
-      ends_run r over s q came holds narrows = record { narrows = narrows; leads = ends_leads r over s q came holds }
+          Polls stands keeps goes_by grants w t (r ∷ []) (ended s over q)
+      ends_run r over s q came holds narrows =
+          polled_as w (ended s over q) (r ∷ []) same (record { narrows = narrows; leads = ends_leads r over s q came holds })
 
   -- one that gives up
   pub cancels : (m : Machine R D) (v : Retrying D) → StandsFor stands keeps grants m v →

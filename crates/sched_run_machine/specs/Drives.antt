@@ -48,3 +48,10 @@ IsStepped v d = (v.plan ≡ d.plan) × StandsFor v d.journal
 -- and it goes by its plan
 abbrev pub GoesByPlan : Standing → Schedule → Type 0
 GoesByPlan v s = v.plan ≡ s
+
+-- a driver with its journal stands for that alone, and goes by its plan
+abbrev pub IsDriven : Driven → Driven → Type 0
+IsDriven v d = v ≡ d
+
+abbrev pub PlanIs : Driven → Schedule → Type 0
+PlanIs v s = v.plan ≡ s

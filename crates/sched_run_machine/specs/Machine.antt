@@ -9,15 +9,17 @@ use Rattle.sched_effect.specs.declared.ran.Ran.{Ran}
 use Rattle.sched_effect.specs.declared.ran.Ran.TheVariants.{Won, Lost}
 use Rattle.sched_task.specs.declared.endings.How.{How}
 use Rattle.sched_task.specs.declared.endings.How.TheVariants as how
+use Rattle.sched_task.specs.declared.endings.RunFault.TheVariants.{NoMemory}
 use Rattle.sched_task_law.specs.Kind.{a_retry}
 use Rattle.sched_task_law.specs.Past.{nothing_yet, is_under_way}
+use Rattle.sched_task_law.specs.Poll.{stays, CanRun, May}
 use Rattle.sched_task_law.specs.Codes.{coded_how}
-use Rattle.sched_retry.specs.Retrying.{Retrying, RetryLaw}
+use Rattle.sched_run_machine.specs.Retrying.{Retrying, RetryLaw}
 use Rattle.sched_run_machine.specs.Deadline.{is_past}
 use Rattle.sched_run_machine.specs.Drives.{Stepped, Refused}
 use Rattle.sched_run_machine.specs.Next.{HostPoll}
 use Rattle.sched_run_machine.specs.declared.next.Next.{Next}
-use Rattle.sched_run_machine.specs.declared.next.Next.TheVariants.{Poll, Run, Wait, Over}
+use Rattle.sched_run_machine.specs.declared.next.Next.TheVariants.{Wait}
 
 -- a machine with a driver of R, which draws by a value of D
 pub record Machine (R D : Type 0) : Type 0 where
@@ -51,13 +53,6 @@ coded_machine {R} {D} coded_driver coded_drawing =
 abbrev pub is_told : {R D : Type 0} → Machine R D → Bool
 is_told m = not (is_some m.over) && m.under_way
 
--- what is to be done tells whether the machine is over, and whether a run is under way
-abbrev pub Finds : {R D : Type 0} → Machine R D → Next → Type 0
-Finds m (Over ended) = m.over ≡ Some ended
-Finds m Run = (m.over ≡ None) × (m.under_way ≡ true)
-Finds m Poll = (m.over ≡ None) × (m.under_way ≡ false)
-Finds m (Wait start) = (m.over ≡ None) × (m.under_way ≡ false)
-
 -- where it waits, it is for no moment past the deadline
 abbrev pub WaitsInTime : Option ℕ → Next → Type 0
 WaitsInTime deadline (Wait start) = is_past deadline start ≡ false
@@ -70,6 +65,10 @@ EndsAs (Lost code) (Some how.Won) = ⊥
 EndsAs (Lost code) (Some how.Failed) = ⊥
 EndsAs (Lost code) (Some how.Cancelled) = ⊥
 EndsAs (Lost code) _ = Unit {0}
+
+-- one to whose run, or to the beginning of it, memory is refused
+abbrev pub breaks_off : {R D : Type 0} → Bool → Machine R D → Machine R D
+breaks_off begun m = record m { under_way = begun; over = Some (how.Broken NoMemory) }
 
 -- one that is not over is cancelled
 abbrev pub cancelled : {R D : Type 0} → Machine R D → Machine R D
@@ -102,6 +101,11 @@ module _ {R D : Type 0} (stands : R → Driven → Type 0) (keeps : Bool) (grant
     pub drawing : m.drawing ≡ v.drawing
     pub had : m.had ≡ v.had
     pub told : m.told ≡ min (length v.past.runs) 18446744073709551615
+
+  -- what a look before a poll tells of each retry that it may stand for: it stays as it is, or a run can be polled
+  abbrev pub Looks : Machine R D → Tick → Bool → Type 0
+  Looks m t true = (v : Retrying D) → StandsFor m v → May (a_retry keeps) v.past t stays
+  Looks m t false = (v : Retrying D) → StandsFor m v → CanRun v.past t
 
 module _ {R D : Type 0} (stands : R → Driven → Type 0) (keeps : Bool) (goes_by : R → Schedule → Type 0)
     (grants : Grants D) where

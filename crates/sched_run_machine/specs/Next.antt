@@ -1,14 +1,14 @@
 -- What a host is to do for a retry, and one call on it.
-use Rattle.std.specs.Prelude.{◌≡◌, ℕ, ◌<◌, ◌≤◌, Bool, true, false, not, ◌&&◌, if◌then◌else◌}
-use Rattle.std.specs.Prelude.{List, ◌++◌, Option, Some, None, is_some, IfSome, IsSomeAnd}
+use Rattle.std.specs.Prelude.{◌≡◌, ℕ, Bool, true, false, not, ◌&&◌, if◌then◌else◌}
+use Rattle.std.specs.Prelude.{List, ◌++◌, Option, Some, None, is_some}
 use Rattle.sched_time.specs.declared.numbers.Tick.{Tick}
 use Rattle.sched_driver.specs.Driven.{next_start_of}
 use Rattle.sched_ticket_draws.specs.Grants.{Grants}
 use Rattle.sched_effect.specs.declared.ran.Ran.{Ran}
 use Rattle.sched_task.specs.declared.endings.How.{How}
 use Rattle.sched_task_law.specs.Kind.{Kind}
-use Rattle.sched_task_law.specs.Past.{Past, is_under_way, waits_for}
-use Rattle.sched_retry.specs.Retrying.{Retrying, RetryPoll}
+use Rattle.sched_task_law.specs.Past.{Past, is_under_way}
+use Rattle.sched_run_machine.specs.Retrying.{Retrying, RetryPoll}
 use Rattle.sched_run_machine.specs.declared.next.Next.{Next}
 use Rattle.sched_run_machine.specs.declared.next.Next.TheVariants.{Poll, Run, Wait, Over}
 
@@ -29,10 +29,19 @@ next_by_ending v None = if is_under_way v.runs v.begun then Run else next_by_sta
 abbrev pub next_of : Past → Next
 next_of v = next_by_ending v v.over
 
--- whether a retry waits for a moment after this one
-abbrev pub Rests : Past → ℕ → Bool → Type 0
-Rests v now true = IsSomeAnd (waits_for v) (λ m. now < m)
-Rests v now false = IfSome (waits_for v) (λ m. m ≤ now)
+-- the moment to wait for, if any
+abbrev pub start_in : Next → Option ℕ
+start_in (Wait start) = Some start
+start_in Poll = None
+start_in Run = None
+start_in (Over how) = None
+
+-- what is to be done tells how a machine is over, and whether a run is under way
+abbrev pub Finds : Option How → Bool → Next → Type 0
+Finds over running (Over ended) = over ≡ Some ended
+Finds over running Run = (over ≡ None) × (running ≡ true)
+Finds over running Poll = (over ≡ None) × (running ≡ false)
+Finds over running (Wait start) = (over ≡ None) × (running ≡ false)
 
 -- One poll of a retry, in which the runs that finish are those that the host told.
 module _ {D : Type 0} (grants : Grants D) (kind : Kind) where

@@ -5,11 +5,10 @@ ghost use Rattle.sched_plan.specs.Schedule.{Schedule};
 ghost use Rattle.sched_run_machine.specs.Deadline.{is_past};
 ghost use Rattle.sched_run_machine.specs.Drives.{unstepped, Stepped, Refused};
 
-use sched_driver::Driver;
+use sched_driver::{DriveFault, Driver};
 use sched_driver_stepper::{StepFault, Stepper};
 use sched_plan::Val;
 use sched_task::RunFault;
-use sched_task_law::step_driver;
 use sched_time::{Millis, Moment, Tick};
 use std::alloc::Global;
 
@@ -58,13 +57,13 @@ pub trait Drives: Drop {
 
 impl Drives for Driver {
     ghost use Rattle.std.specs.Prelude.{◌≡◌, [], true, None, refl};
-    ghost use Rattle.sched_run_machine.specs.Drives.{unstepped_driver};
+    ghost use Rattle.sched_run_machine.specs.Drives.{IsDriven, PlanIs, unstepped_driver};
 
     ghost keeps = { true };
 
-    ghost stands = { λ v d. v ≡ d };
+    ghost stands = { IsDriven };
 
-    ghost goes_by = { λ v s. v.plan ≡ s };
+    ghost goes_by = { PlanIs };
 
     ghost plan = { λ v. v.plan };
 
@@ -86,7 +85,12 @@ impl Drives for Driver {
         tick: &Tick,
         code: Millis,
     ) -> Result<Option<Moment>, RunFault> {
-        step_driver(alloc, self, tick, code)
+        match self.next(alloc, *tick, Val::from(code)) {
+            Ok(decision) => Ok(decision.start()),
+            Err(DriveFault::Backwards { floor: _ }) => Err(RunFault::Backwards),
+            Err(DriveFault::JournalFull) => Err(RunFault::JournalFull),
+            Err(DriveFault::NoMemory) => Err(RunFault::NoMemory),
+        }
     }
 }
 

@@ -7,9 +7,11 @@
 mod drives;
 mod machine;
 mod next;
+mod runner;
 mod until;
 
 pub use drives::Drives;
 pub use machine::Machine;
-pub use next::Next;
+pub use next::{Next, is_later};
+pub use runner::{Polled, Runner, ready_where};
 pub use until::Until;

@@ -1,14 +1,15 @@
 //! The machine of a retry.
 ghost use Rattle.std.specs.Prelude.{◌≡◌, ◌+◌, [], ◌∷◌, true, false, None};
 ghost use Rattle.sched_plan.specs.Schedule.{Schedule};
-ghost use Rattle.sched_retry.specs.Retrying.{Retrying, gives_up};
-ghost use Rattle.sched_run_machine.specs.Machine.{begins, unbegun, is_told, cancelled, StandsFor, IsMachine, Polls, Finds, WaitsInTime, Ends, EndsAs};
-ghost use Rattle.sched_run_machine.specs.Next.{next_of, Rests};
+ghost use Rattle.sched_run_machine.specs.Retrying.{Retrying, gives_up};
+ghost use Rattle.sched_run_machine.specs.Machine.{begins, unbegun, is_told, breaks_off, cancelled, StandsFor, Looks, IsMachine, Polls, WaitsInTime, Ends, EndsAs};
+ghost use Rattle.sched_task_law.specs.Past.{waits_for};
+ghost use Rattle.sched_run_machine.specs.Next.{next_of, Finds};
 
 use crate::drives::Drives;
-use crate::next::Next;
+use crate::next::{Next, is_later};
 use sched_effect::Ran;
-use sched_task::How;
+use sched_task::{How, RunFault};
 use sched_ticket_draws::Draws;
 use sched_time::{Moment, Tick};
 use std::alloc::Global;
@@ -79,12 +80,18 @@ impl<R: Drives, D: Draws> Machine<R, D> {
         ensures unbroken { self.new.over ≡ self.old.over }
         ensures deadline { R.ends self.new.driver ≡ R.ends self.old.driver }
     {
-        if self.over.is_some() {
+        if self.stays(tick) {
             return;
         }
-        if self.rests(tick.now) {
-            return;
-        }
+        self.begin(tick);
+    }
+
+    /// Begins a run at the tick, where none is under way.
+    pub fn begin(&mut self, _tick: &Tick)
+        requires { Looks R.stands R.keeps D.grants self.old _tick.now false }
+        ensures polls { Polls R.stands R.keeps R.goes_by D.grants self.old _tick.entry.now [] self.new }
+        ensures begins { self.new ≡ record self.old { under_way = true } }
+    {
         self.under_way = true;
     }
 
@@ -107,17 +114,58 @@ impl<R: Drives, D: Draws> Machine<R, D> {
         if !self.under_way {
             return false;
         }
+        self.finish(alloc, tick, ran);
+        true
+    }
+
+    /// Ends the run under way as it went, or one that began at the tick, as `report` does.
+    pub fn finish(&mut self, alloc: Global, tick: &Tick, ran: Ran)
+        requires { Looks R.stands R.keeps D.grants self.old tick.now false }
+        ensures polls { Polls R.stands R.keeps R.goes_by D.grants self.old tick.entry.now (ran ∷ []) self.new }
+        ensures ends { EndsAs ran self.new.over }
+        ensures idle { self.new.under_way ≡ false }
+        ensures deadline { R.ends self.new.driver ≡ R.ends self.old.driver }
+    {
         let driver = &mut self.driver;
         let drawing = &mut self.drawing;
         self.over = end_run(alloc, driver, drawing, tick, ran);
         self.under_way = false;
         self.told = self.told.saturating_add(1);
-        true
+    }
+
+    /// Ends the retry as `Broken(NoMemory)`: memory is refused to the run under way or to one that begins at the tick,
+    /// or, where no run has begun, to its beginning.
+    pub fn break_off(&mut self, _tick: &Tick, begun: bool)
+        requires looks { Looks R.stands R.keeps D.grants self.old _tick.now false }
+        requires begun { self.old.under_way ≡ true → begun ≡ true }
+        ensures polls { Polls R.stands R.keeps R.goes_by D.grants self.old _tick.entry.now [] self.new }
+        ensures breaks_off { self.new ≡ breaks_off begun self.old }
+    {
+        self.under_way = begun;
+        self.over = Some(How::Broken(RunFault::NoMemory));
+    }
+
+    /// Whether a poll leaves it as it is: it is over, or waits for a later moment.
+    pub fn stays(&self, tick: &Tick) -> bool
+        ensures looks { Looks R.stands R.keeps D.grants self.now tick.entry.now result }
+        ensures unended { result ≡ false → self.now.over ≡ None }
+    {
+        if self.over.is_some() {
+            return true;
+        }
+        is_later(self.due(), tick.now)
+    }
+
+    /// The moment that it waits for, or `None` where it waits for none.
+    pub fn due(&self) -> Option<Moment>
+        ensures { (v : Retrying D) → StandsFor R.stands R.keeps D.grants self.now v → result ≡ waits_for v.past }
+    {
+        self.next().start()
     }
 
     /// What the host is to do. It waits for no moment past the deadline of its driver, where that has one.
     pub fn next(&self) -> Next
-        ensures finds { Finds self.now result }
+        ensures finds { Finds self.now.over self.now.under_way result }
         ensures in_time { WaitsInTime (R.ends self.now.driver) result }
         ensures next { (v : Retrying D) → StandsFor R.stands R.keeps D.grants self.now v → result ≡ next_of v.past }
     {
@@ -169,6 +217,13 @@ impl<R: Drives, D: Draws> Machine<R, D> {
         self.told
     }
 
+    /// How many tickets what it draws by had been granted before.
+    pub fn had(&self) -> u64
+        ensures { result ≡ self.now.had }
+    {
+        self.had
+    }
+
     /// The driver.
     pub fn driver(&self) -> &R
         ensures { result.now ≡ self.now.driver }
@@ -198,20 +253,6 @@ impl<R: Drives, D: Draws> Machine<R, D> {
             told: _,
         } = self;
         (driver, drawing)
-    }
-
-    // Whether a retry that is not over waits for a moment after this one.
-    fn rests(&self, now: Moment) -> bool
-        requires { self.now.over ≡ None }
-        ensures { (v : Retrying D) → StandsFor R.stands R.keeps D.grants self.now v → Rests v.past now result }
-    {
-        if self.under_way {
-            return false;
-        }
-        match self.driver.next_start() {
-            Some(start) => now.get() < start.get(),
-            None => false,
-        }
     }
 }
 

@@ -3,9 +3,9 @@ use Rattle.std.proofs.Common.{◌≡◌, ℕ, Some, Err, refl}
 use Rattle.sched_handle.specs.Held.{Wants}
 use Rattle.sched_handle.specs.declared.held.Held.{Held}
 use Rattle.sched_handle.specs.declared.held.Kind.TheVariants as kind
-use Rattle.sched_reply.specs.Status.{code_of}
-use Rattle.sched_reply.specs.declared.status.Status.{Status}
-use Rattle.sched_reply.specs.declared.status.Status.TheVariants as status
+use Rattle.sched_handle.specs.Status.{code_of}
+use Rattle.sched_handle.specs.declared.status.Status.{Status}
+use Rattle.sched_handle.specs.declared.status.Status.TheVariants as status
 use Rattle.sched_storm_call.specs.Plays.{Told, HasRoom, PlaysStorm}
 use Rattle.sched_storm_call.specs.declared.records.StormGiven.{StormGiven}
 
@@ -25,8 +25,6 @@ refused g t u status.TooMany room wants = absurd wants
 refused g t u status.Backwards room wants = absurd wants
 refused g t u status.JournalFull room wants = absurd wants
 refused g t u status.NoOutput room wants = absurd wants
-refused g t u status.NotANumber room wants = absurd wants
-refused g t u status.NoEvent room wants = absurd wants
 refused g t u status.LimitTooLarge room wants = absurd wants
 refused g t u status.Fixed room wants = absurd wants
 refused g t u status.NoTicket room wants = absurd wants

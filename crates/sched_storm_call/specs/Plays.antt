@@ -6,9 +6,9 @@ use Rattle.sched_storm.specs.declared.report.Report.{Report}
 use Rattle.sched_handle.specs.Held.{kind_of}
 use Rattle.sched_handle.specs.declared.held.Held.{Held}
 use Rattle.sched_handle.specs.declared.held.Kind.TheVariants as kind
-use Rattle.sched_reply.specs.Status.{code_of}
-use Rattle.sched_reply.specs.declared.status.Status.{Status}
-use Rattle.sched_reply.specs.declared.status.Status.TheVariants.{Empty, WrongKind, NoMemory, NoRoom, OutOfRange}
+use Rattle.sched_handle.specs.Status.{code_of}
+use Rattle.sched_handle.specs.declared.status.Status.{Status}
+use Rattle.sched_handle.specs.declared.status.Status.TheVariants.{Empty, WrongKind, NoMemory, NoRoom, OutOfRange}
 use Rattle.sched_storm_call.specs.Told.{IsGiven, parameters_of, room_of, window_told, totals_told}
 use Rattle.sched_storm_call.specs.declared.records.StormGiven.{StormGiven}
 use Rattle.sched_storm_call.specs.declared.records.WindowTold.{WindowTold}

@@ -9,7 +9,6 @@ use Rattle.sched_task.specs.declared.endings.How.{How}
 use Rattle.sched_task.specs.declared.endings.How.TheVariants as how
 use Rattle.sched_task.specs.declared.endings.RunFault.TheVariants.{NoMemory, JournalFull, Backwards}
 use Rattle.sched_task_law.specs.Past.{Past}
-use Rattle.sched_task_law.specs.Runner.{Runs}
 
 -- a run is stored as the side that it is on, with its code
 abbrev ran_from : ℕ ⊎ ℕ → Ran
@@ -56,11 +55,6 @@ how_back (how.Broken Backwards) = refl
 
 abbrev pub coded_how : Coded How
 coded_how = code_by ℕ coded_ℕ how_code how_from how_back
-
-abbrev pub coded_runs : Coded Runs
-coded_runs =
-    code_by (Driven × (List Ran × List ℕ)) (coded× coded_driven (coded× (coded_list coded_ran) (coded_list coded_ℕ)))
-    (λ r. (r.driver, (r.runs, r.begun))) (λ p. record { driver = p.0; runs = p.1.0; begun = p.1.1 }) (λ _. refl)
 
 abbrev pub coded_past : Coded Past
 coded_past =

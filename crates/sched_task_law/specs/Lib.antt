@@ -3,7 +3,4 @@ pub mod Kind
 pub mod Past
 pub mod Poll
 pub mod Law
-pub mod Runner
-pub mod Polled
-pub mod Attempt
 pub mod Codes

@@ -1,7 +1,10 @@
 -- What contracts see of what draws on a budget, and a draw of it.
 use Rattle.std.specs.Prelude.{◌≡◌, ℕ, ◌<◌, Bool, true, false, length, refl}
 use Rattle.std.proofs.Common.{inl, inr, arith, ap}
+use Rattle.sched_ticket.specs.View.{with_mark}
 use Rattle.sched_ticket.specs.Held.{Name, Held, IsOf}
+use Rattle.sched_ticket.specs.Whole.{IsOneOfSeveral}
+use Rattle.sched_ticket.specs.declared.view.Mark.TheVariants.{Shared}
 use Rattle.sched_ticket.specs.Calls.{Drew, DrawRefused}
 use Rattle.sched_ticket_draws.specs.Counted.{count_after}
 use Rattle.sched_ticket_draws.specs.Grants.{Grants, Lawful}
@@ -15,6 +18,12 @@ pub record OfBudget : Type 0 where
 abbrev pub BudgetDrew : OfBudget → Bool → OfBudget → Type 0
 BudgetDrew d true e = (e.budget ≡ d.budget) × (k : ℕ) × Drew d.pass.has k e.pass.has
 BudgetDrew d false e = (e.budget ≡ d.budget) × DrawRefused d.pass.has e.pass.has
+
+-- a pass is one of several of its budget, and comes back marked so
+abbrev pub IsPart : OfBudget → OfBudget → Type 0
+IsPart d e =
+    IsOneOfSeveral d.budget.terms d.pass.has
+    × (e.budget ≡ d.budget) × (e.pass.table ≡ d.pass.table) × (e.pass.has ≡ with_mark d.pass.has Shared)
 
 abbrev pub budget_grants : Grants OfBudget
 budget_grants = record {

@@ -3,3 +3,6 @@ pub mod Grants
 pub mod Freely
 pub mod Budgets
 pub mod Quotas
+pub mod Splits
+pub mod Drawing
+pub mod Passes

@@ -1,6 +1,7 @@
 -- What contracts see of what draws on a quota, and a draw of it.
-use Rattle.std.specs.Prelude.{◌≡◌, ℕ, ◌⊎◌, Bool, true, false, length, refl}
+use Rattle.std.specs.Prelude.{◌≡◌, ℕ, ◌<◌, ◌⊎◌, Bool, true, false, length, refl}
 use Rattle.std.proofs.Common.{inl, inr, arith, ap, subst, sym}
+use Rattle.sched_ticket.specs.Parts.{all_parts}
 use Rattle.sched_ticket_quota.specs.Held.{Name, Held, IsOf}
 use Rattle.sched_ticket_quota.specs.Calls.{Turned, Drew, DrawRefused, IsWhy}
 use Rattle.sched_ticket_quota.specs.declared.fault.Refusal.{Refusal}
@@ -17,6 +18,10 @@ pub record OfQuota : Type 0 where
 abbrev pub QuotaDrew : OfQuota → ℕ → Bool → OfQuota → Type 0
 QuotaDrew d now true e = (e.quota ≡ d.quota) × (t : ℕ) × Drew d.quota now d.pass.has t e.pass.has
 QuotaDrew d now false e = (e.quota ≡ d.quota) × (why : Refusal) × DrawRefused d.quota now d.pass.has why e.pass.has
+
+-- a pass has less than all parts of its quota, and comes back as it was
+abbrev pub IsPart : OfQuota → OfQuota → Type 0
+IsPart d e = (d.pass.has.weight < all_parts) × (e ≡ d)
 
 -- why the last draw was refused: the tickets of the latest window were out, or it lost 64 races with other draws
 abbrev pub NoneLeft : Name → View → Type 0

@@ -4,6 +4,7 @@
 //! retry and keeps the tickets of all of them, so a worker has one for its life.
 #![tactic(auto)]
 
+mod drawing;
 mod draws;
 mod on_budget;
 mod on_quota;
@@ -12,6 +13,7 @@ mod refers;
 mod tests;
 mod unlimited;
 
+pub use drawing::Drawing;
 pub use draws::Draws;
 pub use on_budget::OnBudget;
 pub use on_quota::OnQuota;

@@ -1,6 +1,7 @@
 //! How a value refers to the budget that others share.
-ghost use Rattle.std.specs.Prelude.{◌≡◌};
+ghost use Rattle.std.specs.Prelude.{◌≡◌, IfOk};
 
+use sched_time::NoMemory;
 use std::alloc::Global;
 use std::sync::Arc;
 
@@ -12,6 +13,10 @@ pub trait RefersTo<T>: Drop {
     /// What it leads to.
     fn target(&self) -> &T
         ensures { result.now ≡ target self.now };
+
+    /// Another value that leads to the same. `NoMemory` where those that lead to it can't be counted any more.
+    fn again(&self) -> Result<Self, NoMemory>
+        ensures { IfOk result (λ r. target r ≡ target self.now) };
 }
 
 impl<'a, T> RefersTo<T> for &'a T {
@@ -20,6 +25,10 @@ impl<'a, T> RefersTo<T> for &'a T {
     fn target(&self) -> &T {
         *self
     }
+
+    fn again(&self) -> Result<&'a T, NoMemory> {
+        Ok(*self)
+    }
 }
 
 impl<T: Drop> RefersTo<T> for Arc<T> {
@@ -27,5 +36,9 @@ impl<T: Drop> RefersTo<T> for Arc<T> {
 
     fn target(&self) -> &T {
         &**self
+    }
+
+    fn again(&self) -> Result<Arc<T>, NoMemory> {
+        Ok(Arc::try_clone(self)?)
     }
 }

@@ -1,5 +1,5 @@
 //! Draws on nothing.
-ghost use Rattle.std.specs.Prelude.{◌≡◌};
+ghost use Rattle.std.specs.Prelude.{◌≡◌, ◌+◌, min};
 
 use crate::draws::Draws;
 use sched_time::Moment;
@@ -26,6 +26,15 @@ impl Unlimited {
         ensures { result ≡ 0 }
     {
         Unlimited { granted: 0 }
+    }
+
+    /// What was granted as many draws as both, or 18446744073709551615 where that is less.
+    pub fn join(self, other: Unlimited) -> Unlimited
+        ensures { result ≡ min (self + other) 18446744073709551615 }
+    {
+        Unlimited {
+            granted: self.granted.saturating_add(other.granted),
+        }
     }
 }
 

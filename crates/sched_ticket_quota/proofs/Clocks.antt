@@ -1,22 +1,23 @@
 -- The laws of windows and clocks.
-use Rattle.std.proofs.Common.{◌≡◌, ℕ, zero, suc, ◌+◌, ◌-◌, ◌*◌, ◌/◌, ◌<◌, ◌≤◌, ◌⊎◌, ◌∷◌, min, cond, inl, inr, sym, ap, ◌∙◌, arith, lt-ltb, le-ltb, lt_of_not-le}
+use Rattle.std.proofs.Common.{◌≡◌, ℕ, zero, suc, ◌+◌, ◌-◌, ◌*◌, ◌/◌, ◌<◌, ◌≤◌, ◌⊎◌, ◌∷◌, min, cond, ◌++◌, inl, inr, refl, sym, ap, ◌∙◌, arith, lt-ltb, le-ltb, lt_of_not-le}
 use Rattle.std.proofs.Math.Nat.{div-mul-le_self, lt-div-mul-add, mul-le-mul_right}
 use Rattle.std.proofs.lemmas.Nat.{le-div}
 use mathlib.Core.Logic.{dite}
 use native.Mathlib.Decide.{dec_le}
 use Rattle.atomic_table.specs.Table.{State}
-use Rattle.sched_ticket_quota.specs.Windows.{window_of, first_of, window_at, end_of}
-use Rattle.sched_ticket_quota.specs.Rule.{tickets_in, requests_in, begins, IsKept, drawn_of, asked_of}
+use Rattle.sched_ticket_quota.specs.Windows.{window_of, first_of, terms_of, window_at, end_of}
+use Rattle.sched_ticket_quota.specs.View.{numbers}
+use Rattle.sched_ticket_quota.specs.Rule.{tickets_in, requests_in, in_force, begins, IsKept, words_of}
 use Rattle.sched_ticket_quota.specs.Held.{Name}
 use Rattle.sched_ticket_quota.specs.Calls.{Turned, Counted}
-use Rattle.sched_ticket_quota.specs.Clocks.{OpensItsOwn, DrawsNoEarlier, CountsNoEarlier, WindowsEnd, EndsWithinAPeriod, over, ClocksAreBounded}
+use Rattle.sched_ticket_quota.specs.Clocks.{OpensItsOwn, DrawsNoEarlier, CountsNoEarlier, WindowsEnd, EndsWithinAPeriod, over, AreMost, ClocksAreBounded}
 use Rattle.sched_ticket_quota.specs.declared.view.Terms.{Terms}
 use Rattle.sched_ticket_quota.specs.declared.view.View.{View}
-use Rattle.sched_ticket_quota.proofs.Numbers.{window_at-mono, below-mono}
+use Rattle.sched_ticket_quota.proofs.Numbers.{window_at-mono, below-mono, allow-most}
 use Rattle.sched_ticket_quota.proofs.Whole.{windows_kept}
 
 -- a pass that comes to a window opened none, or this one
-abbrev OpensOwn : Name → ℕ → View → View → Type 0
+abbrev pub OpensOwn : Name → ℕ → View → View → Type 0
 OpensOwn b now v w = (w.opened ≡ v.opened) ⊎ (w.opened ≡ first_of (window_at b.terms b.start now) ∷ v.opened)
 
 turned-opens : (b : Name) (now : ℕ) (v u : View) → Turned b now v u → OpensOwn b now v u
@@ -28,7 +29,7 @@ turned-opens b now v u turned = elim turned [
   ]
 ]
 
-opens-then : (b : Name) (now : ℕ) (v u w : View) → Turned b now v u → w.opened ≡ u.opened → OpensOwn b now v w
+pub opens-then : (b : Name) (now : ℕ) (v u w : View) → Turned b now v u → w.opened ≡ u.opened → OpensOwn b now v w
 opens-then b now v u w turned kept = elim (turned-opens b now v u turned) [
   | inl same ↦ inl (kept ∙ same)
   | inr opened ↦ inr (kept ∙ opened)
@@ -44,15 +45,17 @@ turned-reaches b now v u turned = elim turned [
   ]
 ]
 
-counted-opens : (u w : View) → Counted u w → w.opened ≡ u.opened
-counted-opens u w counted = elim counted [
+counted-opens : (n : ℕ) (u w : View) → Counted n u w → w.opened ≡ u.opened
+counted-opens n u w counted = elim counted [
   | inl none ↦ ap (λ (x : View). x.opened) none.1
   | inr one ↦ ap (λ (x : View). x.opened) one.3
 ]
 
 pub opens_its_own : OpensItsOwn
 opens_its_own b now v w called = elim called [
-  | inl deposited ↦ opens-then b now v deposited.0 w deposited.1 (counted-opens deposited.0 w deposited.2)
+  | inl deposited ↦
+      let did = deposited.1 in
+      opens-then b now v did.0 w did.1 (counted-opens deposited.0 did.0 w did.2)
   | inr rest ↦ elim rest [
     | inl drew ↦
         let won = drew.1.2 in
@@ -70,7 +73,7 @@ draws_no_earlier b now v t w drew =
     omega (arith, turned-reaches b now v drew.0 drew.1, won.tries.later, won.ticket)
 
 pub counts_no_earlier : CountsNoEarlier
-counts_no_earlier b now v w deposited =
+counts_no_earlier b now n v w deposited =
     let u : View = deposited.0 in
     let kept : u.requests ≡ v.requests = elim (deposited.1) [
       | inl there ↦ ap (λ (x : View). x.requests) there.1
@@ -83,7 +86,7 @@ counts_no_earlier b now v w deposited =
       | inl none ↦ inl (ap (λ (x : View). x.requests) none.1 ∙ kept)
       | inr one ↦ inr (
         one.1,
-        ap (λ (x : View). x.requests) one.3 ∙ ap (λ xs. one.1 ∷ xs) kept,
+        ap (λ (x : View). x.requests) one.3 ∙ ap (λ xs. numbers one.1 n ++ xs) kept,
         omega (arith, turned-reaches b now v u deposited.1, one.2),
       )
     ]
@@ -121,7 +124,7 @@ module _ (k : Terms) (start : ℕ) where
       omega (arith, end_of-yes w less, size, div-mul-le_self now k.period)
 
   -- two moments lie no more windows apart than periods, and one
-  windows-apart : (from to : ℕ) → 0 < k.period → from ≤ to → window_at k start to ≤ window_at k start from + (to - from) / k.period + 1
+  pub windows-apart : (from to : ℕ) → 0 < k.period → from ≤ to → window_at k start to ≤ window_at k start from + (to - from) / k.period + 1
   windows-apart from to some-period le =
       let a : ℕ = from / k.period in
       let d : ℕ = (to - from) / k.period in
@@ -139,7 +142,7 @@ windows_end b w now terms = (before-end b.terms b.start w now, after-end b.terms
 pub ends_within_a_period : EndsWithinAPeriod
 ends_within_a_period b now terms begun less = ends-soon b.terms b.start now (omega (arith, terms.period)) begun less
 
-over-split : (f : ℕ → ℕ) (w c d : ℕ) → over f w (c + d) ≡ over f w c + over f (w + c) d
+pub over-split : (f : ℕ → ℕ) (w c d : ℕ) → over f w (c + d) ≡ over f w c + over f (w + c) d
 over-split f w c zero = let e : c + 0 ≡ c = omega arith in omega (arith, ap (over f w) e)
 over-split f w c (suc d) =
     let e : c + suc d ≡ suc (c + d) = omega arith in
@@ -147,28 +150,39 @@ over-split f w c (suc d) =
     omega (arith, ap (over f w) e, over-split f w c d, ap f next)
 
 -- a thousandth of what a thousand times as many are bounded by
-scaled : (n x r shares : ℕ) → 1000 * n ≤ x * (1000 * r) + shares → n ≤ x * r + shares / 1000
+pub scaled : (n x r shares : ℕ) → 1000 * n ≤ x * (1000 * r) + shares → n ≤ x * r + shares / 1000
 scaled n x r shares le = omega (arith, le)
 
-module _ (k : Terms) (s : State ℕ View) (kept : IsKept k s) where
+module _ (k : Terms) (s : State ℕ View) (kept : IsKept k s) (most : Terms) (greatest : AreMost k s.views most) where
+  -- a window has no more than the greatest reserve and share allow
+  window-most : (w : ℕ) → 1000 * tickets_in s.views w ≤ 1000 * most.reserve + most.share * requests_in s.views w
+  window-most w =
+      let n : ℕ = requests_in s.views w in
+      omega (
+        arith,
+        windows_kept k (words_of s kept.window kept.latest) s.views kept.orderly w (most.reserve + (most.share * n) / 1000)
+            (allow-most k (in_force k s.views) most.reserve most.share n (λ x some-force. greatest (terms_of k x) (x, some-force, refl))),
+      )
+
   -- so many windows have no more than their reserves and shares
-  each-reserve : (w c : ℕ) → 1000 * over (tickets_in s.views) w c ≤ c * (1000 * k.reserve) + k.share * over (requests_in s.views) w c
+  each-reserve : (w c : ℕ) → 1000 * over (tickets_in s.views) w c ≤ c * (1000 * most.reserve) + most.share * over (requests_in s.views) w c
   each-reserve w zero = omega arith
-  each-reserve w (suc c) = omega (arith, each-reserve w c, windows_kept k (drawn_of s) kept.window (asked_of s) kept.latest s.views kept.orderly (w + c))
+  each-reserve w (suc c) = omega (arith, each-reserve w c, window-most (w + c))
 
   -- of windows after the first, each reserve is of one that was begun
-  begun-reserve : (w c : ℕ) → 0 < w → 1000 * over (tickets_in s.views) w c ≤ over (begins s.views) w c * (1000 * k.reserve) + k.share * over (requests_in s.views) w c
+  begun-reserve : (w c : ℕ) → 0 < w → 1000 * over (tickets_in s.views) w c ≤ over (begins s.views) w c * (1000 * most.reserve) + most.share * over (requests_in s.views) w c
   begun-reserve w zero some-window = omega arith
   begun-reserve w (suc c) some-window = dite (dec_le (tickets_in s.views (w + c)) 0)
       (λ none. omega (arith, begun-reserve w c some-window, none))
       (λ not.
       let begun : 1 ≤ begins s.views (w + c) = kept.orderly.entered (w + c) (omega arith) (lt_of_not-le not) in
-      omega (arith, begun-reserve w c some-window, windows_kept k (drawn_of s) kept.window (asked_of s) kept.latest s.views kept.orderly (w + c), mul-le-mul_right (1000 * k.reserve) begun))
+      omega (arith, begun-reserve w c some-window, window-most (w + c), mul-le-mul_right (1000 * most.reserve) begun))
 
-  bounded : (from to apart count ahead : ℕ) → from ≤ to → to ≤ from + apart + 1 → over (begins s.views) (to + 1) count ≤ ahead
-      → 1000 * over (tickets_in s.views) from count ≤ (apart + 2 + ahead) * (1000 * k.reserve) + k.share * over (requests_in s.views) from count
-  bounded from to apart count ahead le near few =
-      let r : ℕ = 1000 * k.reserve in
+  -- where of the windows after this one so few were begun
+  pub bounded-by : (from to apart count ahead : ℕ) → from ≤ to → to ≤ from + apart + 1 → ((e : ℕ) → to + 1 + e ≤ from + count → over (begins s.views) (to + 1) e ≤ ahead)
+      → 1000 * over (tickets_in s.views) from count ≤ (apart + 2 + ahead) * (1000 * most.reserve) + most.share * over (requests_in s.views) from count
+  bounded-by from to apart count ahead le near few =
+      let r : ℕ = 1000 * most.reserve in
       let d : ℕ = to + 1 - from in
       let T : ℕ → ℕ = tickets_in s.views in
       let R : ℕ → ℕ = requests_in s.views in
@@ -183,16 +197,17 @@ module _ (k : Terms) (s : State ℕ View) (kept : IsKept k s) where
       let next : from + d ≡ to + 1 = omega arith in
       let first : over T from count ≡ over T from d + over T (to + 1) e = sym (ap (over T from) all) ∙ over-split T from d e ∙ ap (λ x. over T from d + over T x e) next in
       let asked : over R from count ≡ over R from d + over R (to + 1) e = sym (ap (over R from) all) ∙ over-split R from d e ∙ ap (λ x. over R from d + over R x e) next in
-      let rest : over (begins s.views) (to + 1) e ≤ ahead = omega (arith, few, below-mono (λ i. begins s.views (to + 1 + i)) e count (omega arith)) in
+      let rest : over (begins s.views) (to + 1) e ≤ ahead = few e (omega arith) in
       let both : d + over (begins s.views) (to + 1) e ≤ apart + 2 + ahead = omega arith in
-      let shares : k.share * over R from count ≡ k.share * (over R from d + over R (to + 1) e) = ap (λ x. k.share * x) asked in
+      let shares : most.share * over R from count ≡ most.share * (over R from d + over R (to + 1) e) = ap (λ x. most.share * x) asked in
       omega (arith, each-reserve from d, begun-reserve (to + 1) e (omega arith), first, shares, mul-le-mul_right r both))
 
 pub clocks_are_bounded : ClocksAreBounded
-clocks_are_bounded b s terms kept from to count ahead le few =
+clocks_are_bounded b s terms kept most greatest from to count ahead le few =
     let k : Terms = b.terms in
     let some-period : 0 < k.period = omega (arith, terms.period) in
     let apart : ℕ = (to - from) / k.period in
-    scaled (over (tickets_in s.views) (window_at k b.start from) count) (apart + 2 + ahead) k.reserve (k.share * over (requests_in s.views) (window_at k b.start from) count)
-    (bounded k s kept (window_at k b.start from) (window_at k b.start to) apart count ahead
-    (window_at-mono k b.start from to le) (windows-apart k b.start from to some-period le) few)
+    scaled (over (tickets_in s.views) (window_at k b.start from) count) (apart + 2 + ahead) most.reserve (most.share * over (requests_in s.views) (window_at k b.start from) count)
+    (bounded-by k s kept most greatest (window_at k b.start from) (window_at k b.start to) apart count ahead
+    (window_at-mono k b.start from to le) (windows-apart k b.start from to some-period le)
+    (λ e inside. omega (arith, few, below-mono (λ i. begins s.views (window_at k b.start to + 1 + i)) e count (omega (arith, inside, window_at-mono k b.start from to le)))))

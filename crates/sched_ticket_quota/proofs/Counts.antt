@@ -5,9 +5,9 @@ use mathlib.Core.Option.{some}
 use native.Mathlib.Decide.{dec_le}
 use lib.ListN.{get_elem?}
 use Rattle.sched_ticket.specs.Lists.{total, below, is}
-use Rattle.sched_ticket.proofs.Sums.{total-set, total-one, term_le, total-le, below-one, below-is, once_below-le, from, below-from, none_from}
-use Rattle.sched_ticket_quota.specs.Windows.{window_of, first_of, within}
-use Rattle.sched_ticket_quota.specs.Rule.{ticket_weight, request_weight, tickets_in, requests_in, weights, may_count, openings, begins, IsDealt, IsCounted, IsSeen, IsFound, IsOrderly}
+use Rattle.sched_ticket.proofs.Sums.{total-set, total-one, term_le, total-le, total-plus, below-one, below-is, once_below-le, from, below-from, none_from}
+use Rattle.sched_ticket_quota.specs.Windows.{window_of, first_of, within, count_in}
+use Rattle.sched_ticket_quota.specs.Rule.{ticket_weight, request_weight, tickets_in, returned_in, requests_in, weights, may_count, openings, begins, IsDealt, IsCounted, IsSeen, IsFound, Words, IsOrderly}
 use Rattle.sched_ticket_quota.specs.Steps.{IsNoLater, IsLater, IsSound}
 use Rattle.sched_ticket_quota.specs.declared.view.Terms.{Terms}
 use Rattle.sched_ticket_quota.specs.declared.view.View.{View}
@@ -71,7 +71,7 @@ module _ (asked latest : ℕ) (views : List View) (c : IsCounted asked latest vi
 
 module _ (drawn window : ℕ) (views : List View) (d : IsDealt drawn window views) where
   -- as many tickets were given in the latest window as its word says
-  pub found_at : IsFound (tickets_in views) drawn
+  pub found_at : IsFound (λ w. tickets_in views w + returned_in views w) drawn
   found_at w low high =
       let a : ℕ = first_of w in
       let h : ℕ → ℕ = within a 4294967296 in
@@ -83,34 +83,35 @@ module _ (drawn window : ℕ) (views : List View) (d : IsDealt drawn window view
       let up : below h drawn ≤ below h (first_of window) + total (ticket_weight h) views = d.all h in
       let here : below h drawn ≡ min (drawn - a) 4294967296 = below-within a 4294967296 drawn in
       let before : below h (first_of window) ≡ min (first_of window - a) 4294967296 = below-within a 4294967296 (first_of window) in
+      let both : total (ticket_weight h) views ≡ tickets_in views w + returned_in views w = total-plus (λ (v : View). count_in w v.tickets) (λ (v : View). count_in w v.returned) views in
       omega arith
 
   -- the next ticket comes after all tickets of each pass
   pub is_later : (by : ℕ) (v : View) (t : ℕ) → get_elem? views by ≡ some v → drawn ≤ t → t < 17496587910722355200 → IsLater v t
   is_later by v t at past small =
-      let none : total (from t) v.tickets ≡ 0 = omega (arith, term_le (ticket_weight (from t)) views by v at, d.once (from t), below-from t drawn past) in
-      (none_from t v.tickets none, omega (arith, term_le (ticket_weight (λ _. 1)) views by v at, d.once (λ _. 1), below-one drawn, total-one v.tickets), small)
+      let none : ticket_weight (from t) v ≡ 0 = omega (arith, term_le (ticket_weight (from t)) views by v at, d.once (from t), below-from t drawn past) in
+      (none_from t v.tickets (omega (arith, none)), omega (arith, term_le (ticket_weight (λ _. 1)) views by v at, d.once (λ _. 1), below-one drawn, total-one v.tickets), small)
 
-module _ (k : Terms) (drawn window asked latest : ℕ) (views : List View) (o : IsOrderly k drawn window asked latest views) where
-  pub asked_le : asked ≤ 17496587906427387904
+module _ (k : Terms) (x : Words) (views : List View) (o : IsOrderly k x views) where
+  pub asked_le : x.asked ≤ 17496587906427387904
   asked_le = omega (arith, o.counted.small)
 
-  pub drawn_le : drawn ≤ 17496587910722355200
+  pub drawn_le : x.drawn ≤ 17496587910722355200
   drawn_le = omega (arith, o.dealt.to, o.behind, asked_le)
 
   module _ (by : ℕ) (v : View) (at : get_elem? views by ≡ some v) where
     -- what a pass has found is of no window past the latest
-    pub no_later : IsNoLater v.found asked
+    pub no_later : IsNoLater v.found x.asked
     no_later =
         let f = (o.each by v at).found in
         let to = o.dealt.to in
         let behind = o.behind in
-        let low : window ≤ window_of asked = omega arith in
+        let low : x.window ≤ window_of x.asked = omega arith in
         omega arith
 
     pub is_sound : IsSound v
     is_sound = record {
-      once = λ x. omega (arith, term_le (ticket_weight (is x)) views by v at, o.dealt.once (is x), below-is x drawn, once_below-le x drawn);
-      few_tickets = omega (arith, term_le (ticket_weight (λ _. 1)) views by v at, o.dealt.once (λ _. 1), below-one drawn, total-one v.tickets, drawn_le);
+      once = λ n. omega (arith, term_le (ticket_weight (is n)) views by v at, o.dealt.once (is n), below-is n x.drawn, once_below-le n x.drawn);
+      few_tickets = omega (arith, term_le (ticket_weight (λ _. 1)) views by v at, o.dealt.once (λ _. 1), below-one x.drawn, total-one v.tickets, drawn_le);
       few_parts = omega (arith, term_le (λ (u : View). u.weight) views by v at, o.parts);
     }

@@ -5,3 +5,7 @@ pub mod Moves
 pub mod Parts
 pub mod Views
 pub mod Clocks
+pub mod Histories
+pub mod WorkedHistories
+pub mod Returns
+pub mod Known

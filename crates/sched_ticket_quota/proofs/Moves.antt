@@ -1,5 +1,5 @@
 -- Each step keeps the rule.
-use Rattle.std.proofs.Common.{◌≡◌, ◌≢◌, ℕ, ◌+◌, ◌-◌, ◌%◌, ◌^◌, ◌<◌, ◌≤◌, ◌==◌, max, List, length, set, slice_index, sym, refl, ap, ◌∙◌, subst, arith, ⊎_elim, lt_of_not-le, length-set}
+use Rattle.std.proofs.Common.{◌≡◌, ◌≢◌, ℕ, ◌+◌, ◌-◌, ◌%◌, ◌^◌, ◌<◌, ◌≤◌, ◌==◌, max, List, [], ◌∷◌, length, set, slice_index, sym, refl, ap, ◌∙◌, subst, arith, ⊎_elim, lt_of_not-le, length-set}
 use Rattle.std.proofs.Math.Nat.{mod-eq_of_lt}
 use Rattle.std.proofs.lemmas.List.{get_or-set_same, get_or-set_other}
 use mathlib.Core.Logic.{dite}
@@ -9,23 +9,24 @@ use prog.Atomic.{either}
 use lib.ListN.{get_elem?}
 use Rattle.atomic_table.specs.Table.{Step, keeps, Allows}
 use Rattle.atomic_table.proofs.Lists.{at_set, exchanged}
-use Rattle.sched_ticket.specs.Lists.{total, below, times, is}
-use Rattle.sched_ticket.proofs.Sums.{total-set, below_more, is-same}
-use Rattle.sched_ticket_quota.specs.Windows.{window_of, first_of, allowed, floor_of, within, count_in}
-use Rattle.sched_ticket_quota.specs.View.{with_reading, with_opening, with_request, with_found, with_ticket, with_loss, next_ticket}
-use Rattle.sched_ticket_quota.specs.Rule.{ticket_weight, request_weight, tickets_in, requests_in, weights, may_count, openings, begins, IsDealt, IsCounted, IsSeen, IsFound, Fits, IsOrderly, IsKept}
+use Rattle.sched_ticket.specs.Lists.{total, below, Each, times, is}
+use Rattle.sched_ticket.proofs.Sums.{total-append, total-set, term_le, Each-append, below_more, below-from, from, none_from, is-same}
+use Rattle.sched_ticket_quota.specs.Windows.{window_of, first_of, terms_of, allowed, back_in, floor_of, within, count_in}
+use Rattle.sched_ticket_quota.specs.View.{numbers, with_reading, with_glance, with_change, with_opening, with_requests, with_found, with_ticket, with_loss, next_ticket}
+use Rattle.sched_ticket_quota.specs.View.{with_recall, with_asking, with_setback, latest_in, without_latest, with_return}
+use Rattle.sched_ticket_quota.specs.Rule.{ticket_weight, request_weight, tickets_in, returned_in, requests_in, weights, may_count, openings, in_force, begins, IsAllowed, IsDealt, IsCounted, IsSeen, IsFound, Words, Fits, IsOrderly, IsKept}
 use Rattle.sched_ticket_quota.specs.Whole.{IsWhole}
-use Rattle.sched_ticket_quota.specs.Steps.{Sat, reads, opens, counts, finds, wins, learns}
+use Rattle.sched_ticket_quota.specs.Steps.{Sat, reads, glances, changes, opens, counts, finds, wins, recalls, asks, returns, lapses, learns}
 use Rattle.sched_ticket_quota.specs.declared.view.Terms.{Terms}
 use Rattle.sched_ticket_quota.specs.declared.view.View.{View}
-use Rattle.sched_ticket_quota.proofs.Numbers.{allowed-mono, allows-on, below-mono, within-low, within-high}
+use Rattle.sched_ticket_quota.proofs.Numbers.{allowed-mono, allows-on, below-mono, below-numbers, within-yes, within-low, within-high, back_in-le}
 use Rattle.sched_ticket_quota.proofs.Counts.{may_count-yes, may_count-no, all_may_count, total-same, total-more, seen_at, begun_at, found_at, is_later, asked_le, drawn_le, no_later, is_sound}
 use Rattle.sched_ticket_quota.proofs.Whole.{is_whole}
 
--- the draws fit where a view with the same tickets takes another's place
-dealt-same : (d window : ℕ) (views : List View) (j : ℕ) (v w : View) → get_elem? views j ≡ some v → w.tickets ≡ v.tickets → IsDealt d window views → IsDealt d window (set views j w)
+-- the draws fit where a view with the same tickets, out and handed back, takes another's place
+dealt-same : (d window : ℕ) (views : List View) (j : ℕ) (v w : View) → get_elem? views j ≡ some v → ((h : ℕ → ℕ) → ticket_weight h w ≡ ticket_weight h v) → IsDealt d window views → IsDealt d window (set views j w)
 dealt-same d window views j v w at same o =
-    let sums : (h : ℕ → ℕ) → total (ticket_weight h) (set views j w) ≡ total (ticket_weight h) views = λ h. total-same (ticket_weight h) views j v w at (ap (total h) same) in
+    let sums : (h : ℕ → ℕ) → total (ticket_weight h) (set views j w) ≡ total (ticket_weight h) views = λ h. total-same (ticket_weight h) views j v w at (same h) in
     record { once = λ h. omega (arith, sums h, o.once h); all = λ h. omega (arith, sums h, o.all h); from = o.from; to = o.to; begun = o.begun }
 
 -- the requests fit where a view with the same requests takes another's place
@@ -37,113 +38,144 @@ counted-same q latest views j v w at same may opened o =
     let small : total may_count (set views j w) ≡ total may_count views = total-same may_count views j v w at may in
     record { once = λ h. omega (arith, sums h, o.once h); all = λ h. omega (arith, sums h, o.all h); from = o.from; opened = λ some-window. omega (arith, o.opened some-window); small = omega (arith, o.small) }
 
+-- the words with these numbers
+abbrev pub words_at : ℕ → ℕ → ℕ → ℕ → ℕ → ℕ → Words
+words_at d window q latest c r = record { drawn = d; window = window; asked = q; latest = latest; current = c; back = r }
+
+-- these views have no less of anything than those
+pub record Grows (k : Terms) (views views' : List View) : Type 0 where
+  pub dealt : (w : ℕ) → tickets_in views w + returned_in views w ≤ tickets_in views' w + returned_in views' w
+  pub returned : (w : ℕ) → returned_in views w ≤ returned_in views' w
+  pub requests : (w : ℕ) → requests_in views w ≤ requests_in views' w
+  pub starts : (w : ℕ) → begins views w ≤ begins views' w
+  pub force : (x : ℕ) → in_force k views x ≤ in_force k views' x
+
 module _ (k : Terms) where
   -- a view fits while numbers grow
-  pub Fits-on : (d d' q q' : ℕ) (t t' r r' e e' : ℕ → ℕ) (u : View) → Fits k d q t r e u → d ≤ d' → q ≤ q'
-      → ((w : ℕ) → t w ≤ t' w) → ((w : ℕ) → r w ≤ r' w) → ((w : ℕ) → e w ≤ e' w) → Fits k d' q' t' r' e' u
-  Fits-on d d' q q' t t' r r' e e' u f more-d more-q more-t more-r more-e = record {
-    allows = allows-on k r r' u.tickets more-r f.allows;
+  pub Fits-on : (x x' : Words) (views views' : List View) (u : View) → Fits k x views u → x.drawn ≤ x'.drawn → x.asked ≤ x'.asked → x.back ≤ x'.back → Grows k views views' → Fits k x' views' u
+  Fits-on x x' views views' u f more-d more-q more-r g = record {
+    allows = allows-on k views views' u.tickets g.requests g.returned g.force f.allows;
+    allowed_back = allows-on k views views' u.returned g.requests g.returned g.force f.allowed_back;
     seen = omega (arith, f.seen);
-    counted = omega (arith, f.counted, more-r (window_of u.seen));
-    begun = λ some-window. omega (arith, f.begun some-window, more-e (window_of u.seen));
+    counted = omega (arith, f.counted, g.requests (window_of u.seen));
+    begun = λ some-window. omega (arith, f.begun some-window, g.starts (window_of u.seen));
     found = omega (arith, f.found);
-    given = λ w low high. omega (arith, f.given w low high, more-t w);
+    given = λ w low high. omega (arith, f.given w low high, g.dealt w);
+    back = omega (arith, f.back);
+    came_back = omega (arith, f.came_back, g.returned (window_of u.back));
     live = f.live;
+    force = λ live. omega (arith, f.force live, g.force u.current);
     spent = f.spent;
   }
 
-  -- one view and the words change
-  moved : (d window q latest : ℕ) (views : List View) (j : ℕ) (v w : View) (d' window' q' latest' : ℕ)
-      → IsOrderly k d window q latest views → get_elem? views j ≡ some v → w.weight ≡ v.weight
-      → IsDealt d' window' (set views j w) → IsCounted q' latest' (set views j w) → d ≤ d' → q ≤ q' → first_of window' ≤ q'
-      → ((x : ℕ) → count_in x v.tickets ≤ count_in x w.tickets) → ((x : ℕ) → count_in x v.requests ≤ count_in x w.requests)
-      → ((x : ℕ) → times x v.opened ≤ times x w.opened)
-      → (((x : ℕ) → begins views x ≤ begins (set views j w) x) → (x : ℕ) → 0 < x → 0 < tickets_in (set views j w) x → 0 < begins (set views j w) x)
-      → (((x : ℕ) → tickets_in views x ≤ tickets_in (set views j w) x) → ((x : ℕ) → requests_in views x ≤ requests_in (set views j w) x)
-      → ((x : ℕ) → begins views x ≤ begins (set views j w) x) → Fits k d' q' (tickets_in (set views j w)) (requests_in (set views j w)) (begins (set views j w)) w)
-      → IsOrderly k d' window' q' latest' (set views j w)
-  moved d window q latest views j v w d' window' q' latest' o at weight dealt counted more-d more-q behind more-v more-r more-o entered fits =
-      let more : (x : ℕ) → tickets_in views x ≤ tickets_in (set views j w) x = λ x. total-more (λ (u : View). count_in x u.tickets) views j v w at (more-v x) in
-      let many : (x : ℕ) → requests_in views x ≤ requests_in (set views j w) x = λ x. total-more (λ (u : View). count_in x u.requests) views j v w at (more-r x) in
-      let wide : (x : ℕ) → begins views x ≤ begins (set views j w) x =
-      λ x. let opened : openings views (first_of x) ≤ openings (set views j w) (first_of x) = total-more (λ (u : View). times (first_of x) u.opened) views j v w at (more-o (first_of x)) in
-      omega (arith, opened, many (x - 1)) in
-      record {
-        dealt = dealt;
-        counted = counted;
-        behind = behind;
-        entered = entered wide;
-        parts = total-same (λ (u : View). u.weight) views j v w at weight ∙ o.parts;
-        each = λ by u there. ⊎_elim
-            (λ (t : (by ≡ j) × (w ≡ u)). subst (Fits k d' q' (tickets_in (set views j w)) (requests_in (set views j w)) (begins (set views j w))) t.1 (fits more many wide))
-            (λ (t : (by ≢ j) × (get_elem? views by ≡ some u)).
-            Fits-on d d' q q' (tickets_in views) (tickets_in (set views j w)) (requests_in views) (requests_in (set views j w)) (begins views) (begins (set views j w)) u (o.each by u t.1) more-d more-q more many wide)
-            (at_set views j by w u there);
+  -- a view that has no less takes another's place
+  grows : (views : List View) (j : ℕ) (v w : View) → get_elem? views j ≡ some v
+      → ((n : ℕ) → count_in n v.tickets + count_in n v.returned ≤ count_in n w.tickets + count_in n w.returned) → ((n : ℕ) → count_in n v.returned ≤ count_in n w.returned) → ((n : ℕ) → count_in n v.requests ≤ count_in n w.requests)
+      → ((n : ℕ) → times n v.opened ≤ times n w.opened) → ((n : ℕ) → times n v.changes ≤ times n w.changes) → Grows k views (set views j w)
+  grows views j v w at more-t more-b more-r more-o more-c =
+      let many : (n : ℕ) → requests_in views n ≤ requests_in (set views j w) n = λ n. total-more (λ (u : View). count_in n u.requests) views j v w at (more-r n) in record {
+        dealt = λ n. omega (arith, total-set (λ (u : View). count_in n u.tickets) views j v w at, total-set (λ (u : View). count_in n u.returned) views j v w at, more-t n);
+        returned = λ n. total-more (λ (u : View). count_in n u.returned) views j v w at (more-b n);
+        requests = many;
+        starts = λ n. omega (arith, total-more (λ (u : View). times (first_of n) u.opened) views j v w at (more-o (first_of n)), many (n - 1));
+        force = λ n. omega (arith, total-more (λ (u : View). times n u.changes) views j v w at (more-c n));
       }
 
+  -- one view and the words change
+  moved : (x x' : Words) (views : List View) (j : ℕ) (v w : View) → IsOrderly k x views → get_elem? views j ≡ some v → w.weight ≡ v.weight
+      → IsDealt x'.drawn x'.window (set views j w) → IsCounted x'.asked x'.latest (set views j w) → x.drawn ≤ x'.drawn → x.asked ≤ x'.asked → first_of x'.window ≤ x'.asked → x.back ≤ x'.back
+      → Grows k views (set views j w) → 0 < in_force k (set views j w) x'.current → IsSeen (returned_in (set views j w)) x'.back → x'.back ≤ 17496587910722355200
+      → ((n : ℕ) → 0 < n → 0 < tickets_in (set views j w) n → 0 < begins (set views j w) n)
+      → (Fits k x' (set views j w) v → Fits k x' (set views j w) w) → IsOrderly k x' (set views j w)
+  moved x x' views j v w o at weight dealt counted more-d more-q behind more-b g force came_back few_back entered fits = record {
+    known = o.known;
+    dealt = dealt;
+    counted = counted;
+    behind = behind;
+    entered = entered;
+    force = force;
+    came_back = came_back;
+    few_back = few_back;
+    parts = total-same (λ (u : View). u.weight) views j v w at weight ∙ o.parts;
+    each = λ by u there. ⊎_elim
+        (λ (t : (by ≡ j) × (w ≡ u)). subst (Fits k x' (set views j w)) t.1 (fits (Fits-on x x' views (set views j w) v (o.each j v at) more-d more-q more-b g)))
+        (λ (t : (by ≢ j) × (get_elem? views by ≡ some u)). Fits-on x x' views (set views j w) u (o.each by u t.1) more-d more-q more-b g)
+        (at_set views j by w u there);
+  }
+
   -- no window has a first ticket where one view with as many takes another's place
-  entered-same : (d window q latest : ℕ) (views : List View) (j : ℕ) (v w : View)
-      → IsOrderly k d window q latest views → get_elem? views j ≡ some v → w.tickets ≡ v.tickets
-      → ((x : ℕ) → begins views x ≤ begins (set views j w) x) → (x : ℕ) → 0 < x → 0 < tickets_in (set views j w) x → 0 < begins (set views j w) x
-  entered-same d window q latest views j v w o at same wide x some-window given =
-      let kept : tickets_in (set views j w) x ≡ tickets_in views x = total-same (λ (u : View). count_in x u.tickets) views j v w at (ap (count_in x) same) in
-      omega (arith, o.entered x some-window (omega (arith, kept, given)), wide x)
+  entered-same : (x : Words) (views : List View) (j : ℕ) (v w : View) → IsOrderly k x views → get_elem? views j ≡ some v → w.tickets ≡ v.tickets
+      → Grows k views (set views j w) → (n : ℕ) → 0 < n → 0 < tickets_in (set views j w) n → 0 < begins (set views j w) n
+  entered-same x views j v w o at same g n some-window given =
+      let kept : tickets_in (set views j w) n ≡ tickets_in views n = total-same (λ (u : View). count_in n u.tickets) views j v w at (ap (count_in n) same) in
+      omega (arith, o.entered n some-window (omega (arith, kept, given)), g.starts n)
 
   -- a step is allowed if it is at any words
   allows : (n id : ℕ) (m : Sat) (i : ℕ) (f : ℕ → ℕ) (then : ℕ → Sat → Type 0)
-      → ((window latest : ℕ) (ws : List ℕ) (views : List View) → length ws ≡ 32 → IsOrderly k (slice_index ws 8) window (slice_index ws 24) latest views → get_elem? views id ≡ some m.0
+      → ((window latest : ℕ) (ws : List ℕ) (views : List View) → length ws ≡ 32 → IsOrderly k (words_at (slice_index ws 8) window (slice_index ws 24) latest (slice_index ws 25) (slice_index ws 9)) views → get_elem? views id ≡ some m.0
       → (w : View) × ((homes : List (Option ℕ)) → IsKept k (record { words = set ws i (f (slice_index ws i)); homes = homes; views = set views id w })) × then (slice_index ws i) (w, m.1))
       → Allows (IsKept k) n id m i f then
   allows n id m i f then go s kept wide at fits =
       let there = go kept.window kept.latest s.words s.views kept.long kept.orderly at in
       (there.0, keeps, tt, there.1 s.homes, there.2)
 
-  -- the rule, where the draws have become d
-  kept-draws : (ws : List ℕ) (views : List View) (homes : List (Option ℕ)) (window latest d : ℕ) → length ws ≡ 32 → IsOrderly k d window (slice_index ws 24) latest views → IsKept k (record { words = set ws 8 d; homes = homes; views = views })
-  kept-draws ws views homes window latest d long o = record {
-    window = window;
-    latest = latest;
-    long = length-set ws 8 d ∙ long;
-    orderly =
-        let here : d ≡ slice_index (set ws 8 d) 8 = sym (get_or-set_same ws 8 d 0 (omega arith)) in
-        let there : slice_index ws 24 ≡ slice_index (set ws 8 d) 24 = sym (get_or-set_other ws 8 24 d 0 (λ e. omega arith)) in
-        subst (λ (x : ℕ). IsOrderly k x window (slice_index (set ws 8 d) 24) latest views) here
-        (subst (λ (x : ℕ). IsOrderly k d window x latest views) there o);
-  }
+  module _ (ws : List ℕ) (views : List View) (homes : List (Option ℕ)) (window latest : ℕ) (long : length ws ≡ 32) where
+    -- the rule, where one word has become n
+    kept-at : (i n d q c r : ℕ) → d ≡ slice_index (set ws i n) 8 → q ≡ slice_index (set ws i n) 24 → c ≡ slice_index (set ws i n) 25 → r ≡ slice_index (set ws i n) 9
+        → IsOrderly k (words_at d window q latest c r) views → IsKept k (record { words = set ws i n; homes = homes; views = views })
+    kept-at i n d q c r d-is q-is c-is r-is o = record {
+      window = window;
+      latest = latest;
+      long = length-set ws i n ∙ long;
+      orderly = subst (λ (y : ℕ). IsOrderly k (words_at y window (slice_index (set ws i n) 24) latest (slice_index (set ws i n) 25) (slice_index (set ws i n) 9)) views) d-is
+          (subst (λ (y : ℕ). IsOrderly k (words_at d window y latest (slice_index (set ws i n) 25) (slice_index (set ws i n) 9)) views) q-is
+          (subst (λ (y : ℕ). IsOrderly k (words_at d window q latest y (slice_index (set ws i n) 9)) views) c-is
+          (subst (λ (y : ℕ). IsOrderly k (words_at d window q latest c y) views) r-is o)));
+    }
 
-  -- the rule, where the requests have become q
-  kept-requests : (ws : List ℕ) (views : List View) (homes : List (Option ℕ)) (window latest q : ℕ) → length ws ≡ 32 → IsOrderly k (slice_index ws 8) window q latest views → IsKept k (record { words = set ws 24 q; homes = homes; views = views })
-  kept-requests ws views homes window latest q long o = record {
-    window = window;
-    latest = latest;
-    long = length-set ws 24 q ∙ long;
-    orderly =
-        let here : q ≡ slice_index (set ws 24 q) 24 = sym (get_or-set_same ws 24 q 0 (omega arith)) in
-        let there : slice_index ws 8 ≡ slice_index (set ws 24 q) 8 = sym (get_or-set_other ws 24 8 q 0 (λ e. omega arith)) in
-        subst (λ (x : ℕ). IsOrderly k x window (slice_index (set ws 24 q) 24) latest views) there
-        (subst (λ (x : ℕ). IsOrderly k (slice_index ws 8) window x latest views) here o);
-  }
+    here-is : (i n : ℕ) → i < 32 → n ≡ slice_index (set ws i n) i
+    here-is i n small = sym (get_or-set_same ws i n 0 (omega (arith, long, small)))
+
+    there-is : (i j n : ℕ) → j ≢ i → slice_index ws j ≡ slice_index (set ws i n) j
+    there-is i j n apart = sym (get_or-set_other ws i j n 0 apart)
+
+    -- the rule, where the draws have become d, the requests q, the terms c, or those that came back r
+    kept-draws : (d : ℕ) → IsOrderly k (words_at d window (slice_index ws 24) latest (slice_index ws 25) (slice_index ws 9)) views → IsKept k (record { words = set ws 8 d; homes = homes; views = views })
+    kept-draws d o = kept-at 8 d d (slice_index ws 24) (slice_index ws 25) (slice_index ws 9) (here-is 8 d (omega arith)) (there-is 8 24 d (λ e. omega arith)) (there-is 8 25 d (λ e. omega arith)) (there-is 8 9 d (λ e. omega arith)) o
+
+    kept-requests : (q : ℕ) → IsOrderly k (words_at (slice_index ws 8) window q latest (slice_index ws 25) (slice_index ws 9)) views → IsKept k (record { words = set ws 24 q; homes = homes; views = views })
+    kept-requests q o = kept-at 24 q (slice_index ws 8) q (slice_index ws 25) (slice_index ws 9) (there-is 24 8 q (λ e. omega arith)) (here-is 24 q (omega arith)) (there-is 24 25 q (λ e. omega arith)) (there-is 24 9 q (λ e. omega arith)) o
+
+    kept-terms : (c : ℕ) → IsOrderly k (words_at (slice_index ws 8) window (slice_index ws 24) latest c (slice_index ws 9)) views → IsKept k (record { words = set ws 25 c; homes = homes; views = views })
+    kept-terms c o = kept-at 25 c (slice_index ws 8) (slice_index ws 24) c (slice_index ws 9) (there-is 25 8 c (λ e. omega arith)) (there-is 25 24 c (λ e. omega arith)) (here-is 25 c (omega arith)) (there-is 25 9 c (λ e. omega arith)) o
+
+    kept-back : (r : ℕ) → IsOrderly k (words_at (slice_index ws 8) window (slice_index ws 24) latest (slice_index ws 25) r) views → IsKept k (record { words = set ws 9 r; homes = homes; views = views })
+    kept-back r o = kept-at 9 r (slice_index ws 8) (slice_index ws 24) (slice_index ws 25) r (there-is 9 8 r (λ e. omega arith)) (there-is 9 24 r (λ e. omega arith)) (there-is 9 25 r (λ e. omega arith)) (here-is 9 r (omega arith)) o
 
   -- a pass has learnt the words, and all else is as it was
-  told : (d window q latest : ℕ) (views : List View) (id : ℕ) (v : View) (seen found readings looks losses : ℕ)
-      → IsOrderly k d window q latest views → get_elem? views id ≡ some v
-      → seen ≤ q → IsSeen (requests_in views) seen → (0 < window_of seen → 0 < begins views (window_of seen)) → found ≤ d → IsFound (tickets_in views) found
-      → IsOrderly k d window q latest (set views id (record v { seen = seen; found = found; readings = readings; looks = looks; losses = losses }))
-  told d window q latest views id v seen found readings looks losses o at seen_le is_seen begun found_le is_found =
-      let w : View = record v { seen = seen; found = found; readings = readings; looks = looks; losses = losses } in
-      let f = o.each id v at in
-      moved d window q latest views id v w d window q latest o at refl
-      (dealt-same d window views id v w at refl o.dealt) (counted-same q latest views id v w at refl refl refl o.counted)
-      (omega arith) (omega arith) o.behind (λ x. omega arith) (λ x. omega arith) (λ x. omega arith)
-      (entered-same d window q latest views id v w o at refl)
-      (λ more many wide. record {
-        allows = allows-on k (requests_in views) (requests_in (set views id w)) v.tickets many f.allows;
+  told : (x : Words) (views : List View) (id : ℕ) (v : View) (current seen found back readings glances recalls looks losses : ℕ)
+      → IsOrderly k x views → get_elem? views id ≡ some v → (0 < v.weight → 0 < in_force k views current)
+      → seen ≤ x.asked → IsSeen (requests_in views) seen → (0 < window_of seen → 0 < begins views (window_of seen)) → found ≤ x.drawn → IsFound (λ w. tickets_in views w + returned_in views w) found
+      → back ≤ x.back → IsSeen (returned_in views) back
+      → IsOrderly k x (set views id (record v { current = current; seen = seen; found = found; back = back; readings = readings; glances = glances; recalls = recalls; looks = looks; losses = losses }))
+  told x views id v current seen found back readings glances recalls looks losses o at force seen_le is_seen begun found_le is_found back_le is_back =
+      let w : View = record v { current = current; seen = seen; found = found; back = back; readings = readings; glances = glances; recalls = recalls; looks = looks; losses = losses } in
+      let g = grows views id v w at (λ n. omega arith) (λ n. omega arith) (λ n. omega arith) (λ n. omega arith) (λ n. omega arith) in
+      moved x x views id v w o at refl
+      (dealt-same x.drawn x.window views id v w at (λ h. refl) o.dealt) (counted-same x.asked x.latest views id v w at refl refl refl o.counted)
+      (omega arith) (omega arith) o.behind (omega arith) g (omega (arith, o.force, g.force x.current)) (omega (arith, o.came_back, g.returned (window_of x.back))) o.few_back (entered-same x views id v w o at refl g)
+      (λ f. record {
+        allows = f.allows;
+        allowed_back = f.allowed_back;
         seen = seen_le;
-        counted = omega (arith, is_seen, many (window_of seen));
-        begun = λ some-window. omega (arith, begun some-window, wide (window_of seen));
+        counted = omega (arith, is_seen, g.requests (window_of seen));
+        begun = λ some-window. omega (arith, begun some-window, g.starts (window_of seen));
         found = found_le;
-        given = λ x low high. omega (arith, is_found x low high, more x);
+        given = λ n low high. omega (arith, is_found n low high, g.dealt n);
+        back = back_le;
+        came_back = omega (arith, is_back, g.returned (window_of back));
         live = f.live;
+        force = λ live. omega (arith, force live, g.force current);
         spent = f.spent;
       })
 
@@ -151,21 +183,66 @@ module _ (k : Terms) where
   reads_ok n id m st = allows n id m 24 (λ x. x) (reads st m) (λ window latest ws views long o at.
       let v : View = m.0 in
       let q : ℕ = slice_index ws 24 in
+      let x : Words = words_at (slice_index ws 8) window q latest (slice_index ws 25) (slice_index ws 9) in
       let f = o.each id v at in (
         with_reading v q,
-        (λ homes. kept-requests ws (set views id (with_reading v q)) homes window latest q long
-            (told (slice_index ws 8) window q latest views id v q v.found (v.readings + 1) v.looks v.losses o at (omega arith) (seen_at q latest views o.counted) (begun_at q latest views o.counted) f.found f.given)),
-        ((f.seen, asked_le k (slice_index ws 8) window q latest views o), no_later k (slice_index ws 8) window q latest views o id v at, refl),
+        (λ homes. kept-requests ws (set views id (with_reading v q)) homes window latest long q
+            (told x views id v v.current q v.found v.back (v.readings + 1) v.glances v.recalls v.looks v.losses o at f.force (omega arith) (seen_at q latest views o.counted) (begun_at q latest views o.counted) f.found f.given f.back f.came_back)),
+        ((f.seen, asked_le k x views o), no_later k x views o id v at, refl),
+      ))
+
+  pub glances_ok : (n id : ℕ) (m : Sat) (st : Step ℕ) → Allows (IsKept k) n id m 25 (λ x. x) (glances st m)
+  glances_ok n id m st = allows n id m 25 (λ x. x) (glances st m) (λ window latest ws views long o at.
+      let v : View = m.0 in
+      let c : ℕ = slice_index ws 25 in
+      let x : Words = words_at (slice_index ws 8) window (slice_index ws 24) latest c (slice_index ws 9) in
+      let f = o.each id v at in (
+        with_glance v c,
+        (λ homes. kept-terms ws (set views id (with_glance v c)) homes window latest long c
+            (told x views id v c v.seen v.found v.back v.readings (v.glances + 1) v.recalls v.looks v.losses o at (λ live. o.force) f.seen f.counted f.begun f.found f.given f.back f.came_back)),
+        refl,
+      ))
+
+  pub changes_ok : (n id : ℕ) (m : Sat) (st : Step ℕ) (c : ℕ) → 0 < m.0.weight → Allows (IsKept k) n id m 25 (λ x. c) (λ x n. changes st m c n)
+  changes_ok n id m st c live = allows n id m 25 (λ x. c) (λ x n. changes st m c n) (λ window latest ws views long o at.
+      let v : View = m.0 in
+      let x : Words = words_at (slice_index ws 8) window (slice_index ws 24) latest (slice_index ws 25) (slice_index ws 9) in
+      let x' : Words = words_at (slice_index ws 8) window (slice_index ws 24) latest c (slice_index ws 9) in
+      let w : View = with_change v c in
+      let g = grows views id v w at (λ n. omega arith) (λ n. omega arith) (λ n. omega arith) (λ n. omega arith) (λ n. omega arith) in
+      let one : is c c ≡ 1 = is-same c c refl in
+      let set-now : 0 < in_force k (set views id w) c = omega (arith, total-set (λ (u : View). times c u.changes) views id v w at) in (
+        w,
+        (λ homes. kept-terms ws (set views id w) homes window latest long c
+            (moved x x' views id v w o at refl
+            (dealt-same x.drawn window views id v w at (λ h. refl) o.dealt) (counted-same x.asked latest views id v w at refl refl refl o.counted)
+            (omega arith) (omega arith) o.behind (omega arith) g set-now (omega (arith, o.came_back, g.returned (window_of x.back))) o.few_back (entered-same x views id v w o at refl g)
+            (λ f. record {
+              allows = f.allows;
+              allowed_back = f.allowed_back;
+              seen = f.seen;
+              counted = f.counted;
+              begun = f.begun;
+              found = f.found;
+              given = f.given;
+              back = f.back;
+              came_back = f.came_back;
+              live = f.live;
+              force = λ _. set-now;
+              spent = λ none. absurd (omega arith);
+            }))),
+        refl,
       ))
 
   pub finds_ok : (n id : ℕ) (m : Sat) (st : Step ℕ) → Allows (IsKept k) n id m 8 (λ x. x) (finds st m)
   finds_ok n id m st = allows n id m 8 (λ x. x) (finds st m) (λ window latest ws views long o at.
       let v : View = m.0 in
       let d : ℕ = slice_index ws 8 in
+      let x : Words = words_at d window (slice_index ws 24) latest (slice_index ws 25) (slice_index ws 9) in
       let f = o.each id v at in (
         with_found v d,
-        (λ homes. kept-draws ws (set views id (with_found v d)) homes window latest d long
-            (told d window (slice_index ws 24) latest views id v v.seen d v.readings (v.looks + 1) 0 o at f.seen f.counted f.begun (omega arith) (found_at d window views o.dealt))),
+        (λ homes. kept-draws ws (set views id (with_found v d)) homes window latest long d
+            (told x views id v v.current v.seen d v.back v.readings v.glances v.recalls (v.looks + 1) 0 o at f.force f.seen f.counted f.begun (omega arith) (found_at d window views o.dealt) f.back f.came_back)),
         (f.found, refl),
       ))
 
@@ -173,39 +250,44 @@ module _ (k : Terms) where
   learns_ok n id m st = allows n id m 8 (λ x. x) (learns st m) (λ window latest ws views long o at.
       let v : View = m.0 in
       let d : ℕ = slice_index ws 8 in
+      let x : Words = words_at d window (slice_index ws 24) latest (slice_index ws 25) (slice_index ws 9) in
       let f = o.each id v at in (
         v,
-        (λ homes. kept-draws ws (set views id v) homes window latest d long
-            (told d window (slice_index ws 24) latest views id v v.seen v.found v.readings v.looks v.losses o at f.seen f.counted f.begun f.found f.given)),
+        (λ homes. kept-draws ws (set views id v) homes window latest long d
+            (told x views id v v.current v.seen v.found v.back v.readings v.glances v.recalls v.looks v.losses o at f.force f.seen f.counted f.begun f.found f.given f.back f.came_back)),
         (
           refl,
-          is_sound k d window (slice_index ws 24) latest views o id v at,
+          is_sound k x views o id v at,
           λ all. let live : 0 < v.weight = omega arith in
-              subst (λ (t : Terms). IsWhole t v) (sym (f.live live)) (is_whole k d window (slice_index ws 24) latest views o id v at all),
+              subst (λ (t : Terms). IsWhole t v) (sym (f.live live)) (is_whole k x views o id v at all),
         ),
       ))
 
   -- a pass has opened a window, or found that another had
-  opens-to : (d window q latest : ℕ) (views : List View) (id : ℕ) (v : View) (first q' latest' : ℕ)
-      → IsOrderly k d window q latest views → get_elem? views id ≡ some v → q ≤ q'
+  opens-to : (x : Words) (views : List View) (id : ℕ) (v : View) (first q' latest' : ℕ)
+      → IsOrderly k x views → get_elem? views id ≡ some v → x.asked ≤ q'
       → IsCounted q' latest' (set views id (with_opening v first q')) → IsSeen (requests_in views) q'
-      → 0 < v.weight → IsOrderly k d window q' latest' (set views id (with_opening v first q'))
-  opens-to d window q latest views id v first q' latest' o at up counted is_seen live =
+      → 0 < v.weight → IsOrderly k (record x { asked = q'; latest = latest' }) (set views id (with_opening v first q'))
+  opens-to x views id v first q' latest' o at up counted is_seen live =
       let w : View = with_opening v first q' in
-      let f = o.each id v at in
+      let x' : Words = record x { asked = q'; latest = latest' } in
+      let g = grows views id v w at (λ n. omega arith) (λ n. omega arith) (λ n. omega arith) (λ n. omega arith) (λ n. omega arith) in
       let behind = o.behind in
-      moved d window q latest views id v w d window q' latest' o at refl
-      (dealt-same d window views id v w at refl o.dealt) counted
-      (omega arith) up (omega arith) (λ x. omega arith) (λ x. omega arith) (λ x. omega arith)
-      (entered-same d window q latest views id v w o at refl)
-      (λ more many wide. record {
-        allows = allows-on k (requests_in views) (requests_in (set views id w)) v.tickets many f.allows;
+      moved x x' views id v w o at refl
+      (dealt-same x.drawn x.window views id v w at (λ h. refl) o.dealt) counted
+      (omega arith) up (omega arith) (omega arith) g (omega (arith, o.force, g.force x.current)) (omega (arith, o.came_back, g.returned (window_of x.back))) o.few_back (entered-same x views id v w o at refl g)
+      (λ f. record {
+        allows = f.allows;
+        allowed_back = f.allowed_back;
         seen = omega arith;
-        counted = omega (arith, is_seen, many (window_of q'));
+        counted = omega (arith, is_seen, g.requests (window_of q'));
         begun = begun_at q' latest' (set views id w) counted;
         found = f.found;
-        given = λ x low high. omega (arith, f.given x low high, more x);
+        given = f.given;
+        back = f.back;
+        came_back = f.came_back;
         live = f.live;
+        force = f.force;
         spent = λ none. absurd (omega arith);
       })
 
@@ -213,10 +295,11 @@ module _ (k : Terms) where
       → Allows (IsKept k) n id m 24 (λ x. max x st.first) (opens st m)
   opens_ok n id m st next live is_first known = allows n id m 24 (λ x. max x st.first) (opens st m) (λ window latest ws views long o at.
       let v : View = m.0 in
-      let x : ℕ = st.first in
+      let a : ℕ = st.first in
       let q : ℕ = slice_index ws 24 in
-      let q' : ℕ = max q x in
-      let w : View = with_opening v x q' in
+      let q' : ℕ = max q a in
+      let x : Words = words_at (slice_index ws 8) window q latest (slice_index ws 25) (slice_index ws 9) in
+      let w : View = with_opening v a q' in
       let f = o.each id v at in
       let c = o.counted in
       let sums : (h : ℕ → ℕ) → total (request_weight h) (set views id w) ≡ total (request_weight h) views = λ h. total-same (request_weight h) views id v w at refl in
@@ -224,10 +307,10 @@ module _ (k : Terms) where
       let few : total may_count views ≤ weights views = all_may_count views in
       let parts = o.parts in
       let kept : (latest' : ℕ) → IsCounted q' latest' (set views id w) → IsSeen (requests_in views) q' → (homes : List (Option ℕ)) → IsKept k (record { words = set ws 24 q'; homes = homes; views = set views id w }) =
-      λ latest' counted is_seen homes. kept-requests ws (set views id w) homes window latest' q' long
-      (opens-to (slice_index ws 8) window q latest views id v x q' latest' o at (omega arith) counted is_seen live) in (
+      λ latest' counted is_seen homes. kept-requests ws (set views id w) homes window latest' long q'
+      (opens-to x views id v a q' latest' o at (omega arith) counted is_seen live) in (
         w,
-        dite (dec_le x q)
+        dite (dec_le a q)
             (λ there.
             let same : q' ≡ q = omega arith in
             let more : openings views (first_of latest) ≤ openings (set views id w) (first_of latest) = total-more (λ (u : View). times (first_of latest) u.opened) views id v w at (omega arith) in
@@ -239,11 +322,11 @@ module _ (k : Terms) where
               small = omega (arith, c.small);
             }) (subst (IsSeen (requests_in views)) (sym same) (seen_at q latest views c)))
             (λ not.
-            let up : q < x = lt_of_not-le not in
-            let same : q' ≡ x = omega arith in
+            let up : q < a = lt_of_not-le not in
+            let same : q' ≡ a = omega arith in
             let start : q' ≡ first_of next = same ∙ is_first in
             let opened : openings (set views id w) (first_of next) + times (first_of next) v.opened ≡ openings views (first_of next) + times (first_of next) w.opened = total-set (λ (u : View). times (first_of next) u.opened) views id v w at in
-            let one : is (first_of next) x ≡ 1 = is-same (first_of next) x is_first in
+            let one : is (first_of next) a ≡ 1 = is-same (first_of next) a is_first in
             kept next (record {
               once = λ h. omega (arith, sums h, c.once h, below-mono h q q' (omega arith));
               all = λ h. omega (arith, ap (below h) start);
@@ -251,70 +334,80 @@ module _ (k : Terms) where
               opened = λ some-window. omega arith;
               small = omega arith;
             }) (omega arith)),
-        ((f.seen, asked_le k (slice_index ws 8) window q latest views o), refl),
+        ((f.seen, asked_le k x views o), refl),
       ))
 
-  pub counts_ok : (n id : ℕ) (m : Sat) (st : Step ℕ) → 0 < m.0.weight → m.0.told < 12884901888000000000
-      → Allows (IsKept k) n id m 24 (λ x. (x + 1) % 2 ^ 64) (counts st m)
-  counts_ok n id m st live may = allows n id m 24 (λ x. (x + 1) % 2 ^ 64) (counts st m) (λ window latest ws views long o at.
+  pub counts_ok : (n id : ℕ) (m : Sat) (st : Step ℕ) → st.first ≤ m.0.weight → 0 < m.0.weight → m.0.told < 12884901888000000000
+      → Allows (IsKept k) n id m 24 (λ x. (x + st.first) % 2 ^ 64) (counts st m)
+  counts_ok n id m st few live may = allows n id m 24 (λ x. (x + st.first) % 2 ^ 64) (counts st m) (λ window latest ws views long o at.
       let v : View = m.0 in
-      let d : ℕ = slice_index ws 8 in
+      let c : ℕ = st.first in
       let q : ℕ = slice_index ws 24 in
-      let w : View = with_request v q in
+      let x : Words = words_at (slice_index ws 8) window q latest (slice_index ws 25) (slice_index ws 9) in
+      let x' : Words = words_at (slice_index ws 8) window (q + c) latest (slice_index ws 25) (slice_index ws 9) in
+      let w : View = with_requests v q c in
       let f = o.each id v at in
-      let c = o.counted in
-      let most = asked_le k d window q latest views o in
-      let word : (q + 1) % 2 ^ 64 ≡ q + 1 = mod-eq_of_lt (omega arith) in
-      let sums : (h : ℕ → ℕ) → total (request_weight h) (set views id w) ≡ total (request_weight h) views + h q = λ h. omega (arith, total-set (request_weight h) views id v w at) in
+      let o' = o.counted in
+      let parts = o.parts in
+      let room : q + c ≤ 17496587906427387904 = omega (arith, o'.small, may_count-yes v may, term_le may_count views id v at) in
+      let word : (q + c) % 2 ^ 64 ≡ q + c = mod-eq_of_lt (omega arith) in
+      let sums : (h : ℕ → ℕ) → total (request_weight h) (set views id w) ≡ total (request_weight h) views + total h (numbers q c) = λ h. omega (arith, total-set (request_weight h) views id v w at, total-append h (numbers q c) v.requests) in
       let opened : openings (set views id w) (first_of latest) ≡ openings views (first_of latest) = total-same (λ (u : View). times (first_of latest) u.opened) views id v w at refl in
       let may-sum : total may_count (set views id w) + may_count v ≡ total may_count views + may_count w = total-set may_count views id v w at in
-      let weigh : weights (set views id w) ≡ weights views = total-same (λ (u : View). u.weight) views id v w at refl in
-      let parts = o.parts in
-      let counted : IsCounted (q + 1) latest (set views id w) = record {
-        once = λ h. omega (arith, sums h, c.once h, below_more h q);
-        all = λ h. omega (arith, sums h, c.all h, below_more h q);
-        from = omega (arith, c.from);
-        opened = λ some-window. omega (arith, c.opened some-window);
-        small = dite (dec_le 12884901888000000000 (q + 1))
-            (λ full. omega (arith, c.small, may_count-yes v may, may_count-no w full))
+      let same : weights (set views id w) ≡ weights views = total-same (λ (u : View). u.weight) views id v w at refl in
+      let counted : IsCounted (q + c) latest (set views id w) = record {
+        once = λ h. omega (arith, sums h, o'.once h, below-numbers h q c);
+        all = λ h. omega (arith, sums h, o'.all h, below-numbers h q c);
+        from = omega (arith, o'.from);
+        opened = λ some-window. omega (arith, o'.opened some-window);
+        small = dite (dec_le 12884901888000000000 (q + c))
+            (λ full. omega (arith, o'.small, may_count-yes v may, may_count-no w full))
             (λ not. omega (arith, all_may_count (set views id w), lt_of_not-le not));
       } in
       let behind = o.behind in
-      let orderly : IsOrderly k d window (q + 1) latest (set views id w) =
-      moved d window q latest views id v w d window (q + 1) latest o at refl
-      (dealt-same d window views id v w at refl o.dealt) counted
-      (omega arith) (omega arith) (omega arith) (λ x. omega arith) (λ x. omega arith) (λ x. omega arith)
-      (entered-same d window q latest views id v w o at refl)
-      (λ more many wide. record {
-        allows = allows-on k (requests_in views) (requests_in (set views id w)) v.tickets many f.allows;
+      let g = grows views id v w at (λ n. omega arith) (λ n. omega arith) (λ n. omega (arith, total-append (within (first_of n) 4294967296) (numbers q c) v.requests)) (λ n. omega arith) (λ n. omega arith) in
+      let orderly : IsOrderly k x' (set views id w) =
+      moved x x' views id v w o at refl
+      (dealt-same x.drawn window views id v w at (λ h. refl) o.dealt) counted
+      (omega arith) (omega arith) (omega arith) (omega arith) g (omega (arith, o.force, g.force x.current)) (omega (arith, o.came_back, g.returned (window_of x.back))) o.few_back (entered-same x views id v w o at refl g)
+      (λ f. record {
+        allows = f.allows;
+        allowed_back = f.allowed_back;
         seen = omega arith;
-        counted = seen_at (q + 1) latest (set views id w) counted;
-        begun = begun_at (q + 1) latest (set views id w) counted;
+        counted = seen_at (q + c) latest (set views id w) counted;
+        begun = begun_at (q + c) latest (set views id w) counted;
         found = f.found;
-        given = λ x low high. omega (arith, f.given x low high, more x);
+        given = f.given;
+        back = f.back;
+        came_back = f.came_back;
         live = f.live;
+        force = f.force;
         spent = λ none. absurd (omega arith);
       }) in (
         w,
-        (λ homes. subst (λ (x : ℕ). IsKept k (record { words = set ws 24 x; homes = homes; views = set views id w })) (sym word)
-            (kept-requests ws (set views id w) homes window latest (q + 1) long orderly)),
-        ((f.seen, most), refl),
+        (λ homes. subst (λ (y : ℕ). IsKept k (record { words = set ws 24 y; homes = homes; views = set views id w })) (sym word)
+            (kept-requests ws (set views id w) homes window latest long (q + c) orderly)),
+        (f.seen, room, refl),
       ))
 
   -- a pass has won its next ticket
-  wins-to : (d window q latest : ℕ) (views : List View) (id : ℕ) (v : View)
-      → IsOrderly k d window q latest views → get_elem? views id ≡ some v → 0 < v.weight → d ≡ v.found → next_ticket v < floor_of k v.seen
-      → IsOrderly k (next_ticket v + 1) (window_of v.seen) q latest (set views id (with_ticket v (next_ticket v)))
-  wins-to d window q latest views id v o at live here room =
+  wins-to : (x : Words) (views : List View) (id : ℕ) (v : View)
+      → IsOrderly k x views → get_elem? views id ≡ some v → 0 < v.weight → x.drawn ≡ v.found → next_ticket v < floor_of (terms_of k v.current) v.seen v.back
+      → IsOrderly k (record x { drawn = next_ticket v + 1; window = window_of v.seen }) (set views id (with_ticket v (next_ticket v)))
+  wins-to x views id v o at live here room =
       let t : ℕ = next_ticket v in
       let w : View = with_ticket v t in
       let n : ℕ = window_of v.seen in
       let a : ℕ = first_of n in
+      let d : ℕ = x.drawn in
+      let x' : Words = record x { drawn = t + 1; window = n } in
+      let j : Terms = terms_of k v.current in
       let f = o.each id v at in
+      let g = grows views id v w at (λ n. omega arith) (λ n. omega arith) (λ n. omega arith) (λ n. omega arith) (λ n. omega arith) in
       let sums : (h : ℕ → ℕ) → total (ticket_weight h) (set views id w) ≡ total (ticket_weight h) views + h t = λ h. omega (arith, total-set (ticket_weight h) views id v w at) in
       let from = o.dealt.from in
       let to = o.dealt.to in
-      let begun : 0 < window → first_of window < d = o.dealt.begun in
+      let begun : 0 < x.window → first_of x.window < d = o.dealt.begun in
       let dealt : IsDealt (t + 1) n (set views id w) = record {
         once = λ h. omega (arith, sums h, o.dealt.once h, below-mono h d t (omega arith), below_more h t);
         all = λ h. dite (dec_le d a)
@@ -322,65 +415,208 @@ module _ (k : Terms) where
             (λ not.
             let past : a < d = lt_of_not-le not in
             let is_next : t ≡ d = omega arith in
-            let same : window ≡ n = dite (dec_le 1 window) (λ some-window. let s = begun some-window in omega arith) (λ none. omega arith) in
-            omega (arith, sums h, o.dealt.all h, below_more h t, ap (below h) is_next, ap (λ (x : ℕ). below h (first_of x)) same));
+            let same : x.window ≡ n = dite (dec_le 1 x.window) (λ some-window. let s = begun some-window in omega arith) (λ none. omega arith) in
+            omega (arith, sums h, o.dealt.all h, below_more h t, ap (below h) is_next, ap (λ (y : ℕ). below h (first_of y)) same));
         from = omega arith;
         to = omega arith;
         begun = λ _. omega arith;
       } in
       let seen = f.seen in
       let is_in : window_of t ≡ n = omega arith in
-      let enough : allowed k (v.seen % 4294967296) ≤ allowed k (requests_in views n) = allowed-mono k (v.seen % 4294967296) (requests_in views n) (omega (arith, f.counted)) in
-      moved d window q latest views id v w (t + 1) n q latest o at refl
-      dealt (counted-same q latest views id v w at refl refl refl o.counted)
-      (omega arith) (omega arith) (omega arith) (λ x. omega arith) (λ x. omega arith) (λ x. omega arith)
-      (λ wide x some-window given. dite (ℕ_discrete x n)
-      (λ here. subst (λ (y : ℕ). 0 < begins (set views id w) y) (sym here) (omega (arith, f.begun (omega arith), wide n)))
+      let enough : allowed j (v.seen % 4294967296) ≤ allowed j (requests_in (set views id w) n) = allowed-mono j (v.seen % 4294967296) (requests_in (set views id w) n) (omega (arith, f.counted, g.requests n)) in
+      let came : back_in v.back n ≤ returned_in views n = back_in-le v.back n (returned_in views) f.came_back in
+      let low : t < first_of n + allowed j (requests_in (set views id w) n) + returned_in (set views id w) n = omega (arith, g.returned n) in
+      moved x x' views id v w o at refl
+      dealt (counted-same x.asked x.latest views id v w at refl refl refl o.counted)
+      (omega arith) (omega arith) (omega arith) (omega arith) g (omega (arith, o.force, g.force x.current)) (omega (arith, o.came_back, g.returned (window_of x.back))) o.few_back
+      (λ y some-window given. dite (ℕ_discrete y n)
+      (λ here. subst (λ (z : ℕ). 0 < begins (set views id w) z) (sym here) (omega (arith, f.begun (omega arith), g.starts n)))
       (λ other.
-      let sum : tickets_in (set views id w) x + count_in x v.tickets ≡ tickets_in views x + count_in x w.tickets = total-set (λ (u : View). count_in x u.tickets) views id v w at in
-      let none : within (first_of x) 4294967296 t ≡ 0 = dite (dec_le x n)
-      (λ less. let low : x < n = lt_of_not-le (λ more. other (omega arith)) in within-high (first_of x) 4294967296 t (omega arith))
-      (λ more. let high : n < x = lt_of_not-le more in within-low (first_of x) 4294967296 t (omega arith)) in
-      omega (arith, o.entered x some-window (omega arith), wide x)))
-      (λ more many wide.
-      let many' : allowed k (requests_in views n) ≤ allowed k (requests_in (set views id w) n) = allowed-mono k (requests_in views n) (requests_in (set views id w) n) (many n) in
-      let low : t < first_of n + allowed k (requests_in (set views id w) n) = omega arith in record {
-        allows = (subst (λ (x : ℕ). t < first_of x + allowed k (requests_in (set views id w) x)) (sym is_in) low, allows-on k (requests_in views) (requests_in (set views id w)) v.tickets many f.allows);
-        seen = f.seen;
-        counted = omega (arith, f.counted, many n);
-        begun = λ some-window. omega (arith, f.begun some-window, wide n);
+      let sum : tickets_in (set views id w) y + count_in y v.tickets ≡ tickets_in views y + count_in y w.tickets = total-set (λ (u : View). count_in y u.tickets) views id v w at in
+      let none : within (first_of y) 4294967296 t ≡ 0 = dite (dec_le y n)
+      (λ less. let low : y < n = lt_of_not-le (λ more. other (omega arith)) in within-high (first_of y) 4294967296 t (omega arith))
+      (λ more. let high : n < y = lt_of_not-le more in within-low (first_of y) 4294967296 t (omega arith)) in
+      omega (arith, o.entered y some-window (omega arith), g.starts y)))
+      (λ f'. record {
+        allows = ((v.current, f'.force live, subst (λ (y : ℕ). t < first_of y + allowed j (requests_in (set views id w) y) + returned_in (set views id w) y) (sym is_in) low), f'.allows);
+        allowed_back = f'.allowed_back;
+        seen = f'.seen;
+        counted = f'.counted;
+        begun = f'.begun;
         found = omega arith;
         given = found_at (t + 1) n (set views id w) dealt;
-        live = f.live;
+        back = f'.back;
+        came_back = f'.came_back;
+        live = f'.live;
+        force = f'.force;
         spent = λ none. absurd (omega arith);
       })
 
-  pub wins_ok : (n id : ℕ) (m : Sat) (st : Step ℕ) → 0 < m.0.weight → (st.first ≤ 17496587910722355200 → st.first ≡ m.0.found) → st.second ≡ next_ticket m.0 + 1 → next_ticket m.0 < floor_of k m.0.seen
+  pub wins_ok : (n id : ℕ) (m : Sat) (st : Step ℕ) → 0 < m.0.weight → (st.first ≤ 17496587910722355200 → st.first ≡ m.0.found) → st.second ≡ next_ticket m.0 + 1 → next_ticket m.0 < floor_of (terms_of k m.0.current) m.0.seen m.0.back
       → Allows (IsKept k) n id m 8 (λ x. either (x == st.first) st.second x) (wins st m)
   wins_ok n id m st live first second room = allows n id m 8 (λ x. either (x == st.first) st.second x) (wins st m) (λ window latest ws views long o at.
       let v : View = m.0 in
       let t : ℕ = next_ticket v in
       let d : ℕ = slice_index ws 8 in
-      let q : ℕ = slice_index ws 24 in
+      let x : Words = words_at d window (slice_index ws 24) latest (slice_index ws 25) (slice_index ws 9) in
       let f = o.each id v at in
-      let F : ℕ → Type 0 = λ x. (w : View) × ((homes : List (Option ℕ)) → IsKept k (record { words = set ws 8 x; homes = homes; views = set views id w })) × wins st m d (w, m.1) in
+      let F : ℕ → Type 0 = λ y. (w : View) × ((homes : List (Option ℕ)) → IsKept k (record { words = set ws 8 y; homes = homes; views = set views id w })) × wins st m d (w, m.1) in
       exchanged d st.first st.second F
       (λ hit. (
         with_ticket v t,
-        (λ homes. subst (λ (x : ℕ). IsKept k (record { words = set ws 8 x; homes = homes; views = set views id (with_ticket v t) })) (sym second)
-            (kept-draws ws (set views id (with_ticket v t)) homes (window_of v.seen) latest (t + 1) long (wins-to d window q latest views id v o at live (hit ∙ first (omega (arith, hit, drawn_le k d window q latest views o))) room))),
-        ((λ _. (is_later d window views o.dealt id v t at (omega arith) (omega (arith, asked_le k d window q latest views o, f.seen)), refl)), λ miss. absurd (miss hit)),
+        (λ homes. subst (λ (y : ℕ). IsKept k (record { words = set ws 8 y; homes = homes; views = set views id (with_ticket v t) })) (sym second)
+            (kept-draws ws (set views id (with_ticket v t)) homes (window_of v.seen) latest long (t + 1) (wins-to x views id v o at live (hit ∙ first (omega (arith, hit, drawn_le k x views o))) room))),
+        ((λ _. (is_later d window views o.dealt id v t at (omega arith) (omega (arith, asked_le k x views o, f.seen)), refl)), λ miss. absurd (miss hit)),
       ))
       (λ miss. dite (dec_le d v.found)
       (λ known. (
         v,
-        (λ homes. kept-draws ws (set views id v) homes window latest d long
-            (told d window q latest views id v v.seen v.found v.readings v.looks v.losses o at f.seen f.counted f.begun f.found f.given)),
+        (λ homes. kept-draws ws (set views id v) homes window latest long d
+            (told x views id v v.current v.seen v.found v.back v.readings v.glances v.recalls v.looks v.losses o at f.force f.seen f.counted f.begun f.found f.given f.back f.came_back)),
         ((λ hit. absurd (miss hit)), λ _. (f.found, (λ past. absurd (omega (arith, past, known))), λ _. refl)),
       ))
       (λ not. (
         with_loss v d,
-        (λ homes. kept-draws ws (set views id (with_loss v d)) homes window latest d long
-            (told d window q latest views id v v.seen d v.readings v.looks (v.losses + 1) o at f.seen f.counted f.begun (omega arith) (found_at d window views o.dealt))),
+        (λ homes. kept-draws ws (set views id (with_loss v d)) homes window latest long d
+            (told x views id v v.current v.seen d v.back v.readings v.glances v.recalls v.looks (v.losses + 1) o at f.force f.seen f.counted f.begun (omega arith) (found_at d window views o.dealt) f.back f.came_back)),
         ((λ hit. absurd (miss hit)), λ _. (f.found, (λ _. refl), λ same. absurd (omega (arith, same, lt_of_not-le not)))),
+      ))))
+
+  pub recalls_ok : (n id : ℕ) (m : Sat) (st : Step ℕ) → Allows (IsKept k) n id m 9 (λ x. x) (recalls st m)
+  recalls_ok n id m st = allows n id m 9 (λ x. x) (recalls st m) (λ window latest ws views long o at.
+      let v : View = m.0 in
+      let r : ℕ = slice_index ws 9 in
+      let x : Words = words_at (slice_index ws 8) window (slice_index ws 24) latest (slice_index ws 25) r in
+      let f = o.each id v at in (
+        with_recall v r,
+        (λ homes. kept-back ws (set views id (with_recall v r)) homes window latest long r
+            (told x views id v v.current v.seen v.found r v.readings v.glances (v.recalls + 1) v.looks v.losses o at f.force f.seen f.counted f.begun f.found f.given (omega arith) o.came_back)),
+        (f.back, refl),
+      ))
+
+  pub asks_ok : (n id : ℕ) (m : Sat) (st : Step ℕ) → Allows (IsKept k) n id m 9 (λ x. x) (asks st m)
+  asks_ok n id m st = allows n id m 9 (λ x. x) (asks st m) (λ window latest ws views long o at.
+      let v : View = m.0 in
+      let r : ℕ = slice_index ws 9 in
+      let x : Words = words_at (slice_index ws 8) window (slice_index ws 24) latest (slice_index ws 25) r in
+      let f = o.each id v at in (
+        with_asking v r,
+        (λ homes. kept-back ws (set views id (with_asking v r)) homes window latest long r
+            (told x views id v v.current v.seen v.found r v.readings v.glances (v.recalls + 1) v.looks 0 o at f.force f.seen f.counted f.begun f.found f.given (omega arith) o.came_back)),
+        (f.back, refl),
+      ))
+
+  -- the tickets of a pass are the latest and the others
+  latest-sum : (h : ℕ → ℕ) (ts : List ℕ) → total h (without_latest ts) + total h (latest_in ts) ≡ total h ts
+  latest-sum h [] = refl
+  latest-sum h (t ∷ ts) = omega arith
+
+  latest-each : (P : ℕ → Type 0) (ts : List ℕ) → Each P ts → Each P (without_latest ts) × Each P (latest_in ts)
+  latest-each P [] all = (tt, tt)
+  latest-each P (t ∷ ts) all = (all.1, (all.0, tt))
+
+  latest-spent : (ts : List ℕ) → ts ≡ [] → (without_latest ts ≡ []) × (latest_in ts ≡ [])
+  latest-spent ts none = (ap without_latest none, ap latest_in none)
+
+  -- a pass has handed its latest ticket back, and their word is r'
+  returns-to : (x : Words) (views : List View) (id : ℕ) (v : View) (r' : ℕ) → IsOrderly k x views → get_elem? views id ≡ some v → 0 < v.weight
+      → x.back ≤ r' → r' ≤ 17496587910722355200 → (Grows k views (set views id (with_return v r')) → IsSeen (returned_in (set views id (with_return v r'))) r')
+      → IsOrderly k (record x { back = r' }) (set views id (with_return v r'))
+  returns-to x views id v r' o at live more few is_seen =
+      let w : View = with_return v r' in
+      let x' : Words = record x { back = r' } in
+      let sum : (h : ℕ → ℕ) → ticket_weight h w ≡ ticket_weight h v = λ h. omega (arith, latest-sum h v.tickets, total-append h (latest_in v.tickets) v.returned) in
+      let g = grows views id v w at (λ n. omega (arith, sum (within (first_of n) 4294967296)))
+      (λ n. omega (arith, total-append (within (first_of n) 4294967296) (latest_in v.tickets) v.returned)) (λ n. omega arith) (λ n. omega arith) (λ n. omega arith) in
+      moved x x' views id v w o at refl
+      (dealt-same x.drawn x.window views id v w at sum o.dealt) (counted-same x.asked x.latest views id v w at refl refl refl o.counted)
+      (omega arith) (omega arith) o.behind more g (omega (arith, o.force, g.force x.current)) (is_seen g) few
+      (λ n some-window given.
+      let less : tickets_in (set views id w) n ≤ tickets_in views n = omega (arith, total-set (λ (u : View). count_in n u.tickets) views id v w at, latest-sum (within (first_of n) 4294967296) v.tickets) in
+      omega (arith, o.entered n some-window (omega arith), g.starts n))
+      (λ f. record {
+        allows = (latest-each (IsAllowed k (set views id w)) v.tickets f.allows).0;
+        allowed_back = Each-append (IsAllowed k (set views id w)) (latest_in v.tickets) v.returned (latest-each (IsAllowed k (set views id w)) v.tickets f.allows).1 f.allowed_back;
+        seen = f.seen;
+        counted = f.counted;
+        begun = f.begun;
+        found = f.found;
+        given = f.given;
+        back = omega arith;
+        came_back = is_seen g;
+        live = f.live;
+        force = f.force;
+        spent = λ none. absurd (omega arith);
+      })
+
+  pub lapses_ok : (n id : ℕ) (m : Sat) (st : Step ℕ) → 0 < m.0.weight → Allows (IsKept k) n id m 9 (λ x. x) (lapses st m)
+  lapses_ok n id m st live = allows n id m 9 (λ x. x) (lapses st m) (λ window latest ws views long o at.
+      let v : View = m.0 in
+      let r : ℕ = slice_index ws 9 in
+      let x : Words = words_at (slice_index ws 8) window (slice_index ws 24) latest (slice_index ws 25) r in
+      let f = o.each id v at in (
+        with_return v r,
+        (λ homes. kept-back ws (set views id (with_return v r)) homes window latest long r
+            (returns-to x views id v r o at live (omega arith) o.few_back (λ g. omega (arith, o.came_back, g.returned (window_of r))))),
+        (f.back, refl),
+      ))
+
+  -- a ticket is below the word of the draws
+  ticket-below : (x : Words) (views : List View) (id : ℕ) (v : View) (t : ℕ) (ts : List ℕ) → IsOrderly k x views → get_elem? views id ≡ some v → v.tickets ≡ t ∷ ts → t < x.drawn
+  ticket-below x views id v t ts o at had =
+      let none : ticket_weight (from x.drawn) v ≡ 0 = omega (arith, term_le (ticket_weight (from x.drawn)) views id v at, o.dealt.once (from x.drawn), below-from x.drawn x.drawn (omega arith)) in
+      (none_from x.drawn (t ∷ ts) (omega (arith, none, ap (total (from x.drawn)) had))).0
+
+  pub returns_ok : (n id : ℕ) (m : Sat) (st : Step ℕ) (t : ℕ) (ts : List ℕ) → 0 < m.0.weight → m.0.tickets ≡ t ∷ ts → st.first ≡ m.0.back → window_of st.first ≤ window_of t → st.second ≡ max st.first (first_of (window_of t)) + 1
+      → Allows (IsKept k) n id m 9 (λ x. either (x == st.first) st.second x) (returns st m)
+  returns_ok n id m st t ts live had first no-later second = allows n id m 9 (λ x. either (x == st.first) st.second x) (returns st m) (λ window latest ws views long o at.
+      let v : View = m.0 in
+      let r : ℕ = slice_index ws 9 in
+      let r' : ℕ = st.second in
+      let a : ℕ = first_of (window_of t) in
+      let x : Words = words_at (slice_index ws 8) window (slice_index ws 24) latest (slice_index ws 25) r in
+      let f = o.each id v at in
+      let F : ℕ → Type 0 = λ y. (w : View) × ((homes : List (Option ℕ)) → IsKept k (record { words = set ws 9 y; homes = homes; views = set views id w })) × returns st m r (w, m.1) in
+      let below-it : t < x.drawn = ticket-below x views id v t ts o at had in
+      let most = drawn_le k x views o in
+      exchanged r st.first st.second F
+      (λ hit. (
+        with_return v r',
+        (λ homes. kept-back ws (set views id (with_return v r')) homes window latest long r'
+            (returns-to x views id v r' o at live (omega (arith, hit, second)) (omega (arith, hit, second, no-later))
+            (λ g.
+            let w : View = with_return v r' in
+            let inside : within a 4294967296 t ≡ 1 = within-yes a 4294967296 t (omega arith) (omega arith) in
+            let one : count_in (window_of t) (latest_in v.tickets) ≡ 1 = omega (arith, ap (λ (l : List ℕ). count_in (window_of t) (latest_in l)) had, inside) in
+            let more : returned_in (set views id w) (window_of t) ≡ returned_in views (window_of t) + 1 =
+            omega (arith, total-set (λ (u : View). count_in (window_of t) u.returned) views id v w at, total-append (within a 4294967296) (latest_in v.tickets) v.returned, one) in
+            dite (ℕ_discrete (window_of r') (window_of t))
+            (λ same.
+            let low : r' ≤ a + returned_in (set views id w) (window_of t) = dite (dec_le a r)
+            (λ there.
+            let here : window_of r ≡ window_of t = omega (arith, hit, no-later) in
+            let was : r ≤ a + returned_in views (window_of t) = subst (λ (y : ℕ). r ≤ first_of y + returned_in views y) here o.came_back in
+            omega (arith, hit, second, was, more))
+            (λ not. omega (arith, hit, second, lt_of_not-le not, more)) in
+            subst (λ (y : ℕ). r' ≤ first_of y + returned_in (set views id w) y) (sym same) low)
+            (λ other.
+            let up : r' ≤ a + 4294967296 = omega (arith, hit, second, no-later) in
+            let next : r' ≡ a + 4294967296 = dite (dec_le (a + 4294967296) r')
+            (λ le. omega (arith, le, up))
+            (λ not. absurd (other (omega (arith, lt_of_not-le not, hit, second)))) in
+            omega (arith, next))))),
+        ((λ _. refl), λ miss. absurd (miss hit)),
+      ))
+      (λ miss. dite (dec_le r v.back)
+      (λ known. (
+        v,
+        (λ homes. kept-back ws (set views id v) homes window latest long r
+            (told x views id v v.current v.seen v.found v.back v.readings v.glances v.recalls v.looks v.losses o at f.force f.seen f.counted f.begun f.found f.given f.back f.came_back)),
+        ((λ hit. absurd (miss hit)), λ _. (f.back, (λ past. absurd (omega (arith, past, known))), λ _. refl)),
+      ))
+      (λ not. (
+        with_setback v r,
+        (λ homes. kept-back ws (set views id (with_setback v r)) homes window latest long r
+            (told x views id v v.current v.seen v.found r v.readings v.glances v.recalls v.looks (v.losses + 1) o at f.force f.seen f.counted f.begun f.found f.given (omega arith) o.came_back)),
+        ((λ hit. absurd (miss hit)), λ _. (f.back, (λ _. refl), λ same. absurd (omega (arith, same, lt_of_not-le not)))),
       ))))

@@ -7,15 +7,15 @@ use lib.ListN.{get_elem?}
 use Rattle.atomic_table.specs.Table.{Splits, Joins}
 use Rattle.atomic_table.proofs.Lists.{at_set, at_snoc, set_else}
 use Rattle.sched_ticket.specs.Lists.{total, times, is}
-use Rattle.sched_ticket.proofs.Sums.{total-append, total-set, Each-append}
+use Rattle.sched_ticket.proofs.Sums.{total-append, total-set, Each-append, is-same}
 use Rattle.sched_ticket.proofs.Ways.{part-some}
-use Rattle.sched_ticket_quota.specs.Windows.{first_of, within, count_in}
+use Rattle.sched_ticket_quota.specs.Windows.{window_of, first_of, word_of, within, count_in}
 use Rattle.sched_ticket_quota.specs.View.{first_view, without_part, part_of, joined_view, blank_view}
-use Rattle.sched_ticket_quota.specs.Rule.{ticket_weight, request_weight, tickets_in, requests_in, may_count, begins, IsAllowed, Fits, IsOrderly, drawn_of, asked_of, IsKept}
+use Rattle.sched_ticket_quota.specs.Rule.{ticket_weight, request_weight, tickets_in, returned_in, requests_in, may_count, in_force, begins, IsAllowed, Words, Fits, IsOrderly, current_of, back_of, words_of, IsKept}
 use Rattle.sched_ticket_quota.specs.declared.view.Terms.{Terms}
 use Rattle.sched_ticket_quota.specs.declared.view.View.{View}
 use Rattle.sched_ticket_quota.proofs.Counts.{may_count-yes, may_count-no, may_count-le}
-use Rattle.sched_ticket_quota.proofs.Moves.{Fits-on}
+use Rattle.sched_ticket_quota.proofs.Moves.{words_at, Grows, Fits-on}
 
 -- two passes that may count have no more parts than one with the parts of both
 may_count-cut : (v : View) → 1 < v.weight → may_count (without_part v) + may_count (part_of v) ≤ may_count v
@@ -33,26 +33,31 @@ module _ (k : Terms) where
   pub splits_ok : (id : ℕ) (v : View) → 1 < v.weight → Splits (IsKept k) id v (without_part v) (part_of v)
   splits_ok id v more s kept at =
       let views : List View = s.views in
-      let o : IsOrderly k (drawn_of s) kept.window (asked_of s) kept.latest views = kept.orderly in
+      let o : IsOrderly k (words_of s kept.window kept.latest) views = kept.orderly in
       let f = o.each id v at in
       let left : View = without_part v in
       let right : View = part_of v in
       let after : List View = set views id left ++ right ∷ [] in
       let p = part-some v.weight more in
       let sums : (g : View → ℕ) → total g after + g v ≡ total g views + g left + g right = λ g. omega (arith, total-append g (set views id left) (right ∷ []), total-set g views id v left at) in
-      let tickets : (x : ℕ) → tickets_in views x ≤ tickets_in after x = λ x. omega (arith, sums (λ (u : View). count_in x u.tickets)) in
+      let returned : (x : ℕ) → returned_in views x ≤ returned_in after x = λ x. omega (arith, sums (λ (u : View). count_in x u.returned)) in
+      let tickets : (x : ℕ) → tickets_in views x + returned_in views x ≤ tickets_in after x + returned_in after x = λ x. omega (arith, sums (λ (u : View). count_in x u.tickets), returned x) in
       let requests : (x : ℕ) → requests_in views x ≤ requests_in after x = λ x. omega (arith, sums (λ (u : View). count_in x u.requests)) in
       let starts : (x : ℕ) → begins views x ≤ begins after x = λ x. omega (arith, requests (x - 1), sums (λ (u : View). times (first_of x) u.opened)) in
-      let F : View → Type 0 = Fits k (drawn_of s) (asked_of s) (tickets_in after) (requests_in after) (begins after) in
-      let on : (u : View) → Fits k (drawn_of s) (asked_of s) (tickets_in views) (requests_in views) (begins views) u → F u = λ u g. Fits-on k (drawn_of s) (drawn_of s) (asked_of s) (asked_of s) (tickets_in views) (tickets_in after) (requests_in views) (requests_in after) (begins views) (begins after) u g (omega arith) (omega arith) tickets requests starts in
+      let force : (x : ℕ) → in_force k views x ≤ in_force k after x = λ x. omega (arith, sums (λ (u : View). times x u.changes)) in
+      let x : Words = words_of s kept.window kept.latest in
+      let F : View → Type 0 = Fits k x after in
+      let grown : Grows k views after = record { dealt = tickets; returned = returned; requests = requests; starts = starts; force = force } in
+      let on : (u : View) → Fits k x views u → F u = λ u g. Fits-on k x x views after u g (omega arith) (omega arith) (omega arith) grown in
       let g : F v = on v f in
-      let fits-left : F left = record { allows = g.allows; seen = g.seen; counted = g.counted; begun = g.begun; found = g.found; given = g.given; live = λ _. f.live (omega arith); spent = λ none. absurd (omega arith) } in
-      let fits-right : F right = record { allows = tt; seen = g.seen; counted = g.counted; begun = g.begun; found = g.found; given = g.given; live = λ _. f.live (omega arith); spent = λ _. (refl, refl, refl) } in
+      let fits-left : F left = record { allows = g.allows; allowed_back = g.allowed_back; seen = g.seen; counted = g.counted; begun = g.begun; found = g.found; given = g.given; back = g.back; came_back = g.came_back; live = λ _. f.live (omega arith); force = λ _. g.force (omega arith); spent = λ none. absurd (omega arith) } in
+      let fits-right : F right = record { allows = tt; allowed_back = tt; seen = g.seen; counted = g.counted; begun = g.begun; found = g.found; given = g.given; back = g.back; came_back = g.came_back; live = λ _. f.live (omega arith); force = λ _. g.force (omega arith); spent = λ _. (refl, refl, refl, refl, refl) } in
       record {
         window = kept.window;
         latest = kept.latest;
         long = kept.long;
         orderly = record {
+          known = o.known;
           dealt = record {
             once = λ h. omega (arith, sums (ticket_weight h), o.dealt.once h);
             all = λ h. omega (arith, sums (ticket_weight h), o.dealt.all h);
@@ -69,6 +74,9 @@ module _ (k : Terms) where
           };
           behind = o.behind;
           entered = λ x some-window given. omega (arith, o.entered x some-window (omega (arith, given, sums (λ (u : View). count_in x u.tickets))), starts x);
+          force = omega (arith, o.force, force (current_of s));
+          came_back = omega (arith, o.came_back, returned (window_of (back_of s)));
+          few_back = o.few_back;
           parts = omega (arith, sums (λ (u : View). u.weight), o.parts);
           each = λ by u there. ⊎_elim
               (λ (t : get_elem? (set views id left) by ≡ some u). ⊎_elim
@@ -83,48 +91,61 @@ module _ (k : Terms) where
   pub joins_ok : (id : ℕ) (v : View) (other : ℕ) (w : View) → 0 < v.weight → Joins (IsKept k) id v other w (joined_view v w) blank_view
   joins_ok id v other w live s kept at apart there =
       let views : List View = s.views in
-      let o : IsOrderly k (drawn_of s) kept.window (asked_of s) kept.latest views = kept.orderly in
+      let o : IsOrderly k (words_of s kept.window kept.latest) views = kept.orderly in
       let at-other : get_elem? views other ≡ some w = sym (set_else views id other (joined_view v w) apart) ∙ there in
       let f = o.each id v at in
       let joined : View = joined_view v w in
       let middle : List View = set views id joined in
       let after : List View = set middle other blank_view in
       let sums : (g : View → ℕ) → total g after + g w + g v ≡ total g views + g joined + g blank_view = λ g. omega (arith, total-set g views id v joined at, total-set g middle other w blank_view there) in
-      let tickets : (x : ℕ) → tickets_in views x ≤ tickets_in after x = λ x. omega (arith, sums (λ (u : View). count_in x u.tickets), total-append (within (first_of x) 4294967296) v.tickets w.tickets) in
+      let returned : (x : ℕ) → returned_in views x ≤ returned_in after x = λ x. omega (arith, sums (λ (u : View). count_in x u.returned), total-append (within (first_of x) 4294967296) v.returned w.returned) in
+      let tickets : (x : ℕ) → tickets_in views x + returned_in views x ≤ tickets_in after x + returned_in after x = λ x. omega (arith, sums (λ (u : View). count_in x u.tickets), total-append (within (first_of x) 4294967296) v.tickets w.tickets, returned x) in
       let requests : (x : ℕ) → requests_in views x ≤ requests_in after x = λ x. omega (arith, sums (λ (u : View). count_in x u.requests), total-append (within (first_of x) 4294967296) v.requests w.requests) in
       let starts : (x : ℕ) → begins views x ≤ begins after x = λ x. omega (arith, requests (x - 1), sums (λ (u : View). times (first_of x) u.opened), total-append (is (first_of x)) v.opened w.opened) in
-      let F : View → Type 0 = Fits k (drawn_of s) (asked_of s) (tickets_in after) (requests_in after) (begins after) in
-      let on : (u : View) → Fits k (drawn_of s) (asked_of s) (tickets_in views) (requests_in views) (begins views) u → F u = λ u g. Fits-on k (drawn_of s) (drawn_of s) (asked_of s) (asked_of s) (tickets_in views) (tickets_in after) (requests_in views) (requests_in after) (begins views) (begins after) u g (omega arith) (omega arith) tickets requests starts in
+      let force : (x : ℕ) → in_force k views x ≤ in_force k after x = λ x. omega (arith, sums (λ (u : View). times x u.changes), total-append (is x) v.changes w.changes) in
+      let x : Words = words_of s kept.window kept.latest in
+      let F : View → Type 0 = Fits k x after in
+      let grown : Grows k views after = record { dealt = tickets; returned = returned; requests = requests; starts = starts; force = force } in
+      let on : (u : View) → Fits k x views u → F u = λ u g. Fits-on k x x views after u g (omega arith) (omega arith) (omega arith) grown in
       let g : F v = on v f in
       let g-other : F w = on w (o.each other w at-other) in
       let fits-joined : F joined = record {
-        allows = Each-append (IsAllowed k (requests_in after)) v.tickets w.tickets g.allows g-other.allows;
+        allows = Each-append (IsAllowed k after) v.tickets w.tickets g.allows g-other.allows;
+        allowed_back = Each-append (IsAllowed k after) v.returned w.returned g.allowed_back g-other.allowed_back;
         seen = g.seen;
         counted = g.counted;
         begun = g.begun;
         found = g.found;
         given = g.given;
+        back = g.back;
+        came_back = g.came_back;
         live = λ _. f.live live;
+        force = λ _. g.force live;
         spent = λ none. absurd (omega arith);
       } in
       let fits-blank : F blank_view = record {
         allows = tt;
+        allowed_back = tt;
         seen = omega arith;
         counted = omega arith;
         begun = λ some-window. absurd (omega arith);
         found = omega arith;
         given = λ x low high. omega arith;
+        back = omega arith;
+        came_back = omega arith;
         live = λ h. absurd (omega arith);
-        spent = λ _. (refl, refl, refl);
+        force = λ h. absurd (omega arith);
+        spent = λ _. (refl, refl, refl, refl, refl);
       } in
       record {
         window = kept.window;
         latest = kept.latest;
         long = kept.long;
         orderly = record {
+          known = o.known;
           dealt = record {
-            once = λ h. omega (arith, sums (ticket_weight h), total-append h v.tickets w.tickets, o.dealt.once h);
-            all = λ h. omega (arith, sums (ticket_weight h), total-append h v.tickets w.tickets, o.dealt.all h);
+            once = λ h. omega (arith, sums (ticket_weight h), total-append h v.tickets w.tickets, total-append h v.returned w.returned, o.dealt.once h);
+            all = λ h. omega (arith, sums (ticket_weight h), total-append h v.tickets w.tickets, total-append h v.returned w.returned, o.dealt.all h);
             from = o.dealt.from;
             to = o.dealt.to;
             begun = o.dealt.begun;
@@ -138,6 +159,9 @@ module _ (k : Terms) where
           };
           behind = o.behind;
           entered = λ x some-window given. omega (arith, o.entered x some-window (omega (arith, given, sums (λ (u : View). count_in x u.tickets), total-append (within (first_of x) 4294967296) v.tickets w.tickets)), starts x);
+          force = omega (arith, o.force, force (current_of s));
+          came_back = omega (arith, o.came_back, returned (window_of (back_of s)));
+          few_back = o.few_back;
           parts = omega (arith, sums (λ (u : View). u.weight), o.parts);
           each = λ by u there'. ⊎_elim
               (λ (e : (by ≡ other) × (blank_view ≡ u)). subst F e.1 fits-blank)
@@ -153,20 +177,39 @@ module _ (k : Terms) where
   first-view zero v at = some-injective (first_view k) v at
   first-view (suc by) v at = absurd (some-ne-none v (sym at))
 
-  -- the first state: both words are 0
-  pub first_kept : (ws : List ℕ) (homes : List (Option ℕ)) → length ws ≡ 32 → slice_index ws 8 ≡ 0 → slice_index ws 24 ≡ 0 → IsKept k (record { words = ws; homes = homes; views = first_view k ∷ [] })
-  first_kept ws homes long draws requests = record {
+  -- the first state: the words are 0, and that of the terms is theirs
+  pub first_kept : (ws : List ℕ) (homes : List (Option ℕ)) → k.share ≤ 1000000 → length ws ≡ 32 → slice_index ws 8 ≡ 0 → slice_index ws 24 ≡ 0 → slice_index ws 25 ≡ word_of k.reserve k.share → slice_index ws 9 ≡ 0
+      → IsKept k (record { words = ws; homes = homes; views = first_view k ∷ [] })
+  first_kept ws homes known long draws requests terms back = record {
     window = 0;
     latest = 0;
     long = long;
-    orderly = subst (λ (x : ℕ). IsOrderly k x 0 (slice_index ws 24) 0 (first_view k ∷ [])) (sym draws)
-        (subst (λ (x : ℕ). IsOrderly k 0 0 x 0 (first_view k ∷ [])) (sym requests) (record {
+    orderly = subst (λ (y : ℕ). IsOrderly k (words_at y 0 (slice_index ws 24) 0 (slice_index ws 25) (slice_index ws 9)) (first_view k ∷ [])) (sym draws)
+        (subst (λ (y : ℕ). IsOrderly k (words_at 0 0 y 0 (slice_index ws 25) (slice_index ws 9)) (first_view k ∷ [])) (sym requests)
+        (subst (λ (y : ℕ). IsOrderly k (words_at 0 0 0 0 y (slice_index ws 9)) (first_view k ∷ [])) (sym terms)
+        (subst (λ (y : ℕ). IsOrderly k (words_at 0 0 0 0 (word_of k.reserve k.share) y) (first_view k ∷ [])) (sym back) (record {
+          known = known;
           dealt = record { once = λ h. omega arith; all = λ h. omega arith; from = omega arith; to = omega arith; begun = λ h. absurd (omega arith) };
           counted = record { once = λ h. omega arith; all = λ h. omega arith; from = omega arith; opened = λ h. absurd (omega arith); small = omega (arith, may_count-le (first_view k)) };
           behind = omega arith;
           entered = λ w some-window given. absurd (omega arith);
+          force = omega (arith, is-same (word_of k.reserve k.share) (word_of k.reserve k.share) refl);
+          came_back = omega arith;
+          few_back = omega arith;
           parts = omega arith;
-          each = λ by v at. subst (Fits k 0 0 (tickets_in (first_view k ∷ [])) (requests_in (first_view k ∷ [])) (begins (first_view k ∷ []))) (first-view by v at)
-              (record { allows = tt; seen = omega arith; counted = omega arith; begun = λ some-window. absurd (omega arith); found = omega arith; given = λ w low high. absurd (omega arith); live = λ h. refl; spent = λ none. absurd (omega arith) });
-        }));
+          each = λ by v at. subst (Fits k (words_at 0 0 0 0 (word_of k.reserve k.share) 0) (first_view k ∷ [])) (first-view by v at) (record {
+            allows = tt;
+            allowed_back = tt;
+            seen = omega arith;
+            counted = omega arith;
+            begun = λ some-window. absurd (omega arith);
+            found = omega arith;
+            given = λ w low high. absurd (omega arith);
+            back = omega arith;
+            came_back = omega arith;
+            live = λ h. refl;
+            force = λ h. omega (arith, is-same (word_of k.reserve k.share) (word_of k.reserve k.share) refl);
+            spent = λ none. absurd (omega arith);
+          });
+        }))));
   }

@@ -1,5 +1,5 @@
 -- What contracts see of a quota and of a pass, and what every pass keeps.
-use Rattle.std.specs.Prelude.{◌≡◌, ℕ, ◌-◌, ◌<◌, ◌≤◌, [], length}
+use Rattle.std.specs.Prelude.{◌≡◌, ℕ, ◌-◌, ◌<◌, ◌≤◌, List, [], ◌∷◌, length, Option, IfSome}
 use Rattle.atomic_table.specs.Seated.{TableId}
 use Rattle.sched_ticket_quota.specs.Windows.{window_of, window_at}
 use Rattle.sched_ticket_quota.specs.Steps.{Sat}
@@ -36,9 +36,9 @@ pub record IsLaidOut (table : TableId) (key about : Terms) (from : ℕ) : Type 0
   pub terms : AreTerms about
   pub early : from ≤ 4611686018427387903
 
--- a pass keeps what its view has: n tickets, a weight w, the number of its last request, and the moment up to which the
--- window of the requests that it has seen is not over
-pub record IsKnown (m : Sat) (n w told from until : ℕ) : Type 0 where
+-- a pass keeps what its view has: n tickets, a weight w, the number of its last request, the moment up to which the window
+-- of the requests that it has seen is not over, and its latest ticket, where it may be handed back
+pub record IsKnown (m : Sat) (n w told from until : ℕ) (latest : Option ℕ) : Type 0 where
   pub bare : m.1 ≡ []
   pub tickets : length m.0.tickets ≡ n
   pub weight : m.0.weight ≡ w
@@ -47,3 +47,4 @@ pub record IsKnown (m : Sat) (n w told from until : ℕ) : Type 0 where
   pub few_parts : w ≤ 4611686018427387904
   pub few_tickets : n ≤ 17496587910722355200
   pub goes_on : 0 < until → window_at m.0.terms from (until - 1) ≤ window_of m.0.seen
+  pub latest_is : IfSome latest (λ t. (t < 17496587910722355200) × (others : List ℕ) × (m.0.tickets ≡ t ∷ others))

@@ -7,3 +7,4 @@ pub mod Held
 pub mod Calls
 pub mod Laws
 pub mod Clocks
+pub mod Histories

@@ -1,23 +1,26 @@
--- What holds of a quota between any two atomic steps, of its two words and of the views of all its passes.
+-- What holds of a quota between any two atomic steps, of its words and of the views of all its passes.
 use Rattle.std.specs.Prelude.{◌≡◌, ℕ, ◌+◌, ◌-◌, ◌/◌, ◌<◌, ◌≤◌, List, [], length, slice_index, if◌then◌else◌, nat_lt}
 use mathlib.Core.Option.{some}
 use lib.ListN.{get_elem?}
 use Rattle.atomic_table.specs.Table.{State}
-use Rattle.sched_ticket.specs.Lists.{total, below, Each, times}
-use Rattle.sched_ticket_quota.specs.Windows.{window_of, first_of, allowed, count_in}
+use Rattle.sched_ticket.specs.Lists.{total, below, Each, times, is}
+use Rattle.sched_ticket_quota.specs.Windows.{window_of, first_of, word_of, terms_of, allowed, count_in}
 use Rattle.sched_ticket_quota.specs.declared.view.Terms.{Terms}
 use Rattle.sched_ticket_quota.specs.declared.view.View.{View}
 
--- what the tickets of a pass weigh, and its requests
+-- what the tickets weigh that were dealt to a pass, those that it handed back too, and its requests
 abbrev pub ticket_weight : (ℕ → ℕ) → View → ℕ
-ticket_weight h v = total h v.tickets
+ticket_weight h v = total h v.tickets + total h v.returned
 
 abbrev pub request_weight : (ℕ → ℕ) → View → ℕ
 request_weight h v = total h v.requests
 
--- how many tickets of a window all passes have, and how many requests of it they counted
+-- how many tickets of a window all passes have, how many they handed back, and how many requests of it they counted
 abbrev pub tickets_in : List View → ℕ → ℕ
 tickets_in views w = total (λ (v : View). count_in w v.tickets) views
+
+abbrev pub returned_in : List View → ℕ → ℕ
+returned_in views w = total (λ (v : View). count_in w v.returned) views
 
 abbrev pub requests_in : List View → ℕ → ℕ
 requests_in views w = total (λ (v : View). count_in w v.requests) views
@@ -33,6 +36,14 @@ may_count v = if nat_lt v.told 12884901888000000000 then v.weight else 0
 -- how often the passes opened the window of this first number
 abbrev pub openings : List View → ℕ → ℕ
 openings views first = total (λ (v : View). times first v.opened) views
+
+-- how often terms were in force, by their word: made with, or set by a pass
+abbrev pub in_force : Terms → List View → ℕ → ℕ
+in_force k views x = is x (word_of k.reserve k.share) + total (λ (v : View). times x v.changes) views
+
+-- terms were in force: the quota was made with them, or a pass has set them
+abbrev pub WereInForce : Terms → List View → Terms → Type 0
+WereInForce k views j = (x : ℕ) × (0 < in_force k views x) × (j ≡ terms_of k x)
 
 -- how often a window was begun: opened by a call, or by the requests past the 4294967296 of the window before
 abbrev pub begins : List View → ℕ → ℕ
@@ -55,47 +66,84 @@ pub record IsCounted (asked window : ℕ) (views : List View) : Type 0 where
   -- 2^62 more than the numbers of all windows
   pub small : asked + total may_count views ≤ 17496587906427387904
 
--- a ticket is one that the requests of its window allow, of which `requests` tells how many there are
-abbrev pub IsAllowed : Terms → (ℕ → ℕ) → ℕ → Type 0
-IsAllowed k requests t = t < first_of (window_of t) + allowed k (requests (window_of t))
+-- a ticket is one that terms in force allow for the requests of its window, and for those that were handed back there
+abbrev pub IsAllowed : Terms → List View → ℕ → Type 0
+IsAllowed k views t = (x : ℕ) × (0 < in_force k views x)
+    × (t < first_of (window_of t) + allowed (terms_of k x) (requests_in views (window_of t)) + returned_in views (window_of t))
 
--- as many requests were counted in a window as a pass has seen there
+-- as many requests were counted in a window, or tickets handed back, as a pass has seen there
 abbrev pub IsSeen : (ℕ → ℕ) → ℕ → Type 0
 IsSeen requests q = q ≤ first_of (window_of q) + requests (window_of q)
 
--- as many tickets were given in a window as a pass has found there
+-- as many tickets were dealt in a window as a pass has found there
 abbrev pub IsFound : (ℕ → ℕ) → ℕ → Type 0
 IsFound tickets d = (w : ℕ) → first_of w < d → d ≤ first_of w + 4294967296 → d ≤ first_of w + tickets w
 
+-- the words of a quota, with the window of the last ticket and the one that was opened last
+pub record Words : Type 0 where
+  pub drawn : ℕ
+  pub window : ℕ
+  pub asked : ℕ
+  pub latest : ℕ
+  pub current : ℕ
+  pub back : ℕ
+
 -- one view fits the words, and what all views have of each window
-pub record Fits (k : Terms) (drawn asked : ℕ) (tickets requests starts : ℕ → ℕ) (v : View) : Type 0 where
-  pub allows : Each (IsAllowed k requests) v.tickets
-  pub seen : v.seen ≤ asked
-  pub counted : IsSeen requests v.seen
-  pub begun : 0 < window_of v.seen → 0 < starts (window_of v.seen)
-  pub found : v.found ≤ drawn
-  pub given : IsFound tickets v.found
+pub record Fits (k : Terms) (x : Words) (views : List View) (v : View) : Type 0 where
+  pub allows : Each (IsAllowed k views) v.tickets
+  pub allowed_back : Each (IsAllowed k views) v.returned
+  pub seen : v.seen ≤ x.asked
+  pub counted : IsSeen (requests_in views) v.seen
+  pub begun : 0 < window_of v.seen → 0 < begins views (window_of v.seen)
+  pub found : v.found ≤ x.drawn
+  pub given : IsFound (λ w. tickets_in views w + returned_in views w) v.found
+  pub back : v.back ≤ x.back
+  pub came_back : IsSeen (returned_in views) v.back
   pub live : 0 < v.weight → v.terms ≡ k
+  -- the terms that it has read were in force
+  pub force : 0 < v.weight → 0 < in_force k views v.current
   -- one that stands for no part has nothing
-  pub spent : v.weight ≡ 0 → (v.tickets ≡ []) × (v.requests ≡ []) × (v.opened ≡ [])
+  pub spent : v.weight ≡ 0 →
+      (v.tickets ≡ []) × (v.requests ≡ []) × (v.opened ≡ []) × (v.changes ≡ []) × (v.returned ≡ [])
 
 -- the words and the views fit together
-pub record IsOrderly (k : Terms) (drawn window asked latest : ℕ) (views : List View) : Type 0 where
-  pub dealt : IsDealt drawn window views
-  pub counted : IsCounted asked latest views
+pub record IsOrderly (k : Terms) (x : Words) (views : List View) : Type 0 where
+  pub known : k.share ≤ 1000000
+  pub dealt : IsDealt x.drawn x.window views
+  pub counted : IsCounted x.asked x.latest views
   -- no ticket is of a window that was not begun
-  pub behind : first_of window ≤ asked
+  pub behind : first_of x.window ≤ x.asked
   pub entered : (w : ℕ) → 0 < w → 0 < tickets_in views w → 0 < begins views w
+  pub force : 0 < in_force k views x.current
+  -- as many tickets were handed back as their word says
+  pub came_back : IsSeen (returned_in views) x.back
+  pub few_back : x.back ≤ 17496587910722355200
   pub parts : weights views ≡ 4611686018427387904
-  pub each : (by : ℕ) (v : View) → get_elem? views by ≡ some v →
-      Fits k drawn asked (tickets_in views) (requests_in views) (begins views) v
+  pub each : (by : ℕ) (v : View) → get_elem? views by ≡ some v → Fits k x views v
 
--- the two words of a quota's table, which lie 16 apart
+-- the words of a quota's table: the draws lie 16 before the requests, those that came back beside the draws, and the terms
+-- beside the requests
 abbrev pub drawn_of : State ℕ View → ℕ
 drawn_of s = slice_index s.words 8
 
 abbrev pub asked_of : State ℕ View → ℕ
 asked_of s = slice_index s.words 24
+
+abbrev pub current_of : State ℕ View → ℕ
+current_of s = slice_index s.words 25
+
+abbrev pub back_of : State ℕ View → ℕ
+back_of s = slice_index s.words 9
+
+abbrev pub words_of : State ℕ View → ℕ → ℕ → Words
+words_of s window latest = record {
+  drawn = drawn_of s;
+  window = window;
+  asked = asked_of s;
+  latest = latest;
+  current = current_of s;
+  back = back_of s;
+}
 
 -- the rule of a quota's table
 pub record IsKept (k : Terms) (s : State ℕ View) : Type 0 where
@@ -103,4 +151,4 @@ pub record IsKept (k : Terms) (s : State ℕ View) : Type 0 where
   pub window : ℕ
   pub latest : ℕ
   pub long : length s.words ≡ 32
-  pub orderly : IsOrderly k (drawn_of s) window (asked_of s) latest s.views
+  pub orderly : IsOrderly k (words_of s window latest) s.views

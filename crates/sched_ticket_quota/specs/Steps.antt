@@ -5,7 +5,8 @@ use Rattle.sched_ticket.specs.Lists.{Each, times}
 use Rattle.sched_ticket.specs.Parts.{all_parts}
 use Rattle.sched_ticket_quota.specs.Windows.{window_of, first_of}
 use Rattle.sched_ticket_quota.specs.Whole.{IsWhole}
-use Rattle.sched_ticket_quota.specs.View.{with_reading, with_opening, with_request, with_found, with_ticket, with_loss, next_ticket}
+use Rattle.sched_ticket_quota.specs.View.{with_reading, with_glance, with_change, with_opening, with_requests, with_found, with_ticket, with_loss, next_ticket}
+use Rattle.sched_ticket_quota.specs.View.{with_recall, with_asking, with_setback, with_return}
 use Rattle.sched_ticket_quota.specs.declared.view.View.{View}
 
 -- a seat's view, and the slots that it holds, of which a quota has none
@@ -33,8 +34,17 @@ reads s m q n = Rises m.0 q × IsNoLater m.0.found q × Sees m n (with_reading m
 abbrev pub opens : Then
 opens s m q n = Rises m.0 q × Sees m n (with_opening m.0 s.first (max q s.first))
 
+-- the terms are read
+abbrev pub glances : Then
+glances s m x n = Sees m n (with_glance m.0 x)
+
+-- the terms become these
+abbrev pub changes : Then
+changes s m x n = Sees m n (with_change m.0 x)
+
+-- as many requests are counted as the step adds
 abbrev pub counts : Then
-counts s m q n = Rises m.0 q × Sees m n (with_request m.0 q)
+counts s m q n = (m.0.seen ≤ q) × (q + s.first ≤ 17496587906427387904) × Sees m n (with_requests m.0 q s.first)
 
 -- a look at the draws begins a draw, which has lost no race yet
 abbrev pub finds : Then
@@ -50,6 +60,24 @@ abbrev pub wins : Then
 wins s m d n =
     (d ≡ s.first → IsLater m.0 (next_ticket m.0) × Sees m n (with_ticket m.0 (next_ticket m.0)))
     × (d ≢ s.first → (m.0.found ≤ d) × (m.0.found < d → Sees m n (with_loss m.0 d)) × (d ≡ m.0.found → n ≡ m))
+
+-- the number of tickets that were handed back never falls
+abbrev pub recalls : Then
+recalls s m r n = (m.0.back ≤ r) × Sees m n (with_recall m.0 r)
+
+-- such a look to hand a ticket back begins that, which has lost no race yet
+abbrev pub asks : Then
+asks s m r n = (m.0.back ≤ r) × Sees m n (with_asking m.0 r)
+
+-- the latest ticket is handed back, or a race was lost with another that was
+abbrev pub returns : Then
+returns s m r n =
+    (r ≡ s.first → Sees m n (with_return m.0 s.second))
+    × (r ≢ s.first → (m.0.back ≤ r) × (m.0.back < r → Sees m n (with_setback m.0 r)) × (r ≡ m.0.back → n ≡ m))
+
+-- the latest ticket is given up, of a window that is over
+abbrev pub lapses : Then
+lapses s m r n = (m.0.back ≤ r) × Sees m n (with_return m.0 r)
 
 -- what holds of a pass's tickets and parts, whatever was joined into it
 pub record IsSound (v : View) : Type 0 where

@@ -1,44 +1,64 @@
 -- Views of a quota, and how one step changes a view.
-use Rattle.std.specs.Prelude.{ℕ, ◌+◌, ◌-◌, [], ◌∷◌, ◌++◌, max}
+use Rattle.std.specs.Prelude.{ℕ, zero, suc, ◌+◌, ◌-◌, List, [], ◌∷◌, ◌++◌, max}
 use Rattle.sched_ticket.specs.Parts.{all_parts, part}
-use Rattle.sched_ticket_quota.specs.Windows.{first_of, window_of}
+use Rattle.sched_ticket_quota.specs.Windows.{word_of, first_of, window_of}
 use Rattle.sched_ticket_quota.specs.declared.view.Terms.{Terms}
 use Rattle.sched_ticket_quota.specs.declared.view.View.{View}
 
 -- a pass that has drawn and counted nothing
-abbrev pub fresh_view : Terms → ℕ → ℕ → ℕ → ℕ → View
-fresh_view k seen told found weight = record {
+abbrev pub fresh_view : Terms → ℕ → ℕ → ℕ → ℕ → ℕ → ℕ → View
+fresh_view k current seen told found back weight = record {
   terms = k;
   tickets = [];
   requests = [];
+  returned = [];
   opened = [];
+  changes = [];
+  current = current;
   seen = seen;
   told = told;
   found = found;
+  back = back;
   weight = weight;
   readings = 0;
+  glances = 0;
+  recalls = 0;
   looks = 0;
   losses = 0;
 }
 
 -- the first pass of a quota has all parts
 abbrev pub first_view : Terms → View
-first_view k = fresh_view k 0 0 0 all_parts
+first_view k = fresh_view k (word_of k.reserve k.share) 0 0 0 0 all_parts
 
 -- what is left of a pass that was joined into another
 abbrev pub blank_view : View
-blank_view = fresh_view (record { reserve = 0; share = 0; period = 0 }) 0 0 0 0
+blank_view = fresh_view (record { reserve = 0; share = 0; period = 0 }) 0 0 0 0 0 0
 
 -- a pass that has read the requests
 abbrev pub with_reading : View → ℕ → View
 with_reading v q = record v { seen = q; readings = v.readings + 1 }
 
+-- a pass that has read the terms, from this word
+abbrev pub with_glance : View → ℕ → View
+with_glance v x = record v { current = x; glances = v.glances + 1 }
+
+-- a pass that has set the terms, to this word
+abbrev pub with_change : View → ℕ → View
+with_change v x = record v { changes = x ∷ v.changes; current = x }
+
 -- a pass that has opened the window of this first number, and has seen q requests then
 abbrev pub with_opening : View → ℕ → ℕ → View
 with_opening v first q = record v { opened = first ∷ v.opened; seen = q }
 
-abbrev pub with_request : View → ℕ → View
-with_request v n = record v { requests = n ∷ v.requests; seen = n + 1; told = n + 1 }
+-- n numbers from q on, the last first
+abbrev pub numbers : ℕ → ℕ → List ℕ
+numbers q zero = []
+numbers q (suc n) = (q + n) ∷ numbers q n
+
+-- a pass that has counted n requests, from the number q on
+abbrev pub with_requests : View → ℕ → ℕ → View
+with_requests v q n = record v { requests = numbers q n ++ v.requests; seen = q + n; told = q + n }
 
 -- a pass that has looked at the draws, and has lost no race since
 abbrev pub with_found : View → ℕ → View
@@ -51,6 +71,32 @@ with_ticket v t = record v { tickets = t ∷ v.tickets; found = t + 1 }
 abbrev pub with_loss : View → ℕ → View
 with_loss v d = record v { found = d; losses = v.losses + 1 }
 
+-- a pass that has read how many tickets were handed back
+abbrev pub with_recall : View → ℕ → View
+with_recall v r = record v { back = r; recalls = v.recalls + 1 }
+
+-- a pass that has read it to hand one back, and has lost no race since
+abbrev pub with_asking : View → ℕ → View
+with_asking v r = record v { back = r; recalls = v.recalls + 1; losses = 0 }
+
+-- a pass that found another ticket handed back before its own
+abbrev pub with_setback : View → ℕ → View
+with_setback v r = record v { back = r; losses = v.losses + 1 }
+
+-- the latest of these tickets, where there is one, and the others
+abbrev pub latest_in : List ℕ → List ℕ
+latest_in [] = []
+latest_in (t ∷ ts) = t ∷ []
+
+abbrev pub without_latest : List ℕ → List ℕ
+without_latest [] = []
+without_latest (t ∷ ts) = ts
+
+-- a pass that has handed its latest ticket back, with the word of those that were
+abbrev pub with_return : View → ℕ → View
+with_return v r =
+    record v { tickets = without_latest v.tickets; returned = latest_in v.tickets ++ v.returned; back = r }
+
 -- the ticket that a draw is to win: the next of the latest window that the pass has seen
 abbrev pub next_ticket : View → ℕ
 next_ticket v = max v.found (first_of (window_of v.seen))
@@ -61,7 +107,7 @@ without_part v = record v { weight = v.weight - part v.weight }
 
 -- the pass that is split from another
 abbrev pub part_of : View → View
-part_of v = fresh_view v.terms v.seen v.told v.found (part v.weight)
+part_of v = fresh_view v.terms v.current v.seen v.told v.found v.back (part v.weight)
 
 -- two passes joined: what both have
 abbrev pub joined_view : View → View → View
@@ -69,12 +115,18 @@ joined_view v w = record {
   terms = v.terms;
   tickets = v.tickets ++ w.tickets;
   requests = v.requests ++ w.requests;
+  returned = v.returned ++ w.returned;
   opened = v.opened ++ w.opened;
+  changes = v.changes ++ w.changes;
+  current = v.current;
   seen = v.seen;
   told = max v.told w.told;
   found = v.found;
+  back = v.back;
   weight = v.weight + w.weight;
   readings = v.readings + w.readings;
+  glances = v.glances + w.glances;
+  recalls = v.recalls + w.recalls;
   looks = v.looks + w.looks;
   losses = v.losses;
 }

@@ -1,7 +1,15 @@
 -- Windows of time, and how many tickets one may give.
-use Rattle.std.specs.Prelude.{ℕ, ◌+◌, ◌-◌, ◌*◌, ◌/◌, ◌%◌, min, List, if◌then◌else◌, nat_lt}
+use Rattle.std.specs.Prelude.{ℕ, ◌+◌, ◌-◌, ◌*◌, ◌/◌, ◌%◌, ◌<◌, ◌≤◌, min, List, if◌then◌else◌, ◌==◌, nat_lt}
 use Rattle.sched_ticket.specs.Lists.{total, once_below}
 use Rattle.sched_ticket_quota.specs.declared.view.Terms.{Terms}
+
+-- a reserve and a share in one word
+abbrev pub word_of : ℕ → ℕ → ℕ
+word_of reserve share = reserve * 1048576 + share
+
+-- the terms of such a word, with the period of these
+abbrev pub terms_of : Terms → ℕ → Terms
+terms_of k x = record k { reserve = x / 1048576; share = x % 1048576 }
 
 -- the window of a ticket's or a request's number: each has 4294967296 numbers
 abbrev pub window_of : ℕ → ℕ
@@ -25,9 +33,22 @@ end_of k start w =
 abbrev pub allowed : Terms → ℕ → ℕ
 allowed k n = min (k.reserve + (k.share * n) / 1000) 4294967296
 
--- where the tickets end that the requests of the latest window allow
-abbrev pub floor_of : Terms → ℕ → ℕ
-floor_of k q = first_of (window_of q) + allowed k (q % 4294967296)
+-- each of the terms in force, of which `force` tells how often each word was set, allows at most n tickets for so many
+-- requests
+abbrev pub AllowNoMore : Terms → (ℕ → ℕ) → ℕ → ℕ → Type 0
+AllowNoMore k force requests n = (x : ℕ) → 0 < force x → allowed (terms_of k x) requests ≤ n
+
+-- how many tickets of a window were handed back there, by the word of those that were
+abbrev pub back_in : ℕ → ℕ → ℕ
+back_in r w = if window_of r == w then r % 4294967296 else 0
+
+-- how many numbers the latest window may deal: so many tickets as its requests allow, and one for each that was handed back
+abbrev pub room_of : Terms → ℕ → ℕ → ℕ
+room_of k q r = min (allowed k (q % 4294967296) + back_in r (window_of q)) 4294967296
+
+-- where they end
+abbrev pub floor_of : Terms → ℕ → ℕ → ℕ
+floor_of k q r = first_of (window_of q) + room_of k q r
 
 -- 1 for each of the n numbers from a on
 abbrev pub within : ℕ → ℕ → ℕ → ℕ

@@ -35,6 +35,22 @@ pub enum Refusal {
     RacesLost,
 }
 
+/// Why no ticket was handed back.
+#[derive(Clone, Copy, Debug, PartialEq, Eq, Drop, Error)]
+pub enum NotBack {
+    /// The pass has drawn none since it was made, or since it handed one back.
+    #[error("the pass has no ticket to hand back")]
+    NoTicket,
+    /// Others were handed back first, 64 times in this call. The pass keeps its ticket, and may try again.
+    #[error("64 races with other tickets were lost")]
+    RacesLost,
+}
+
+/// Requests were not counted at once: they are more than the pass has parts.
+#[derive(Clone, Copy, Debug, PartialEq, Eq, Drop, Error)]
+#[error("the requests are more than the pass has parts")]
+pub struct WeightTooLarge;
+
 /// A quota was not closed: another of its passes is alive, or was dropped.
 #[derive(Clone, Copy, Debug, PartialEq, Eq, Drop, Error)]
 #[error("another pass of the quota is alive or was dropped")]

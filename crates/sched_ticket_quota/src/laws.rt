@@ -1,10 +1,12 @@
 //! What holds of a quota between any two atomic steps, for any number of passes, draws, deposits, splits and joins.
 //! Each function does nothing: its contract is a law of the table's rule.
-ghost use Rattle.sched_ticket_quota.specs.Laws.{TicketsStandOnce, RequestsStandOnce, WindowsAreKept, WindowsAreSmall};
+ghost use Rattle.sched_ticket_quota.specs.Laws.{TicketsStandOnce, RequestsStandOnce, WindowsAreKept};
+ghost use Rattle.sched_ticket_quota.specs.Laws.{UnchangedAreKept, TermsWereInForce, WindowsAreSmall};
 ghost use Rattle.sched_ticket_quota.specs.Laws.{LatestIsCounted, RefusalsAreJust, SightIsTrue, WindowsWereOpened};
 ghost use Rattle.sched_ticket_quota.specs.Laws.{PartsAreKept, SpentHasNothing, WordsStaySmall};
 ghost use Rattle.sched_ticket_quota.specs.Clocks.{OpensItsOwn, DrawsNoEarlier, CountsNoEarlier, WindowsEnd};
 ghost use Rattle.sched_ticket_quota.specs.Clocks.{EndsWithinAPeriod, ClocksAreBounded};
+ghost use Rattle.sched_ticket_quota.specs.Histories.{CallsAreBounded};
 
 /// No ticket is given twice, and no request is counted twice.
 pub fn numbers_stand_once()
@@ -13,17 +15,20 @@ pub fn numbers_stand_once()
 {}
 
 /// In each window the tickets given never pass the reserve and the share of the requests counted in it so far, nor
-/// 4294967296. All requests of the latest window are counted in it.
+/// 4294967296: by the most generous terms that were in force, which are those that the quota was made with as long as no
+/// pass has set any. All requests of the latest window are counted in it.
 pub fn windows_are_kept()
     ensures kept { WindowsAreKept }
+    ensures unchanged { UnchangedAreKept }
     ensures small { WindowsAreSmall }
     ensures counted { LatestIsCounted }
 {}
 
-/// A pass finds no ticket left only where at least as many tickets were given in that window as the requests that it
-/// read allow; what a pass has seen was counted.
+/// A pass finds no ticket left only where at least as many tickets were given in that window as the terms allow for the
+/// requests, as it read both; what a pass has seen was counted, and the terms that it has read were in force.
 pub fn refusals_are_just()
     ensures refusals { RefusalsAreJust }
+    ensures terms { TermsWereInForce }
     ensures sight { SightIsTrue }
 {}
 
@@ -44,6 +49,13 @@ pub fn calls_go_by_their_moments()
 /// each call that opened a window past that one's, and the share of the requests counted in them.
 pub fn clocks_are_bounded()
     ensures { ClocksAreBounded }
+{}
+
+/// Of all calls of all threads, ended or under way, those from a moment on drew at most two reserves, one more for each
+/// period until another moment, one for each window that a call opened whose moment is after that, the share of the
+/// requests, and as many as were handed back.
+pub fn calls_are_bounded()
+    ensures { CallsAreBounded }
 {}
 
 /// A moment is in a later window than one that has ended by then, and in no later one than one that has not. The window of

@@ -14,7 +14,7 @@ mod quota;
 mod rule;
 mod view;
 
-pub use fault::{PassesOut, QuotaFault, Refusal};
+pub use fault::{NotBack, PassesOut, QuotaFault, Refusal, WeightTooLarge};
 pub use pass::{MAX_TRIES, Pass, Usage};
 pub use quota::{LAST_WINDOW, MAX_RESERVE, MAX_SHARE, MIN_PERIOD, Quota};
 pub use view::{Terms, View};

@@ -1,18 +1,26 @@
 //! The pass: the right to count requests and to draw tickets of a quota, and what was drawn with it.
-ghost use Rattle.std.specs.Prelude.{◌≡◌, ◌+◌, ◌-◌, ◌*◌, ◌/◌, ◌<◌, ◌≤◌, ◌%◌, ◌⊎◌, [], ◌∷◌, length, min, max};
+ghost use Rattle.std.specs.Prelude.{◌≡◌, ℕ, ◌+◌, ◌-◌, ◌*◌, ◌/◌, ◌<◌, ◌≤◌, ◌%◌, ◌⊎◌, List, [], ◌∷◌, length, min, max, true, false};
 ghost use Rattle.std.specs.Prelude.{IfOk, IfErr, OnOk};
-ghost use Rattle.sched_ticket_quota.specs.Windows.{window_of, first_of, window_at, end_of, allowed, floor_of};
-ghost use Rattle.sched_ticket_quota.specs.View.{fresh_view, with_reading, with_opening, with_ticket, next_ticket};
+ghost use Rattle.sched_ticket_quota.specs.Windows.{window_of, first_of, window_at, end_of};
+ghost use Rattle.sched_ticket_quota.specs.Windows.{word_of, terms_of, allowed, room_of, back_in, floor_of};
+ghost use Rattle.sched_ticket_quota.specs.View.{fresh_view, with_reading, with_change, with_opening, with_ticket};
+ghost use Rattle.sched_ticket_quota.specs.View.{next_ticket};
 ghost use Rattle.sched_ticket_quota.specs.View.{without_part, part_of, joined_view};
 ghost use Rattle.sched_ticket_quota.specs.Steps.{IsLater, IsSound, IsNoLater};
 ghost use Rattle.sched_ticket_quota.specs.Held.{IsOf};
 ghost use Rattle.sched_ticket_quota.specs.Whole.{IsWhole};
-ghost use Rattle.sched_ticket_quota.specs.Calls.{Meets, Opens, Turned, Deposited, Tried};
-ghost use Rattle.sched_ticket_quota.specs.Calls.{Drew, DrawRefused, Won, WonNone, Told};
+ghost use Rattle.sched_ticket_quota.specs.Calls.{Meets, Opens, Turned, Counted, DepositedOf, Deposited, Tried};
+ghost use Rattle.sched_ticket_quota.specs.Calls.{Drew, DrawRefused, Won, WonNone, Told, RefusesChange};
+ghost use Rattle.sched_ticket_quota.specs.Calls.{HandedBack, KeptTicket, NotHanded};
 
-use crate::fault::{QuotaFault, Refusal};
-use crate::quota::{DRAWS, LAST_WINDOW, NUMBERS, Quota, REQUESTS};
-use crate::rule::{Count, Find, Learn, Merge, Open, Part, Read, Win};
+use crate::fault::{NotBack, QuotaFault, Refusal, WeightTooLarge};
+use crate::quota::{
+    DRAWS, LAST_WINDOW, MAX_RESERVE, MAX_SHARE, NUMBERS, Quota, REQUESTS, RETURNS, SHARES, TERMS,
+    word_of,
+};
+use crate::rule::{
+    Ask, Change, Count, Find, Glance, Lapse, Learn, Merge, Open, Part, Read, Recall, Return, Win,
+};
 use crate::view::View;
 use sched_ticket::parts::{ALL_PARTS, given};
 use sched_time::{FAR, Moment};
@@ -30,7 +38,7 @@ pub struct Usage {
     pub window: u64,
     /// The requests that were counted in it.
     pub asked: u64,
-    /// The tickets that it has given out.
+    /// The tickets that it has given out, without those handed back.
     pub given: u64,
     /// The tickets that it may yet give for the requests counted.
     pub left: u64,
@@ -52,6 +60,8 @@ pub struct Pass {
     start: u64,
     /// Before this moment the window is not over that it has seen.
     until: u64,
+    /// Its latest ticket, which may be handed back.
+    latest: Option<u64>,
 }
 
 impl Model for Pass {
@@ -61,13 +71,13 @@ impl Model for Pass {
 
     ghost view = { λ p. record { table = p.seat.table_id; start = p.start; has = p.seat.me.0 } };
 
-    ghost invariant = { λ p. IsKnown p.seat.me p.granted p.weight p.told p.start p.until };
+    ghost invariant = { λ p. IsKnown p.seat.me p.granted p.weight p.told p.start p.until p.latest };
 }
 
 impl Pass {
     pub(crate) fn of_seat(seat: Seat, weight: u64, told: u64, start: u64) -> Pass
         requires bare { seat.me.1 ≡ [] }
-        requires new { seat.me.0 ≡ fresh_view seat.me.0.terms seat.me.0.seen told seat.me.0.found weight }
+        requires new { let v = seat.me.0 in v ≡ fresh_view v.terms v.current v.seen told v.found v.back weight }
         requires live { (0 < weight) × (weight ≤ 4611686018427387904) }
         ensures { (result.table ≡ seat.table_id) × (result.start ≡ start) × (result.has ≡ seat.me.0) }
     {
@@ -78,10 +88,11 @@ impl Pass {
             told,
             start,
             until: 0,
+            latest: None,
         }
     }
 
-    /// How many tickets were drawn with this pass, and with those joined into it.
+    /// How many tickets were drawn with this pass, and with those joined into it, and not handed back.
     pub fn granted(&self) -> u64
         ensures { result ≡ length self.now.has.tickets }
     {
@@ -97,18 +108,53 @@ impl Pass {
         ensures tickets { self.new.has.tickets ≡ self.old.has.tickets }
     {
         self.turn(quota, now);
+        self.count(quota, 1);
+    }
+
+    /// Counts so many requests at once, as `deposit` counts one: a dear request as several, or what was put by till a
+    /// success. Their numbers follow one another, also into the next window where they are past the 4294967296 of one.
+    /// `WeightTooLarge` where they are more than the pass has parts: one that was split off the first has 1,048,576.
+    pub fn deposit_of(
+        &mut self,
+        quota: &Quota,
+        now: Moment,
+        weight: u64,
+    ) -> Result<(), WeightTooLarge>
+        requires { IsOf quota.now self.old }
+        ensures of { IsOf quota.now self.new }
+        ensures counted { OnOk result (DepositedOf quota.now now weight self.old.has self.new.has) }
+        ensures light { OnOk result (weight ≤ self.old.has.weight) }
+        ensures err { IfErr result (λ _. (self.old.has.weight < weight) × (self.new ≡ self.old)) }
+        ensures tickets { self.new.has.tickets ≡ self.old.has.tickets }
+    {
+        if weight > self.weight {
+            return Err(WeightTooLarge);
+        }
+        self.turn(quota, now);
+        self.count(quota, weight);
+        Ok(())
+    }
+
+    /// Counts so many requests, unless they are past the last window.
+    fn count(&mut self, quota: &Quota, weight: u64)
+        requires of { IsOf quota.now self.old }
+        requires light { weight ≤ self.old.has.weight }
+        ensures of { IsOf quota.now self.new }
+        ensures counted { Counted weight self.old.has self.new.has }
+        ensures tickets { self.new.has.tickets ≡ self.old.has.tickets }
+    {
         if self.told < (LAST_WINDOW + 1) * NUMBERS {
             let request = quota
                 .table
                 .shared
-                .fetch_add::<Count>(&mut self.seat, REQUESTS, 1);
-            self.told = request + 1;
+                .fetch_add::<Count>(&mut self.seat, REQUESTS, weight);
+            self.told = request + weight;
         }
     }
 
     /// A ticket of the window of `now`, or of the latest one where that is later. `WindowOut` where so many were given
-    /// there as its requests allow, with the moment at which the next window begins, and `RacesLost` where other draws
-    /// came first 64 times in this call. A pass that was refused may draw again.
+    /// there as the terms in force allow for its requests, with the moment at which the next window begins, and
+    /// `RacesLost` where other draws came first 64 times in this call. A pass that was refused may draw again.
     pub fn draw(&mut self, quota: &Quota, now: Moment) -> Result<u64, Refusal>
         requires { IsOf quota.now self.old }
         ensures of { IsOf quota.now self.new }
@@ -118,11 +164,54 @@ impl Pass {
         ensures kept { IfErr result (λ _. self.new.has.tickets ≡ self.old.has.tickets) }
     {
         self.turn(quota, now);
-        let ticket = win(quota, &mut self.seat);
-        if ticket.is_ok() {
-            self.granted += 1;
+        let ticket = win(quota, &mut self.seat)?;
+        self.granted += 1;
+        self.latest = Some(ticket);
+        Ok(ticket)
+    }
+
+    /// Hands back the latest ticket that this pass has drawn, as of a retry that is cancelled while it waits, so that any
+    /// pass may draw one more in its window. Where that window is over the ticket is given up, and no other is drawn for
+    /// it. `NoTicket` where it drew none since the last one that it handed back, and `RacesLost` where other tickets came
+    /// back first 64 times in this call; the tickets stay then.
+    pub fn hand_back(&mut self, quota: &Quota) -> Result<(), NotBack>
+        requires { IsOf quota.now self.old }
+        ensures of { IsOf quota.now self.new }
+        ensures ok { OnOk result (HandedBack self.old.has self.new.has) }
+        ensures err { IfErr result (λ why. NotHanded self.old.has why self.new.has) }
+    {
+        let Some(ticket) = self.latest else {
+            return Err(NotBack::NoTicket);
+        };
+        if !give_back(quota, &mut self.seat, ticket) {
+            return Err(NotBack::RacesLost);
         }
-        ticket
+        self.latest = None;
+        self.granted -= 1;
+        Ok(())
+    }
+
+    /// Sets the reserve and the share, which each draw of any pass goes by from now on, also in the present window. The
+    /// period stays. Terms that no quota is made with are refused, as `Quota::new` refuses them, and nothing changes.
+    pub fn set_terms(&mut self, quota: &Quota, reserve: u64, share: u64) -> Result<(), QuotaFault>
+        requires { IsOf quota.now self.old }
+        ensures of { IsOf quota.now self.new }
+        ensures ok { OnOk result ((reserve ≤ 4294967296) × (share ≤ 1000000)) }
+        ensures changed { OnOk result (self.new.has ≡ with_change self.old.has (word_of reserve share)) }
+        ensures err { IfErr result (λ e. RefusesChange reserve share e × (self.new ≡ self.old)) }
+    {
+        if reserve > MAX_RESERVE {
+            return Err(QuotaFault::ReserveTooLarge);
+        }
+        if share > MAX_SHARE {
+            return Err(QuotaFault::ShareTooLarge);
+        }
+        let word = word_of(reserve, share);
+        quota
+            .table
+            .shared
+            .store::<Change>(&mut self.seat, TERMS, word);
+        Ok(())
     }
 
     /// A new pass without tickets, for another thread. `TooManyPasses` where this pass has one part, which it keeps:
@@ -183,23 +272,25 @@ impl Pass {
     }
 
     /// What was asked of the window of `now`, or of the latest one where that is later, what it has given and what it
-    /// has left, each as of one moment in this call, and when the next window begins.
+    /// has left by the terms in force, each as of one moment in this call, and when the next window begins.
     pub fn seen(&mut self, quota: &Quota, now: Moment) -> Usage
         requires { IsOf quota.now self.old }
         ensures of { IsOf quota.now self.new }
         ensures told { Told quota.now now self.old.has self.new.has result }
     {
         self.turn(quota, now);
+        let back = quota.table.shared.load::<Recall>(&mut self.seat, RETURNS);
         let drawn = quota.table.shared.load::<Find>(&mut self.seat, DRAWS);
         let requests = quota.table.shared.load::<Read>(&mut self.seat, REQUESTS);
+        let terms = quota.table.shared.load::<Glance>(&mut self.seat, TERMS);
         let asked = requests % NUMBERS;
-        let given = drawn.max(requests - asked) - (requests - asked);
-        let room = room(quota, asked);
+        let dealt = drawn.max(requests - asked) - (requests - asked);
+        let room = room(quota, terms, requests, back);
         Usage {
             window: requests / NUMBERS,
             asked,
-            given,
-            left: room.saturating_sub(given),
+            given: dealt.saturating_sub(back_in(back, requests / NUMBERS)),
+            left: room.saturating_sub(dealt),
             next: end_of(quota, requests / NUMBERS),
         }
     }
@@ -210,6 +301,8 @@ impl Pass {
         ensures of { IsOf quota.now self.new }
         ensures turned { Turned quota.now now self.old.has self.new.has }
         ensures tickets { self.new.has.tickets ≡ self.old.has.tickets }
+        ensures weight { self.new.has.weight ≡ self.old.has.weight }
+        ensures live { 0 < self.new.has.weight }
     {
         if now.get() < self.until {
             return;
@@ -263,12 +356,51 @@ fn capped(millis: u64) -> Moment
     moment
 }
 
-/// How many tickets a window of so many requests may give.
-fn room(quota: &Quota, asked: u64) -> u64
-    requires { asked < 4294967296 }
-    ensures { result ≡ allowed quota.now.terms asked }
+/// How many tickets of a window were handed back there.
+fn back_in(back: u64, window: u64) -> u64
+    ensures { result ≡ back_in back window }
 {
-    (quota.terms.reserve + quota.terms.share * asked / 1000).min(NUMBERS)
+    if back / NUMBERS == window {
+        back % NUMBERS
+    } else {
+        0
+    }
+}
+
+/// How many tickets a window of so many requests may give, by the terms of this word.
+fn allowed(_quota: &Quota, terms: u64, asked: u64) -> u64
+    requires { asked < 4294967296 }
+    ensures { result ≡ allowed (terms_of _quota.now.terms terms) asked }
+{
+    (terms / SHARES + terms % SHARES * asked / 1000).min(NUMBERS)
+}
+
+/// How many numbers the latest window may deal, by the words of the terms, the requests and those handed back.
+fn room(quota: &Quota, terms: u64, requests: u64, back: u64) -> u64
+    ensures { result ≡ room_of (terms_of quota.now.terms terms) requests back }
+{
+    (allowed(quota, terms, requests % NUMBERS) + back_in(back, requests / NUMBERS)).min(NUMBERS)
+}
+
+/// Whether this number is past those that the latest window may deal. How many tickets were handed back is read only where
+/// the requests alone allow no more.
+fn is_out(quota: &Quota, seat: &mut Seat, terms: u64, requests: u64, ticket: u64) -> bool
+    requires of { seat.old.table_id ≡ quota.now.table }
+    requires small { requests ≤ 17496587906427387904 }
+    ensures seat { (seat.new.table_id ≡ seat.old.table_id) × (seat.new.me.1 ≡ seat.old.me.1) }
+    ensures same { let v = seat.old.me.0 in let u = seat.new.me.0 in
+        (u ≡ record v { back = u.back; recalls = u.recalls }) × (v.back ≤ u.back) × (v.recalls ≤ u.recalls) }
+    ensures out { result ≡ true → (seat.old.me.0.recalls < seat.new.me.0.recalls)
+        × (floor_of (terms_of quota.now.terms terms) requests seat.new.me.0.back ≤ ticket) }
+    ensures room { result ≡ false →
+        ticket < floor_of (terms_of quota.now.terms terms) requests seat.new.me.0.back }
+{
+    let base = requests - requests % NUMBERS;
+    if ticket < base + allowed(quota, terms, requests % NUMBERS) {
+        return false;
+    }
+    let back = quota.table.shared.load::<Recall>(seat, RETURNS);
+    ticket >= base + room(quota, terms, requests, back)
 }
 
 /// Draws the next ticket of the latest window, if there is room for it.
@@ -282,9 +414,9 @@ fn win(quota: &Quota, seat: &mut Seat) -> Result<u64, Refusal>
     let mut drawn = quota.table.shared.load::<Find>(seat, DRAWS);
     for _ in 0..MAX_TRIES {
         let requests = quota.table.shared.load::<Read>(seat, REQUESTS);
-        let asked = requests % NUMBERS;
-        let ticket = drawn.max(requests - asked);
-        if ticket >= requests - asked + room(quota, asked) {
+        let terms = quota.table.shared.load::<Glance>(seat, TERMS);
+        let ticket = drawn.max(requests - requests % NUMBERS);
+        if is_out(quota, seat, terms, requests, ticket) {
             return Err(Refusal::WindowOut(end_of(quota, requests / NUMBERS)));
         }
         let found = quota
@@ -297,4 +429,34 @@ fn win(quota: &Quota, seat: &mut Seat) -> Result<u64, Refusal>
         drawn = found;
     }
     Err(Refusal::RacesLost)
+}
+
+/// Hands this ticket back, the latest one, unless 64 others come before it.
+fn give_back(quota: &Quota, seat: &mut Seat, ticket: u64) -> bool
+    requires of { (seat.old.table_id ≡ quota.now.table) × (seat.old.me.0.terms ≡ quota.now.terms) }
+    requires live { 0 < seat.old.me.0.weight }
+    requires small { ticket < 17496587910722355200 }
+    requires has { (others : List ℕ) × (seat.old.me.0.tickets ≡ ticket ∷ others) }
+    ensures seat { (seat.new.table_id ≡ seat.old.table_id) × (seat.new.me.1 ≡ seat.old.me.1) }
+    ensures handed { result ≡ true → HandedBack seat.old.me.0 seat.new.me.0 }
+    ensures kept { result ≡ false → KeptTicket seat.old.me.0 seat.new.me.0 }
+{
+    let window = ticket / NUMBERS;
+    let mut back = quota.table.shared.load::<Ask>(seat, RETURNS);
+    for _ in 0..MAX_TRIES {
+        if back / NUMBERS > window {
+            quota.table.shared.load::<Lapse>(seat, RETURNS);
+            return true;
+        }
+        let next = back.max(window * NUMBERS) + 1;
+        let found = quota
+            .table
+            .shared
+            .compare_exchange::<Return>(seat, RETURNS, back, next);
+        if found == back {
+            return true;
+        }
+        back = found;
+    }
+    false
 }

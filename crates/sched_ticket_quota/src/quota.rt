@@ -1,5 +1,6 @@
 //! The quota: making it, and closing it with the pass that has all parts.
-ghost use Rattle.std.specs.Prelude.{◌≡◌, ◌/◌, ◌<◌, length, IfOk, IfErr, OnOk};
+ghost use Rattle.std.specs.Prelude.{◌≡◌, ◌/◌, ◌<◌, ◌≤◌, length, IfOk, IfErr, OnOk};
+ghost use Rattle.sched_ticket_quota.specs.Windows.{word_of};
 ghost use Rattle.sched_ticket_quota.specs.View.{first_view};
 ghost use Rattle.sched_ticket_quota.specs.Held.{AreTerms, IsOf};
 ghost use Rattle.sched_ticket_quota.specs.Calls.{RefusesTerms};
@@ -30,11 +31,20 @@ pub const LAST_WINDOW: u64 = 2999999999;
 /// The numbers of a window.
 pub(crate) const NUMBERS: u64 = 4294967296;
 
+/// Shares that one word tells apart: 1,000,000 is the greatest.
+pub(crate) const SHARES: u64 = 1048576;
+
 /// Which word tells how many tickets were drawn, and which how many requests were counted. There are 32 words, so that
 /// each of the two lies on a cache line of its own, and the lines beside have none.
 pub(crate) const DRAWS: usize = 8;
 
 pub(crate) const REQUESTS: usize = 24;
+
+/// Which word tells how many tickets were handed back, beside the draws.
+pub(crate) const RETURNS: usize = 9;
+
+/// Which word has the terms, beside the requests, which each draw reads too.
+pub(crate) const TERMS: usize = 25;
 
 /// What any number of threads draw tickets from, each with a pass of its own.
 /// Contracts see it as its name: which quota it is, and what it was made with.
@@ -74,7 +84,9 @@ impl Quota {
             return Err(QuotaFault::PeriodTooShort);
         }
         let start = now.get() / terms.period.get();
-        match Table::of_words(alloc, &[0; 32], &terms) {
+        let mut words = [0; 32];
+        words[TERMS] = word_of(terms.reserve, terms.share);
+        match Table::of_words(alloc, &words, &terms) {
             Ok((table, seat)) => {
                 let quota = Quota {
                     table,
@@ -100,4 +112,13 @@ impl Quota {
             Err(pass) => Err((self, pass, PassesOut)),
         }
     }
+}
+
+/// A reserve and a share in one word.
+pub(crate) fn word_of(reserve: u64, share: u64) -> u64
+    requires reserve { reserve ≤ 4294967296 }
+    requires share { share ≤ 1000000 }
+    ensures { result ≡ word_of reserve share }
+{
+    reserve * SHARES + share
 }

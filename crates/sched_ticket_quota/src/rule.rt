@@ -3,16 +3,23 @@
 //! | Step | On the word | The stepping pass |
 //! |---|---|---|
 //! | `Read` | requests are read | has seen them |
+//! | `Glance` | the terms are read | has read them |
+//! | `Change` | the terms become others | has set them |
 //! | `Open` | requests become a window's first number, where they are less | has opened that window, and seen them |
-//! | `Count` | 1 more request | gains its number |
+//! | `Count` | some more requests | gains their numbers |
 //! | `Find` | draws are read | has found them, and has lost no race since |
 //! | `Win` | draws become the one after its next ticket, where they are what it found | gains the ticket, or a loss where the draws are past what it found |
+//! | `Recall` | those handed back are read | has read them |
+//! | `Ask` | those handed back are read | has read them, and has lost no race since |
+//! | `Return` | those handed back become one more, where they are what it read | hands back its latest ticket, or gains a loss |
+//! | `Lapse` | none changes | hands back its latest ticket, of a window that is over |
 //! | `Part` | none changes | gives some of its parts to a new pass |
 //! | `Merge` | none changes | takes in another pass, which is spent |
 //! | `Learn` | none changes | learns that its tickets are distinct, and where it has all parts that it is the whole |
 ghost use Rattle.sched_ticket_quota.specs.Rule.{IsKept};
 ghost use Rattle.sched_ticket_quota.specs.View.{first_view, blank_view, without_part, part_of, joined_view};
-ghost use Rattle.sched_ticket_quota.specs.Steps.{reads, opens, counts, finds, wins, learns};
+ghost use Rattle.sched_ticket_quota.specs.Steps.{reads, glances, changes, opens, counts, finds, wins, learns};
+ghost use Rattle.sched_ticket_quota.specs.Steps.{recalls, asks, returns, lapses};
 
 use crate::view::{Terms, View};
 use atomic_table::{Join, Play, Split, TableRule};
@@ -30,6 +37,18 @@ pub(crate) struct Read;
 
 impl Play<u8, View> for Read {
     ghost then = { reads };
+}
+
+pub(crate) struct Glance;
+
+impl Play<u8, View> for Glance {
+    ghost then = { glances };
+}
+
+pub(crate) struct Change;
+
+impl Play<u8, View> for Change {
+    ghost then = { changes };
 }
 
 pub(crate) struct Open;
@@ -54,6 +73,30 @@ pub(crate) struct Win;
 
 impl Play<u8, View> for Win {
     ghost then = { wins };
+}
+
+pub(crate) struct Recall;
+
+impl Play<u8, View> for Recall {
+    ghost then = { recalls };
+}
+
+pub(crate) struct Ask;
+
+impl Play<u8, View> for Ask {
+    ghost then = { asks };
+}
+
+pub(crate) struct Return;
+
+impl Play<u8, View> for Return {
+    ghost then = { returns };
+}
+
+pub(crate) struct Lapse;
+
+impl Play<u8, View> for Lapse {
+    ghost then = { lapses };
 }
 
 pub(crate) struct Part;

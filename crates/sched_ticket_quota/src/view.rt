@@ -19,24 +19,37 @@ pub struct Terms {
 pub struct View {
     /// What the quota was made with.
     pub terms: Terms,
-    /// Its tickets, the latest first, and then those of passes joined into it.
+    /// Its tickets that it has not handed back, the latest first, and then those of passes joined into it.
     pub tickets: LinkedList<u64>,
     /// The requests that it counted, in the same order.
     pub requests: LinkedList<u64>,
+    /// The tickets that it handed back, in the same order.
+    pub returned: LinkedList<u64>,
     /// The first numbers of the windows that it opened.
     pub opened: LinkedList<u64>,
+    /// The words of the terms that it set.
+    pub changes: LinkedList<u64>,
+    /// The word of the terms as it last read or set it.
+    pub current: u64,
     /// The word of requests as it last saw it. The word is never below it.
     pub seen: u64,
     /// The word of requests after the last one that it counted.
     pub told: u64,
     /// The word of draws as it last found it. The word is never below it.
     pub found: u64,
+    /// The word of those handed back as it last read it. The word is never below it.
+    pub back: u64,
     /// The parts that it stands for. A view of weight 0 is spent.
     pub weight: u64,
     /// How often it read the word of requests.
     pub readings: u64,
+    /// How often it read the word of the terms.
+    pub glances: u64,
+    /// How often it read the word of those handed back.
+    pub recalls: u64,
     /// How often it looked at the word of draws.
     pub looks: u64,
-    /// How many races it lost since its last look: how often another draw came between that look and its own.
+    /// How many races it lost since its last look: how often another draw came between that look and its own, or another
+    /// ticket was handed back.
     pub losses: u64,
 }

@@ -7,9 +7,12 @@ use sched_time::{Millis, Moment};
 use std::process::Abort;
 use std::test::Fail;
 
+mod changes;
 mod passes;
 mod refusals;
+mod returns;
 mod threads;
+mod weights;
 mod windows;
 
 fn at(millis: u64) -> Moment
@@ -58,6 +61,15 @@ fn asks(quota: &Quota, pass: &mut Pass, millis: u64)
     ensures { IsOf quota.now pass.new }
 {
     pass.deposit(quota, at(millis));
+}
+
+// Counts so many requests at once.
+fn asks_of(rt: &impl Abort, quota: &Quota, pass: &mut Pass, millis: u64, weight: u64)
+    requires of { IsOf quota.now pass.old }
+    requires moment { millis ≤ 4611686018427387903 }
+    ensures { IsOf quota.now pass.new }
+{
+    assert_eq!(rt; pass.deposit_of(quota, at(millis), weight), Ok(()));
 }
 
 // Asserts what is seen at this moment: the window, what was asked, given and is left in it, and when the next begins.

@@ -10,7 +10,7 @@ from __future__ import annotations
 import ctypes
 import os
 from ctypes import POINTER, byref, c_char_p, c_size_t, c_uint8, c_uint32, c_uint64
-from typing import Any, Callable, ClassVar, Dict, List, NamedTuple, Optional, Tuple, TypeVar
+from typing import Any, Callable, Dict, List, NamedTuple, Optional, Tuple
 
 from ._structs import (
     Asking,
@@ -29,13 +29,10 @@ from ._structs import (
 from .errors import EngineError
 
 __all__ = [
-    "AnyPass",
-    "BasePass",
     "Driver",
     "Handle",
     "Pass",
     "PolicyHandle",
-    "QuotaPass",
     "SIGNATURES",
     "Storm",
     "Totals",
@@ -97,33 +94,24 @@ SIGNATURES: Dict[str, Tuple[Any, ...]] = {
     "hikebox_driver_new": (_HANDLE, _HANDLE),
     "hikebox_driver_next": (_HANDLE, c_uint64, _WORDS, c_uint64, POINTER(Decision)),
     "hikebox_driver_last_text": (_HANDLE, POINTER(c_uint8), c_size_t, POINTER(c_size_t)),
-    "hikebox_driver_reset": (_HANDLE,),
     "hikebox_driver_free": (_HANDLE,),
     "hikebox_budget_fixed": (c_uint64, _HANDLE),
     "hikebox_budget_rising": (c_uint64, _HANDLE),
-    "hikebox_pass_draw": (_HANDLE, _NUMBER),
+    "hikebox_quota_new": (c_uint64, c_uint64, c_uint64, c_uint64, _HANDLE),
+    "hikebox_pass_unlimited": (_HANDLE,),
+    "hikebox_pass_draw": (_HANDLE, c_uint64, _NUMBER),
+    "hikebox_pass_deposit": (_HANDLE, c_uint64),
     "hikebox_pass_split": (_HANDLE, _HANDLE),
     "hikebox_pass_join": (_HANDLE, _HANDLE),
     "hikebox_pass_raise": (_HANDLE, c_uint64, _NUMBER),
     "hikebox_pass_count": (_HANDLE, _NUMBER),
+    "hikebox_pass_seen": (_HANDLE, c_uint64, POINTER(Usage)),
     "hikebox_pass_close": (_HANDLE, _NUMBER),
     "hikebox_pass_free": (_HANDLE,),
-    "hikebox_quota_new": (c_uint64, c_uint64, c_uint64, c_uint64, _HANDLE),
-    "hikebox_quota_deposit": (_HANDLE, c_uint64),
-    "hikebox_quota_draw": (_HANDLE, c_uint64, _NUMBER),
-    "hikebox_quota_seen": (_HANDLE, c_uint64, POINTER(Usage)),
-    "hikebox_quota_split": (_HANDLE, _HANDLE),
-    "hikebox_quota_join": (_HANDLE, _HANDLE),
-    "hikebox_quota_count": (_HANDLE, _NUMBER),
-    "hikebox_quota_close": (_HANDLE, _NUMBER),
-    "hikebox_quota_free": (_HANDLE,),
     "hikebox_retry_new": (_HANDLE, _HANDLE, c_uint64, _HANDLE),
-    "hikebox_retry_on_quota": (_HANDLE, _HANDLE, c_uint64, _HANDLE),
-    "hikebox_retry_unlimited": (_HANDLE, c_uint64, _HANDLE),
     "hikebox_retry_poll": (_HANDLE, c_uint64, _WORDS, c_uint32, c_uint64, POINTER(Next)),
     "hikebox_retry_cancel": (_HANDLE,),
     "hikebox_retry_end": (_HANDLE, _HANDLE),
-    "hikebox_retry_end_on_quota": (_HANDLE, _HANDLE),
     "hikebox_retry_free": (_HANDLE,),
     "hikebox_quota_allows": (c_uint64, c_uint64, c_uint64, _NUMBER),
     "hikebox_lease_of_budget": (c_uint64, POINTER(Asking), POINTER(Stored), POINTER(Range)),
@@ -161,8 +149,7 @@ def unchecked(call: str) -> Any:
 
 library = _load()
 _pass_draw = unchecked("hikebox_pass_draw")
-_quota_deposit = unchecked("hikebox_quota_deposit")
-_quota_draw = unchecked("hikebox_quota_draw")
+_pass_deposit = unchecked("hikebox_pass_deposit")
 #: The one call that takes long: it lets go of the interpreter's lock.
 _storm_play = ctypes.CDLL(library_path()).hikebox_storm_play
 _storm_play.argtypes = SIGNATURES["hikebox_storm_play"]
@@ -302,33 +289,78 @@ class Driver:
             self._free(self.at)
 
 
-AnyPass = TypeVar("AnyPass", bound="BasePass")
+class Pass:
+    """A pass of a budget, of a quota or of nothing. Who holds it joins it into another, closes what it is of with it, or
+    frees it. Moments are whole milliseconds from 0 to FAR."""
 
-
-class BasePass:
-    """A pass of a budget or of a quota. Who holds it joins it into another, closes what it is of with it, or frees
-    it."""
-
-    __slots__ = ("handle", "at", "_ticket", "_at_ticket")
-
-    #: How the engine's calls on it begin, the one that frees it, and those that begin and end a retry with a part of it.
-    _CALLS: ClassVar[str]
-    _FREE: ClassVar[Any]
-    BEGIN: ClassVar[Any]
-    END: ClassVar[Any]
+    __slots__ = ("handle", "at", "_now", "_ticket", "_at_ticket")
 
     def __init__(self) -> None:
         self.handle = Handle()
         self.at = byref(self.handle)
+        self._now = c_uint64()
         self._ticket = c_uint64()
         self._at_ticket = byref(self._ticket)
 
-    def split(self: AnyPass) -> Optional[AnyPass]:
+    @classmethod
+    def of_budget(cls, limit: int, rising: bool) -> Pass:
+        """The first pass of a new budget."""
+        return cls._made("hikebox_budget_rising" if rising else "hikebox_budget_fixed", limit)
+
+    @classmethod
+    def of_quota(cls, now: int, reserve: int, share: int, period: int) -> Pass:
+        """The first pass of a new quota, whose windows are counted from the one of this moment."""
+        return cls._made("hikebox_quota_new", now, reserve, share, period)
+
+    @classmethod
+    def of_nothing(cls) -> Pass:
+        """A pass that draws on nothing."""
+        return cls._made("hikebox_pass_unlimited")
+
+    @classmethod
+    def _made(cls, call: str, *terms: int) -> Pass:
+        made = cls()
+        status = getattr(library, call)(*terms, made.at)
+        if status != OK:
+            raise refused(call, status)
+        return made
+
+    def draw(self, now: int = 0) -> Optional[int]:
+        """A ticket, or None where the budget, or the window of the quota, has none left. A quota alone heeds the moment."""
+        self._now.value = now
+        status = _pass_draw(self.at, self._now, self._at_ticket)
+        while status == RACES_LOST:  # to as many draws that got a ticket
+            status = _pass_draw(self.at, self._now, self._at_ticket)
+        if status == OK:
+            return self._ticket.value
+        if status == NO_TICKET:
+            return None
+        raise refused("hikebox_pass_draw", status)
+
+    def deposit(self, now: int) -> None:
+        """Counts a request of a quota."""
+        self._now.value = now
+        status = _pass_deposit(self.at, self._now)
+        if status != OK:
+            raise refused("hikebox_pass_deposit", status)
+
+    def seen(self, now: int) -> Tuple[int, int, int, int, int]:
+        """Of a quota: the window, the requests counted in it, the tickets given, those that are left, and when the next
+        begins."""
+        usage = Usage()
+        self._does("seen", now, byref(usage))
+        return usage.window, usage.asked, usage.given, usage.left, usage.next
+
+    def raise_to(self, limit: int) -> Optional[int]:
+        """The limit after it was raised to this one at least, or None where the budget keeps its limit."""
+        return self._ticket.value if self._does("raise", limit, self._at_ticket, unless=FIXED) else None
+
+    def split(self) -> Optional[Pass]:
         """A new pass of the same, with no ticket, or None where this one has a single part, which it keeps."""
-        part = type(self)()
+        part = Pass()
         return part if self._does("split", part.at, unless=TOO_MANY_PASSES) else None
 
-    def join(self: AnyPass, other: AnyPass) -> None:
+    def join(self, other: Pass) -> None:
         """Takes in another pass of the same."""
         self._does("join", other.at)
 
@@ -344,98 +376,14 @@ class BasePass:
     def free(self) -> None:
         """Frees it with its tickets, where it holds a pass: what it is of can't be closed then."""
         if self.handle.held:
-            self._FREE(self.at)
+            library.hikebox_pass_free(self.at)
 
     def _does(self, verb: str, *given: Any, unless: Optional[int] = None) -> bool:
         """Makes this call: False where it answers the one status that is no error."""
-        call = self._CALLS + verb
+        call = f"hikebox_pass_{verb}"
         status = getattr(library, call)(self.at, *given)
         if status == OK:
             return True
         if status == unless:
             return False
         raise refused(call, status)
-
-
-class Pass(BasePass):
-    """A pass of a budget."""
-
-    __slots__ = ()
-
-    _CALLS = "hikebox_pass_"
-    _FREE = library.hikebox_pass_free
-    BEGIN = library.hikebox_retry_new
-    END = library.hikebox_retry_end
-
-    @classmethod
-    def of_budget(cls, limit: int, rising: bool) -> Pass:
-        """The first pass of a new budget."""
-        made = cls()
-        call = "hikebox_budget_rising" if rising else "hikebox_budget_fixed"
-        status = getattr(library, call)(limit, made.at)
-        if status != OK:
-            raise refused(call, status)
-        return made
-
-    def draw(self) -> Optional[int]:
-        """A ticket, or None where the budget has none left."""
-        status = _pass_draw(self.at, self._at_ticket)
-        if status == OK:
-            return self._ticket.value
-        if status == NO_TICKET:
-            return None
-        raise refused("hikebox_pass_draw", status)
-
-    def raise_to(self, limit: int) -> Optional[int]:
-        """The limit after it was raised to this one at least, or None where the budget keeps its limit."""
-        return self._ticket.value if self._does("raise", limit, self._at_ticket, unless=FIXED) else None
-
-
-class QuotaPass(BasePass):
-    """A pass of a quota. Moments are whole milliseconds from 0 to FAR."""
-
-    __slots__ = ("_now", "_usage")
-
-    _CALLS = "hikebox_quota_"
-    _FREE = library.hikebox_quota_free
-    BEGIN = library.hikebox_retry_on_quota
-    END = library.hikebox_retry_end_on_quota
-
-    def __init__(self) -> None:
-        super().__init__()
-        self._now = c_uint64()
-        self._usage = Usage()
-
-    @classmethod
-    def of_quota(cls, now: int, reserve: int, share: int, period: int) -> QuotaPass:
-        """The first pass of a new quota, whose windows are counted from the one of this moment."""
-        made = cls()
-        status = library.hikebox_quota_new(now, reserve, share, period, made.at)
-        if status != OK:
-            raise refused("hikebox_quota_new", status)
-        return made
-
-    def deposit(self, now: int) -> None:
-        """Counts a request."""
-        self._now.value = now
-        status = _quota_deposit(self.at, self._now)
-        if status != OK:
-            raise refused("hikebox_quota_deposit", status)
-
-    def draw(self, now: int) -> Optional[int]:
-        """A ticket, or None where the window has none left."""
-        self._now.value = now
-        status = _quota_draw(self.at, self._now, self._at_ticket)
-        while status == RACES_LOST:  # to as many draws that got a ticket
-            status = _quota_draw(self.at, self._now, self._at_ticket)
-        if status == OK:
-            return self._ticket.value
-        if status == NO_TICKET:
-            return None
-        raise refused("hikebox_quota_draw", status)
-
-    def seen(self, now: int) -> Tuple[int, int, int, int, int]:
-        """The window, the requests counted in it, the tickets given, those that are left, and when the next begins."""
-        usage = self._usage
-        self._does("seen", now, byref(usage))
-        return usage.window, usage.asked, usage.given, usage.left, usage.next

@@ -2,25 +2,25 @@
 
 from __future__ import annotations
 
-from typing import Any, Generic, TypeVar
+from typing import Any, TypeVar
 
-from ._engine import AnyPass, PolicyHandle
+from ._engine import PolicyHandle
 from ._machine import Machine
 from ._passes import Passes
 from .errors import BudgetInUse
 
 __all__ = ["Granting"]
 
-Self = TypeVar("Self", bound="Granting[Any]")
+Self = TypeVar("Self", bound="Granting")
 
 
-class Granting(Generic[AnyPass]):
+class Granting:
     """Something that grants tickets, and can be closed."""
 
     __slots__ = ("passes", "__weakref__")
 
     #: The engine's passes, which are handed out inside.
-    passes: Passes[AnyPass]
+    passes: Passes
 
     @property
     def granted(self) -> int:

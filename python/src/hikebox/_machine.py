@@ -12,8 +12,8 @@ from ._engine import (
     OVER,
     TOO_MANY_PASSES,
     WAIT,
-    BasePass,
     Handle,
+    Pass,
     PolicyHandle,
     give_memory_back,
     library,
@@ -25,8 +25,11 @@ from ._structs import Next, Words
 __all__ = ["Machine", "lend_machine", "take_machine_back"]
 
 _retry_poll = unchecked("hikebox_retry_poll")
-_retry_unlimited = library.hikebox_retry_unlimited
+_retry_new = library.hikebox_retry_new
 _retry_free = library.hikebox_retry_free
+
+#: The pass of retries that draw on nothing. It has no parts, and each call on it is over before another thread has its turn.
+_NOTHING = Pass.of_nothing()
 
 #: What is to be done; the moment up to which is waited, or how it ended; and the tickets granted so far, as of a report.
 Polled = Tuple[int, int, int]
@@ -59,14 +62,14 @@ class Machine:
         self.handle = Handle()
         self.at = byref(self.handle)
 
-    def begin(self, policy: PolicyHandle, drawn: BasePass, deadline: int = NO_DEADLINE) -> bool:
+    def begin(self, policy: PolicyHandle, drawn: Pass, deadline: int = NO_DEADLINE) -> bool:
         """Begins a retry with a pass split off this one, and a moment past which it plans no attempt; False where the pass
         has a single part. On a quota it draws at the moments of its polls."""
-        return _begun(drawn.BEGIN.__name__, drawn.BEGIN(policy.at, drawn.at, deadline, self.at))
+        return _begun("hikebox_retry_new", _retry_new(policy.at, drawn.at, deadline, self.at))
 
     def begin_unlimited(self, policy: PolicyHandle, deadline: int = NO_DEADLINE) -> None:
         """Begins a retry that draws on nothing. `free` ends it."""
-        _begun("hikebox_retry_unlimited", _retry_unlimited(policy.at, deadline, self.at))
+        self.begin(policy, _NOTHING, deadline)
 
     def poll(self, now: int, report: int, code: int, words: Optional[Dict[int, int]] = None) -> Polled:
         """One step: what is to be done. `words` are the random words of the lanes that the policy reads."""
@@ -94,11 +97,11 @@ class Machine:
         if status != OK:
             raise refused("hikebox_retry_cancel", status)
 
-    def end(self, drawn: BasePass) -> None:
+    def end(self, drawn: Pass) -> None:
         """Frees the retry, over or not, and joins its pass into this one, which is of the same budget or quota."""
-        status = drawn.END(self.at, drawn.at)
+        status = library.hikebox_retry_end(self.at, drawn.at)
         if status != OK:
-            raise refused(drawn.END.__name__, status)
+            raise refused("hikebox_retry_end", status)
 
     def free(self) -> None:
         """Frees the retry and its pass, where there is one: what that is of can't be closed then."""

@@ -4,9 +4,9 @@ from __future__ import annotations
 
 import contextlib
 import threading
-from typing import Callable, Generic, Iterator, List, Optional, Protocol
+from typing import Callable, Iterator, List, Optional, Protocol
 
-from ._engine import AnyPass, PolicyHandle
+from ._engine import Pass, PolicyHandle
 from ._forks import begins_anew_in_a_child
 from ._machine import Machine
 from .errors import BudgetClosed, BudgetError, BudgetInUse
@@ -14,12 +14,12 @@ from .errors import BudgetClosed, BudgetError, BudgetInUse
 __all__ = ["NO_BUDGET", "DrawnOn", "NoBudget", "Passes"]
 
 
-class Passes(Generic[AnyPass]):
+class Passes:
     """The passes of one budget or quota, which all threads of a process share. A forked child begins with new ones."""
 
     __slots__ = ("kind", "generation", "closed", "_make", "_lock", "_root", "_idle", "_out", "__weakref__")
 
-    def __init__(self, kind: str, make: Callable[[], AnyPass]) -> None:
+    def __init__(self, kind: str, make: Callable[[], Pass]) -> None:
         #: What these are passes of, in the texts of errors.
         self.kind = kind
         #: How often it began anew.
@@ -36,7 +36,7 @@ class Passes(Generic[AnyPass]):
         #: The pass that others are split off, under the lock.
         self._root = self._make()
         #: Passes that nobody uses now. `pop` and `append` are each one step, so no lock is taken for them.
-        self._idle: List[AnyPass] = []
+        self._idle: List[Pass] = []
         #: How many passes were split off the root.
         self._out = 0
 
@@ -45,7 +45,7 @@ class Passes(Generic[AnyPass]):
         self.generation += 1
         self._begin()
 
-    def lend(self) -> AnyPass:
+    def lend(self) -> Pass:
         """A pass that nobody else uses until it is given back."""
         try:
             return self._idle.pop()
@@ -54,11 +54,11 @@ class Passes(Generic[AnyPass]):
         with self._lock:
             return self._split()
 
-    def give_back(self, lent: AnyPass) -> None:
+    def give_back(self, lent: Pass) -> None:
         """Takes a pass back that was lent."""
         self._idle.append(lent)
 
-    def exchange(self, lent: AnyPass) -> AnyPass:
+    def exchange(self, lent: Pass) -> Pass:
         """Another pass for one that has a single part left, since retries may give their parts back to other passes
         than they had them of. The root has so many parts that it does not run out of them."""
         with self._lock:
@@ -68,7 +68,7 @@ class Passes(Generic[AnyPass]):
             return other
 
     @contextlib.contextmanager
-    def root(self) -> Iterator[AnyPass]:
+    def root(self) -> Iterator[Pass]:
         """The first pass, under the lock."""
         with self._lock:
             self._look_open()
@@ -107,15 +107,15 @@ class Passes(Generic[AnyPass]):
         if self.closed is not None:
             raise BudgetClosed(f"this {self.kind} was closed")
 
-    def _take_idle(self) -> List[AnyPass]:
-        taken: List[AnyPass] = []
+    def _take_idle(self) -> List[Pass]:
+        taken: List[Pass] = []
         while True:
             try:
                 taken.append(self._idle.pop())
             except IndexError:
                 return taken
 
-    def _split(self) -> AnyPass:
+    def _split(self) -> Pass:
         """A pass more, since all are in use."""
         self._look_open()
         part = self._root.split()

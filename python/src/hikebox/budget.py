@@ -14,7 +14,7 @@ from .errors import BudgetError, TermsError
 __all__ = ["Budget"]
 
 
-class Budget(Granting[Pass]):
+class Budget(Granting):
     """A number of tickets, each of which is drawn once. A retry needs one, so no more retries happen than there are.
 
     All threads may share it, and draw at once, for any number of retries. `Budget(limit)` keeps its limit,

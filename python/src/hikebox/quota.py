@@ -1,4 +1,4 @@
-"""Quotas: how many retries all threads of a process make in each window of time, at most."""
+"""Quotas: how many retries all threads of a process are granted in each window of time, at most."""
 
 from __future__ import annotations
 
@@ -8,7 +8,7 @@ from dataclasses import dataclass, field
 from functools import partial
 from typing import Callable, NamedTuple, Optional
 
-from ._engine import LEAST_PERIOD, MOST_SHARE, MOST_TICKETS, QuotaPass
+from ._engine import LEAST_PERIOD, MOST_SHARE, MOST_TICKETS, Pass
 from ._granting import Granting
 from ._leasing import quota_allows
 from ._passes import Passes
@@ -60,7 +60,7 @@ class Usage:
     next: Optional[float] = field(default=None, compare=False)
 
 
-class Quota(Granting[QuotaPass]):
+class Quota(Granting):
     """Retries for a service: each window of time grants no more than a reserve and a share of the requests made in it.
 
     `reserve`
@@ -164,8 +164,8 @@ class Quota(Granting[QuotaPass]):
         return moment(clock)
 
 
-def _first_pass(clock: Callable[[], float], terms: Terms) -> QuotaPass:
-    return QuotaPass.of_quota(moment(clock()), *terms)
+def _first_pass(clock: Callable[[], float], terms: Terms) -> Pass:
+    return Pass.of_quota(moment(clock()), *terms)
 
 
 def terms_of(reserve: int, share: float, per: Duration) -> Terms:

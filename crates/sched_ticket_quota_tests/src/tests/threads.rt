@@ -148,6 +148,53 @@ fn sixteen_threads(rt: HostRuntime) -> Result<(), Fail> {
     Ok(())
 }
 
+// Draws so often, and hands back each ticket. A ticket that lost its races is kept.
+fn draw_and_return(alloc: Global, quota: &Quota, pass: Pass) -> Result<(Pass, Vec<u64>), AllocError>
+    requires { IsOf quota.now pass }
+    ensures { IfOk result (λ r. IsOf quota.now r.0) }
+{
+    let mut pass = pass;
+    let mut kept = Vec::new(alloc);
+    for _ in 0..TURNS {
+        if let Ok(ticket) = pass.draw(quota, at(0)) {
+            if pass.hand_back(quota).is_err() {
+                kept.push(ticket)?;
+            }
+        }
+    }
+    Ok((pass, kept))
+}
+
+fn returned_beside<R: Threads + Sync>(
+    rt: &R,
+    alloc: Global,
+    quota: &Quota,
+    mut pass: Pass,
+    workers: u64,
+) -> Result<(Pass, Vec<u64>), AllocError>
+    requires { IsOf quota.now pass }
+    ensures { IfOk result (λ r. IsOf quota.now r.0) }
+{
+    let passes = split_off(alloc, quota, &mut pass, workers)?;
+    let done = map_vec(
+        rt,
+        passes,
+        &|part: Pass| { draw_and_return(alloc, quota, part) },
+    )?;
+    join_all(alloc, quota, pass, done)
+}
+
+// Eight threads draw and hand back again and again: what they kept and what is left is the reserve.
+#[test]
+fn eight_hand_back(rt: HostRuntime) -> Result<(), Fail> {
+    let (quota, pass) = Quota::new(rt.alloc(), at(0), terms(5, 0, 100))?;
+    let (pass, kept) = returned_beside(&rt, rt.alloc(), &quota, pass, 8)?;
+    let (pass, left) = draw_all(rt.alloc(), &quota, pass, at(0), 0)?;
+    assert_eq!(rt; kept.len().wrapping_add(left.len()), 5);
+    closes(&rt, quota, pass, 5);
+    Ok(())
+}
+
 const WINDOWS: u64 = 1000;
 
 // Whether each ticket is of this window.

@@ -4,8 +4,8 @@ use Rattle.sched_run_machine.specs.Deadline.{until_from}
 use Rattle.sched_run_machine.specs.Drives.{GoesByPlan}
 use Rattle.sched_run_machine.specs.Machine.{begins, unbegun}
 use Rattle.sched_run_machine.specs.Until.{Until, unstepped_until, GoesUntil}
-use Rattle.sched_host.specs.Drawing.{drawing_grants}
-use Rattle.sched_host.specs.declared.drawing.Drawing.{Drawing}
+use Rattle.sched_ticket_draws.specs.Drawing.{drawing_grants}
+use Rattle.sched_ticket_draws.specs.declared.drawing.Drawing.{Drawing}
 use Rattle.sched_handle.specs.Retries.{Hosted, MayBe}
 use Rattle.sched_handle.proofs.Deadlines.{goes_by_until}
 use Rattle.sched_handle.proofs.retries.fresh.Goals as goal

@@ -1,8 +1,8 @@
 use Rattle.std.proofs.Common.{◌≡◌, ℕ, Bool, false, ◌||◌, nat_eq, length, min, is_some, refl, sym, ap, ◌∙◌, subst}
 use Rattle.sched_run_machine.specs.declared.next.Next.{Next}
-use Rattle.sched_reply.specs.declared.replies.Reply.{Reply}
-use Rattle.sched_retry.specs.Retrying.{Retrying}
-use Rattle.sched_host.specs.declared.drawing.Drawing.{Drawing}
+use Rattle.sched_handle.specs.declared.replies.Reply.{Reply}
+use Rattle.sched_run_machine.specs.Retrying.{Retrying}
+use Rattle.sched_ticket_draws.specs.declared.drawing.Drawing.{Drawing}
 use Rattle.sched_handle.specs.Retries.{MayBe, reply_to, reply_of, plan_is_done}
 use Rattle.sched_driver.specs.Driven.{Driven, next_start_of}
 use Rattle.sched_driver_stepper.specs.Standing.{Standing}

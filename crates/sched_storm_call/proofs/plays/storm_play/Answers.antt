@@ -1,6 +1,6 @@
 use Rattle.std.proofs.Common.{rules, ◌≡◌, length, vec_len, map, Some, Ok, Err, refl, ap, ◌∙◌}
 use Rattle.std.proofs.lemmas.List.{length-map}
-use Rattle.sched_reply.specs.declared.status.Status.TheVariants.{Empty, NoRoom, OutOfRange}
+use Rattle.sched_handle.specs.declared.status.Status.TheVariants.{Empty, NoRoom, OutOfRange}
 use Rattle.sched_storm_call.specs.Told.{window_told, totals_told}
 use Rattle.sched_storm_call.specs.Plays.{Told, HasRoom}
 use Rattle.sched_storm_call.proofs.Refused.{refused}

@@ -1,11 +1,8 @@
 use Rattle.std.proofs.Common.{refl, ap, ◌∙◌}
 use Rattle.sched_task_law.specs.Kind.{a_retry}
-use Rattle.sched_closure.specs.Turns.{start_in}
-use Rattle.sched_closure.proofs.Told.{waited, found}
+use Rattle.sched_run_machine.specs.Next.{start_in}
+use Rattle.sched_run_machine.proofs.Waits.{waited}
 use Rattle.sched_closure.proofs.machines.MachineTurns.next.Goals as goal
-
-pub returns-clause-finds : goal.returns-clause-finds
-returns-clause-finds g c = found c.args.self.now c.next.result c.next.ensures.finds
 
 pub returns-clause-due : goal.returns-clause-due
 returns-clause-due g c = λ v st.

@@ -1,7 +1,7 @@
 use Rattle.std.proofs.Common.{refl, ap, ◌∙◌}
 use Rattle.sched_task_law.specs.Kind.{a_repeat}
-use Rattle.sched_closure.specs.Turns.{start_in}
-use Rattle.sched_closure.proofs.Told.{waited}
+use Rattle.sched_run_machine.specs.Next.{start_in}
+use Rattle.sched_run_machine.proofs.Waits.{waited}
 use Rattle.sched_closure.proofs.machines.RepeatMachineTurns.next.Goals as goal
 
 pub returns-clause-due : goal.returns-clause-due

@@ -1,7 +1,6 @@
 use Rattle.std.proofs.Common.{refl, ◌≡◌}
 use Rattle.sched_handle.specs.Retries.{IsFresh}
 use Rattle.sched_handle.specs.declared.held.Held.TheVariants.{Policy, Pass}
-use Rattle.sched_host.specs.declared.drawing.Drawing.TheVariants.{Budget}
 use Rattle.sched_handle.proofs.held.Held.retry.Goals as goal
 
 pub returns : goal.returns
@@ -9,12 +8,6 @@ returns c =
     let stepper = c.in_ok-stepper.stepper in
     let part = c.in_ok-part in
     let is_policy : c.args.policy.now ≡ Policy stepper.plan = c.in_ok-stepper.ensures.ok.0 in
-    let is_pass : c.args.pass.now ≡ Pass c.in_ok-worker.worker.now = c.in_ok-worker.ensures.ok in
-    let fresh : IsFresh stepper.plan c.args.deadline (Budget c.into_drawing.result) c.within.result.value = rw c.within.ensures c.fresh.ensures in
-    rw (is_policy, is_pass) (
-      (c.split_off.new.worker, refl, c.split_off.ensures.budget, part.ensures.kept),
-      c.into_drawing.result,
-      fresh,
-      rw c.into_drawing.ensures part.ensures.ok.0,
-      rw c.into_drawing.ensures part.ensures.ok.1,
-    )
+    let is_pass : c.args.pass.now ≡ Pass c.in_ok-drawing.drawing.now = c.in_ok-drawing.ensures.ok in
+    let fresh : IsFresh stepper.plan c.args.deadline part.part c.within.result.value = rw c.within.ensures c.fresh.ensures in
+    rw (is_policy, is_pass) (c.split_off.new.pass, part.part, refl, part.ensures.ok, fresh)

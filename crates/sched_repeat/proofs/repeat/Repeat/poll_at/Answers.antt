@@ -1,7 +1,7 @@
 use Rattle.std.proofs.Common.{is_some, ap, ◌∙◌, subst}
 use Rattle.sched_task.specs.Polls.{is_ready}
 use Rattle.sched_repeat.specs.Repeating.{Repeating, repeating, RepeatPoll}
-use Rattle.sched_repeat.proofs.Runs.{idle_by}
+use Rattle.sched_run_machine.proofs.Runs.{idle_by}
 use Rattle.sched_repeat.proofs.Polls.{stays_so, polled_run, leaves_repeat}
 use Rattle.sched_repeat.proofs.repeat.Repeat.poll_at.Goals as goal
 

@@ -1,77 +1,64 @@
-use Rattle.std.proofs.Common.{◌-◌, is_some, sym, ap, ◌∙◌, refl, subst}
-use Rattle.sched_task_law.specs.Runner.{past_of}
+use Rattle.std.proofs.Common.{is_some, refl, sym, ap, ◌∙◌, subst}
+use Rattle.sched_task.specs.Polls.{is_ready}
 use Rattle.sched_task_law.proofs.Fields.{none_of}
-use Rattle.sched_retry.specs.Retrying.{retrying}
 use Rattle.sched_retry_or.specs.Falling.{Falling, FallingLaw}
-use Rattle.sched_retry_or.specs.Stops.{stops_refused}
-use Rattle.sched_retry_or.proofs.Polls.{polled_as, can_run, falling_over, falling_waiting, stopped_kept, asks_on, asked_to, asked_fits, keeps_over}
+use Rattle.sched_retry_or.specs.Stops.{unless_stop}
+use Rattle.sched_retry_or.proofs.Polls.{polled_as, falling_over, asks_on, asked_to, falls_to}
 use Rattle.sched_retry_or.proofs.retry_or.RetryOr.poll_at.Goals as goal
 
 pub returns-then-is_some-clause-poll : goal.returns-then-is_some-clause-poll
 returns-then-is_some-clause-poll g c =
-    let grants = g.D.Draws.grants in
-    let lawful = g.met.D.Draws.lawful in
-    falling_over grants lawful c.args.self.now c.args.tick.now (subst (FallingLaw grants) c.self.view_is c.self.invariant.0)
+    falling_over g.D.Draws.grants g.met.D.Draws.lawful c.args.self.now c.args.tick.now
+    (subst (FallingLaw g.D.Draws.grants) c.self.view_is c.self.invariant.law)
     (ap (λ (v : Falling g.row.D.Denot). is_some v.retrying.past.over) (sym c.self.view_is) ∙ sym c.is_some.ensures ∙ c.if-is_some.true)
-
-pub returns-then-rests-clause-poll : goal.returns-then-rests-clause-poll
-returns-then-rests-clause-poll g c =
-    let grants = g.D.Draws.grants in
-    let lawful = g.met.D.Draws.lawful in
-    falling_waiting grants lawful c.args.self.now c.args.tick.now (subst (FallingLaw grants) c.self.view_is c.self.invariant.0)
-    (ap (λ (v : Falling g.row.D.Denot). v.retrying.past.over) (sym c.self.view_is) ∙ none_of c.self.inside.over (sym c.is_some.ensures ∙ c.if-is_some.false))
-    c.if-rests.ensures
-
-pub poll_now-requires : goal.poll_now-requires
-poll_now-requires g c =
-    let grants = g.D.Draws.grants in
-    let r = c.self.inside in
-    can_run g.X.Fault.Coded.coded r.stopped (past_of r.runner r.over (stops_refused r.stopped) (grants.granted r.drawing - r.had))
-    c.args.self.now.retrying.past c.args.tick.now (ap (λ (v : Falling g.row.D.Denot). v.retrying.past) c.self.view_is) c.self.invariant.2 c.in_default.is
-    (none_of r.over (sym c.is_some.ensures ∙ c.if-is_some.false)) c.if-rests.ensures
 
 pub returns-in-None-clause-poll : goal.returns-in-None-clause-poll
 returns-in-None-clause-poll g c =
-    let grants = g.D.Draws.grants in
-    let lawful = g.met.D.Draws.lawful in
     let r = c.self.inside in
-    let past = past_of r.runner r.over (stops_refused r.stopped) (grants.granted r.drawing - r.had) in
-    let kept = stopped_kept g.X.Fault.Coded.coded past r.stopped c.in-Some.stopped c.self.invariant.2 c.in-Some.is in
-    let unended = none_of r.over (sym c.is_some.ensures ∙ c.if-is_some.false) in
-    polled_as grants lawful _ _ _ _ _ c.self.view_is (asks_on grants lawful g.X.Item.Coded.coded g.X.Fault.Coded.coded
-    (retrying grants r.runner r.over (stops_refused r.stopped) r.drawing r.had (is_some r.ending))
+    polled_as g.D.Draws.grants g.met.D.Draws.lawful _ _ _ _ _ c.self.view_is
+    (asks_on g.D.Draws.grants g.met.D.Draws.lawful g.X.Item.Coded.coded g.X.Fault.Coded.coded r.retry r.over r.stopped r.ending
     (g.F.Fallback.asked r.fallback) (g.F.Fallback.asked c.ask.new.fallback) (g.F.Fallback.answered r.fallback)
-    (g.F.Fallback.answered c.ask.new.fallback) c.args.tick.now c.in-Some.stopped c.self.invariant.0.law unended kept _ refl c.in-None.ensures.asked).poll
+    (g.F.Fallback.answered c.ask.new.fallback) c.args.tick.now c.in-Some.stopped
+    (none_of r.over (sym c.is_some.ensures ∙ c.if-is_some.false)) c.self.invariant c.in-Some.is c.in-None.ensures.asked).0
 
 pub invariant_of-self-in-Some-ask : goal.invariant_of-self-in-Some-ask
 invariant_of-self-in-Some-ask g c =
-    let grants = g.D.Draws.grants in
-    let lawful = g.met.D.Draws.lawful in
     let r = c.self.inside in
-    let past = past_of r.runner r.over (stops_refused r.stopped) (grants.granted r.drawing - r.had) in
-    let kept = stopped_kept g.X.Fault.Coded.coded past r.stopped c.in-Some.stopped c.self.invariant.2 c.in-Some.is in
-    let unended = none_of r.over (sym c.is_some.ensures ∙ c.if-is_some.false) in (
-      (asked_to grants lawful g.X.Item.Coded.coded g.X.Fault.Coded.coded
-          (retrying grants r.runner r.over (stops_refused r.stopped) r.drawing r.had (is_some r.ending))
-          (g.F.Fallback.asked r.fallback) (g.F.Fallback.asked c.ask.new.fallback) (g.F.Fallback.answered r.fallback)
-          (g.F.Fallback.answered c.ask.new.fallback) c.args.tick.now c.in-Some.stopped c.self.invariant.0.law unended kept _ refl c.in-Some-ask.how c.in-Some-ask.ending c.in-Some-ask.ensures.asked).law,
-      asked_fits grants lawful g.X.Item.Coded.coded g.X.Fault.Coded.coded
-          (retrying grants r.runner r.over (stops_refused r.stopped) r.drawing r.had (is_some r.ending))
-          (g.F.Fallback.asked r.fallback) (g.F.Fallback.asked c.ask.new.fallback) (g.F.Fallback.answered r.fallback)
-          (g.F.Fallback.answered c.ask.new.fallback) c.args.tick.now c.in-Some.stopped c.self.invariant.0.law unended kept _ c.in-Some-ask.how c.in-Some-ask.ending c.in-Some-ask.ensures.asked,
-      keeps_over g.X.Fault.Coded.coded r.runner r.over c.in-Some-ask.how (grants.granted r.drawing - r.had) r.stopped c.self.invariant.2,
-    )
+    (asked_to g.D.Draws.grants g.met.D.Draws.lawful g.X.Item.Coded.coded g.X.Fault.Coded.coded r.retry r.over r.stopped r.ending
+    (g.F.Fallback.asked r.fallback) (g.F.Fallback.asked c.ask.new.fallback) (g.F.Fallback.answered r.fallback)
+    (g.F.Fallback.answered c.ask.new.fallback) c.args.tick.now c.in-Some.stopped
+    (none_of r.over (sym c.is_some.ensures ∙ c.if-is_some.false)) c.self.invariant c.in-Some.is
+    c.in-Some-ask.how c.in-Some-ask.ending c.in-Some-ask.ensures.asked).1
 
 pub returns-in-Some-ask-clause-poll : goal.returns-in-Some-ask-clause-poll
 returns-in-Some-ask-clause-poll g c =
-    let grants = g.D.Draws.grants in
-    let lawful = g.met.D.Draws.lawful in
     let r = c.self.inside in
-    let past = past_of r.runner r.over (stops_refused r.stopped) (grants.granted r.drawing - r.had) in
-    let kept = stopped_kept g.X.Fault.Coded.coded past r.stopped c.in-Some.stopped c.self.invariant.2 c.in-Some.is in
-    let unended = none_of r.over (sym c.is_some.ensures ∙ c.if-is_some.false) in
-    polled_as grants lawful _ _ _ _ _ c.self.view_is
-    (asked_to grants lawful g.X.Item.Coded.coded g.X.Fault.Coded.coded
-    (retrying grants r.runner r.over (stops_refused r.stopped) r.drawing r.had (is_some r.ending))
+    polled_as g.D.Draws.grants g.met.D.Draws.lawful _ _ _ _ _ c.self.view_is
+    (asked_to g.D.Draws.grants g.met.D.Draws.lawful g.X.Item.Coded.coded g.X.Fault.Coded.coded r.retry r.over r.stopped r.ending
     (g.F.Fallback.asked r.fallback) (g.F.Fallback.asked c.ask.new.fallback) (g.F.Fallback.answered r.fallback)
-    (g.F.Fallback.answered c.ask.new.fallback) c.args.tick.now c.in-Some.stopped c.self.invariant.0.law unended kept _ refl c.in-Some-ask.how c.in-Some-ask.ending c.in-Some-ask.ensures.asked).poll
+    (g.F.Fallback.answered c.ask.new.fallback) c.args.tick.now c.in-Some.stopped
+    (none_of r.over (sym c.is_some.ensures ∙ c.if-is_some.false)) c.self.invariant c.in-Some.is
+    c.in-Some-ask.how c.in-Some-ask.ending c.in-Some-ask.ensures.asked).0
+
+pub invariant_of-self-2 : goal.invariant_of-self-2
+invariant_of-self-2 g c =
+    let r = c.self.inside in
+    let left = c.or_stopped-stopped in
+    (falls_to g.D.Draws.grants g.met.D.Draws.lawful g.X.Item.Coded.coded g.X.Fault.Coded.coded r.retry c.poll_at.new.self c.args.tick.now
+    (is_ready c.poll_at.result) r.over r.stopped r.ending (g.F.Fallback.asked r.fallback) (g.F.Fallback.answered r.fallback)
+    (none_of r.over (sym c.is_some.ensures ∙ c.if-is_some.false)) c.in_default.is c.self.invariant c.over-over.ensures.law c.poll_at.ensures.poll
+    c.take_ending.new.self c.take_ending.result c.unless_stop-self-inside.result left.result _ c.take_ending.ensures.taken
+    c.take_ending.ensures.once c.take_ending.ensures.fits (c.unless_stop-self-inside.ensures ∙ ap unless_stop c.over-over.ensures.over) left.ensures
+    refl).1
+
+pub returns-clause-poll : goal.returns-clause-poll
+returns-clause-poll g c =
+    let r = c.self.inside in
+    let left = c.or_stopped-stopped in
+    polled_as g.D.Draws.grants g.met.D.Draws.lawful _ _ _ _ _ c.self.view_is
+    (falls_to g.D.Draws.grants g.met.D.Draws.lawful g.X.Item.Coded.coded g.X.Fault.Coded.coded r.retry c.poll_at.new.self c.args.tick.now
+    (is_ready c.poll_at.result) r.over r.stopped r.ending (g.F.Fallback.asked r.fallback) (g.F.Fallback.answered r.fallback)
+    (none_of r.over (sym c.is_some.ensures ∙ c.if-is_some.false)) c.in_default.is c.self.invariant c.over-over.ensures.law c.poll_at.ensures.poll
+    c.take_ending.new.self c.take_ending.result c.unless_stop-self-inside.result left.result (is_ready c.ready_where.result) c.take_ending.ensures.taken
+    c.take_ending.ensures.once c.take_ending.ensures.fits (c.unless_stop-self-inside.ensures ∙ ap unless_stop c.over-over.ensures.over) left.ensures
+    c.ready_where.ensures).0

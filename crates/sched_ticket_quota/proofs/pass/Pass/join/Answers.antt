@@ -1,8 +1,10 @@
-use Rattle.std.proofs.Common.{sym, ap, ◌∙◌, arith}
+use Rattle.std.proofs.Common.{sym, ap, ◌∙◌, subst, arith}
 use mathlib.Core.Option.{none}
 use Rattle.atomic_table.specs.Table.{step}
 use Rattle.sched_ticket_quota.specs.Held.{Name, Held}
+use Rattle.sched_ticket_quota.specs.Steps.{Sat, IsSound}
 use Rattle.sched_ticket_quota.proofs.Moves.{learns_ok}
+use Rattle.sched_ticket_quota.proofs.Known.{joined_known}
 use Rattle.sched_ticket_quota.proofs.Parts.{joins_ok}
 use Rattle.sched_ticket_quota.proofs.pass.Pass.join.Goals as goal
 
@@ -26,3 +28,9 @@ load-requires c =
       omega arith,
       learns_ok _ _ _ _ (step 0 8 0 0 none),
     )
+
+pub invariant_of-self : goal.invariant_of-self
+invariant_of-self c =
+    let learnt = c.load.ensures.2 in
+    joined_known c.self.inside.seat.me c.other.inside.seat.me c.load.new.seat.me _ _ _ _ _ _ _ _ _ _ _ _ _ c.self.invariant c.other.invariant
+    (learnt.0 ∙ c.join_seat.ensures.2) (subst (λ (m : Sat). IsSound m.0) (sym learnt.0) learnt.1) c.max.ensures

@@ -1,6 +1,0 @@
-pub mod Calls
-pub mod Policies
-pub mod Faults
-pub mod Drivers
-pub mod Shared
-pub mod Retries

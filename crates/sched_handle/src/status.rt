@@ -1,0 +1,182 @@
+//! Why a call was refused.
+ghost use Rattle.std.specs.Prelude.{◌≡◌};
+ghost use Rattle.sched_handle.specs.Status.{code_of};
+
+use sched_driver::DriveFault;
+use sched_plan_json::TextFault;
+use sched_ticket::TicketFault;
+use sched_ticket_quota::{QuotaFault, Refusal};
+use thiserror::Error;
+
+/// Why a call was refused, as its text says.
+#[derive(Clone, Copy, Debug, PartialEq, Eq, Error)]
+pub enum Status {
+    #[error("the handle is empty")]
+    Empty,
+    #[error("the handle holds something of another kind")]
+    WrongKind,
+    #[error("the handle holds something already")]
+    Full,
+    #[error("no memory")]
+    NoMemory,
+    #[error("a number is out of range")]
+    TooLarge,
+    #[error("there is not enough room")]
+    NoRoom,
+    #[error("the text is not JSON")]
+    NotJson,
+    #[error("the value is not a policy")]
+    NotAPolicy,
+    #[error("a parameter is out of range")]
+    OutOfRange,
+    #[error("the policy is too deep")]
+    TooDeep,
+    #[error("the policy has too many nodes")]
+    TooMany,
+    #[error("the moment is before the last event")]
+    Backwards,
+    #[error("the journal is full")]
+    JournalFull,
+    #[error("there is no output yet")]
+    NoOutput,
+    #[error("the limit is more than 4294967296 tickets")]
+    LimitTooLarge,
+    #[error("there is no limit that can be raised")]
+    Fixed,
+    #[error("there is no ticket")]
+    NoTicket,
+    #[error("no more passes can be split off")]
+    TooManyPasses,
+    #[error("another pass is alive or was dropped")]
+    PassesOut,
+    #[error("the reserve is more than 4294967296 tickets a window")]
+    ReserveTooLarge,
+    #[error("the share is more than 1000 tickets a request")]
+    ShareTooLarge,
+    #[error("the window is shorter than 100 ms")]
+    PeriodTooShort,
+    #[error("64 races with other draws were lost")]
+    RacesLost,
+    #[error("there is no such report")]
+    NoSuchReport,
+    #[error("no run is under way")]
+    NoRun,
+    #[error("the pass draws on something else")]
+    DrawsElsewhere,
+}
+
+impl Status {
+    /// The number by which C knows it.
+    pub fn code(self) -> u32
+        ensures { result ≡ code_of self }
+    {
+        match self {
+            Status::Empty => 1,
+            Status::WrongKind => 2,
+            Status::Full => 3,
+            Status::NoMemory => 4,
+            Status::TooLarge => 5,
+            Status::NoRoom => 6,
+            Status::NotJson => 10,
+            Status::NotAPolicy => 11,
+            Status::OutOfRange => 12,
+            Status::TooDeep => 13,
+            Status::TooMany => 14,
+            Status::Backwards => 20,
+            Status::JournalFull => 21,
+            Status::NoOutput => 22,
+            Status::LimitTooLarge => 30,
+            Status::Fixed => 31,
+            Status::NoTicket => 32,
+            Status::TooManyPasses => 33,
+            Status::PassesOut => 34,
+            Status::ReserveTooLarge => 35,
+            Status::ShareTooLarge => 36,
+            Status::PeriodTooShort => 37,
+            Status::RacesLost => 38,
+            Status::NoSuchReport => 40,
+            Status::NoRun => 41,
+            Status::DrawsElsewhere => 42,
+        }
+    }
+}
+
+impl From<TicketFault> for Status {
+    ghost use Rattle.std.specs.Prelude.{◌≡◌};
+    ghost use Rattle.sched_handle.specs.Status.{of_ticket};
+
+    ghost from_gives = { λ fault status. status ≡ of_ticket fault };
+
+    fn from(fault: TicketFault) -> Self {
+        match fault {
+            TicketFault::LimitTooLarge => Status::LimitTooLarge,
+            TicketFault::NoMemory => Status::NoMemory,
+            TicketFault::TooManyPasses => Status::TooManyPasses,
+            TicketFault::Fixed => Status::Fixed,
+        }
+    }
+}
+
+impl From<QuotaFault> for Status {
+    ghost use Rattle.std.specs.Prelude.{◌≡◌};
+    ghost use Rattle.sched_handle.specs.Status.{of_quota};
+
+    ghost from_gives = { λ fault status. status ≡ of_quota fault };
+
+    fn from(fault: QuotaFault) -> Self {
+        match fault {
+            QuotaFault::ReserveTooLarge => Status::ReserveTooLarge,
+            QuotaFault::ShareTooLarge => Status::ShareTooLarge,
+            QuotaFault::PeriodTooShort => Status::PeriodTooShort,
+            QuotaFault::NoMemory => Status::NoMemory,
+            QuotaFault::TooManyPasses => Status::TooManyPasses,
+        }
+    }
+}
+
+impl From<Refusal> for Status {
+    ghost use Rattle.std.specs.Prelude.{◌≡◌};
+    ghost use Rattle.sched_handle.specs.Status.{of_refusal};
+
+    ghost from_gives = { λ refusal status. status ≡ of_refusal refusal };
+
+    fn from(refusal: Refusal) -> Self {
+        match refusal {
+            Refusal::WindowOut(_) => Status::NoTicket,
+            Refusal::RacesLost => Status::RacesLost,
+        }
+    }
+}
+
+impl From<TextFault> for Status {
+    ghost use Rattle.std.specs.Prelude.{◌≡◌};
+    ghost use Rattle.sched_handle.specs.Status.{of_text};
+
+    ghost from_gives = { λ fault status. status ≡ of_text fault };
+
+    fn from(fault: TextFault) -> Self {
+        match fault {
+            TextFault::NotJson { line: _, column: _ } => Status::NotJson,
+            TextFault::NotAPlan => Status::NotAPolicy,
+            TextFault::OutOfRange => Status::OutOfRange,
+            TextFault::TooDeep => Status::TooDeep,
+            TextFault::TooMany => Status::TooMany,
+            TextFault::NoMemory => Status::NoMemory,
+        }
+    }
+}
+
+impl From<DriveFault> for Status {
+    ghost use Rattle.std.specs.Prelude.{◌≡◌};
+    ghost use Rattle.sched_handle.specs.Status.{of_drive};
+
+    ghost from_gives = { λ fault status. status ≡ of_drive fault };
+
+    fn from(fault: DriveFault) -> Self {
+        match fault {
+            DriveFault::Backwards { floor: _ } => Status::Backwards,
+            DriveFault::JournalFull => Status::JournalFull,
+            DriveFault::NoMemory => Status::NoMemory,
+        }
+    }
+}

@@ -1,0 +1,218 @@
+-- What is written of a valid schedule reads as that schedule.
+use Rattle.std.proofs.Common.{◌≡◌, ℕ, ◌+◌, ◌≤◌, Bool, true, false, not, ◌&&◌, if◌then◌else◌, nat_lt, IsTrue, List, [], ◌∷◌, ◌++◌, map, Some, Ok, Err, String, string_bytes, Vec, Global, refl, sym, ◌∙◌, ap, append_assoc, arith}
+use Rattle.std.proofs.lemmas.Bool.Decides.{nat_tests}
+use Rattle.std.proofs.lemmas.List.{map-append}
+use Rattle.std.proofs.lemmas.Str.{IsUtf8-string_bytes}
+use Rattle.serde_json.specs.Data.{Data, array, depth}
+use Rattle.serde_json.specs.Read.{max_depth, read}
+use Rattle.serde_json.specs.View.{view, items_of, items_view}
+use Rattle.serde_json.specs.Written.{has_float, compact_text}
+use Rattle.serde_json.specs.declared.value.Value.{Value, Array}
+use Rattle.serde_json.proofs.Views.{view-Array}
+use Rattle.sched_plan.specs.Schedule.{Schedule, leaf, one, two, nodes_of, depth_of, node_in_range, one_in_range, is_valid}
+use Rattle.sched_plan.specs.Plan.{built_plan}
+use Rattle.sched_plan.specs.declared.plans.PlanFault.TheVariants.{OutOfRange, TooDeep, TooMany}
+use Rattle.sched_plan.specs.declared.leaves.Leaf.{Leaf}
+use Rattle.sched_plan.specs.declared.leaves.Leaf.TheVariants.{Forever, Recurs, Spaced, Fixed, Windowed, Linear, Exponential, ExponentialMilli, Fibonacci, Decorrelated, Elapsed, Identity, Unfold, Lone}
+use Rattle.sched_plan.specs.declared.nodes.One.{One}
+use Rattle.sched_plan.specs.declared.nodes.One.TheVariants.{Gate, Gather, Add, Set, Cap, AddOut, Jitter, Within, EndsBy, Renew, RenewIdle, First, Second, Nothing}
+use Rattle.sched_plan.specs.declared.nodes.Two.{Two}
+use Rattle.sched_plan.specs.declared.nodes.Two.TheVariants.{Meet, Join, Follow, Feed}
+use Rattle.sched_plan.specs.declared.nodes.Side.TheVariants.{Input, Output}
+use Rattle.sched_plan.specs.declared.nodes.Test.TheVariants.{Below, AtLeast, Equal}
+use Rattle.sched_plan.specs.declared.nodes.Fold.TheVariants as fold
+use Rattle.sched_plan_json.specs.Reading.{of_builder}
+use Rattle.sched_plan_json.specs.Forms.{of_leaf, over_one, over_two}
+use Rattle.sched_plan_json.specs.PlanOf.{plan_of, part_of, reading_of_node, spelt_of}
+use Rattle.sched_plan_json.specs.Texts.{ReadsText}
+use Rattle.sched_plan_json.proofs.Readings.{reading_of_spelt, one_read, two_read}
+use Rattle.sched_plan_json_write.specs.Forms.{with_both}
+use Rattle.sched_plan_json_write.specs.Written.{leaf_json, one_json, two_word, json_of}
+
+-- what is written of a node has that node's form
+
+leaf_spelt : (l : Leaf) → spelt_of (leaf_json l) ≡ Some (of_leaf l)
+leaf_spelt Forever = refl
+leaf_spelt (Recurs count) = refl
+leaf_spelt (Spaced delay) = refl
+leaf_spelt (Fixed length) = refl
+leaf_spelt (Windowed length) = refl
+leaf_spelt (Linear delay) = refl
+leaf_spelt (Exponential base factor) = refl
+leaf_spelt (ExponentialMilli base thousandths) = refl
+leaf_spelt (Fibonacci delay) = refl
+leaf_spelt (Decorrelated lane base thousandths most) = refl
+leaf_spelt Elapsed = refl
+leaf_spelt Identity = refl
+leaf_spelt (Unfold seed factor more) = refl
+leaf_spelt (Lone delay) = refl
+
+one_spelt : (k : One) (a : Data) → spelt_of (one_json k a) ≡ Some (over_one k (part_of a))
+one_spelt (Gate Input want Below bound) a = refl
+one_spelt (Gate Input want AtLeast bound) a = refl
+one_spelt (Gate Input want Equal bound) a = refl
+one_spelt (Gate Output want Below bound) a = refl
+one_spelt (Gate Output want AtLeast bound) a = refl
+one_spelt (Gate Output want Equal bound) a = refl
+one_spelt (Gather fold.Sum) a = refl
+one_spelt (Gather fold.Count) a = refl
+one_spelt (Gather fold.Max) a = refl
+one_spelt (Gather fold.List) a = refl
+one_spelt (Add delay) a = refl
+one_spelt (Set delay) a = refl
+one_spelt (Cap delay) a = refl
+one_spelt AddOut a = refl
+one_spelt (Jitter lane least most) a = refl
+one_spelt (Within length) a = refl
+one_spelt (EndsBy length) a = refl
+one_spelt (Renew length) a = refl
+one_spelt (RenewIdle length) a = refl
+one_spelt First a = refl
+one_spelt Second a = refl
+one_spelt Nothing a = refl
+
+two_spelt : (k : Two) (a b : Data) → spelt_of (with_both (two_word k) a b) ≡ Some (over_two k (part_of a) (part_of b))
+two_spelt Meet a b = refl
+two_spelt Join a b = refl
+two_spelt Follow a b = refl
+two_spelt Feed a b = refl
+
+not_above : (a b : ℕ) → b ≤ a → nat_lt a b ≡ false
+not_above a b h = grind (arith, nat_tests)
+
+built_by : (s : Schedule) (own deep many : Bool) → own ≡ true → deep ≡ false → many ≡ false →
+    (if not own then Err OutOfRange else if deep then Err TooDeep else if many then Err TooMany else Ok s) ≡ Ok s
+built_by s own deep many a b c = rw (a, b, c) refl
+
+-- no builder refuses a schedule within the limits whose own node is in range
+built : (s : Schedule) → IsTrue (node_in_range s) → depth_of s ≤ 32 → nodes_of s ≤ 256 → built_plan s ≡ Ok s
+built s own shallow few =
+    built_by s (node_in_range s) (nat_lt 32 (depth_of s)) (nat_lt 256 (nodes_of s)) own
+    (not_above 32 (depth_of s) shallow) (not_above 256 (nodes_of s) few)
+
+left_of : (a b : Bool) → IsTrue (a && b) → IsTrue a
+left_of true b h = refl
+left_of false b h = h
+
+right_of : (a b : Bool) → IsTrue (a && b) → IsTrue b
+right_of true b h = h
+right_of false b h = cc
+
+-- what is written of a valid schedule within the limits reads as it
+pub json_reads : (s : Schedule) → IsTrue (is_valid s) → depth_of s ≤ 32 → nodes_of s ≤ 256 → plan_of (json_of s) ≡ Ok s
+json_reads (leaf l) valid shallow few =
+    ap (λ r. r.answer) (reading_of_spelt (leaf_json l) ∙ ap reading_of_node (leaf_spelt l))
+    ∙ ap of_builder (built (leaf l) valid shallow few)
+json_reads (one k a) valid shallow few =
+    let inner = json_reads a (right_of (one_in_range k) (is_valid a) valid) (omega arith) (omega arith) in
+    let whole = built (one k a) (left_of (one_in_range k) (is_valid a) valid) shallow few in
+    sym (one_read (json_of (one k a)) (json_of a) k a (Ok (one k a)) (one_spelt k (json_of a)) (sym inner) (sym (ap of_builder whole)))
+json_reads (two k a b) valid shallow few =
+    let first = json_reads a (left_of (is_valid a) (is_valid b) valid) (omega arith) (omega arith) in
+    let second = json_reads b (right_of (is_valid a) (is_valid b) valid) (omega arith) (omega arith) in
+    let whole = built (two k a b) refl shallow few in
+    sym
+    (two_read (json_of (two k a b)) (json_of a) (json_of b) k (two_spelt k (json_of a) (json_of b)) a b (Ok (two k a b))
+    (sym first) (sym second) (sym (ap of_builder whole)))
+
+-- the same of a value that was written
+pub written_reads : (d : Data) (s : Schedule) → d ≡ json_of s → IsTrue (is_valid s) → depth_of s ≤ 32 → nodes_of s ≤ 256 →
+    plan_of d ≡ Ok s
+written_reads d s is valid shallow few = ap plan_of is ∙ json_reads s valid shallow few
+
+-- how deep it nests
+
+leaf_nested : (l : Leaf) → depth (leaf_json l) ≤ 2
+leaf_nested Forever = omega arith
+leaf_nested (Recurs count) = omega arith
+leaf_nested (Spaced delay) = omega arith
+leaf_nested (Fixed length) = omega arith
+leaf_nested (Windowed length) = omega arith
+leaf_nested (Linear delay) = omega arith
+leaf_nested (Exponential base factor) = omega arith
+leaf_nested (ExponentialMilli base thousandths) = omega arith
+leaf_nested (Fibonacci delay) = omega arith
+leaf_nested (Decorrelated lane base thousandths most) = omega arith
+leaf_nested Elapsed = omega arith
+leaf_nested Identity = omega arith
+leaf_nested (Unfold seed factor more) = omega arith
+leaf_nested (Lone delay) = omega arith
+
+one_nested : (k : One) (a : Data) → depth (one_json k a) ≤ depth a + 2
+one_nested (Gate side want test bound) a = omega arith
+one_nested (Gather kind) a = omega arith
+one_nested (Add delay) a = omega arith
+one_nested (Set delay) a = omega arith
+one_nested (Cap delay) a = omega arith
+one_nested AddOut a = omega arith
+one_nested (Jitter lane least most) a = omega arith
+one_nested (Within length) a = omega arith
+one_nested (EndsBy length) a = omega arith
+one_nested (Renew length) a = omega arith
+one_nested (RenewIdle length) a = omega arith
+one_nested First a = omega arith
+one_nested Second a = omega arith
+one_nested Nothing a = omega arith
+
+pub json_nested : (s : Schedule) → depth (json_of s) ≤ depth_of s + depth_of s
+json_nested (leaf l) = omega (arith, leaf_nested l)
+json_nested (one k a) = omega (arith, one_nested k (json_of a), json_nested a)
+json_nested (two k a b) = omega (arith, json_nested a, json_nested b)
+
+-- no number in it is a float
+
+leaf_whole : (l : Leaf) → has_float (leaf_json l) ≡ false
+leaf_whole Forever = refl
+leaf_whole (Recurs count) = refl
+leaf_whole (Spaced delay) = refl
+leaf_whole (Fixed length) = refl
+leaf_whole (Windowed length) = refl
+leaf_whole (Linear delay) = refl
+leaf_whole (Exponential base factor) = refl
+leaf_whole (ExponentialMilli base thousandths) = refl
+leaf_whole (Fibonacci delay) = refl
+leaf_whole (Decorrelated lane base thousandths most) = refl
+leaf_whole Elapsed = refl
+leaf_whole Identity = refl
+leaf_whole (Unfold seed factor more) = refl
+leaf_whole (Lone delay) = refl
+
+one_whole : (k : One) (a : Data) → has_float a ≡ false → has_float (one_json k a) ≡ false
+one_whole (Gate side want test bound) a h = rw h refl
+one_whole (Gather kind) a h = rw h refl
+one_whole (Add delay) a h = rw h refl
+one_whole (Set delay) a h = rw h refl
+one_whole (Cap delay) a h = rw h refl
+one_whole AddOut a h = rw h refl
+one_whole (Jitter lane least most) a h = rw h refl
+one_whole (Within length) a h = rw h refl
+one_whole (EndsBy length) a h = rw h refl
+one_whole (Renew length) a h = rw h refl
+one_whole (RenewIdle length) a h = rw h refl
+one_whole First a h = rw h refl
+one_whole Second a h = rw h refl
+one_whole Nothing a h = rw h refl
+
+pub json_whole : (s : Schedule) → has_float (json_of s) ≡ false
+json_whole (leaf l) = leaf_whole l
+json_whole (one k a) = one_whole k (json_of a) (json_whole a)
+json_whole (two k a b) = rw (json_whole a, json_whole b) refl
+
+-- a text that was written of a value without floats has no spaces, and reads as the value
+
+pub text_compact : (d : Data) (s : Schedule) (text : String Global) → d ≡ json_of s →
+    (has_float d ≡ false → string_bytes text ≡ compact_text d) → string_bytes text ≡ compact_text (json_of s)
+text_compact d s text is told = told (ap has_float is ∙ json_whole s) ∙ ap compact_text is
+
+pub text_reads : (d : Data) (s : Schedule) (text : String Global) → d ≡ json_of s → plan_of d ≡ Ok s → depth_of s ≤ 32 →
+    (depth d ≤ max_depth → read (string_bytes text) ≡ Some d) → ReadsText (string_bytes text) (Ok s)
+text_reads d s text is reads shallow back =
+    let nested : depth d ≤ max_depth = rw is (omega (arith, json_nested s)) in
+    (d, IsUtf8-string_bytes text, back nested, reads)
+
+-- two more items
+pub two_more : (list : Vec Value Global) (before : List Value) (a b : Value) → list.items ≡ (before ++ a ∷ []) ++ b ∷ [] →
+    view (Array list) ≡ array (items_of (map view before ++ view a ∷ view b ∷ []))
+two_more list before a b is =
+    let all : list.items ≡ before ++ a ∷ b ∷ [] = is ∙ append_assoc before (a ∷ []) (b ∷ []) in
+    view-Array list ∙ ap (λ vs. array (items_view vs)) all ∙ ap (λ ds. array (items_of ds)) (map-append view before (a ∷ b ∷ []))

@@ -1,0 +1,14 @@
+//! Nodes by their names, numbers and plans.
+#![tactic(auto)]
+
+mod faults;
+mod leaves;
+mod nodes;
+mod numbers;
+mod over;
+#[cfg(test)]
+mod tests;
+
+pub use faults::NodeFault;
+pub use nodes::node;
+pub use numbers::Numbers;

@@ -1,0 +1,129 @@
+-- What a poll of a retry does keeps its law, whatever happens in it.
+use Rattle.std.proofs.Common.{◌≡◌, ◌+◌, Bool, true, false, if◌then◌else◌, None, is_some, refl, sym, ap, ◌∙◌, subst, arith}
+use Rattle.sched_time.specs.declared.numbers.Tick.{Tick}
+use Rattle.sched_ticket_draws.specs.Grants.{Grants, Lawful}
+use Rattle.sched_task_law.specs.Kind.{Kind, draws}
+use Rattle.sched_task_law.specs.Past.{Past, is_stopped}
+use Rattle.sched_task_law.specs.Poll.{Happened, stays, cannot_begin, runs_on, cannot_run, ends, breaks, stops_done, stops_denied, recurs, asks, cannot_ask, falls, after, May}
+use Rattle.sched_task_law.proofs.Lists.{by_test}
+use Rattle.sched_task_law.proofs.Fields.{none_of}
+use Rattle.sched_task_law.proofs.Law.{law_after}
+use Rattle.sched_run_machine.specs.Retrying.{Retrying, RetryLaw, DrawsIn, RetryPoll}
+
+-- what is denied is stopped
+denied_stops : (v : Past) → v.denied ≡ true → is_stopped v ≡ false → ⊥
+denied_stops v is not = let bad = rw is at not in cc
+
+module _ {D : Type 0} (grants : Grants D) (lawful : Lawful grants) where
+  -- a retry after a poll: it keeps its law, and the poll was one
+  pub record Settled (kind : Kind) (v : Retrying D) (t : Tick) (ready : Bool) (u : Retrying D) : Type 0 where
+    pub law : RetryLaw grants kind u
+    pub poll : RetryPoll grants kind v t ready u
+
+  same_granted : (p q : D) → q ≡ p → grants.granted q ≡ grants.granted p
+  same_granted p q same = ap (λ (d : D). grants.granted d) same
+
+  granted_after : (kind : Kind) (v : Retrying D) (t : Tick) (h : Happened) (q : D) → draws kind ≡ true →
+      grants.granted v.drawing ≡ v.had + v.past.granted → DrawsIn grants h t.now v.drawing q →
+      grants.granted q ≡ v.had + (after kind v.past t h).granted
+  granted_after kind v t stays q drawn was draws = same_granted v.drawing q draws ∙ was
+  granted_after kind v t cannot_begin q drawn was draws = same_granted v.drawing q draws ∙ was
+  granted_after kind v t runs_on q drawn was draws = same_granted v.drawing q draws ∙ was
+  granted_after kind v t cannot_run q drawn was draws = same_granted v.drawing q draws ∙ was
+  granted_after kind v t (ends r) q drawn was draws = same_granted v.drawing q draws ∙ was
+  granted_after kind v t (breaks r fault) q drawn was draws = same_granted v.drawing q draws ∙ was
+  granted_after kind v t (stops_done r) q drawn was draws = same_granted v.drawing q draws ∙ was
+  granted_after kind v t (stops_denied r) q drawn was draws = lawful.counts v.drawing t.now false q draws ∙ was
+  granted_after kind v t (recurs r) q drawn was draws =
+      let one = lawful.counts v.drawing t.now true q draws in
+      rw drawn (rw (one, was) (omega arith))
+  granted_after kind v t asks q drawn was draws = same_granted v.drawing q draws ∙ was
+  granted_after kind v t cannot_ask q drawn was draws = same_granted v.drawing q draws ∙ was
+  granted_after kind v t falls q drawn was draws = same_granted v.drawing q draws ∙ was
+
+  same_refused : (denied : Bool) (p q : D) → (denied ≡ true → grants.refused p) → q ≡ p → denied ≡ true → grants.refused q
+  same_refused denied p q was same is = subst grants.refused (sym same) (was is)
+
+  denied_after : (kind : Kind) (v : Retrying D) (t : Tick) (h : Happened) (q : D) → (v.past.denied ≡ true → grants.refused v.drawing) →
+      May kind v.past t h → DrawsIn grants h t.now v.drawing q → (after kind v.past t h).denied ≡ true → grants.refused q
+  denied_after kind v t stays q was may draws = same_refused v.past.denied v.drawing q was draws
+  denied_after kind v t cannot_begin q was may draws = same_refused v.past.denied v.drawing q was draws
+  denied_after kind v t runs_on q was may draws = same_refused v.past.denied v.drawing q was draws
+  denied_after kind v t cannot_run q was may draws = same_refused v.past.denied v.drawing q was draws
+  denied_after kind v t (ends r) q was may draws = same_refused v.past.denied v.drawing q was draws
+  denied_after kind v t (breaks r fault) q was may draws = same_refused v.past.denied v.drawing q was draws
+  denied_after kind v t (stops_done r) q was may draws = same_refused v.past.denied v.drawing q was draws
+  denied_after kind v t (stops_denied r) q was may draws = λ yes. lawful.denies v.drawing t.now q draws
+  denied_after kind v t (recurs r) q was may draws = λ is. absurd (denied_stops v.past is may.0.can.unstopped)
+  denied_after kind v t asks q was may draws = same_refused v.past.denied v.drawing q was draws
+  denied_after kind v t cannot_ask q was may draws = same_refused v.past.denied v.drawing q was draws
+  denied_after kind v t falls q was may draws = same_refused v.past.denied v.drawing q was draws
+
+  same_name : (p q : D) → q ≡ p → grants.name q ≡ grants.name p
+  same_name p q same = ap (λ (d : D). grants.name d) same
+
+  -- every poll draws on the same budget
+  named_after : (t : Tick) (h : Happened) (p q : D) → DrawsIn grants h t.now p q → grants.name q ≡ grants.name p
+  named_after t stays p q draws = same_name p q draws
+  named_after t cannot_begin p q draws = same_name p q draws
+  named_after t runs_on p q draws = same_name p q draws
+  named_after t cannot_run p q draws = same_name p q draws
+  named_after t (ends r) p q draws = same_name p q draws
+  named_after t (breaks r fault) p q draws = same_name p q draws
+  named_after t (stops_done r) p q draws = same_name p q draws
+  named_after t (stops_denied r) p q draws = lawful.keeps p t.now false q draws
+  named_after t (recurs r) p q draws = lawful.keeps p t.now true q draws
+  named_after t asks p q draws = same_name p q draws
+  named_after t cannot_ask p q draws = same_name p q draws
+  named_after t falls p q draws = same_name p q draws
+
+  -- the retry after a poll in which this happened
+  abbrev pub next : Kind → Retrying D → Tick → Happened → D → Retrying D
+  next kind v t h q = record {
+    past = after kind v.past t h;
+    drawing = q;
+    had = v.had;
+    untaken = is_some (after kind v.past t h).over;
+  }
+
+  pub settles : (kind : Kind) (v : Retrying D) (t : Tick) (h : Happened) (q : D) → draws kind ≡ true → RetryLaw grants kind v →
+      v.past.over ≡ None → May kind v.past t h → DrawsIn grants h t.now v.drawing q → grants.stands q →
+      Settled kind v t (is_some (after kind v.past t h).over) (next kind v t h q)
+  settles kind v t h q drawn law unended may draws holds = record {
+    law = record {
+      law = law_after kind v.past t h law.law may;
+      granted = granted_after kind v t h q drawn law.granted draws;
+      denied = denied_after kind v t h q law.denied may draws;
+      stands = holds;
+      untaken = λ yes. yes;
+    };
+    poll = record {
+      poll = record { happened = h; may = may; leaves = refl; ready_is = refl };
+      drawing = draws;
+      budget = named_after t h v.drawing q draws;
+      had = refl;
+      untaken = rw unended refl;
+    };
+  }
+
+  untaken_false : (kind : Kind) (v : Retrying D) → RetryLaw grants kind v → v.past.over ≡ None → v.untaken ≡ false
+  untaken_false kind v law unended =
+      by_test v.untaken (λ yes. let bad = rw unended at (law.untaken yes) in absurd (cc)) (λ no. no)
+
+  -- there is an ending to take only where it is over
+  untaken_stays : (kind : Kind) (v : Retrying D) (ready : Bool) → ready ≡ is_some v.past.over → RetryLaw grants kind v →
+      v.untaken ≡ (if is_some v.past.over then v.untaken else ready)
+  untaken_stays kind v ready is law =
+      by_test (is_some v.past.over) (λ over. rw over refl)
+      (λ isnt. rw isnt (untaken_false kind v law (none_of v.past.over isnt) ∙ sym (is ∙ isnt)))
+
+  -- a retry that is over, or waits for a later moment, stays as it is
+  pub rests : (kind : Kind) (v : Retrying D) (t : Tick) (ready : Bool) → ready ≡ is_some v.past.over → RetryLaw grants kind v →
+      May kind v.past t stays → RetryPoll grants kind v t ready v
+  rests kind v t ready is law may = record {
+    poll = record { happened = stays; may = may; leaves = refl; ready_is = is };
+    drawing = refl;
+    budget = refl;
+    had = refl;
+    untaken = untaken_stays kind v ready is law;
+  }

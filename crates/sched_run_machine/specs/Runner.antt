@@ -1,0 +1,49 @@
+-- What an effect and the beginnings of its runs are after a poll.
+use Rattle.std.specs.Prelude.{◌≡◌, ℕ, Bool, true, false, if◌then◌else◌, List, [], ◌∷◌, ◌++◌, refl}
+use Rattle.std.specs.Coded.{Coded, code_by, coded×, coded_ℕ, coded_list}
+use Rattle.sched_time.specs.declared.numbers.Tick.{Tick}
+use Rattle.sched_effect.specs.Runs.{ran_by}
+use Rattle.sched_effect.specs.declared.ran.Ran.{Ran}
+use Rattle.sched_task_law.specs.Past.{is_under_way}
+use Rattle.sched_task_law.specs.Codes.{coded_ran}
+use Rattle.sched_run_machine.specs.declared.runner.Polled.{Polled}
+use Rattle.sched_run_machine.specs.declared.runner.Polled.TheVariants.{CannotBegin, Pending, CannotRun, Finished}
+
+-- an effect's finished runs, and the moments at which runs were begun
+pub record Runs : Type 0 where
+  pub runs : List Ran
+  pub begun : List ℕ
+
+abbrev pub coded_runs : Coded Runs
+coded_runs =
+    code_by (List Ran × List ℕ) (coded× (coded_list coded_ran) (coded_list coded_ℕ))
+    (λ r. (r.runs, r.begun)) (λ p. record { runs = p.0; begun = p.1 }) (λ _. refl)
+
+-- the beginnings, once a run is under way: it begins at the tick where none was
+abbrev pub begun_with : Runs → Tick → List ℕ
+begun_with r t = if is_under_way r.runs r.begun then r.begun else r.begun ++ t.now ∷ []
+
+-- a run was begun or under way
+abbrev pub polls_run : {I F : Type 0} → Polled I F → Bool
+polls_run CannotBegin = false
+polls_run _ = true
+
+-- and is under way after it
+abbrev pub leaves_run : {I F : Type 0} → Polled I F → Bool
+leaves_run Pending = true
+leaves_run CannotRun = true
+leaves_run _ = false
+
+module _ {I F : Type 0} (item_code : I → ℕ) (fault_code : F → ℕ) where
+  -- the runs that a poll ended
+  abbrev pub told_by : Polled I F → List Ran
+  told_by (Finished run) = ran_by item_code fault_code run ∷ []
+  told_by _ = []
+
+  -- what a poll of the run under way leaves, by its answer
+  abbrev pub Polls : Runs → Tick → Polled I F → Runs → Type 0
+  Polls old t CannotBegin new = (is_under_way old.runs old.begun ≡ false) × (new ≡ old)
+  Polls old t Pending new = new ≡ record old { begun = begun_with old t }
+  Polls old t CannotRun new = new ≡ record old { begun = begun_with old t }
+  Polls old t (Finished run) new =
+      new ≡ record { begun = begun_with old t; runs = old.runs ++ ran_by item_code fault_code run ∷ [] }

@@ -1,0 +1,116 @@
+//! What a retry draws by that is chosen while the program runs: one type for a budget, a quota and nothing.
+ghost use Rattle.std.specs.Prelude.{◌≡◌, true, IfOk, IfErr};
+ghost use Rattle.sched_ticket_draws.specs.Passes.{Deposits, are_like, OfOne, Joined, IsTotal, NoTotal};
+
+use crate::draws::Draws;
+use crate::on_budget::OnBudget;
+use crate::on_quota::OnQuota;
+use crate::unlimited::Unlimited;
+use sched_ticket::Budget;
+use sched_ticket_quota::Quota;
+use sched_time::Moment;
+use std::sync::Arc;
+
+/// What a retry draws its tickets by.
+#[derive(Drop)]
+pub enum Drawing {
+    /// A pass of a budget.
+    Budget(OnBudget<Arc<Budget>>),
+    /// A pass of a quota.
+    Quota(OnQuota<Arc<Quota>>),
+    /// Nothing: each retry is granted.
+    Unlimited(Unlimited),
+}
+
+impl Drawing {
+    /// Counts a request, where it draws on a quota; nothing else counts any.
+    pub fn deposit(&mut self, now: Moment)
+        ensures { Deposits now self.old self.new }
+    {
+        match self {
+            Drawing::Budget(_) => {}
+            Drawing::Quota(pass) => pass.deposit(now),
+            Drawing::Unlimited(_) => {}
+        }
+    }
+
+    /// Whether both are passes of budgets, or of quotas, or draw on nothing.
+    pub fn is_like(&self, other: &Drawing) -> bool
+        ensures { result ≡ are_like self.now other.now }
+    {
+        match self {
+            Drawing::Budget(_) => matches!(other, Drawing::Budget(_)),
+            Drawing::Quota(_) => matches!(other, Drawing::Quota(_)),
+            Drawing::Unlimited(_) => matches!(other, Drawing::Unlimited(_)),
+        }
+    }
+
+    /// One pass with what both have.
+    pub fn join(self, other: Drawing) -> Drawing
+        requires like { are_like self other ≡ true }
+        requires one { OfOne self other }
+        ensures { Joined self other result }
+    {
+        match self {
+            Drawing::Budget(pass) => match other {
+                Drawing::Budget(other) => Drawing::Budget(pass.join(other)),
+                Drawing::Quota(_) => unreachable!(),
+                Drawing::Unlimited(_) => unreachable!(),
+            },
+            Drawing::Quota(pass) => match other {
+                Drawing::Quota(other) => Drawing::Quota(pass.join(other)),
+                Drawing::Budget(_) => unreachable!(),
+                Drawing::Unlimited(_) => unreachable!(),
+            },
+            Drawing::Unlimited(pass) => match other {
+                Drawing::Unlimited(other) => Drawing::Unlimited(pass.join(other)),
+                Drawing::Budget(_) => unreachable!(),
+                Drawing::Quota(_) => unreachable!(),
+            },
+        }
+    }
+
+    /// The number of tickets that were drawn of what it draws on, where it has all parts of that, which ends with it.
+    /// Otherwise another pass is alive or was dropped, and this one comes back. Nothing has no parts: it is what this one
+    /// was granted.
+    pub fn close(self) -> Result<u64, Drawing>
+        ensures ok { IfOk result (IsTotal self) }
+        ensures err { IfErr result (NoTotal self) }
+    {
+        match self {
+            Drawing::Budget(pass) => match pass.close() {
+                Ok(tickets) => Ok(tickets),
+                Err(pass) => Err(Drawing::Budget(pass)),
+            },
+            Drawing::Quota(pass) => match pass.close() {
+                Ok(tickets) => Ok(tickets),
+                Err(pass) => Err(Drawing::Quota(pass)),
+            },
+            Drawing::Unlimited(pass) => Ok(pass.granted()),
+        }
+    }
+}
+
+impl Draws for Drawing {
+    ghost use Rattle.sched_ticket_draws.specs.Drawing.{drawing_grants, drawing_lawful};
+
+    ghost grants = { drawing_grants };
+
+    ghost lawful = { drawing_lawful };
+
+    fn draw(&mut self, now: Moment) -> bool {
+        match self {
+            Drawing::Budget(drawing) => drawing.draw(now),
+            Drawing::Quota(drawing) => drawing.draw(now),
+            Drawing::Unlimited(drawing) => drawing.draw(now),
+        }
+    }
+
+    fn granted(&self) -> u64 {
+        match self {
+            Drawing::Budget(drawing) => drawing.granted(),
+            Drawing::Quota(drawing) => drawing.granted(),
+            Drawing::Unlimited(drawing) => drawing.granted(),
+        }
+    }
+}

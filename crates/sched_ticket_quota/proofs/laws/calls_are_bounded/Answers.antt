@@ -1,0 +1,5 @@
+use Rattle.sched_ticket_quota.proofs.Histories.{calls_are_bounded}
+use Rattle.sched_ticket_quota.proofs.laws.calls_are_bounded.Goals as goal
+
+pub returns : goal.returns
+returns c = calls_are_bounded
