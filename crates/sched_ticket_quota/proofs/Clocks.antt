@@ -7,10 +7,10 @@ use native.Mathlib.Decide.{dec_le}
 use Rattle.atomic_table.specs.Table.{State}
 use Rattle.sched_ticket_quota.specs.Windows.{window_of, first_of, terms_of, window_at, end_of}
 use Rattle.sched_ticket_quota.specs.View.{numbers}
-use Rattle.sched_ticket_quota.specs.Rule.{tickets_in, requests_in, in_force, begins, IsKept, words_of}
+use Rattle.sched_ticket_quota.specs.Rule.{tickets_in, requests_in, carried_in, in_force, begins, IsKept, words_of}
 use Rattle.sched_ticket_quota.specs.Held.{Name}
 use Rattle.sched_ticket_quota.specs.Calls.{Turned, Counted}
-use Rattle.sched_ticket_quota.specs.Clocks.{OpensItsOwn, DrawsNoEarlier, CountsNoEarlier, WindowsEnd, EndsWithinAPeriod, over, AreMost, ClocksAreBounded}
+use Rattle.sched_ticket_quota.specs.Clocks.{OpensItsOwn, DrawsNoEarlier, CountsNoEarlier, WindowsEnd, EndsWithinAPeriod, over, AreMost, ClocksAreBounded, RunsAreKept}
 use Rattle.sched_ticket_quota.specs.declared.view.Terms.{Terms}
 use Rattle.sched_ticket_quota.specs.declared.view.View.{View}
 use Rattle.sched_ticket_quota.proofs.Numbers.{window_at-mono, below-mono, allow-most}
@@ -154,33 +154,52 @@ pub scaled : (n x r shares : ℕ) → 1000 * n ≤ x * (1000 * r) + shares → n
 scaled n x r shares le = omega (arith, le)
 
 module _ (k : Terms) (s : State ℕ View) (kept : IsKept k s) (most : Terms) (greatest : AreMost k s.views most) where
-  -- a window has no more than the greatest reserve and share allow
-  window-most : (w : ℕ) → 1000 * tickets_in s.views w ≤ 1000 * most.reserve + most.share * requests_in s.views w
+  -- a window has no more than the greatest reserve and share allow, and what was carried to it less what was carried on
+  window-most : (w : ℕ) → 1000 * tickets_in s.views w + 1000 * carried_in s.views (w + 1) ≤ 1000 * most.reserve + most.share * requests_in s.views w + 1000 * carried_in s.views w
   window-most w =
       let n : ℕ = requests_in s.views w in
-      omega (
-        arith,
-        windows_kept k (words_of s kept.window kept.latest) s.views kept.orderly w (most.reserve + (most.share * n) / 1000)
-            (allow-most k (in_force k s.views) most.reserve most.share n (λ x some-force. greatest (terms_of k x) (x, some-force, refl))),
-      )
+      elim (kept.orderly.carrying.each w) [
+        | inl none ↦ omega (
+            arith,
+            none,
+            windows_kept k (words_of s kept.window kept.latest) s.views kept.orderly w (most.reserve + (most.share * n) / 1000)
+                (allow-most k (in_force k s.views) most.reserve most.share n (λ x some-force. greatest (terms_of k x) (x, some-force, refl))),
+          )
+        | inr some ↦
+            let g = greatest (terms_of k some.0) (some.0, some.1, refl) in
+            omega (arith, some.3, g.0, mul-le-mul_right n g.1)
+      ]
+
+  -- and what is carried from one is no more than its share
+  carried-most : (w : ℕ) → 1000 * carried_in s.views (w + 1) ≤ most.share * requests_in s.views w
+  carried-most w = elim (kept.orderly.carrying.each w) [
+    | inl none ↦ omega (arith, none)
+    | inr some ↦
+        let g = greatest (terms_of k some.0) (some.0, some.1, refl) in
+        omega (arith, some.2, mul-le-mul_right (requests_in s.views w) g.1)
+  ]
 
   -- so many windows have no more than their reserves and shares
-  each-reserve : (w c : ℕ) → 1000 * over (tickets_in s.views) w c ≤ c * (1000 * most.reserve) + most.share * over (requests_in s.views) w c
-  each-reserve w zero = omega arith
-  each-reserve w (suc c) = omega (arith, each-reserve w c, window-most (w + c))
+  each-reserve : (w c : ℕ) → 1000 * over (tickets_in s.views) w c + 1000 * carried_in s.views (w + c) ≤ c * (1000 * most.reserve) + most.share * over (requests_in s.views) w c + 1000 * carried_in s.views w
+  each-reserve w zero = let here : w + 0 ≡ w = omega arith in omega (arith, ap (carried_in s.views) here)
+  each-reserve w (suc c) =
+      let next : w + suc c ≡ w + c + 1 = omega arith in
+      omega (arith, each-reserve w c, window-most (w + c), ap (carried_in s.views) next)
 
   -- of windows after the first, each reserve is of one that was begun
-  begun-reserve : (w c : ℕ) → 0 < w → 1000 * over (tickets_in s.views) w c ≤ over (begins s.views) w c * (1000 * most.reserve) + most.share * over (requests_in s.views) w c
-  begun-reserve w zero some-window = omega arith
-  begun-reserve w (suc c) some-window = dite (dec_le (tickets_in s.views (w + c)) 0)
-      (λ none. omega (arith, begun-reserve w c some-window, none))
+  begun-reserve : (w c : ℕ) → 0 < w → 1000 * over (tickets_in s.views) w c + 1000 * carried_in s.views (w + c) ≤ over (begins s.views) w c * (1000 * most.reserve) + most.share * over (requests_in s.views) w c + 1000 * carried_in s.views w
+  begun-reserve w zero some-window = let here : w + 0 ≡ w = omega arith in omega (arith, ap (carried_in s.views) here)
+  begun-reserve w (suc c) some-window =
+      let next : w + suc c ≡ w + c + 1 = omega arith in
+      dite (dec_le (tickets_in s.views (w + c)) 0)
+      (λ none. omega (arith, begun-reserve w c some-window, none, carried-most (w + c), ap (carried_in s.views) next))
       (λ not.
       let begun : 1 ≤ begins s.views (w + c) = kept.orderly.entered (w + c) (omega arith) (lt_of_not-le not) in
-      omega (arith, begun-reserve w c some-window, window-most (w + c), mul-le-mul_right (1000 * most.reserve) begun))
+      omega (arith, begun-reserve w c some-window, window-most (w + c), mul-le-mul_right (1000 * most.reserve) begun, ap (carried_in s.views) next))
 
   -- where of the windows after this one so few were begun
   pub bounded-by : (from to apart count ahead : ℕ) → from ≤ to → to ≤ from + apart + 1 → ((e : ℕ) → to + 1 + e ≤ from + count → over (begins s.views) (to + 1) e ≤ ahead)
-      → 1000 * over (tickets_in s.views) from count ≤ (apart + 2 + ahead) * (1000 * most.reserve) + most.share * over (requests_in s.views) from count
+      → 1000 * over (tickets_in s.views) from count ≤ (apart + 2 + ahead) * (1000 * most.reserve) + (most.share * over (requests_in s.views) from count + 1000 * carried_in s.views from)
   bounded-by from to apart count ahead le near few =
       let r : ℕ = 1000 * most.reserve in
       let d : ℕ = to + 1 - from in
@@ -200,14 +219,27 @@ module _ (k : Terms) (s : State ℕ View) (kept : IsKept k s) (most : Terms) (gr
       let rest : over (begins s.views) (to + 1) e ≤ ahead = few e (omega arith) in
       let both : d + over (begins s.views) (to + 1) e ≤ apart + 2 + ahead = omega arith in
       let shares : most.share * over R from count ≡ most.share * (over R from d + over R (to + 1) e) = ap (λ x. most.share * x) asked in
-      omega (arith, each-reserve from d, begun-reserve (to + 1) e (omega arith), first, shares, mul-le-mul_right r both))
+      omega (arith, each-reserve from d, begun-reserve (to + 1) e (omega arith), first, shares, mul-le-mul_right r both, ap (carried_in s.views) next))
+
+  -- what was carried to the first of some windows is no more than the share of the one before
+  runs-kept : (w c : ℕ) → 1000 * over (tickets_in s.views) w c ≤ c * (1000 * most.reserve) + most.share * (over (requests_in s.views) w c + requests_in s.views (w - 1))
+  runs-kept zero c = omega (arith, each-reserve 0 c, kept.orderly.carrying.first)
+  runs-kept (suc w) c =
+      let before : suc w - 1 ≡ w = omega arith in
+      let here : suc w ≡ w + 1 = omega arith in
+      omega (arith, each-reserve (suc w) c, carried-most w, ap (carried_in s.views) here, ap (λ x. most.share * requests_in s.views x) before)
 
 pub clocks_are_bounded : ClocksAreBounded
 clocks_are_bounded b s terms kept most greatest from to count ahead le few =
     let k : Terms = b.terms in
     let some-period : 0 < k.period = omega (arith, terms.period) in
     let apart : ℕ = (to - from) / k.period in
-    scaled (over (tickets_in s.views) (window_at k b.start from) count) (apart + 2 + ahead) most.reserve (most.share * over (requests_in s.views) (window_at k b.start from) count)
+    let w : ℕ = window_at k b.start from in
+    omega (arith, scaled (over (tickets_in s.views) w count) (apart + 2 + ahead) most.reserve (most.share * over (requests_in s.views) w count + 1000 * carried_in s.views w)
     (bounded-by k s kept most greatest (window_at k b.start from) (window_at k b.start to) apart count ahead
     (window_at-mono k b.start from to le) (windows-apart k b.start from to some-period le)
-    (λ e inside. omega (arith, few, below-mono (λ i. begins s.views (window_at k b.start to + 1 + i)) e count (omega (arith, inside, window_at-mono k b.start from to le)))))
+    (λ e inside. omega (arith, few, below-mono (λ i. begins s.views (window_at k b.start to + 1 + i)) e count (omega (arith, inside, window_at-mono k b.start from to le))))))
+
+pub runs_are_kept : RunsAreKept
+runs_are_kept k s kept most greatest w count =
+    scaled (over (tickets_in s.views) w count) count most.reserve (most.share * (over (requests_in s.views) w count + requests_in s.views (w - 1))) (runs-kept k s kept most greatest w count)

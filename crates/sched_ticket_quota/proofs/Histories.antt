@@ -8,7 +8,7 @@ use lib.ListN.{get_elem?}
 use Rattle.sched_ticket.specs.Lists.{total, Each, is, times}
 use Rattle.sched_ticket.proofs.Sums.{total-append, total-plus, Each-map, is-same, is-other, below-from, term_le, none_from, from}
 use Rattle.sched_ticket_quota.specs.Windows.{window_of, first_of, window_at, within, count_in}
-use Rattle.sched_ticket_quota.specs.Rule.{ticket_weight, tickets_in, returned_in, requests_in, openings, begins, drawn_of}
+use Rattle.sched_ticket_quota.specs.Rule.{ticket_weight, tickets_in, returned_in, carried_in, requests_in, openings, begins, drawn_of}
 use Rattle.sched_ticket_quota.specs.Held.{Name}
 use Rattle.sched_ticket_quota.specs.Calls.{Turned}
 use Rattle.sched_ticket_quota.specs.Clocks.{Called, over}
@@ -345,7 +345,7 @@ calls_are_bounded b s terms kept most greatest calls made since to count le last
       over-total (λ x (v : View). times (first_of x) v.opened) s.views (till + 1) e,
       over-inner R w count till e low (omega arith),
     ) in
-    let bound = scaled (over (tickets_in s.views) w count) (apart + 2 + (A + B)) most.reserve (most.share * over R w count)
+    let bound = scaled (over (tickets_in s.views) w count) (apart + 2 + (A + B)) most.reserve (most.share * over R w count + 1000 * carried_in s.views w)
     (bounded-by k s kept most greatest w till apart count (A + B) low (windows-apart k b.start since to some-period le) begun) in
     let same : apart + 2 + (A + B) ≡ apart + 2 + A + B = omega arith in
-    subst (λ x. total (drawn_from since) calls ≤ over (returned_in s.views) w count + x * most.reserve + (most.share * over R w count) / 1000) same (omega (arith, drawn, bound))
+    subst (λ x. total (drawn_from since) calls ≤ carried_in s.views w + over (returned_in s.views) w count + x * most.reserve + (most.share * over R w count) / 1000) same (omega (arith, drawn, bound))

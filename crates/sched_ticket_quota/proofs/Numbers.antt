@@ -8,7 +8,7 @@ use Rattle.sched_ticket.specs.Lists.{total, below, Each, is}
 use Rattle.sched_ticket.proofs.Sums.{once_below-yes, once_below-no, Each-map, is-other}
 use Rattle.sched_ticket_quota.specs.Windows.{window_of, first_of, window_at, word_of, terms_of, back_in, AllowNoMore, allowed, within, count_in}
 use Rattle.sched_ticket_quota.specs.View.{numbers}
-use Rattle.sched_ticket_quota.specs.Rule.{requests_in, returned_in, in_force, IsSeen, IsAllowed}
+use Rattle.sched_ticket_quota.specs.Rule.{requests_in, returned_in, carried_in, in_force, IsSeen, IsPrior, IsAllowed}
 use Rattle.sched_ticket_quota.specs.declared.view.Terms.{Terms}
 use Rattle.sched_ticket_quota.specs.declared.view.View.{View}
 
@@ -77,6 +77,25 @@ back_in-le r w returned came_back = dite (ℕ_discrete (window_of r) w)
     omega (arith, n, subst (λ (y : ℕ). r ≤ first_of y + returned y) same came_back))
     (λ other. omega (arith, ap (λ b. cond b (r % 4294967296) 0) (ne_eqb (window_of r) w other)))
 
+-- a share grows with its requests
+pub share-mono : (s n m : ℕ) → n ≤ m → (s * n) / 1000 ≤ (s * m) / 1000
+share-mono s n m le =
+    let up : s * n ≤ s * m = mul-le-mul_left s le in
+    let down : (s * n) / 1000 * 1000 ≤ s * n = div-mul-le_self (s * n) 1000 in
+    le-div ((s * n) / 1000) (s * m) 1000 (omega arith) (omega arith)
+
+-- as many requests as were told for the window before
+pub prior-le : (p n : ℕ) (requests : ℕ → ℕ) → IsPrior requests p → back_in p n ≤ requests (n - 1)
+prior-le p n requests prior = dite (ℕ_discrete (window_of p) n)
+    (λ same. omega (arith, ap (λ b. cond b (p % 4294967296) 0) (eq-eqb (window_of p) n same), subst (λ (y : ℕ). p % 4294967296 ≤ requests (y - 1)) same prior.1))
+    (λ other. omega (arith, ap (λ b. cond b (p % 4294967296) 0) (ne_eqb (window_of p) n other)))
+
+-- none for the first window
+pub prior-first : (p : ℕ) (requests : ℕ → ℕ) → IsPrior requests p → back_in p 0 ≡ 0
+prior-first p requests prior = dite (ℕ_discrete (window_of p) 0)
+    (λ same. omega (arith, ap (λ b. cond b (p % 4294967296) 0) (eq-eqb (window_of p) 0 same), prior.0 same))
+    (λ other. ap (λ b. cond b (p % 4294967296) 0) (ne_eqb (window_of p) 0 other))
+
 -- which is the word of no other
 pub only-word : (k : Terms) (x n : ℕ) → k.share ≤ 1000000 → 0 < is x (word_of k.reserve k.share) → allowed (terms_of k x) n ≡ allowed k n
 only-word k x n known some-word = dite (ℕ_discrete (word_of k.reserve k.share) x)
@@ -95,27 +114,27 @@ allow-most k force reserve share n most x some-force =
 
 module _ (k : Terms) where
   -- tickets stay allowed while requests are counted and terms are set
-  pub allows-on : (views views' : List View) (xs : List ℕ) → ((w : ℕ) → requests_in views w ≤ requests_in views' w) → ((w : ℕ) → returned_in views w ≤ returned_in views' w) → ((x : ℕ) → in_force k views x ≤ in_force k views' x)
+  pub allows-on : (views views' : List View) (xs : List ℕ) → ((w : ℕ) → requests_in views w ≤ requests_in views' w) → ((w : ℕ) → returned_in views w ≤ returned_in views' w) → ((w : ℕ) → carried_in views w ≤ carried_in views' w) → ((x : ℕ) → in_force k views x ≤ in_force k views' x)
       → Each (IsAllowed k views) xs → Each (IsAllowed k views') xs
-  allows-on views views' xs more back force all = Each-map (IsAllowed k views) (IsAllowed k views')
-      (λ t a. (a.0, omega (arith, a.1, force a.0), omega (arith, a.2, back (window_of t), allowed-mono (terms_of k a.0) (requests_in views (window_of t)) (requests_in views' (window_of t)) (more (window_of t))))) xs all
+  allows-on views views' xs more back carry force all = Each-map (IsAllowed k views) (IsAllowed k views')
+      (λ t a. (a.0, omega (arith, a.1, force a.0), omega (arith, a.2, back (window_of t), carry (window_of t), allowed-mono (terms_of k a.0) (requests_in views (window_of t)) (requests_in views' (window_of t)) (more (window_of t))))) xs all
 
   -- of the tickets of a window none is past what the terms in force allow for its requests, and those handed back
-  pub count_in-allowed : (views : List View) (w n : ℕ) (xs : List ℕ) → AllowNoMore k (in_force k views) (requests_in views w) n → Each (IsAllowed k views) xs → count_in w xs ≤ total (within (first_of w) (n + returned_in views w)) xs
+  pub count_in-allowed : (views : List View) (w n : ℕ) (xs : List ℕ) → AllowNoMore k (in_force k views) (requests_in views w) n → Each (IsAllowed k views) xs → count_in w xs ≤ total (within (first_of w) (n + returned_in views w + carried_in views w)) xs
   count_in-allowed views w n [] most all = omega arith
   count_in-allowed views w n (t ∷ ts) most all =
       let rest = count_in-allowed views w n ts most all.1 in
       let a : ℕ = first_of w in
-      let r : ℕ = returned_in views w in
-      let here : within a 4294967296 t ≤ within a (n + r) t = dite (dec_le a t)
+      let m : ℕ = n + returned_in views w + carried_in views w in
+      let here : within a 4294967296 t ≤ within a m t = dite (dec_le a t)
       (λ from. dite (dec_le (a + 4294967296) t)
       (λ high. omega (arith, within-high a 4294967296 t high))
       (λ not.
       let to : t < a + 4294967296 = lt_of_not-le not in
       let same : window_of t ≡ w = omega arith in
       let by = all.0 in
-      let low : t < first_of w + allowed (terms_of k by.0) (requests_in views w) + r =
-      subst (λ (y : ℕ). t < first_of y + allowed (terms_of k by.0) (requests_in views y) + returned_in views y) same by.2 in
-      omega (arith, within-yes a 4294967296 t from to, within-yes a (n + r) t from (omega (arith, low, most by.0 by.1)))))
+      let low : t < first_of w + allowed (terms_of k by.0) (requests_in views w) + returned_in views w + carried_in views w =
+      subst (λ (y : ℕ). t < first_of y + allowed (terms_of k by.0) (requests_in views y) + returned_in views y + carried_in views y) same by.2 in
+      omega (arith, within-yes a 4294967296 t from to, within-yes a m t from (omega (arith, low, most by.0 by.1)))))
       (λ not. omega (arith, within-low a 4294967296 t (lt_of_not-le not))) in
       omega arith

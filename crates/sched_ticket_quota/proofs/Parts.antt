@@ -1,5 +1,5 @@
 -- A split, a join and the first state keep the rule.
-use Rattle.std.proofs.Common.{◌≡◌, ◌≢◌, ℕ, zero, suc, ◌+◌, ◌-◌, ◌<◌, ◌≤◌, max, List, [], ◌∷◌, ◌++◌, length, set, slice_index, sym, refl, ◌∙◌, subst, arith, ⊎_elim, lt_of_not-le}
+use Rattle.std.proofs.Common.{◌≡◌, ◌≢◌, ℕ, zero, suc, ◌+◌, ◌-◌, ◌<◌, ◌≤◌, max, List, [], ◌∷◌, ◌++◌, length, set, slice_index, sym, refl, ◌∙◌, subst, arith, inl, ⊎_elim, lt_of_not-le}
 use mathlib.Core.Logic.{dite}
 use mathlib.Core.Option.{Option, some, some-injective, some-ne-none}
 use native.Mathlib.Decide.{dec_le}
@@ -9,13 +9,13 @@ use Rattle.atomic_table.proofs.Lists.{at_set, at_snoc, set_else}
 use Rattle.sched_ticket.specs.Lists.{total, times, is}
 use Rattle.sched_ticket.proofs.Sums.{total-append, total-set, Each-append, is-same}
 use Rattle.sched_ticket.proofs.Ways.{part-some}
-use Rattle.sched_ticket_quota.specs.Windows.{window_of, first_of, word_of, within, count_in}
+use Rattle.sched_ticket_quota.specs.Windows.{window_of, first_of, word_of, back_in, within, count_in}
 use Rattle.sched_ticket_quota.specs.View.{first_view, without_part, part_of, joined_view, blank_view}
-use Rattle.sched_ticket_quota.specs.Rule.{ticket_weight, request_weight, tickets_in, returned_in, requests_in, may_count, in_force, begins, IsAllowed, Words, Fits, IsOrderly, current_of, back_of, words_of, IsKept}
+use Rattle.sched_ticket_quota.specs.Rule.{ticket_weight, request_weight, tickets_in, returned_in, carried_in, requests_in, may_count, in_force, begins, IsAllowed, Words, Fits, IsOrderly, current_of, back_of, words_of, IsKept}
 use Rattle.sched_ticket_quota.specs.declared.view.Terms.{Terms}
 use Rattle.sched_ticket_quota.specs.declared.view.View.{View}
 use Rattle.sched_ticket_quota.proofs.Counts.{may_count-yes, may_count-no, may_count-le}
-use Rattle.sched_ticket_quota.proofs.Moves.{words_at, Grows, Fits-on}
+use Rattle.sched_ticket_quota.proofs.Moves.{words_at, carried_by, Grows, Fits-on, carrying-on}
 
 -- two passes that may count have no more parts than one with the parts of both
 may_count-cut : (v : View) → 1 < v.weight → may_count (without_part v) + may_count (part_of v) ≤ may_count v
@@ -41,17 +41,18 @@ module _ (k : Terms) where
       let p = part-some v.weight more in
       let sums : (g : View → ℕ) → total g after + g v ≡ total g views + g left + g right = λ g. omega (arith, total-append g (set views id left) (right ∷ []), total-set g views id v left at) in
       let returned : (x : ℕ) → returned_in views x ≤ returned_in after x = λ x. omega (arith, sums (λ (u : View). count_in x u.returned)) in
+      let carried : (x : ℕ) → carried_in views x ≤ carried_in after x = λ x. omega (arith, sums (carried_by x)) in
       let tickets : (x : ℕ) → tickets_in views x + returned_in views x ≤ tickets_in after x + returned_in after x = λ x. omega (arith, sums (λ (u : View). count_in x u.tickets), returned x) in
       let requests : (x : ℕ) → requests_in views x ≤ requests_in after x = λ x. omega (arith, sums (λ (u : View). count_in x u.requests)) in
       let starts : (x : ℕ) → begins views x ≤ begins after x = λ x. omega (arith, requests (x - 1), sums (λ (u : View). times (first_of x) u.opened)) in
       let force : (x : ℕ) → in_force k views x ≤ in_force k after x = λ x. omega (arith, sums (λ (u : View). times x u.changes)) in
       let x : Words = words_of s kept.window kept.latest in
       let F : View → Type 0 = Fits k x after in
-      let grown : Grows k views after = record { dealt = tickets; returned = returned; requests = requests; starts = starts; force = force } in
+      let grown : Grows k views after = record { dealt = tickets; returned = returned; carried = carried; requests = requests; starts = starts; force = force } in
       let on : (u : View) → Fits k x views u → F u = λ u g. Fits-on k x x views after u g (omega arith) (omega arith) (omega arith) grown in
       let g : F v = on v f in
-      let fits-left : F left = record { allows = g.allows; allowed_back = g.allowed_back; seen = g.seen; counted = g.counted; begun = g.begun; found = g.found; given = g.given; back = g.back; came_back = g.came_back; live = λ _. f.live (omega arith); force = λ _. g.force (omega arith); spent = λ none. absurd (omega arith) } in
-      let fits-right : F right = record { allows = tt; allowed_back = tt; seen = g.seen; counted = g.counted; begun = g.begun; found = g.found; given = g.given; back = g.back; came_back = g.came_back; live = λ _. f.live (omega arith); force = λ _. g.force (omega arith); spent = λ _. (refl, refl, refl, refl, refl) } in
+      let fits-left : F left = record { allows = g.allows; allowed_back = g.allowed_back; seen = g.seen; counted = g.counted; begun = g.begun; found = g.found; given = g.given; back = g.back; came_back = g.came_back; before = g.before; prior = g.prior; carry = g.carry; live = λ _. f.live (omega arith); force = λ _. g.force (omega arith); spent = λ none. absurd (omega arith) } in
+      let fits-right : F right = record { allows = tt; allowed_back = tt; seen = g.seen; counted = g.counted; begun = g.begun; found = g.found; given = g.given; back = g.back; came_back = g.came_back; before = g.before; prior = g.prior; carry = g.carry; live = λ _. f.live (omega arith); force = λ _. g.force (omega arith); spent = λ _. (refl, refl, refl, refl, refl, refl) } in
       record {
         window = kept.window;
         latest = kept.latest;
@@ -77,6 +78,7 @@ module _ (k : Terms) where
           force = omega (arith, o.force, force (current_of s));
           came_back = omega (arith, o.came_back, returned (window_of (back_of s)));
           few_back = o.few_back;
+          carrying = carrying-on k x x views after grown (λ n. omega (arith, sums (carried_by n))) (λ n. omega (arith, sums (λ (u : View). count_in n u.tickets))) (omega arith) refl refl o.carrying;
           parts = omega (arith, sums (λ (u : View). u.weight), o.parts);
           each = λ by u there. ⊎_elim
               (λ (t : get_elem? (set views id left) by ≡ some u). ⊎_elim
@@ -99,13 +101,14 @@ module _ (k : Terms) where
       let after : List View = set middle other blank_view in
       let sums : (g : View → ℕ) → total g after + g w + g v ≡ total g views + g joined + g blank_view = λ g. omega (arith, total-set g views id v joined at, total-set g middle other w blank_view there) in
       let returned : (x : ℕ) → returned_in views x ≤ returned_in after x = λ x. omega (arith, sums (λ (u : View). count_in x u.returned), total-append (within (first_of x) 4294967296) v.returned w.returned) in
+      let carried : (x : ℕ) → carried_in views x ≤ carried_in after x = λ x. omega (arith, sums (carried_by x), total-append (λ c. back_in c x) v.carries w.carries) in
       let tickets : (x : ℕ) → tickets_in views x + returned_in views x ≤ tickets_in after x + returned_in after x = λ x. omega (arith, sums (λ (u : View). count_in x u.tickets), total-append (within (first_of x) 4294967296) v.tickets w.tickets, returned x) in
       let requests : (x : ℕ) → requests_in views x ≤ requests_in after x = λ x. omega (arith, sums (λ (u : View). count_in x u.requests), total-append (within (first_of x) 4294967296) v.requests w.requests) in
       let starts : (x : ℕ) → begins views x ≤ begins after x = λ x. omega (arith, requests (x - 1), sums (λ (u : View). times (first_of x) u.opened), total-append (is (first_of x)) v.opened w.opened) in
       let force : (x : ℕ) → in_force k views x ≤ in_force k after x = λ x. omega (arith, sums (λ (u : View). times x u.changes), total-append (is x) v.changes w.changes) in
       let x : Words = words_of s kept.window kept.latest in
       let F : View → Type 0 = Fits k x after in
-      let grown : Grows k views after = record { dealt = tickets; returned = returned; requests = requests; starts = starts; force = force } in
+      let grown : Grows k views after = record { dealt = tickets; returned = returned; carried = carried; requests = requests; starts = starts; force = force } in
       let on : (u : View) → Fits k x views u → F u = λ u g. Fits-on k x x views after u g (omega arith) (omega arith) (omega arith) grown in
       let g : F v = on v f in
       let g-other : F w = on w (o.each other w at-other) in
@@ -119,6 +122,9 @@ module _ (k : Terms) where
         given = g.given;
         back = g.back;
         came_back = g.came_back;
+        before = g.before;
+        prior = g.prior;
+        carry = g.carry;
         live = λ _. f.live live;
         force = λ _. g.force live;
         spent = λ none. absurd (omega arith);
@@ -133,9 +139,12 @@ module _ (k : Terms) where
         given = λ x low high. omega arith;
         back = omega arith;
         came_back = omega arith;
+        before = omega arith;
+        prior = ((λ _. refl), omega arith);
+        carry = omega arith;
         live = λ h. absurd (omega arith);
         force = λ h. absurd (omega arith);
-        spent = λ _. (refl, refl, refl, refl, refl);
+        spent = λ _. (refl, refl, refl, refl, refl, refl);
       } in
       record {
         window = kept.window;
@@ -162,6 +171,7 @@ module _ (k : Terms) where
           force = omega (arith, o.force, force (current_of s));
           came_back = omega (arith, o.came_back, returned (window_of (back_of s)));
           few_back = o.few_back;
+          carrying = carrying-on k x x views after grown (λ n. omega (arith, sums (carried_by n), total-append (λ c. back_in c n) v.carries w.carries)) (λ n. omega (arith, sums (λ (u : View). count_in n u.tickets), total-append (within (first_of n) 4294967296) v.tickets w.tickets)) (omega arith) refl refl o.carrying;
           parts = omega (arith, sums (λ (u : View). u.weight), o.parts);
           each = λ by u there'. ⊎_elim
               (λ (e : (by ≡ other) × (blank_view ≡ u)). subst F e.1 fits-blank)
@@ -178,16 +188,18 @@ module _ (k : Terms) where
   first-view (suc by) v at = absurd (some-ne-none v (sym at))
 
   -- the first state: the words are 0, and that of the terms is theirs
-  pub first_kept : (ws : List ℕ) (homes : List (Option ℕ)) → k.share ≤ 1000000 → length ws ≡ 32 → slice_index ws 8 ≡ 0 → slice_index ws 24 ≡ 0 → slice_index ws 25 ≡ word_of k.reserve k.share → slice_index ws 9 ≡ 0
+  pub first_kept : (ws : List ℕ) (homes : List (Option ℕ)) → k.share ≤ 1000000 → length ws ≡ 32 → slice_index ws 8 ≡ 0 → slice_index ws 24 ≡ 0 → slice_index ws 25 ≡ word_of k.reserve k.share → slice_index ws 9 ≡ 0 → slice_index ws 26 ≡ 0 → slice_index ws 10 ≡ 0
       → IsKept k (record { words = ws; homes = homes; views = first_view k ∷ [] })
-  first_kept ws homes known long draws requests terms back = record {
+  first_kept ws homes known long draws requests terms back prior carry = record {
     window = 0;
     latest = 0;
     long = long;
-    orderly = subst (λ (y : ℕ). IsOrderly k (words_at y 0 (slice_index ws 24) 0 (slice_index ws 25) (slice_index ws 9)) (first_view k ∷ [])) (sym draws)
-        (subst (λ (y : ℕ). IsOrderly k (words_at 0 0 y 0 (slice_index ws 25) (slice_index ws 9)) (first_view k ∷ [])) (sym requests)
-        (subst (λ (y : ℕ). IsOrderly k (words_at 0 0 0 0 y (slice_index ws 9)) (first_view k ∷ [])) (sym terms)
-        (subst (λ (y : ℕ). IsOrderly k (words_at 0 0 0 0 (word_of k.reserve k.share) y) (first_view k ∷ [])) (sym back) (record {
+    orderly = subst (λ (y : ℕ). IsOrderly k (words_at y 0 (slice_index ws 24) 0 (slice_index ws 25) (slice_index ws 9) (slice_index ws 26) (slice_index ws 10)) (first_view k ∷ [])) (sym draws)
+        (subst (λ (y : ℕ). IsOrderly k (words_at 0 0 y 0 (slice_index ws 25) (slice_index ws 9) (slice_index ws 26) (slice_index ws 10)) (first_view k ∷ [])) (sym requests)
+        (subst (λ (y : ℕ). IsOrderly k (words_at 0 0 0 0 y (slice_index ws 9) (slice_index ws 26) (slice_index ws 10)) (first_view k ∷ [])) (sym terms)
+        (subst (λ (y : ℕ). IsOrderly k (words_at 0 0 0 0 (word_of k.reserve k.share) y (slice_index ws 26) (slice_index ws 10)) (first_view k ∷ [])) (sym back)
+        (subst (λ (y : ℕ). IsOrderly k (words_at 0 0 0 0 (word_of k.reserve k.share) 0 y (slice_index ws 10)) (first_view k ∷ [])) (sym prior)
+        (subst (λ (y : ℕ). IsOrderly k (words_at 0 0 0 0 (word_of k.reserve k.share) 0 0 y) (first_view k ∷ [])) (sym carry) (record {
           known = known;
           dealt = record { once = λ h. omega arith; all = λ h. omega arith; from = omega arith; to = omega arith; begun = λ h. absurd (omega arith) };
           counted = record { once = λ h. omega arith; all = λ h. omega arith; from = omega arith; opened = λ h. absurd (omega arith); small = omega (arith, may_count-le (first_view k)) };
@@ -196,8 +208,15 @@ module _ (k : Terms) where
           force = omega (arith, is-same (word_of k.reserve k.share) (word_of k.reserve k.share) refl);
           came_back = omega arith;
           few_back = omega arith;
+          carrying = record {
+            prior = ((λ _. refl), omega arith);
+            carry = omega arith;
+            each = λ w. inl refl;
+            first = refl;
+            begun = λ w some-carried. absurd (omega arith);
+          };
           parts = omega arith;
-          each = λ by v at. subst (Fits k (words_at 0 0 0 0 (word_of k.reserve k.share) 0) (first_view k ∷ [])) (first-view by v at) (record {
+          each = λ by v at. subst (Fits k (words_at 0 0 0 0 (word_of k.reserve k.share) 0 0 0) (first_view k ∷ [])) (first-view by v at) (record {
             allows = tt;
             allowed_back = tt;
             seen = omega arith;
@@ -207,9 +226,12 @@ module _ (k : Terms) where
             given = λ w low high. absurd (omega arith);
             back = omega arith;
             came_back = omega arith;
+            before = omega arith;
+            prior = ((λ _. refl), omega arith);
+            carry = omega arith;
             live = λ h. refl;
             force = λ h. omega (arith, is-same (word_of k.reserve k.share) (word_of k.reserve k.share) refl);
             spent = λ none. absurd (omega arith);
           });
-        }))));
+        }))))));
   }

@@ -1,14 +1,14 @@
 -- The laws of all views, from the rule.
-use Rattle.std.proofs.Common.{◌≡◌, ℕ, suc, List, [], ◌∷◌, refl, ap, arith}
+use Rattle.std.proofs.Common.{◌≡◌, ℕ, suc, inl, inr, List, [], ◌∷◌, refl, ap, arith}
 use mathlib.Core.Logic.{dite}
 use mathlib.Core.Option.{some}
 use native.Mathlib.Decide.{dec_le}
 use lib.ListN.{get_elem?}
 use Rattle.sched_ticket.specs.Lists.{total, is, times}
 use Rattle.sched_ticket.proofs.Sums.{below-is, once_below-le}
-use Rattle.sched_ticket_quota.specs.Windows.{window_of, first_of, terms_of, allowed, within}
-use Rattle.sched_ticket_quota.specs.Rule.{returned_in, requests_in, drawn_of, asked_of, current_of, words_of}
-use Rattle.sched_ticket_quota.specs.Laws.{TicketsStandOnce, RequestsStandOnce, WindowsAreKept, UnchangedAreKept, TermsWereInForce, WindowsAreSmall, LatestIsCounted, RefusalsAreJust, SightIsTrue, WindowsWereOpened, PartsAreKept, SpentHasNothing, WordsStaySmall}
+use Rattle.sched_ticket_quota.specs.Windows.{window_of, first_of, terms_of, back_in, allowed, within}
+use Rattle.sched_ticket_quota.specs.Rule.{returned_in, carried_in, requests_in, drawn_of, asked_of, current_of, words_of}
+use Rattle.sched_ticket_quota.specs.Laws.{TicketsStandOnce, RequestsStandOnce, WindowsAreKept, CarriesAreKept, UnchangedAreKept, TermsWereInForce, WindowsAreSmall, LatestIsCounted, RefusalsAreJust, SightIsTrue, WindowsWereOpened, PartsAreKept, SpentHasNothing, WordsStaySmall}
 use Rattle.sched_ticket_quota.specs.declared.view.View.{View}
 use Rattle.sched_ticket_quota.proofs.Numbers.{below-within, only-word, back_in-le}
 use Rattle.sched_ticket_quota.proofs.Counts.{seen_at, asked_le, drawn_le}
@@ -21,17 +21,34 @@ pub requests_stand_once : RequestsStandOnce
 requests_stand_once k s kept x = omega (arith, kept.orderly.counted.once (is x), below-is x (asked_of s), once_below-le x (asked_of s))
 
 pub windows_are_kept : WindowsAreKept
-windows_are_kept k s kept w n most = windows_kept k (words_of s kept.window kept.latest) s.views kept.orderly w n
-    (λ x some-force. omega (arith, most (terms_of k x) (x, some-force, refl)))
+windows_are_kept k s kept w n most = elim (kept.orderly.carrying.each w) [
+  | inl none ↦ omega (arith, none, windows_kept k (words_of s kept.window kept.latest) s.views kept.orderly w n
+      (λ x some-force. omega (arith, most (terms_of k x) (x, some-force, refl))))
+  | inr some ↦ omega (arith, some.3, most (terms_of k some.0) (some.0, some.1, refl))
+]
 
-no_changes : (x : ℕ) (views : List View) → ((by : ℕ) (v : View) → get_elem? views by ≡ some v → v.changes ≡ []) → total (λ (v : View). times x v.changes) views ≡ 0
+pub carries_are_kept : CarriesAreKept
+carries_are_kept k s kept = (
+  kept.orderly.carrying.first,
+  λ w n most. elim (kept.orderly.carrying.each w) [
+    | inl none ↦ omega (arith, none)
+    | inr some ↦ omega (arith, some.2, most (terms_of k some.0) (some.0, some.1, refl))
+  ],
+)
+
+no_changes : (x : ℕ) (views : List View) → ((by : ℕ) (v : View) → get_elem? views by ≡ some v → (v.changes ≡ []) × (v.carries ≡ [])) → total (λ (v : View). times x v.changes) views ≡ 0
 no_changes x [] none = refl
-no_changes x (v ∷ views) none = omega (arith, ap (times x) (none 0 v refl), no_changes x views (λ by. none (suc by)))
+no_changes x (v ∷ views) none = omega (arith, ap (times x) (none 0 v refl).0, no_changes x views (λ by. none (suc by)))
+
+no_carries : (w : ℕ) (views : List View) → ((by : ℕ) (v : View) → get_elem? views by ≡ some v → (v.changes ≡ []) × (v.carries ≡ [])) → carried_in views w ≡ 0
+no_carries w [] none = refl
+no_carries w (v ∷ views) none = omega (arith, ap (total (λ c. back_in c w)) (none 0 v refl).1, no_carries w views (λ by. none (suc by)))
 
 pub unchanged_are_kept : UnchangedAreKept
 unchanged_are_kept k s kept none w =
     omega (
       arith,
+      no_carries w s.views none,
       windows_kept k (words_of s kept.window kept.latest) s.views kept.orderly w (allowed k (requests_in s.views w))
           (λ x some-force. omega (arith, only-word k x (requests_in s.views w) kept.orderly.known (omega (arith, some-force, no_changes x s.views none)))),
     )
@@ -49,7 +66,7 @@ pub latest_is_counted : LatestIsCounted
 latest_is_counted k s kept = let at = seen_at (asked_of s) kept.latest s.views kept.orderly.counted in omega arith
 
 pub refusals_are_just : RefusalsAreJust
-refusals_are_just k s kept by v at full =
+refusals_are_just k s kept by v at c full =
     let f = kept.orderly.each by v at in
     let w : ℕ = window_of v.seen in
     dite (dec_le v.found (first_of w))
@@ -59,7 +76,7 @@ refusals_are_just k s kept by v at full =
 pub sight_is_true : SightIsTrue
 sight_is_true k s kept by v at =
     let f = kept.orderly.each by v at in
-    let counted = f.counted in (f.seen, f.found, omega arith, λ w. back_in-le v.back w (returned_in s.views) f.came_back)
+    let counted = f.counted in (f.seen, f.found, omega arith, λ w. (back_in-le v.back w (returned_in s.views) f.came_back, back_in-le v.carry w (carried_in s.views) f.carry))
 
 pub windows_were_opened : WindowsWereOpened
 windows_were_opened k s kept =

@@ -1,7 +1,7 @@
 -- What each call does to a pass, and when each refusal comes.
-use Rattle.std.specs.Prelude.{◌≡◌, ℕ, ◌+◌, ◌-◌, ◌<◌, ◌≤◌, ◌⊎◌, ◌%◌, max, List, ◌∷◌}
+use Rattle.std.specs.Prelude.{◌≡◌, ℕ, ◌+◌, ◌-◌, ◌<◌, ◌≤◌, ◌⊎◌, ◌%◌, max, true, List, ◌∷◌, ◌++◌, if◌then◌else◌}
 use Rattle.sched_ticket_quota.specs.Windows.{window_of, first_of, window_at, end_of, terms_of, back_in, floor_of}
-use Rattle.sched_ticket_quota.specs.View.{with_reading, with_opening, with_requests, with_ticket, next_ticket}
+use Rattle.sched_ticket_quota.specs.View.{with_reading, with_opening, with_requests, with_ticket, next_ticket, carried_to, entries_of}
 use Rattle.sched_ticket_quota.specs.Steps.{IsNoLater, IsLater}
 use Rattle.sched_ticket_quota.specs.Held.{Name, AreTerms}
 use Rattle.sched_ticket_quota.specs.declared.view.Terms.{Terms}
@@ -29,7 +29,7 @@ Meets at v u = (q : ℕ) × (v.seen ≤ q) × (at ≤ window_of q) × (u ≡ wit
 -- the pass read that it was not, and opened it
 abbrev pub Opens : ℕ → View → View → Type 0
 Opens at v u = (q found : ℕ) × (v.seen ≤ q) × (q ≤ found) × (window_of q < at)
-    × (u ≡ with_opening (with_reading v q) (first_of at) (max found (first_of at)))
+    × (u ≡ with_opening (with_reading v q) (first_of at) found)
 
 -- the pass comes to the window of this moment, or to a later one that is the latest: it was there, another pass opened
 -- it, or this one opens it
@@ -58,17 +58,21 @@ RefusesChange reserve share ReserveTooLarge = 4294967296 < reserve
 RefusesChange reserve share ShareTooLarge = (reserve ≤ 4294967296) × (1000000 < share)
 RefusesChange reserve share _ = ⊥
 
--- a pass that has tried to draw: it has read the terms and the requests and looked at the draws, it may have read how many
--- tickets were handed back, and has gained nothing
+-- a pass that has tried to draw: it has read the terms, the requests and how many tickets were handed back, and looked at
+-- the draws, and gained nothing
 pub record Tried (v u : View) : Type 0 where
   pub same : u ≡ record v {
     current = u.current;
+    prior = u.prior;
+    carry = u.carry;
     seen = u.seen;
     found = u.found;
     back = u.back;
     readings = u.readings;
     glances = u.glances;
     recalls = u.recalls;
+    priors = u.priors;
+    memories = u.memories;
     looks = u.looks;
     losses = u.losses;
   }
@@ -76,44 +80,53 @@ pub record Tried (v u : View) : Type 0 where
   pub came_back : v.back ≤ u.back
   pub read : v.readings < u.readings
   pub glanced : v.glances < u.glances
-  pub recalled : v.recalls ≤ u.recalls
+  pub recalled : v.recalls < u.recalls
   pub looked : v.looks < u.looks
 
 -- so many tickets were found dealt in the latest window as the terms that were read allow for its requests, and for those
--- that were handed back
-abbrev pub HasNoRoom : Terms → View → Type 0
-HasNoRoom k w = (floor_of (terms_of k w.current) w.seen w.back ≤ next_ticket w) × IsNoLater w.found w.seen
+-- that were handed back or carried to it
+abbrev pub HasNoRoom : Terms → ℕ → View → Type 0
+HasNoRoom k c w = (floor_of (terms_of k w.current) w.seen w.back c ≤ next_ticket w) × IsNoLater w.found w.seen
 
--- a pass won the ticket t: it is below what the terms allow for the requests, as both were read for it, and for the
--- tickets handed back, and after all tickets of the pass
-pub record Won (k : Terms) (v : View) (t : ℕ) (w : View) : Type 0 where
+-- what a pass may draw of what is carried to its window: of a quota that carries none, nothing
+abbrev pub carried_by : Name → View → ℕ
+carried_by b v = if b.carries then carried_to v else 0
+
+-- what a pass has carried with a ticket
+abbrev pub carries_by : Name → View → List ℕ
+carries_by b v = if b.carries then entries_of v ++ v.carries else v.carries
+
+-- of a quota that carries, the pass has read in this call what the window before had, and what was carried
+abbrev pub Remembers : Name → View → View → Type 0
+Remembers b v u = b.carries ≡ true → (v.priors < u.priors) × (v.memories < u.memories)
+
+-- a pass won the ticket t: it is below what the terms allow for the requests and for the tickets handed back, as all three
+-- were read for it, and after all tickets of the pass
+pub record Won (b : Name) (v : View) (t : ℕ) (w : View) : Type 0 where
   pub tried : View
   pub tries : Tried v tried
   pub ticket : t ≡ next_ticket tried
-  pub room : t < floor_of (terms_of k tried.current) tried.seen tried.back
+  pub remembers : Remembers b v tried
+  pub room : t < floor_of (terms_of b.terms tried.current) tried.seen tried.back (carried_by b tried)
   pub later : IsLater v t
-  pub gained : w ≡ with_ticket tried t
+  pub gained : w ≡ record (with_ticket tried t) { carries = w.carries }
+  pub carried : w.carries ≡ carries_by b tried
 
 -- Why the last draw was refused: it has found no room in the latest window, which ends at that moment, or it has lost 64
 -- races with other draws since it looked.
 abbrev pub IsWhy : Name → View → Refusal → Type 0
-IsWhy b w (WindowOut next) = HasNoRoom b.terms w × (next ≡ end_of b.terms b.start (window_of w.seen))
+IsWhy b w (WindowOut next) = HasNoRoom b.terms (carried_by b w) w × (next ≡ end_of b.terms b.start (window_of w.seen))
 IsWhy b w RacesLost = w.losses ≡ 64
-
--- a pass that found no room has read how many tickets were handed back
-abbrev pub HasRecalled : View → View → Refusal → Type 0
-HasRecalled v w (WindowOut next) = v.recalls < w.recalls
-HasRecalled v w RacesLost = Unit {0}
 
 -- a pass won none, for this reason
 pub record WonNone (b : Name) (v : View) (why : Refusal) (w : View) : Type 0 where
   pub tries : Tried v w
-  pub recalls : HasRecalled v w why
+  pub remembers : Remembers b v w
   pub reason : IsWhy b w why
 
 -- a draw that gave the ticket t, of the window that the pass came to or of a later one
 abbrev pub Drew : Name → ℕ → View → ℕ → View → Type 0
-Drew b now v t w = (u : View) × Turned b now v u × Won b.terms u t w
+Drew b now v t w = (u : View) × Turned b now v u × Won b u t w
 
 -- a draw that was refused, for this reason
 abbrev pub DrawRefused : Name → ℕ → View → Refusal → View → Type 0
@@ -125,12 +138,12 @@ pub record Told (b : Name) (now : ℕ) (v w : View) (told : Usage) : Type 0 wher
   pub turned : View
   pub turns : Turned b now v turned
   pub tries : Tried turned w
-  pub recalls : turned.recalls < w.recalls
+  pub remembers : Remembers b turned w
   pub no_later : IsNoLater w.found w.seen
   pub window : told.window ≡ window_of w.seen
   pub asked : told.asked ≡ w.seen % 4294967296
   pub given : told.given ≡ next_ticket w - first_of (window_of w.seen) - back_in w.back (window_of w.seen)
-  pub left : told.left ≡ floor_of (terms_of b.terms w.current) w.seen w.back - next_ticket w
+  pub left : told.left ≡ floor_of (terms_of b.terms w.current) w.seen w.back (carried_by b w) - next_ticket w
   pub next : told.next ≡ end_of b.terms b.start told.window
 
 -- The pass has handed back its latest ticket. In its window there is one more for all passes, as they read it from then on;

@@ -5,7 +5,7 @@ use Rattle.atomic_table.specs.Table.{State}
 use Rattle.sched_ticket.specs.Lists.{below}
 use Rattle.sched_ticket_quota.specs.Windows.{window_of, first_of, window_at, end_of}
 use Rattle.sched_ticket_quota.specs.View.{numbers}
-use Rattle.sched_ticket_quota.specs.Rule.{tickets_in, requests_in, begins, WereInForce, IsKept}
+use Rattle.sched_ticket_quota.specs.Rule.{tickets_in, requests_in, carried_in, begins, WereInForce, IsKept}
 use Rattle.sched_ticket_quota.specs.Held.{Name, AreTerms}
 use Rattle.sched_ticket_quota.specs.Calls.{DepositedOf, Drew, DrawRefused, Told}
 use Rattle.sched_ticket_quota.specs.declared.view.Terms.{Terms}
@@ -62,11 +62,19 @@ AreMost k views most =
 -- However many windows are counted from that of a moment on, their tickets are at most two reserves, one for each period
 -- that lies between this moment and another, one for each call that opened a window past that of the other moment, one for
 -- each 4294967296 requests of one window, and the share of their requests, by the greatest reserve and share that were in
--- force.
+-- force; and what was carried to the first of them.
 abbrev pub ClocksAreBounded : Type 0
 ClocksAreBounded = (b : Name) (s : State ℕ View) → AreTerms b.terms → IsKept b.terms s →
     (most : Terms) → AreMost b.terms s.views most → (from to count ahead : ℕ) → from ≤ to →
     over (begins s.views) (window_at b.terms b.start to + 1) count ≤ ahead →
     over (tickets_in s.views) (window_at b.terms b.start from) count
-    ≤ ((to - from) / b.terms.period + 2 + ahead) * most.reserve
+    ≤ carried_in s.views (window_at b.terms b.start from)
+    + ((to - from) / b.terms.period + 2 + ahead) * most.reserve
     + (most.share * over (requests_in s.views) (window_at b.terms b.start from) count) / 1000
+
+-- Over any run of windows the tickets are at most a reserve for each, and the share of the requests of these and of the one
+-- before the first, by the greatest reserve and share that were in force.
+abbrev pub RunsAreKept : Type 0
+RunsAreKept = (k : Terms) (s : State ℕ View) → IsKept k s → (most : Terms) → AreMost k s.views most → (w count : ℕ) →
+    over (tickets_in s.views) w count
+    ≤ count * most.reserve + (most.share * (over (requests_in s.views) w count + requests_in s.views (w - 1))) / 1000

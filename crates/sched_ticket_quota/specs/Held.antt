@@ -1,16 +1,18 @@
 -- What contracts see of a quota and of a pass, and what every pass keeps.
-use Rattle.std.specs.Prelude.{◌≡◌, ℕ, ◌-◌, ◌<◌, ◌≤◌, List, [], ◌∷◌, length, Option, IfSome}
+use Rattle.std.specs.Prelude.{◌≡◌, ℕ, ◌-◌, ◌<◌, ◌≤◌, List, [], ◌∷◌, length, Option, IfSome, Bool}
 use Rattle.atomic_table.specs.Seated.{TableId}
 use Rattle.sched_ticket_quota.specs.Windows.{window_of, window_at}
 use Rattle.sched_ticket_quota.specs.Steps.{Sat}
 use Rattle.sched_ticket_quota.specs.declared.view.Terms.{Terms}
 use Rattle.sched_ticket_quota.specs.declared.view.View.{View}
 
--- which quota it is, and what it was made with: `start` is the window that it was made in, counted from moment 0
+-- which quota it is, and what it was made with: `start` is the window that it was made in, counted from moment 0, and
+-- `carries` whether a window may draw what the one before left of its share
 pub record Name : Type 0 where
   pub table : TableId
   pub terms : Terms
   pub start : ℕ
+  pub carries : Bool
 
 -- which quota a pass is of, and what it has of it
 pub record Held : Type 0 where

@@ -5,7 +5,7 @@ use Rattle.atomic_table.specs.Table.{State}
 use Rattle.sched_ticket.specs.Lists.{total}
 use Rattle.sched_ticket_quota.specs.Windows.{first_of, window_at}
 use Rattle.sched_ticket_quota.specs.View.{with_change, first_view, blank_view, without_part, part_of, joined_view}
-use Rattle.sched_ticket_quota.specs.Rule.{requests_in, returned_in, drawn_of, IsKept}
+use Rattle.sched_ticket_quota.specs.Rule.{requests_in, returned_in, carried_in, drawn_of, IsKept}
 use Rattle.sched_ticket_quota.specs.Held.{Name, AreTerms}
 use Rattle.sched_ticket_quota.specs.Calls.{Turned, HandedBack}
 use Rattle.sched_ticket_quota.specs.Clocks.{Called, AreMost, over}
@@ -32,12 +32,17 @@ abbrev pub IsCalling : Name → ℕ → View → View → Type 0
 IsCalling b now v w = (u : View) × ((u ≡ v) ⊎ Turned b now v u)
     × (w ≡ record u {
       current = w.current;
+      before = w.before;
+      prior = w.prior;
+      carry = w.carry;
       seen = w.seen;
       found = w.found;
       back = w.back;
       readings = w.readings;
       glances = w.glances;
       recalls = w.recalls;
+      priors = w.priors;
+      memories = w.memories;
       looks = w.looks;
       losses = w.losses;
     })
@@ -86,6 +91,7 @@ CallsAreBounded = (b : Name) (s : State ℕ View) → AreTerms b.terms → IsKep
     drawn_of s ≤ first_of (window_at b.terms b.start since + count) →
     let requests = over (requests_in s.views) (window_at b.terms b.start since) count in
     total (drawn_from since) calls
-    ≤ over (returned_in s.views) (window_at b.terms b.start since) count
+    ≤ carried_in s.views (window_at b.terms b.start since)
+    + over (returned_in s.views) (window_at b.terms b.start since) count
     + ((to - since) / b.terms.period + 2 + total (opened_after to) calls + requests / 4294967296) * most.reserve
     + (most.share * requests) / 1000

@@ -5,7 +5,7 @@ use lib.ListN.{get_elem?}
 use Rattle.atomic_table.specs.Table.{State}
 use Rattle.sched_ticket.specs.Lists.{total, times}
 use Rattle.sched_ticket_quota.specs.Windows.{window_of, first_of, terms_of, room_of, back_in}
-use Rattle.sched_ticket_quota.specs.Rule.{tickets_in, returned_in, requests_in, weights, openings, WereInForce, drawn_of, asked_of, current_of, back_of, IsKept}
+use Rattle.sched_ticket_quota.specs.Rule.{tickets_in, returned_in, carried_in, requests_in, weights, openings, WereInForce, drawn_of, asked_of, current_of, back_of, IsKept}
 use Rattle.sched_ticket_quota.specs.Calls.{HasNoRoom}
 use Rattle.sched_ticket_quota.specs.declared.view.Terms.{Terms}
 use Rattle.sched_ticket_quota.specs.declared.view.View.{View}
@@ -28,16 +28,24 @@ abbrev pub RequestsStandOnce : Type 0
 RequestsStandOnce = Always (λ k s kept. (x : ℕ) → total (λ (v : View). times x v.requests) s.views ≤ 1)
 
 -- in each window the tickets that are out, given and not handed back, never pass the reserve and the share of the requests
--- counted in it so far, by the most generous terms that were in force
+-- counted in it so far, by the most generous terms that were in force, and what was carried to it, less what was carried on
 abbrev pub WindowsAreKept : Type 0
 WindowsAreKept = Always (λ k s kept. (w n : ℕ) →
     ((j : Terms) → WereInForce k s.views j → j.reserve + (j.share * requests_in s.views w) / 1000 ≤ n) →
-    tickets_in s.views w ≤ n)
+    tickets_in s.views w + carried_in s.views (w + 1) ≤ n + carried_in s.views w)
 
--- which are those that the quota was made with, where no pass has set any
+-- what is carried from a window is no more than its share, by the most generous terms that were in force, and nothing is
+-- carried to the first
+abbrev pub CarriesAreKept : Type 0
+CarriesAreKept = Always (λ k s kept. (carried_in s.views 0 ≡ 0) × ((w n : ℕ) →
+    ((j : Terms) → WereInForce k s.views j → (j.share * requests_in s.views w) / 1000 ≤ n) →
+    carried_in s.views (w + 1) ≤ n))
+
+-- The terms are those that the quota was made with, where no pass has set any; and nothing is carried where no pass has
+-- carried anything.
 abbrev pub UnchangedAreKept : Type 0
 UnchangedAreKept = Always (λ k s kept.
-    ((by : ℕ) (v : View) → get_elem? s.views by ≡ some v → v.changes ≡ []) → (w : ℕ) →
+    ((by : ℕ) (v : View) → get_elem? s.views by ≡ some v → (v.changes ≡ []) × (v.carries ≡ [])) → (w : ℕ) →
     tickets_in s.views w ≤ k.reserve + (k.share * requests_in s.views w) / 1000)
 
 -- the terms that a draw reads, and those that a pass has read, were in force
@@ -56,15 +64,15 @@ LatestIsCounted = Always (λ k s kept. asked_of s % 4294967296 ≤ requests_in s
 -- where a pass has found no room, so many tickets were given in that window, or handed back since, as the terms allow for
 -- the requests and for those handed back, as it read all three
 abbrev pub RefusalsAreJust : Type 0
-RefusalsAreJust = OfEachPass (λ k s by v. HasNoRoom k v →
-    room_of (terms_of k v.current) v.seen v.back
+RefusalsAreJust = OfEachPass (λ k s by v. (c : ℕ) → HasNoRoom k c v →
+    room_of (terms_of k v.current) v.seen v.back c
     ≤ tickets_in s.views (window_of v.seen) + returned_in s.views (window_of v.seen))
 
 -- what a pass has seen and found was there: no request and no ticket that was counted is lost
 abbrev pub SightIsTrue : Type 0
 SightIsTrue = OfEachPass (λ k s by v. (v.seen ≤ asked_of s) × (v.found ≤ drawn_of s)
     × (v.seen % 4294967296 ≤ requests_in s.views (window_of v.seen))
-    × ((w : ℕ) → back_in v.back w ≤ returned_in s.views w))
+    × ((w : ℕ) → (back_in v.back w ≤ returned_in s.views w) × (back_in v.carry w ≤ carried_in s.views w)))
 
 -- the latest window is the first, one that a pass opened, or follows a full one
 abbrev pub WindowsWereOpened : Type 0

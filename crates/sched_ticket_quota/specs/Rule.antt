@@ -1,10 +1,10 @@
 -- What holds of a quota between any two atomic steps, of its words and of the views of all its passes.
-use Rattle.std.specs.Prelude.{◌≡◌, ℕ, ◌+◌, ◌-◌, ◌/◌, ◌<◌, ◌≤◌, List, [], length, slice_index, if◌then◌else◌, nat_lt}
+use Rattle.std.specs.Prelude.{◌≡◌, ℕ, ◌+◌, ◌-◌, ◌*◌, ◌/◌, ◌%◌, ◌<◌, ◌≤◌, ◌⊎◌, List, [], length, slice_index, if◌then◌else◌, nat_lt}
 use mathlib.Core.Option.{some}
 use lib.ListN.{get_elem?}
 use Rattle.atomic_table.specs.Table.{State}
 use Rattle.sched_ticket.specs.Lists.{total, below, Each, times, is}
-use Rattle.sched_ticket_quota.specs.Windows.{window_of, first_of, word_of, terms_of, allowed, count_in}
+use Rattle.sched_ticket_quota.specs.Windows.{window_of, first_of, word_of, terms_of, back_in, allowed, count_in}
 use Rattle.sched_ticket_quota.specs.declared.view.Terms.{Terms}
 use Rattle.sched_ticket_quota.specs.declared.view.View.{View}
 
@@ -36,6 +36,10 @@ may_count v = if nat_lt v.told 12884901888000000000 then v.weight else 0
 -- how often the passes opened the window of this first number
 abbrev pub openings : List View → ℕ → ℕ
 openings views first = total (λ (v : View). times first v.opened) views
+
+-- how many tickets were carried to a window
+abbrev pub carried_in : List View → ℕ → ℕ
+carried_in views w = total (λ (v : View). total (λ c. back_in c w) v.carries) views
 
 -- how often terms were in force, by their word: made with, or set by a pass
 abbrev pub in_force : Terms → List View → ℕ → ℕ
@@ -69,7 +73,20 @@ pub record IsCounted (asked window : ℕ) (views : List View) : Type 0 where
 -- a ticket is one that terms in force allow for the requests of its window, and for those that were handed back there
 abbrev pub IsAllowed : Terms → List View → ℕ → Type 0
 IsAllowed k views t = (x : ℕ) × (0 < in_force k views x)
-    × (t < first_of (window_of t) + allowed (terms_of k x) (requests_in views (window_of t)) + returned_in views (window_of t))
+    × (t < first_of (window_of t) + allowed (terms_of k x) (requests_in views (window_of t)) + returned_in views (window_of t)
+      + carried_in views (window_of t))
+
+-- the window before that of this number had as many requests as it tells
+abbrev pub IsPrior : (ℕ → ℕ) → ℕ → Type 0
+IsPrior requests p = (window_of p ≡ 0 → p ≡ 0) × (p % 4294967296 ≤ requests (window_of p - 1))
+
+-- What is carried from this window to the next: nothing, or by some terms in force no more than its share, nor than its
+-- tickets have left of that, of the reserve and of what was carried to it.
+abbrev pub IsCarried : Terms → List View → ℕ → Type 0
+IsCarried k views w = (carried_in views (w + 1) ≡ 0) ⊎ ((x : ℕ) × (0 < in_force k views x)
+    × (carried_in views (w + 1) ≤ ((terms_of k x).share * requests_in views w) / 1000)
+    × (tickets_in views w + carried_in views (w + 1)
+    ≤ (terms_of k x).reserve + ((terms_of k x).share * requests_in views w) / 1000 + carried_in views w))
 
 -- as many requests were counted in a window, or tickets handed back, as a pass has seen there
 abbrev pub IsSeen : (ℕ → ℕ) → ℕ → Type 0
@@ -87,6 +104,8 @@ pub record Words : Type 0 where
   pub latest : ℕ
   pub current : ℕ
   pub back : ℕ
+  pub prior : ℕ
+  pub carry : ℕ
 
 -- one view fits the words, and what all views have of each window
 pub record Fits (k : Terms) (x : Words) (views : List View) (v : View) : Type 0 where
@@ -99,12 +118,25 @@ pub record Fits (k : Terms) (x : Words) (views : List View) (v : View) : Type 0 
   pub given : IsFound (λ w. tickets_in views w + returned_in views w) v.found
   pub back : v.back ≤ x.back
   pub came_back : IsSeen (returned_in views) v.back
+  pub before : IsSeen (requests_in views) v.before
+  pub prior : IsPrior (requests_in views) v.prior
+  pub carry : IsSeen (carried_in views) v.carry
   pub live : 0 < v.weight → v.terms ≡ k
   -- the terms that it has read were in force
   pub force : 0 < v.weight → 0 < in_force k views v.current
   -- one that stands for no part has nothing
   pub spent : v.weight ≡ 0 →
       (v.tickets ≡ []) × (v.requests ≡ []) × (v.opened ≡ []) × (v.changes ≡ []) × (v.returned ≡ [])
+      × (v.carries ≡ [])
+
+-- what is carried fits the words and the views
+pub record IsCarrying (k : Terms) (x : Words) (views : List View) : Type 0 where
+  pub prior : IsPrior (requests_in views) x.prior
+  pub carry : IsSeen (carried_in views) x.carry
+  pub each : (w : ℕ) → IsCarried k views w
+  pub first : carried_in views 0 ≡ 0
+  -- nothing is carried to a window before its first ticket
+  pub begun : (w : ℕ) → 0 < carried_in views w → w ≤ x.window
 
 -- the words and the views fit together
 pub record IsOrderly (k : Terms) (x : Words) (views : List View) : Type 0 where
@@ -118,6 +150,7 @@ pub record IsOrderly (k : Terms) (x : Words) (views : List View) : Type 0 where
   -- as many tickets were handed back as their word says
   pub came_back : IsSeen (returned_in views) x.back
   pub few_back : x.back ≤ 17496587910722355200
+  pub carrying : IsCarrying k x views
   pub parts : weights views ≡ 4611686018427387904
   pub each : (by : ℕ) (v : View) → get_elem? views by ≡ some v → Fits k x views v
 
@@ -135,6 +168,12 @@ current_of s = slice_index s.words 25
 abbrev pub back_of : State ℕ View → ℕ
 back_of s = slice_index s.words 9
 
+abbrev pub prior_of : State ℕ View → ℕ
+prior_of s = slice_index s.words 26
+
+abbrev pub carry_word : State ℕ View → ℕ
+carry_word s = slice_index s.words 10
+
 abbrev pub words_of : State ℕ View → ℕ → ℕ → Words
 words_of s window latest = record {
   drawn = drawn_of s;
@@ -143,6 +182,8 @@ words_of s window latest = record {
   latest = latest;
   current = current_of s;
   back = back_of s;
+  prior = prior_of s;
+  carry = carry_word s;
 }
 
 -- the rule of a quota's table

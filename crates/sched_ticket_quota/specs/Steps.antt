@@ -6,7 +6,7 @@ use Rattle.sched_ticket.specs.Parts.{all_parts}
 use Rattle.sched_ticket_quota.specs.Windows.{window_of, first_of}
 use Rattle.sched_ticket_quota.specs.Whole.{IsWhole}
 use Rattle.sched_ticket_quota.specs.View.{with_reading, with_glance, with_change, with_opening, with_requests, with_found, with_ticket, with_loss, next_ticket}
-use Rattle.sched_ticket_quota.specs.View.{with_recall, with_asking, with_setback, with_return}
+use Rattle.sched_ticket_quota.specs.View.{with_prior, with_memory, with_carried, with_recall, with_asking, with_setback, with_return}
 use Rattle.sched_ticket_quota.specs.declared.view.View.{View}
 
 -- a seat's view, and the slots that it holds, of which a quota has none
@@ -32,7 +32,7 @@ abbrev pub reads : Then
 reads s m q n = Rises m.0 q × IsNoLater m.0.found q × Sees m n (with_reading m.0 q)
 
 abbrev pub opens : Then
-opens s m q n = Rises m.0 q × Sees m n (with_opening m.0 s.first (max q s.first))
+opens s m q n = Rises m.0 q × Sees m n (with_opening m.0 s.first q)
 
 -- the terms are read
 abbrev pub glances : Then
@@ -78,6 +78,23 @@ returns s m r n =
 -- the latest ticket is given up, of a window that is over
 abbrev pub lapses : Then
 lapses s m r n = (m.0.back ≤ r) × Sees m n (with_return m.0 r)
+
+-- what the window before had is read, and what was carried
+abbrev pub priors : Then
+priors s m p n = Sees m n (with_prior m.0 p)
+
+abbrev pub memories : Then
+memories s m c n = Sees m n (with_memory m.0 c)
+
+-- a win where tickets are carried
+abbrev pub wins_carried : Then
+wins_carried s m d n =
+    (d ≡ s.first → IsLater m.0 (next_ticket m.0) × Sees m n (with_carried m.0 (next_ticket m.0)))
+    × (d ≢ s.first → (m.0.found ≤ d) × (m.0.found < d → Sees m n (with_loss m.0 d)) × (d ≡ m.0.found → n ≡ m))
+
+-- the pass writes down for all what it has learnt, and learns nothing
+abbrev pub notes : Then
+notes s m x n = n ≡ m
 
 -- what holds of a pass's tickets and parts, whatever was joined into it
 pub record IsSound (v : View) : Type 0 where

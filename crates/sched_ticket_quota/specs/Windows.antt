@@ -42,13 +42,20 @@ AllowNoMore k force requests n = (x : ℕ) → 0 < force x → allowed (terms_of
 abbrev pub back_in : ℕ → ℕ → ℕ
 back_in r w = if window_of r == w then r % 4294967296 else 0
 
--- how many numbers the latest window may deal: so many tickets as its requests allow, and one for each that was handed back
-abbrev pub room_of : Terms → ℕ → ℕ → ℕ
-room_of k q r = min (allowed k (q % 4294967296) + back_in r (window_of q)) 4294967296
+-- what a window of so many requests leaves for the next, where so many tickets were dealt in it: of its share, of the
+-- reserve and of what was carried to it, and at most its share
+abbrev pub left_of : Terms → ℕ → ℕ → ℕ → ℕ
+left_of k requests carried dealt =
+    let share = (k.share * requests) / 1000 in min (min share (k.reserve + share + carried - dealt)) 4294967295
+
+-- how many numbers the latest window may deal: so many tickets as its requests allow, one for each that was handed back, and
+-- those carried to it
+abbrev pub room_of : Terms → ℕ → ℕ → ℕ → ℕ
+room_of k q r c = min (allowed k (q % 4294967296) + back_in r (window_of q) + c) 4294967296
 
 -- where they end
-abbrev pub floor_of : Terms → ℕ → ℕ → ℕ
-floor_of k q r = first_of (window_of q) + room_of k q r
+abbrev pub floor_of : Terms → ℕ → ℕ → ℕ → ℕ
+floor_of k q r c = first_of (window_of q) + room_of k q r c
 
 -- 1 for each of the n numbers from a on
 abbrev pub within : ℕ → ℕ → ℕ → ℕ

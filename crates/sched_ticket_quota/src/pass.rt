@@ -2,7 +2,7 @@
 ghost use Rattle.std.specs.Prelude.{◌≡◌, ℕ, ◌+◌, ◌-◌, ◌*◌, ◌/◌, ◌<◌, ◌≤◌, ◌%◌, ◌⊎◌, List, [], ◌∷◌, length, min, max, true, false};
 ghost use Rattle.std.specs.Prelude.{IfOk, IfErr, OnOk};
 ghost use Rattle.sched_ticket_quota.specs.Windows.{window_of, first_of, window_at, end_of};
-ghost use Rattle.sched_ticket_quota.specs.Windows.{word_of, terms_of, allowed, room_of, back_in, floor_of};
+ghost use Rattle.sched_ticket_quota.specs.Windows.{word_of, terms_of, room_of, back_in, floor_of};
 ghost use Rattle.sched_ticket_quota.specs.View.{fresh_view, with_reading, with_change, with_opening, with_ticket};
 ghost use Rattle.sched_ticket_quota.specs.View.{next_ticket};
 ghost use Rattle.sched_ticket_quota.specs.View.{without_part, part_of, joined_view};
@@ -77,7 +77,8 @@ impl Model for Pass {
 impl Pass {
     pub(crate) fn of_seat(seat: Seat, weight: u64, told: u64, start: u64) -> Pass
         requires bare { seat.me.1 ≡ [] }
-        requires new { let v = seat.me.0 in v ≡ fresh_view v.terms v.current v.seen told v.found v.back weight }
+        requires new { let v = seat.me.0 in
+            v ≡ fresh_view v.terms v.current v.before v.prior v.carry v.seen told v.found v.back weight }
         requires live { (0 < weight) × (weight ≤ 4611686018427387904) }
         ensures { (result.table ≡ seat.table_id) × (result.start ≡ start) × (result.has ≡ seat.me.0) }
     {
@@ -283,9 +284,10 @@ impl Pass {
         let drawn = quota.table.shared.load::<Find>(&mut self.seat, DRAWS);
         let requests = quota.table.shared.load::<Read>(&mut self.seat, REQUESTS);
         let terms = quota.table.shared.load::<Glance>(&mut self.seat, TERMS);
+        let carried = remembered(quota, &mut self.seat, terms, requests, drawn);
         let asked = requests % NUMBERS;
         let dealt = drawn.max(requests - asked) - (requests - asked);
-        let room = room(quota, terms, requests, back);
+        let room = room(quota, terms, requests, (back, carried));
         Usage {
             window: requests / NUMBERS,
             asked,
@@ -332,7 +334,85 @@ fn reach(quota: &Quota, seat: &mut Seat, window: u64) -> u64
         .table
         .shared
         .fetch_max::<Open>(seat, REQUESTS, window * NUMBERS);
+    tell_prior(quota, seat, window, found);
     found.max(window * NUMBERS) / NUMBERS
+}
+
+/// Where tickets are carried, and it was the window before this one that had so many requests, tells all how many.
+fn tell_prior(quota: &Quota, seat: &mut Seat, window: u64, found: u64)
+    requires of { seat.old.table_id ≡ quota.now.table }
+    requires before { seat.old.me.0.before ≡ found }
+    requires known { window ≤ 2999999999 }
+    ensures { (seat.new.table_id ≡ seat.old.table_id) × (seat.new.me ≡ seat.old.me) }
+{
+    if quota.carries && window > 0 && found / NUMBERS == window - 1 {
+        let prior = window * NUMBERS + found % NUMBERS;
+        quota.table.shared.fetch_max::<Note>(seat, PRIOR, prior);
+    }
+}
+
+/// What may be drawn in the latest window of what is carried to it: what this pass reckons where no ticket of the window
+/// is drawn, and else what it was told.
+fn remembered(quota: &Quota, seat: &mut Seat, terms: u64, requests: u64, drawn: u64) -> u64
+    requires of { (seat.old.table_id ≡ quota.now.table) × (seat.old.me.0.terms ≡ quota.now.terms) }
+    requires words { let v = seat.old.me.0 in (v.current ≡ terms) × (v.seen ≡ requests) × (v.found ≡ drawn) }
+    ensures seat { (seat.new.table_id ≡ seat.old.table_id) × (seat.new.me.1 ≡ seat.old.me.1) }
+    ensures same { let v = seat.old.me.0 in let u = seat.new.me.0 in
+        u ≡ record v { prior = u.prior; carry = u.carry; priors = u.priors; memories = u.memories } }
+    ensures remembers { Remembers quota.now seat.old.me.0 seat.new.me.0 }
+    ensures grows { let v = seat.old.me.0 in let u = seat.new.me.0 in (v.priors ≤ u.priors) × (v.memories ≤ u.memories) }
+    ensures carried { result ≡ carried_by quota.now seat.new.me.0 }
+    ensures small { result < 4294967296 }
+{
+    if !quota.carries {
+        return 0;
+    }
+    let prior = quota.table.shared.load::<Prior>(seat, PRIOR);
+    let carry = quota.table.shared.load::<Memory>(seat, CARRY);
+    carried_at(quota, (terms, prior, carry), requests, drawn)
+}
+
+/// The same, of the words as they were read.
+fn carried_at(quota: &Quota, words: (u64, u64, u64), requests: u64, drawn: u64) -> u64
+    ensures carried { result ≡ carried_at (terms_of quota.now.terms words.0) requests words.1 words.2 drawn }
+    ensures small { result < 4294967296 }
+{
+    let (terms, prior, carry) = words;
+    let window = requests / NUMBERS;
+    if window * NUMBERS < drawn {
+        return back_in(carry, window);
+    }
+    let before = window.saturating_sub(1);
+    left(
+        quota,
+        terms,
+        back_in(prior, window),
+        back_in(carry, before),
+        drawn.saturating_sub(before * NUMBERS),
+    )
+}
+
+/// Makes the draws the one after this ticket, where they are so many, and answers what they were. Who draws first in a
+/// window where tickets are carried tells all how many.
+fn take(quota: &Quota, seat: &mut Seat, drawn: u64, ticket: u64) -> u64
+    requires of { (seat.old.table_id ≡ quota.now.table) × (seat.old.me.0.terms ≡ quota.now.terms) }
+    requires live { 0 < seat.old.me.0.weight }
+    requires found { seat.old.me.0.found ≡ drawn }
+    requires ticket { ticket ≡ next_ticket seat.old.me.0 }
+    requires room { let v = seat.old.me.0 in
+        ticket < floor_of (terms_of quota.now.terms v.current) v.seen v.back (carried_by quota.now v) }
+    ensures seat { (seat.new.table_id ≡ seat.old.table_id) × (seat.new.me.1 ≡ seat.old.me.1) }
+    ensures won { result ≡ drawn → HasTaken quota.now seat.old.me.0 ticket seat.new.me.0 }
+    ensures lost { result ≢ drawn → (drawn < result) × (seat.new.me.0 ≡ with_loss seat.old.me.0 result) }
+{
+    if !quota.carries {
+        return quota
+            .table
+            .shared
+            .compare_exchange::<Win>(seat, DRAWS, drawn, ticket + 1);
+    }
+    let carried = quota.table.shared.compare_exchange::<WinCarried>(seat, DRAWS, drawn, ticket + 1);
+    carried
 }
 
 /// When this window ends.
@@ -367,40 +447,28 @@ fn back_in(back: u64, window: u64) -> u64
     }
 }
 
-/// How many tickets a window of so many requests may give, by the terms of this word.
-fn allowed(_quota: &Quota, terms: u64, asked: u64) -> u64
-    requires { asked < 4294967296 }
-    ensures { result ≡ allowed (terms_of _quota.now.terms terms) asked }
+/// How many numbers the latest window may deal, by the words of the terms, the requests and those handed back, and what is
+/// carried to it.
+fn room(_quota: &Quota, terms: u64, requests: u64, more: (u64, u64)) -> u64
+    requires { more.1 < 4294967296 }
+    ensures { result ≡ room_of (terms_of _quota.now.terms terms) requests more.0 more.1 }
 {
-    (terms / SHARES + terms % SHARES * asked / 1000).min(NUMBERS)
+    let (back, carried) = more;
+    let asked = requests % NUMBERS;
+    let allowed = (terms / SHARES + terms % SHARES * asked / 1000).min(NUMBERS);
+    (allowed + back_in(back, requests / NUMBERS) + carried).min(NUMBERS)
 }
 
-/// How many numbers the latest window may deal, by the words of the terms, the requests and those handed back.
-fn room(quota: &Quota, terms: u64, requests: u64, back: u64) -> u64
-    ensures { result ≡ room_of (terms_of quota.now.terms terms) requests back }
+/// What a window of so many requests leaves for the next, by the terms of this word.
+fn left(_quota: &Quota, terms: u64, requests: u64, carried: u64, dealt: u64) -> u64
+    requires requests { requests < 4294967296 }
+    requires carried { carried < 4294967296 }
+    ensures { result ≡ left_of (terms_of _quota.now.terms terms) requests carried dealt }
 {
-    (allowed(quota, terms, requests % NUMBERS) + back_in(back, requests / NUMBERS)).min(NUMBERS)
-}
-
-/// Whether this number is past those that the latest window may deal. How many tickets were handed back is read only where
-/// the requests alone allow no more.
-fn is_out(quota: &Quota, seat: &mut Seat, terms: u64, requests: u64, ticket: u64) -> bool
-    requires of { seat.old.table_id ≡ quota.now.table }
-    requires small { requests ≤ 17496587906427387904 }
-    ensures seat { (seat.new.table_id ≡ seat.old.table_id) × (seat.new.me.1 ≡ seat.old.me.1) }
-    ensures same { let v = seat.old.me.0 in let u = seat.new.me.0 in
-        (u ≡ record v { back = u.back; recalls = u.recalls }) × (v.back ≤ u.back) × (v.recalls ≤ u.recalls) }
-    ensures out { result ≡ true → (seat.old.me.0.recalls < seat.new.me.0.recalls)
-        × (floor_of (terms_of quota.now.terms terms) requests seat.new.me.0.back ≤ ticket) }
-    ensures room { result ≡ false →
-        ticket < floor_of (terms_of quota.now.terms terms) requests seat.new.me.0.back }
-{
-    let base = requests - requests % NUMBERS;
-    if ticket < base + allowed(quota, terms, requests % NUMBERS) {
-        return false;
-    }
-    let back = quota.table.shared.load::<Recall>(seat, RETURNS);
-    ticket >= base + room(quota, terms, requests, back)
+    let share = terms % SHARES * requests / 1000;
+    share
+        .min((terms / SHARES + share + carried).saturating_sub(dealt))
+        .min(NUMBERS - 1)
 }
 
 /// Draws the next ticket of the latest window, if there is room for it.
@@ -408,21 +476,21 @@ fn win(quota: &Quota, seat: &mut Seat) -> Result<u64, Refusal>
     requires of { (seat.old.table_id ≡ quota.now.table) × (seat.old.me.0.terms ≡ quota.now.terms) }
     requires live { 0 < seat.old.me.0.weight }
     ensures seat { (seat.new.table_id ≡ seat.old.table_id) × (seat.new.me.1 ≡ seat.old.me.1) }
-    ensures ok { IfOk result (λ t. Won quota.now.terms seat.old.me.0 t seat.new.me.0) }
+    ensures ok { IfOk result (λ t. Won quota.now seat.old.me.0 t seat.new.me.0) }
     ensures err { IfErr result (λ why. WonNone quota.now seat.old.me.0 why seat.new.me.0) }
 {
     let mut drawn = quota.table.shared.load::<Find>(seat, DRAWS);
     for _ in 0..MAX_TRIES {
         let requests = quota.table.shared.load::<Read>(seat, REQUESTS);
         let terms = quota.table.shared.load::<Glance>(seat, TERMS);
-        let ticket = drawn.max(requests - requests % NUMBERS);
-        if is_out(quota, seat, terms, requests, ticket) {
+        let back = quota.table.shared.load::<Recall>(seat, RETURNS);
+        let carried = remembered(quota, seat, terms, requests, drawn);
+        let base = requests - requests % NUMBERS;
+        let ticket = drawn.max(base);
+        if ticket >= base + room(quota, terms, requests, (back, carried)) {
             return Err(Refusal::WindowOut(end_of(quota, requests / NUMBERS)));
         }
-        let found = quota
-            .table
-            .shared
-            .compare_exchange::<Win>(seat, DRAWS, drawn, ticket + 1);
+        let found = take(quota, seat, drawn, ticket);
         if found == drawn {
             return Ok(ticket);
         }

@@ -1,5 +1,5 @@
 //! The quota: making it, and closing it with the pass that has all parts.
-ghost use Rattle.std.specs.Prelude.{◌≡◌, ◌/◌, ◌<◌, ◌≤◌, length, IfOk, IfErr, OnOk};
+ghost use Rattle.std.specs.Prelude.{◌≡◌, ◌/◌, ◌<◌, ◌≤◌, length, true, false, IfOk, IfErr, OnOk};
 ghost use Rattle.sched_ticket_quota.specs.Windows.{word_of};
 ghost use Rattle.sched_ticket_quota.specs.View.{first_view};
 ghost use Rattle.sched_ticket_quota.specs.Held.{AreTerms, IsOf};
@@ -43,6 +43,11 @@ pub(crate) const REQUESTS: usize = 24;
 /// Which word tells how many tickets were handed back, beside the draws.
 pub(crate) const RETURNS: usize = 9;
 
+/// Which word tells what was carried to a window, and which how many requests the one before had.
+pub(crate) const CARRY: usize = 10;
+
+pub(crate) const PRIOR: usize = 26;
+
 /// Which word has the terms, beside the requests, which each draw reads too.
 pub(crate) const TERMS: usize = 25;
 
@@ -54,6 +59,8 @@ pub struct Quota {
     pub(crate) terms: Terms,
     /// The window that it was made in, counted from moment 0.
     pub(crate) start: u64,
+    /// Whether a window may draw what the one before left of its share.
+    pub(crate) carries: bool,
 }
 
 impl Model for Quota {
@@ -61,7 +68,7 @@ impl Model for Quota {
 
     ghost Value = { Name };
 
-    ghost view = { λ b. record { table = b.table.shared.table_id; terms = b.terms; start = b.start } };
+    ghost view = { λ b. record { table = b.table.shared.table_id; terms = b.terms; start = b.start; carries = b.carries } };
 
     ghost invariant = { λ b. IsLaidOut b.table.shared.table_id b.table.shared.key b.terms b.start };
 }
@@ -70,7 +77,32 @@ impl Quota {
     /// A quota of these terms, and its first pass. The window of `now` is open, and windows are counted from it on.
     pub fn new(alloc: Global, now: Moment, terms: Terms) -> Result<(Quota, Pass), QuotaFault>
         ensures ok { IfOk result (λ r. (r.0.terms ≡ terms) × IsOf r.0 r.1 × (r.1.has ≡ first_view terms)) }
-        ensures start { IfOk result (λ r. r.0.start ≡ now / terms.period) }
+        ensures start { IfOk result (λ r. (r.0.start ≡ now / terms.period) × (r.0.carries ≡ false)) }
+        ensures terms { OnOk result (AreTerms terms) }
+        ensures err { IfErr result (RefusesTerms terms) }
+    {
+        Quota::made(alloc, now, terms, false)
+    }
+
+    /// A quota whose windows may draw, once, what the one before left of its share: what was not drawn there of its share,
+    /// of its reserve and of what it was carried itself, and at most its share. All else is as `new` makes it.
+    pub fn carrying(alloc: Global, now: Moment, terms: Terms) -> Result<(Quota, Pass), QuotaFault>
+        ensures ok { IfOk result (λ r. (r.0.terms ≡ terms) × IsOf r.0 r.1 × (r.1.has ≡ first_view terms)) }
+        ensures start { IfOk result (λ r. (r.0.start ≡ now / terms.period) × (r.0.carries ≡ true)) }
+        ensures terms { OnOk result (AreTerms terms) }
+        ensures err { IfErr result (RefusesTerms terms) }
+    {
+        Quota::made(alloc, now, terms, true)
+    }
+
+    fn made(
+        alloc: Global,
+        now: Moment,
+        terms: Terms,
+        carries: bool,
+    ) -> Result<(Quota, Pass), QuotaFault>
+        ensures ok { IfOk result (λ r. (r.0.terms ≡ terms) × IsOf r.0 r.1 × (r.1.has ≡ first_view terms)) }
+        ensures start { IfOk result (λ r. (r.0.start ≡ now / terms.period) × (r.0.carries ≡ carries)) }
         ensures terms { OnOk result (AreTerms terms) }
         ensures err { IfErr result (RefusesTerms terms) }
     {
@@ -92,6 +124,7 @@ impl Quota {
                     table,
                     terms,
                     start,
+                    carries,
                 };
                 Ok((quota, Pass::of_seat(seat, ALL_PARTS, 0, start)))
             }

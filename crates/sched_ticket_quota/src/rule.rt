@@ -13,13 +13,17 @@
 //! | `Ask` | those handed back are read | has read them, and has lost no race since |
 //! | `Return` | those handed back become one more, where they are what it read | hands back its latest ticket, or gains a loss |
 //! | `Lapse` | none changes | hands back its latest ticket, of a window that is over |
+//! | `Prior` | what the window before had is read | has read it |
+//! | `Memory` | what was carried is read | has read it |
+//! | `WinCarried` | as `Win` | gains the ticket, and has carried what the window before left, where it is the first |
+//! | `Note` | what the window before had, or what was carried, becomes this where it is less | learns nothing |
 //! | `Part` | none changes | gives some of its parts to a new pass |
 //! | `Merge` | none changes | takes in another pass, which is spent |
 //! | `Learn` | none changes | learns that its tickets are distinct, and where it has all parts that it is the whole |
 ghost use Rattle.sched_ticket_quota.specs.Rule.{IsKept};
 ghost use Rattle.sched_ticket_quota.specs.View.{first_view, blank_view, without_part, part_of, joined_view};
 ghost use Rattle.sched_ticket_quota.specs.Steps.{reads, glances, changes, opens, counts, finds, wins, learns};
-ghost use Rattle.sched_ticket_quota.specs.Steps.{recalls, asks, returns, lapses};
+ghost use Rattle.sched_ticket_quota.specs.Steps.{recalls, asks, returns, lapses, priors, memories, wins_carried, notes};
 
 use crate::view::{Terms, View};
 use atomic_table::{Join, Play, Split, TableRule};
@@ -97,6 +101,30 @@ pub(crate) struct Lapse;
 
 impl Play<u8, View> for Lapse {
     ghost then = { lapses };
+}
+
+pub(crate) struct Prior;
+
+impl Play<u8, View> for Prior {
+    ghost then = { priors };
+}
+
+pub(crate) struct Memory;
+
+impl Play<u8, View> for Memory {
+    ghost then = { memories };
+}
+
+pub(crate) struct WinCarried;
+
+impl Play<u8, View> for WinCarried {
+    ghost then = { wins_carried };
+}
+
+pub(crate) struct Note;
+
+impl Play<u8, View> for Note {
+    ghost then = { notes };
 }
 
 pub(crate) struct Part;

@@ -29,6 +29,14 @@ pub struct View {
     pub opened: LinkedList<u64>,
     /// The words of the terms that it set.
     pub changes: LinkedList<u64>,
+    /// What it carried to windows: for each the window's first number, and so many tickets more.
+    pub carries: LinkedList<u64>,
+    /// The word of requests as it found it where it last opened a window.
+    pub before: u64,
+    /// The word of what the window before had, as it last read it.
+    pub prior: u64,
+    /// The word of what was carried, as it last read it.
+    pub carry: u64,
     /// The word of the terms as it last read or set it.
     pub current: u64,
     /// The word of requests as it last saw it. The word is never below it.
@@ -47,6 +55,10 @@ pub struct View {
     pub glances: u64,
     /// How often it read the word of those handed back.
     pub recalls: u64,
+    /// How often it read the word of what the window before had.
+    pub priors: u64,
+    /// How often it read the word of what was carried.
+    pub memories: u64,
     /// How often it looked at the word of draws.
     pub looks: u64,
     /// How many races it lost since its last look: how often another draw came between that look and its own, or another

@@ -22,5 +22,5 @@ invariant-loop l = record {
   lost : l.seat.me.0.losses ≡ l.counter;
   read : l.fn.seat.me.0.readings + l.counter ≤ l.seat.me.0.readings;
   glanced : l.fn.seat.me.0.glances + l.counter ≤ l.seat.me.0.glances;
-  recalled : l.fn.seat.me.0.recalls ≤ l.seat.me.0.recalls;
+  recalled : l.fn.seat.me.0.recalls + l.counter ≤ l.seat.me.0.recalls;
 }
