@@ -1,7 +1,7 @@
 -- How a plan is stepped.
 use Rattle.std.specs.Prelude.{ℕ, ◌-◌, min, List, [], ◌∷◌, length, slice_get, unwrap_or}
-use Rattle.sched_cli_plan.specs.declared.options.PlanOptions.{PlanOptions}
-use Rattle.sched_cli_plan.specs.declared.options.PlanCourse.{PlanCourse}
+use Rattle.sched_plan_course.specs.declared.courses.PlanOptions.{PlanOptions}
+use Rattle.sched_plan_course.specs.declared.courses.PlanCourse.{PlanCourse}
 
 -- at most so many events, the first at `from`, each later one `took` after the start that was planned before it, and
 -- of each by its number the input and the words, the last of which repeat

@@ -1,9 +1,11 @@
-ghost use Rattle.std.specs.Prelude.{◌≡◌, ◌≤◌, ◌<◌, ◌↔◌, [], vec_len, IsSome, IfSome, IfOk};
+ghost use Rattle.std.specs.Prelude.{◌≡◌, ◌+◌, ◌≤◌, ◌<◌, ◌↔◌, [], vec_len, IsSome, IfSome, IfOk};
+ghost use Rattle.sched_time.specs.Capped.{capped};
 
+use sched_plan::{Event, Val};
 use sched_time::{Millis, Moment, NoMemory};
 use std::alloc::Global;
 
-/// The most events that one plan is stepped for.
+/// The most events that one plan is stepped for along a course.
 pub const MOST_STEPS: u64 = 4096;
 
 /// How a plan is stepped. A moment and a duration are in milliseconds.
@@ -25,9 +27,9 @@ pub struct PlanOptions {
 /// How a plan is stepped, with an input and words of its own for each event.
 #[derive(Debug, Drop)]
 pub struct PlanCourse {
-    pub(crate) steps: u64,
-    pub(crate) from: Moment,
-    pub(crate) took: Millis,
+    steps: u64,
+    from: Moment,
+    took: Millis,
     inputs: Vec<Millis>,
     words: Vec<[u32; 4]>,
     ghost in_range: { steps ≤ 4096 },
@@ -36,7 +38,8 @@ pub struct PlanCourse {
 }
 
 impl PlanCourse {
-    ghost use Rattle.sched_cli_plan.specs.Course.{course_of, item_or_last, steady as steady_course};
+    ghost use Rattle.sched_plan_course.specs.Course.{course_of, item_or_last, steady as steady_course};
+    ghost use Rattle.sched_plan_course.specs.Run.{event_at};
 
     /// At most so many events, the first at `from`, each later one `took` after the start that was planned before it,
     /// and of each by its number the input and the words for lanes 0 to 3; the last ones of both are those of all
@@ -86,15 +89,46 @@ impl PlanCourse {
         })
     }
 
-    /// The input of event `number`, from 0.
-    pub(crate) fn input(&self, number: usize) -> Millis
+    /// How many events there are at most.
+    pub fn steps(&self) -> u64
+        ensures value { result ≡ (course_of self.now).steps }
+        ensures few { result ≤ 4096 }
+    {
+        self.steps
+    }
+
+    /// The moment of the first event.
+    pub fn first(&self) -> Moment
+        ensures { result ≡ (course_of self.now).from }
+    {
+        self.from
+    }
+
+    /// The moment of the event that follows one with this planned start.
+    pub fn after(&self, start: Moment) -> Moment
+        ensures { result ≡ capped (start + (course_of self.now).took) }
+    {
+        start.plus(self.took)
+    }
+
+    /// Event `number`, from 0, which comes at this moment.
+    pub fn event(&self, number: usize, now: Moment) -> Event
+        ensures { result ≡ event_at (course_of self.now) number now }
+    {
+        Event {
+            now,
+            words: self.words(number),
+            input: Val::from(self.input(number)),
+        }
+    }
+
+    fn input(&self, number: usize) -> Millis
         ensures { result ≡ item_or_last 0 (course_of self.now).inputs number }
     {
         self.inputs[number.min(self.inputs.len() - 1)]
     }
 
-    /// The words of event `number`, from 0.
-    pub(crate) fn words(&self, number: usize) -> [u32; 4]
+    fn words(&self, number: usize) -> [u32; 4]
         ensures { result ≡ item_or_last [] (course_of self.now).words number }
     {
         self.words[number.min(self.words.len() - 1)]

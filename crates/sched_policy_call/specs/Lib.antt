@@ -1,0 +1,4 @@
+pub mod Policies
+pub mod Nodes
+pub mod Told
+pub mod Courses
