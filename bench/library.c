@@ -1,7 +1,7 @@
 // Does through the library what bench_draw and bench_retry do inside:
 //   draw DRAWS            draws of one budget
 //   retry PLAN ROUNDS     a round is a retry whose run fails each time and is granted again, a thousand times: two polls each
-//   step PLAN ROUNDS      a round is a thousand steps of a driver of the plan
+//   step PLAN ROUNDS      a round is a course of the plan, of a thousand events
 //   wait PLAN ROUNDS      a round is a thousand polls of a retry that waits
 //   call ON CALLS         a function called with no retry
 //   success ON CALLS      calls that succeed at once
@@ -57,12 +57,12 @@ static uint64_t retry(hikebox_policy *policy) {
 }
 
 static uint64_t step(hikebox_policy *policy) {
-    hikebox_driver driver = HIKEBOX_INIT;
-    hikebox_decision decision;
-    uint64_t events = 0;
-    check(hikebox_driver_new(policy, &driver));
-    for (uint64_t now = 0; now < ROUND; now++, events++) check(hikebox_driver_next(&driver, now, words, CODE, &decision));
-    check(hikebox_driver_free(&driver));
+    static hikebox_line lines[ROUND];
+    static char text[32 * ROUND];
+    const hikebox_course course = {ROUND, 0, 0};
+    const hikebox_event event = {CODE, {0, 0, 0, 0}};
+    size_t events, length;
+    check(hikebox_policy_course(policy, &course, &event, 1, lines, ROUND, &events, text, sizeof text, &length));
     return events;
 }
 
@@ -112,7 +112,7 @@ __attribute__((noinline)) static uint64_t retried(struct on *on, uint64_t *state
 
 // A call that fails so often and then succeeds: the retry is begun where the first run fails. How many were granted.
 static uint64_t call(struct on *on, uint64_t *state, uint64_t failures) {
-    if (on->counts) check(hikebox_pass_deposit(&on->pass, 0));
+    if (on->counts) check(hikebox_pass_deposit(&on->pass, 0, 1));
     return attempt(state, failures) ? 0 : retried(on, state, failures - 1);
 }
 
@@ -122,7 +122,7 @@ static uint64_t calls(const char *what, const char *name, uint64_t many) {
     hikebox_place place;
     check(hikebox_policy_read("\"forever\"", 9, &on.policy, &place));
     if (name[0] == 'b') check(hikebox_budget_fixed(tickets, &on.pass));
-    else if (on.counts) check(hikebox_quota_new(0, tickets, 0, 1000, &on.pass));
+    else if (on.counts) check(hikebox_quota_new(0, tickets, 0, 1000, false, &on.pass));
     else check(hikebox_pass_unlimited(&on.pass));
     if (what[0] == 'c') for (uint64_t turn = 0; turn < many; turn++) done += attempt(&state, 0);
     else if (what[0] == 'g') done = call(&on, &state, many);

@@ -171,8 +171,12 @@ def main() -> None:
 
     with Budget(2**32) as budget:
         print(f"a draw: {least(1000, calls(budget.draw))[0] / 1000:.2f} us")
-    ours = calls(lambda: hikebox.Retrying(recurs(20) & exponential(1, 2).cap(30)))
     stop, wait = tenacity.stop_after_attempt, tenacity.wait_exponential
+    ours = calls(lambda: recurs(20) & exponential(1, 2).cap(30))
+    theirs = calls(lambda: (stop(21), wait(max=30)))
+    own, other = least(100, ours, theirs)
+    print(f"a policy of four nodes made: {own / 1000:.1f} us, a stop and a wait of tenacity {other / 1000:.1f} us")
+    ours = calls(lambda: hikebox.Retrying(recurs(20) & exponential(1, 2).cap(30)))
     theirs = calls(lambda: tenacity.Retrying(stop=stop(21), wait=wait(max=30)))
     own, other = least(100, ours, theirs)
     print(f"a policy and its Retrying made: {own / 1000:.1f} us, of tenacity {other / 1000:.1f} us")

@@ -21,9 +21,7 @@ const char *hikebox_status_text(unsigned status) {
     case 12: return "a parameter is out of range";
     case 13: return "the policy is too deep";
     case 14: return "the policy has too many nodes";
-    case 20: return "the moment is before the last event";
-    case 21: return "the journal is full";
-    case 22: return "there is no output yet";
+    case 20: return "the window is before the one that is counted";
     case 30: return "the limit is more than 4294967296 tickets";
     case 31: return "there is no limit that can be raised";
     case 32: return "there is no ticket";
@@ -32,10 +30,13 @@ const char *hikebox_status_text(unsigned status) {
     case 35: return "the reserve is more than 4294967296 tickets a window";
     case 36: return "the share is more than 1000 tickets a request";
     case 37: return "the window is shorter than 100 ms";
-    case 38: return "64 races with other draws were lost";
+    case 38: return "64 races with others were lost";
+    case 39: return "there are no terms that can be set";
     case 40: return "there is no such report";
     case 41: return "no run is under way";
     case 42: return "the pass draws on something else";
+    case 43: return "there is no ticket to hand back";
+    case 44: return "the requests are more than the pass has parts";
     default: return "no such status";
     }
 }

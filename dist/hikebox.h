@@ -1,12 +1,13 @@
 /*
  * hikebox.h: retry policies, retry budgets and quotas, and retries, for programs in C and in any language that calls C.
  *
- * A policy is a recurrence schedule, read from the JSON that `zsched plan` reads. A driver steps a policy event
- * by event. A budget bounds how many retries all threads of a program make together; a quota bounds them in each
- * window of time, and refills with traffic. A retry is a machine that the program steps: it says when to run the
- * call and when to wait, and is told how each run went. The library has no clock, no thread, no callback and no
- * random numbers of its own: the program gives it the moment, and four random words, at each step. A storm shows what a
- * policy does to a peer that fails for a while, when many requests have it: its moments and its words are made up.
+ * A policy is a recurrence schedule, read from the JSON that `zsched plan` reads, or built node by node; its course is
+ * what it does, event by event, before any call is made. A budget bounds how many retries all threads of a program
+ * make together; a quota bounds them in each window of time, and refills with traffic. A retry is a machine that the
+ * program steps: it says when to run the call and when to wait, and is told how each run went. The library has no
+ * clock, no thread, no callback and no random numbers of its own: the program gives it the moment, and four random
+ * words, at each step. A storm shows what a policy does to a peer that fails for a while, when many requests have it:
+ * its moments and its words are made up.
  * examples/c/retry.c is a whole program.
  *
  *     while (hikebox_retry_poll(&retry, now(), words(), report, code, &next) == HIKEBOX_OK
@@ -20,9 +21,9 @@
  *
  * Moments, durations and codes are whole numbers from 0 to HIKEBOX_FAR; moments and durations are in
  * milliseconds. Which moment is 0 is the program's choice, as the start of the process; moments given to one
- * driver or retry never fall.
+ * retry never fall.
  *
- * HANDLES. A policy, a driver, a pass (of a budget, of a quota or of nothing) and a retry are each held by a handle, a
+ * HANDLES. A policy, a pass (of a budget, of a quota or of nothing) and a retry are each held by a handle, a
  * struct of one pointer that the program keeps and hands to each call by its address. A handle begins as HIKEBOX_INIT,
  * which holds nothing. A call that makes something puts it into an empty handle, and from then on the handle owns it,
  * until a call frees it or takes it away and leaves the handle empty. A call on an empty handle, on a handle of
@@ -72,6 +73,12 @@ extern "C" {
 /* The deadline of a retry that has none. */
 #define HIKEBOX_NO_DEADLINE UINT64_MAX
 
+/* What is told of how often a policy goes on where its nodes give no bound. */
+#define HIKEBOX_NO_BOUND UINT64_MAX
+
+/* The most events of a course. */
+#define HIKEBOX_MOST_STEPS 4096
+
 /* The most tickets of a budget, and the greatest reserve of a quota: 2^32. */
 #define HIKEBOX_MOST_TICKETS UINT64_C(4294967296)
 
@@ -80,9 +87,6 @@ extern "C" {
 
 /* The shortest period of a quota, in milliseconds. */
 #define HIKEBOX_LEAST_PERIOD UINT64_C(100)
-
-/* The most events of a journal. */
-#define HIKEBOX_MOST_EVENTS 65536
 
 /* What a call answers. */
 typedef uint32_t hikebox_status;
@@ -107,19 +111,15 @@ enum {
     HIKEBOX_NOT_JSON = 10,
     /* The JSON value, or a part of it that should be a policy, does not have the form of one. */
     HIKEBOX_NOT_A_POLICY = 11,
-    /* A parameter of a policy, or of a storm, is outside its range. */
+    /* A parameter of a policy, of a course or of a storm is outside its range. */
     HIKEBOX_OUT_OF_RANGE = 12,
     /* The policy is deeper than 32. */
     HIKEBOX_TOO_DEEP = 13,
     /* The policy has more than 256 nodes. */
     HIKEBOX_TOO_MANY = 14,
 
-    /* The moment is before that of the event before, or the window before the one that a store counts. */
+    /* The window is before the one that a store counts. */
     HIKEBOX_BACKWARDS = 20,
-    /* The journal holds HIKEBOX_MOST_EVENTS events. */
-    HIKEBOX_JOURNAL_FULL = 21,
-    /* There is no output, since no event came yet. */
-    HIKEBOX_NO_OUTPUT = 22,
 
     /* The limit is above HIKEBOX_MOST_TICKETS. */
     HIKEBOX_LIMIT_TOO_LARGE = 30,
@@ -138,15 +138,21 @@ enum {
     HIKEBOX_SHARE_TOO_LARGE = 36,
     /* The quota's period is below HIKEBOX_LEAST_PERIOD. */
     HIKEBOX_PERIOD_TOO_SHORT = 37,
-    /* The draw of a quota lost 64 races with other draws. */
+    /* A step of a quota lost 64 races with others. */
     HIKEBOX_RACES_LOST = 38,
+    /* The pass draws on no quota, whose terms could be set. */
+    HIKEBOX_NO_TERMS = 39,
 
     /* The report is none of HIKEBOX_NO_REPORT, HIKEBOX_WON and HIKEBOX_LOST. */
     HIKEBOX_NO_SUCH_REPORT = 40,
     /* A run is reported, and none is under way. */
     HIKEBOX_NO_RUN = 41,
     /* What is to be joined into a pass draws on another kind of thing than the pass: a budget, a quota or nothing. */
-    HIKEBOX_DRAWS_ELSEWHERE = 42
+    HIKEBOX_DRAWS_ELSEWHERE = 42,
+    /* The pass has no ticket to hand back: it drew none since it handed one back, or it draws on no quota. */
+    HIKEBOX_NOTHING_TO_HAND_BACK = 43,
+    /* More requests are counted at once than the pass has parts. */
+    HIKEBOX_TOO_MANY_REQUESTS = 44
 };
 
 /* What a status says, in a few words, as "there is no ticket"; of a number that is no status "no such status". The text ends
@@ -158,7 +164,6 @@ const char *hikebox_version(void);
 
 /* The handles. */
 typedef struct { void *held; } hikebox_policy;
-typedef struct { void *held; } hikebox_driver;
 typedef struct { void *held; } hikebox_pass;
 typedef struct { void *held; } hikebox_retry;
 
@@ -195,49 +200,80 @@ HIKEBOX_CHECKED hikebox_status hikebox_policy_fault(const char *json, size_t jso
 
 /*
  * Puts the same policy into `other`, as for another thread: both handles have it, and it is not copied. A policy never
- * changes. It lives as long as a handle, a driver or a retry that has it. HIKEBOX_FULL; _EMPTY; _WRONG_KIND; _NO_MEMORY.
+ * changes. It lives as long as a handle or a retry that has it. HIKEBOX_FULL; _EMPTY; _WRONG_KIND; _NO_MEMORY.
  */
 HIKEBOX_CHECKED hikebox_status hikebox_policy_share(hikebox_policy *policy, hikebox_policy *other);
 
-/* How many nodes the policy has, at most 256, and how deep it is, at most 32. HIKEBOX_EMPTY; _WRONG_KIND. */
-HIKEBOX_CHECKED hikebox_status hikebox_policy_size(hikebox_policy *policy, uint64_t *nodes, uint64_t *depth);
+/*
+ * Makes the policy of one node, without a text, and puts it into `made`: the node of this name, of `length` bytes, with these
+ * `count` numbers, over the policies in `first` and `second`. It is the one that hikebox_policy_read reads of
+ * {"NAME":[numbers, first, second]}. A handle that holds nothing stands for no policy: a node over none has both so, and a
+ * node over one has `second` so. Both policies stay, and are copied; they are in two handles, also where they are the same
+ * one. `gate` and `gather` have words among their parameters, and are read from JSON alone. HIKEBOX_FULL; _WRONG_KIND;
+ * _NOT_A_POLICY: no node has this name with so many numbers and policies; _OUT_OF_RANGE; _TOO_DEEP; _TOO_MANY; _NO_MEMORY,
+ * at any point.
+ */
+HIKEBOX_CHECKED hikebox_status hikebox_policy_node(const char *name, size_t length, const uint64_t *numbers, size_t count,
+                                                   hikebox_policy *first, hikebox_policy *second, hikebox_policy *made);
+
+/*
+ * The policy as JSON without spaces, which hikebox_policy_read reads as the same policy. Its bytes, with no zero byte after
+ * them, are written to `text`, which has room for `capacity`, and their number to `length`. HIKEBOX_EMPTY; _WRONG_KIND;
+ * _NO_MEMORY; _NO_ROOM, and then `length` is the room that is needed.
+ */
+HIKEBOX_CHECKED hikebox_status hikebox_policy_json(hikebox_policy *policy, char *text, size_t capacity, size_t *length);
+
+/* How many nodes the policy has, at most 256, how deep it is, at most 32, and at how many events it goes on at most,
+ * whatever comes, or HIKEBOX_NO_BOUND where its nodes give no such number. HIKEBOX_EMPTY; _WRONG_KIND. */
+HIKEBOX_CHECKED hikebox_status hikebox_policy_size(hikebox_policy *policy, uint64_t *nodes, uint64_t *depth,
+                                                   uint64_t *most);
+
+/* How a policy is stepped along a course. */
+typedef struct {
+    /* For how many events at most, 0 to HIKEBOX_MOST_STEPS. */
+    uint64_t steps;
+    /* The moment of the first event. */
+    uint64_t from;
+    /* How long after the start that was planned at an event the next one comes. */
+    uint64_t took;
+} hikebox_course;
+
+/* What an event of a course has. */
+typedef struct {
+    /* Its input, as the code of a failure. */
+    uint64_t input;
+    /* Its random words, by their lanes. */
+    uint32_t words[4];
+} hikebox_event;
+
+/* What a policy does at an event of a course. */
+typedef struct {
+    /* The moment of the event. */
+    uint64_t moment;
+    /* The start that is planned, or 0. */
+    uint64_t start;
+    /* Where its output ends among the bytes of all outputs; it begins where the one before ends. */
+    uint64_t text_to;
+    /* Whether the policy goes on, at `start`. */
+    bool goes_on;
+} hikebox_line;
+
+/*
+ * What the policy does along a course, as `zsched plan` prints it: a line for each event, up to the first at which it does
+ * not go on. Event k has the input and the words of number k among the `given` ones at `events`, and each event past them
+ * those of the last. The lines are written to `lines`, which has room for `capacity`, and their number to `count`; their
+ * outputs as text, `()`, a decimal number, `(a, b)` or `[a, b, c]`, one after another and with no zero byte, to `text`,
+ * which has room for `room`, and the number of all their bytes to `length`. HIKEBOX_OUT_OF_RANGE, of a number of the course
+ * or an input, and where there is no event; _EMPTY; _WRONG_KIND; _NO_MEMORY; _NO_ROOM, of either, and then `count` and
+ * `length` are the room that is needed.
+ */
+HIKEBOX_CHECKED hikebox_status hikebox_policy_course(hikebox_policy *policy, const hikebox_course *course,
+                                                     const hikebox_event *events, size_t given, hikebox_line *lines,
+                                                     size_t capacity, size_t *count, char *text, size_t room,
+                                                     size_t *length);
 
 /* Frees the handle's share of the policy. HIKEBOX_EMPTY; _WRONG_KIND. */
 hikebox_status hikebox_policy_free(hikebox_policy *policy);
-
-/* ---- Drivers ----------------------------------------------------------------------------------------------------- */
-
-/* What a policy decides at an event. */
-typedef struct {
-    /* The start that is planned, or 0. */
-    uint64_t start;
-    /* Whether the policy goes on, at `start`. */
-    bool goes_on;
-} hikebox_decision;
-
-/* Puts a driver of the policy, before its first event, into `driver`; the policy stays, and is not copied. HIKEBOX_FULL;
- * _EMPTY; _WRONG_KIND; _NO_MEMORY. */
-HIKEBOX_CHECKED hikebox_status hikebox_driver_new(hikebox_policy *policy, hikebox_driver *driver);
-
-/*
- * Gives the policy one more event, at the moment `now`, with these random words and this input, also after one
- * at which it did not go on; writes what it decides. HIKEBOX_TOO_LARGE; _EMPTY; _WRONG_KIND; _BACKWARDS;
- * _JOURNAL_FULL; _NO_MEMORY.
- */
-HIKEBOX_CHECKED hikebox_status hikebox_driver_next(hikebox_driver *driver, uint64_t now, const uint32_t words[4],
-                                                   uint64_t input, hikebox_decision *decision);
-
-/*
- * The output of the last event as text, as `zsched plan` prints it: `()`, a decimal number, `(a, b)` or `[a, b,
- * c]`. Its bytes, with no zero byte after them, are written to `text`, which has room for `capacity`, and their
- * number to `length`. HIKEBOX_EMPTY; _WRONG_KIND; _NO_OUTPUT; _NO_MEMORY; _NO_ROOM, and then `length` is the
- * room that is needed.
- */
-HIKEBOX_CHECKED hikebox_status hikebox_driver_last_text(hikebox_driver *driver, char *text, size_t capacity,
-                                                        size_t *length);
-
-/* Frees the driver. HIKEBOX_EMPTY; _WRONG_KIND. */
-hikebox_status hikebox_driver_free(hikebox_driver *driver);
 
 /* ---- Passes ------------------------------------------------------------------------------------------------------ */
 
@@ -251,17 +287,24 @@ hikebox_status hikebox_driver_free(hikebox_driver *driver);
  *
  * A quota cuts time into windows of `period` milliseconds, which begin at its multiples. In each it gives out at most
  * `reserve` tickets, and `share` thousandths of a ticket for each request that was counted in it so far, rounded down;
- * never more than HIKEBOX_MOST_TICKETS. What a window has left is lost with it. The program counts each request once,
- * before its first run, by hikebox_pass_deposit.
+ * never more than HIKEBOX_MOST_TICKETS. What a window has left is lost with it, unless the quota carries. The program
+ * counts each request once, before its first run, by hikebox_pass_deposit.
  *
- * Windows are counted from the one that the quota is made in. A deposit, a draw and a look open the window of their own
- * moment for all passes of the quota, and no other: those that are left out give no ticket. From then on it is the latest,
- * and a call with an earlier moment is of the latest window. So between two moments that are n periods apart there are at
- * most n + 2 reserves and the shares of the requests, however long the quota was idle, where each clock is right; each
- * call whose clock is ahead adds at most one reserve and its share, and no other window begins before `next` of
- * hikebox_usage, which is then that far ahead. A window counts 2^32 requests: those past them open the next window, and
- * its reserve, before its time. The last window is the one with the number 2999999999, and each later moment is in it;
- * past so many requests it counts none.
+ * Where a quota carries, each window may draw first, once, what the one before left of its share: the share of its
+ * requests, or what it could still have given, where that is less, by the terms that the first draw of the later
+ * window reads. A window gives at most 2^31 tickets of its own then, and leaves as many at most. So over any run of
+ * windows the tickets are at most a reserve for each, and the share of the requests of these and of the one before the
+ * first.
+ *
+ * Windows are counted from the one that the quota is made in. A deposit, a draw and a look open the window of their
+ * own moment for all passes of the quota, and no other: those that are left out give no ticket. From then on it is the
+ * latest, and a call with an earlier moment is of the latest window. So between two moments that are n periods apart
+ * there are at most n + 2 reserves and the shares of the requests, however long the quota was idle, where each clock
+ * is right (where it carries, the share of the requests of the window before them, too); each call whose clock is
+ * ahead adds at most one reserve and its share, and no other window begins before `next` of hikebox_usage, which is
+ * then that far ahead. A window counts 2^32 requests: those past them open the next window, and its reserve, before
+ * its time. The last window is the one with the number 2999999999, and each later moment is in it; past so many
+ * requests it counts none.
  *
  * Nothing grants each draw, and counts it: a program bounds its retries by their policy alone.
  */
@@ -274,20 +317,22 @@ HIKEBOX_CHECKED hikebox_status hikebox_budget_fixed(uint64_t limit, hikebox_pass
 HIKEBOX_CHECKED hikebox_status hikebox_budget_rising(uint64_t limit, hikebox_pass *pass);
 
 /*
- * Makes a quota at the moment `now` and puts its first pass into `pass`. HIKEBOX_TOO_LARGE, of the moment; _FULL;
- * _RESERVE_TOO_LARGE; _SHARE_TOO_LARGE; _PERIOD_TOO_SHORT; _TOO_LARGE, of the period; _NO_MEMORY.
+ * Makes a quota at the moment `now`, one that carries where `carries` is true, and puts its first pass into `pass`.
+ * HIKEBOX_TOO_LARGE, of the moment; _FULL; _RESERVE_TOO_LARGE; _SHARE_TOO_LARGE; _PERIOD_TOO_SHORT; _TOO_LARGE, of the
+ * period; _NO_MEMORY.
  */
 HIKEBOX_CHECKED hikebox_status hikebox_quota_new(uint64_t now, uint64_t reserve, uint64_t share, uint64_t period,
-                                                 hikebox_pass *pass);
+                                                 bool carries, hikebox_pass *pass);
 
 /* Puts a pass that draws on nothing into `pass`. HIKEBOX_FULL; _NO_MEMORY. */
 HIKEBOX_CHECKED hikebox_status hikebox_pass_unlimited(hikebox_pass *pass);
 
 /*
- * Draws a ticket at the moment `now`, and writes its number, which no other draw of the budget or of the quota got. Of a
- * budget it is below the limit; of a quota it is of the window of `now`, or of the latest one where that is later, and the
- * number divided by 2^32 is that of the window; of nothing it is how many this pass was granted before. A quota alone
- * heeds the moment. HIKEBOX_TOO_LARGE; _EMPTY; _WRONG_KIND; _NO_TICKET; of a quota _RACES_LOST.
+ * Draws a ticket at the moment `now`, and writes its number, which no other draw of the budget or of the quota got. Of
+ * a budget it is below the limit; of a quota it is of the window of `now`, or of the latest one where that is later,
+ * and the number divided by 2^32 is that of the window, and of the one before where it was carried from there; of
+ * nothing it is how many this pass was granted before. A quota alone heeds the moment. HIKEBOX_TOO_LARGE; _EMPTY;
+ * _WRONG_KIND; _NO_TICKET; of a quota _RACES_LOST.
  *
  * _NO_TICKET of a budget: as many were drawn as the limit. Of one that keeps its limit a pass is told so for good; of a
  * rising one it draws again once the limit is raised. Of a quota: the window has given out as many as its requests allow;
@@ -296,9 +341,25 @@ HIKEBOX_CHECKED hikebox_status hikebox_pass_unlimited(hikebox_pass *pass);
  */
 HIKEBOX_CHECKED hikebox_status hikebox_pass_draw(hikebox_pass *pass, uint64_t now, uint64_t *ticket);
 
-/* Counts a request of a quota in the window of `now`, or in the latest one where that is later. Past the last window none is
- * counted, and a pass of a budget or of nothing counts none. HIKEBOX_TOO_LARGE; _EMPTY; _WRONG_KIND. */
-HIKEBOX_CHECKED hikebox_status hikebox_pass_deposit(hikebox_pass *pass, uint64_t now);
+/* Counts so many requests of a quota in the window of `now`, or in the latest one where that is later: one, or several at
+ * once, as for a dear request or for those of a while. Past the last window none is counted, and a pass of a budget or of
+ * nothing counts none. HIKEBOX_TOO_LARGE, of the moment; _EMPTY; _WRONG_KIND; _TOO_MANY_REQUESTS: they are more than the
+ * pass of a quota has parts, of which one that was split off has 1,048,576 at most. */
+HIKEBOX_CHECKED hikebox_status hikebox_pass_deposit(hikebox_pass *pass, uint64_t now, uint64_t requests);
+
+/*
+ * Hands the latest ticket of a quota back that was drawn with this pass, or with one joined into it since: as of a
+ * retry that was cancelled while it waited, or of the last retry of a call that succeeded. Any pass may draw one more
+ * in the ticket's window then; where that is over, or the ticket was carried, no other is drawn for it. HIKEBOX_EMPTY;
+ * _WRONG_KIND; _NOTHING_TO_HAND_BACK: no ticket was drawn since one was handed back, or the pass is of a budget or of
+ * nothing; _RACES_LOST: 64 other tickets came back first in this call.
+ */
+HIKEBOX_CHECKED hikebox_status hikebox_pass_hand_back(hikebox_pass *pass);
+
+/* Sets the reserve and the share of a quota, which each draw goes by from now on, with any pass and also in the present
+ * window; the period stays. HIKEBOX_EMPTY; _WRONG_KIND; _NO_TERMS, of a budget and of nothing; _RESERVE_TOO_LARGE;
+ * _SHARE_TOO_LARGE. */
+HIKEBOX_CHECKED hikebox_status hikebox_pass_set_terms(hikebox_pass *pass, uint64_t reserve, uint64_t share);
 
 /* Puts a new pass of the same budget or quota, or of nothing, which has no ticket, into `part`. HIKEBOX_FULL; _EMPTY;
  * _WRONG_KIND; _NO_MEMORY; _TOO_MANY_PASSES: the pass has one part. */
@@ -323,9 +384,9 @@ typedef struct {
     uint64_t window;
     /* The requests that were counted in it. */
     uint64_t asked;
-    /* The tickets that it has given out. */
+    /* The tickets of its own that it has given out. */
     uint64_t given;
-    /* The tickets that it may yet give for the requests counted. */
+    /* The tickets that it may yet give for the requests counted, and those carried to it. */
     uint64_t left;
     /* When the next window begins; HIKEBOX_FAR of the last. */
     uint64_t next;
@@ -460,6 +521,9 @@ typedef struct {
     uint64_t granted;
     /* How many runs were reported; UINT64_MAX where there were more. */
     uint64_t runs;
+    /* How many milliseconds it is from the moment of the poll to the deadline, as the time that a run may be given: 0 where
+     * that is past, and HIKEBOX_NO_DEADLINE where there is none. */
+    uint64_t left;
 } hikebox_next;
 
 /*
@@ -490,11 +554,6 @@ HIKEBOX_CHECKED hikebox_status hikebox_retry_new(hikebox_policy *policy, hikebox
  */
 HIKEBOX_CHECKED hikebox_status hikebox_retry_poll(hikebox_retry *retry, uint64_t now, const uint32_t words[4],
                                                   uint32_t report, uint64_t code, hikebox_next *next);
-
-/* Writes how many milliseconds it is from the moment `now` to the deadline of the retry, as the time that a run may be
- * given: 0 where that is past, and HIKEBOX_NO_DEADLINE where there is none. HIKEBOX_TOO_LARGE, of the moment; _EMPTY;
- * _WRONG_KIND. */
-HIKEBOX_CHECKED hikebox_status hikebox_retry_left(hikebox_retry *retry, uint64_t now, uint64_t *left);
 
 /* Ends a retry that is not over as HIKEBOX_ENDED_CANCELLED, whatever run is under way. HIKEBOX_EMPTY; _WRONG_KIND. */
 hikebox_status hikebox_retry_cancel(hikebox_retry *retry);

@@ -11,8 +11,9 @@ TOP = pathlib.Path(__file__).resolve().parent.parent
 NUMBERS = {"uint64_t": "u64", "uint32_t": "u32", "uint8_t": "u8", "char": "u8", "size_t": "usize", "bool": "bool",
            "hikebox_status": "u32"}
 #: The structs of the header, and what Rust calls them.
-STRUCTS = {"place": "Place", "decision": "Decision", "next": "Next", "usage": "Used", "storm": "Storm", "window": "Window",
-           "totals": "Totals", "stored": "Stored", "asking": "Asking", "range": "Range"}
+STRUCTS = {"place": "Place", "course": "Course", "event": "Event", "line": "Line", "next": "Next", "usage": "Used",
+           "storm": "Storm", "window": "Window", "totals": "Totals", "stored": "Stored", "asking": "Asking",
+           "range": "Range"}
 #: Constants of Rust that are not named as the header's.
 NAMES = {"FAR": "HIKEBOX_FAR", "MOST_TICKETS": "HIKEBOX_MOST_TICKETS"}
 
@@ -23,10 +24,10 @@ def without_comments(text):
 
 
 def rust_type(declared):
-    """The type in Rust of a parameter or a field that C declares so."""
-    array = re.fullmatch(r"const (\w+) \w+\[(\d+)\]", declared)
+    """The type in Rust of a field that C declares so."""
+    array = re.fullmatch(r"(\w+) \w+\[(\d+)\]", declared)
     if array:
-        return f"*const [{NUMBERS[array[1]]}; {array[2]}]"
+        return f"[{NUMBERS[array[1]]}; {array[2]}]"
     const, name, stars = re.fullmatch(r"(const )?(\w+) (\**)\w+", declared).groups()
     named = NUMBERS.get(name) or STRUCTS.get(name.removeprefix("hikebox_"), "Raw")
     return f"*{'const' if const else 'mut'} {named}" if stars else named
@@ -46,7 +47,7 @@ def structs_of_header(header):
     for body, name in re.findall(r"typedef struct \{([^}]*)\} hikebox_(\w+);", header):
         declared = [" ".join(one.split()) for one in body.split(";") if one.strip()]
         if name in STRUCTS:
-            fields[STRUCTS[name]] = [(one.split()[-1], rust_type(one)) for one in declared]
+            fields[STRUCTS[name]] = [(one.split()[-1].split("[")[0], rust_type(one)) for one in declared]
     return fields
 
 
@@ -60,7 +61,7 @@ def constants_of_rust(source):
 def structs_of_rust(source):
     """The fields of each struct."""
     found = re.findall(r"#\[repr\(C\)\]\n(?:#\[[^\n]*\]\n)*pub\(crate\) struct (\w+) \{([^}]*)\}", source)
-    return {name: re.findall(r"(\w+): (\w+),", body) for name, body in found if name != "Raw"}
+    return {name: re.findall(r"(\w+): ([^,]+),", body) for name, body in found if name != "Raw"}
 
 
 def main():

@@ -10,11 +10,14 @@ RATTLE = {
     "&mut Handle": ["handle *"],
     "&[u8]": ["const char *", "size_t"],
     "&mut [u8]": ["char *", "size_t"],
+    "&[u64]": ["const uint64_t *", "size_t"],
     "&[u32; 4]": ["const uint32_t *"],
     "&mut u64": ["uint64_t *"],
     "&mut usize": ["size_t *"],
     "&mut Place": ["hikebox_place *"],
-    "&mut Decided": ["hikebox_decision *"],
+    "&CourseGiven": ["const hikebox_course *"],
+    "&[EventGiven]": ["const hikebox_event *", "size_t"],
+    "&mut [LineTold]": ["hikebox_line *", "size_t"],
     "&mut Reply": ["hikebox_next *"],
     "&mut Usage": ["hikebox_usage *"],
     "&StormGiven": ["const hikebox_storm *"],
@@ -25,11 +28,14 @@ RATTLE = {
     "&mut Range": ["hikebox_range *"],
     "u64": ["uint64_t"],
     "u32": ["uint32_t"],
+    "bool": ["bool"],
     "alloc: Global": [],
 }
 STRUCTS = {
     "Place": "hikebox_place",
-    "Decided": "hikebox_decision",
+    "CourseGiven": "hikebox_course",
+    "EventGiven": "hikebox_event",
+    "LineTold": "hikebox_line",
     "Reply": "hikebox_next",
     "Usage": "hikebox_usage",
     "StormGiven": "hikebox_storm",
@@ -58,7 +64,7 @@ def declared():
         for parameter in parameters.split(","):
             kind, _, array = re.fullmatch(r"\s*(.*?[\s*])(\w+)(\[\d+\])?\s*", parameter, re.S).groups()
             kind = " ".join((kind + ("*" if array else "")).replace("*", " * ").split())
-            types.append(re.sub(r"hikebox_(policy|driver|pass|retry) \*", "handle *", kind))
+            types.append(re.sub(r"hikebox_(policy|pass|retry) \*", "handle *", kind))
         calls[name] = types
     return calls
 

@@ -1,48 +1,46 @@
 // Calls the library as a C program does. The first word says what it does:
-//   plan STEPS FROM TOOK INPUT WORD   steps the policy on standard input, and prints what `zsched plan` prints
+//   plan STEPS FROM TOOK INPUTS WORD  steps the policy on standard input along a course, and prints what `zsched plan` prints:
+//                                     one input or more, a word or seed:N
 //   retry BUDGET RUN..                runs a retry of the policy on standard input, whose runs end as the words say
 //                                     (won:1, lost:7, the last one repeated), and prints `zsched pool`'s line of it
 //   handles                           empty handles, full ones, those of another kind, and second frees
 //   budgets                           passes of budgets without end, and limits that are raised after refusals
 //   deadlines                         retries with a deadline, which the plan or the deadline ends
-//   quotas                            quotas: windows, their borders and passes, and retries on a quota and on nothing
+//   quotas                            quotas: windows, their borders and passes, requests at once, terms that are set, tickets
+//                                     handed back, and retries on a quota and on nothing
 //   leases                            leases of a budget and of a quota worked out by hand, and what a window allows
 //   fault                             says what is wrong with the policy on standard input, as `zsched check` does
 //   faults                            texts that are no policy, each with its fault, its place and what is wanted there
-//   journals                          the events of a driver
-//   lasting                           a retry past 65,536 failures, a journal that is full, and handles of one policy
+//   nodes                             policies of a node by its name and numbers, and each refusal
+//   policies                          what is written of policies, and their bounds
+//   courses                           a course worked out by hand, and each refusal
+//   lasting                           a retry past 65,536 failures, and handles of one policy
 //   shares                            threads retry by one policy, each with a share of it, and free it; others draw of one
 //                                     quota, in windows that are apart
 //   storms                            storms worked out by hand, and each refusal
 //   draw THREADS TICKETS              threads draw all tickets of a budget, and each is drawn once
 //   calls                             each call that takes memory at least once; one that is refused for want of memory is made again
-#include <hikebox.h>
+#include "checks.h"
 #include <pthread.h>
-#include <stdio.h>
-#include <stdlib.h>
-#include <string.h>
 #include <sys/resource.h>
 
-static int wrong;
-static char input[1 << 20];
+int wrong;
+char input[1 << 20];
 static const uint32_t no_words[4] = {0, 0, 0, 0};
 
-// A status that is not the one that is wanted is an error.
-static void wants_at(int line, hikebox_status got, hikebox_status wanted) {
+void wants_at(const char *file, int line, hikebox_status got, hikebox_status wanted) {
     if (got == wanted) return;
-    fprintf(stderr, "tests/library.c:%d: status %u, wanted %u\n", line, got, wanted);
+    fprintf(stderr, "%s:%d: status %u, wanted %u\n", file, line, got, wanted);
     wrong = 1;
 }
-#define wants(got, wanted) wants_at(__LINE__, got, wanted)
 
-static void holds_at(int line, bool holds) {
+void holds_at(const char *file, int line, bool holds) {
     if (holds) return;
-    fprintf(stderr, "tests/library.c:%d: does not hold\n", line);
+    fprintf(stderr, "%s:%d: does not hold\n", file, line);
     wrong = 1;
 }
-#define holds(what) holds_at(__LINE__, what)
 
-static hikebox_status read_policy(const char *json, hikebox_policy *policy) {
+hikebox_status read_policy(const char *json, hikebox_policy *policy) {
     hikebox_place place;
     return hikebox_policy_read(json, strlen(json), policy, &place);
 }
@@ -61,39 +59,9 @@ static hikebox_status say_fault(const char *json, char *text, size_t capacity, s
     return hikebox_policy_fault(json, strlen(json), text, capacity, length);
 }
 
-static void read_input(void) {
+void read_input(void) {
     size_t length = fread(input, 1, sizeof input - 1, stdin);
     input[length] = 0;
-}
-
-static uint64_t plus(uint64_t moment, uint64_t delay) {
-    return moment + delay < HIKEBOX_FAR ? moment + delay : HIKEBOX_FAR;
-}
-
-static int plan(char **words) {
-    static char text[1 << 20];
-    uint64_t steps = strtoull(words[0], 0, 10), now = strtoull(words[1], 0, 10), took = strtoull(words[2], 0, 10);
-    uint64_t given = strtoull(words[3], 0, 10);
-    uint32_t word = (uint32_t)strtoull(words[4], 0, 10), lanes[4] = {word, word, word, word};
-    hikebox_policy policy = HIKEBOX_INIT;
-    hikebox_driver driver = HIKEBOX_INIT;
-    hikebox_decision decision = {0, true};
-    size_t length;
-    read_input();
-    hikebox_status status = read_policy(input, &policy);
-    if (status != HIKEBOX_OK) return (int)status;
-    wants(hikebox_driver_new(&policy, &driver), HIKEBOX_OK);
-    for (uint64_t step = 0; step < steps && decision.goes_on; step++) {
-        wants(hikebox_driver_next(&driver, now, lanes, given, &decision), HIKEBOX_OK);
-        wants(hikebox_driver_last_text(&driver, text, sizeof text, &length), HIKEBOX_OK);
-        printf("%llu: %.*s", (unsigned long long)now, (int)length, text);
-        if (decision.goes_on) printf(" next %llu\n", (unsigned long long)decision.start);
-        else printf(" done\n");
-        now = plus(decision.start, took);
-    }
-    wants(hikebox_driver_free(&driver), HIKEBOX_OK);
-    wants(hikebox_policy_free(&policy), HIKEBOX_OK);
-    return wrong;
 }
 
 static int retry(char **words, int count) {
@@ -169,21 +137,6 @@ static int faults(void) {
     return wrong;
 }
 
-static int journals(void) {
-    hikebox_policy policy = HIKEBOX_INIT;
-    hikebox_driver driver = HIKEBOX_INIT;
-    hikebox_decision decision;
-    static const uint32_t first[4] = {10, 11, 12, 13}, second[4] = {20, 21, 22, 23}, third[4] = {30, 31, 32, 33};
-    wants(read_policy("{\"meet\":[{\"recurs\":2},{\"spaced\":100}]}", &policy), HIKEBOX_OK);
-    wants(hikebox_driver_new(&policy, &driver), HIKEBOX_OK);
-    wants(hikebox_driver_next(&driver, 5, first, 7, &decision), HIKEBOX_OK);
-    wants(hikebox_driver_next(&driver, 5, second, HIKEBOX_FAR, &decision), HIKEBOX_OK);
-    wants(hikebox_driver_next(&driver, 4, third, 0, &decision), HIKEBOX_BACKWARDS);
-    wants(hikebox_driver_free(&driver), HIKEBOX_OK);
-    wants(hikebox_policy_free(&policy), HIKEBOX_OK);
-    return wrong;
-}
-
 // The greatest size that the program had in memory, in bytes.
 static uint64_t most_memory(void) {
     struct rusage used;
@@ -221,29 +174,15 @@ static void past_the_journal(void) {
     wants(hikebox_retry_free(&other), HIKEBOX_OK);
 }
 
-// A driver keeps its events, and says where it has no room.
-static void full_journal(void) {
-    hikebox_policy policy = HIKEBOX_INIT;
-    hikebox_driver driver = HIKEBOX_INIT;
-    hikebox_decision decision;
-    wants(read_policy("\"forever\"", &policy), HIKEBOX_OK);
-    wants(hikebox_driver_new(&policy, &driver), HIKEBOX_OK);
-    for (uint64_t now = 0; now < HIKEBOX_MOST_EVENTS; now++)
-        wants(hikebox_driver_next(&driver, now, no_words, 7, &decision), HIKEBOX_OK);
-    wants(hikebox_driver_next(&driver, HIKEBOX_MOST_EVENTS, no_words, 7, &decision), HIKEBOX_JOURNAL_FULL);
-    wants(hikebox_driver_free(&driver), HIKEBOX_OK);
-    wants(hikebox_policy_free(&policy), HIKEBOX_OK);
-}
-
 // 10,000 handles have one policy of 256 nodes: it is copied for none of them, and lives as long as one.
 static void one_policy(void) {
     enum { HANDLES = 10000 };
     static hikebox_policy shares[HANDLES];
     static char text[8192];
     hikebox_policy policy = HIKEBOX_INIT;
-    hikebox_driver driver = HIKEBOX_INIT;
-    hikebox_decision decision;
-    uint64_t nodes, depth, before;
+    hikebox_retry machine = HIKEBOX_INIT;
+    hikebox_next next;
+    uint64_t nodes, depth, most, before;
     // 128 leaves that meet by pairs, seven levels deep, with 127 meets and one `first` over all.
     strcpy(text, "{\"recurs\":2}");
     for (int level = 0; level < 7; level++) {
@@ -260,69 +199,67 @@ static void one_policy(void) {
     holds(most_memory() - before < 16 << 20);
     wants(hikebox_policy_free(&policy), HIKEBOX_OK);
     for (int at = 0; at + 1 < HANDLES; at++) wants(hikebox_policy_free(&shares[at]), HIKEBOX_OK);
-    wants(hikebox_policy_size(&shares[HANDLES - 1], &nodes, &depth), HIKEBOX_OK);
-    holds(nodes == 256 && depth == 9);
-    wants(hikebox_driver_new(&shares[HANDLES - 1], &driver), HIKEBOX_OK);
+    wants(hikebox_policy_size(&shares[HANDLES - 1], &nodes, &depth, &most), HIKEBOX_OK);
+    holds(nodes == 256 && depth == 9 && most == 2);
+    wants(retry_on_nothing(&shares[HANDLES - 1], HIKEBOX_NO_DEADLINE, &machine), HIKEBOX_OK);
     wants(hikebox_policy_free(&shares[HANDLES - 1]), HIKEBOX_OK);
-    wants(hikebox_driver_next(&driver, 5, no_words, 0, &decision), HIKEBOX_OK);
-    holds(decision.goes_on && decision.start == 5);
-    wants(hikebox_driver_free(&driver), HIKEBOX_OK);
+    wants(hikebox_retry_poll(&machine, 0, no_words, HIKEBOX_NO_REPORT, 0, &next), HIKEBOX_OK);
+    wants(hikebox_retry_poll(&machine, 5, no_words, HIKEBOX_LOST, 0, &next), HIKEBOX_OK);
+    holds(next.what == HIKEBOX_RUN && next.granted == 1);
+    wants(hikebox_retry_free(&machine), HIKEBOX_OK);
 }
 
 static int lasting(void) {
     one_policy();
     past_the_journal();
-    full_journal();
     return wrong;
 }
 
 // Every call on a handle of every kind and on an empty one. Each kind is tried as each other one.
 static int handles(void) {
     hikebox_policy policy = HIKEBOX_INIT, copy = HIKEBOX_INIT, other_policy = HIKEBOX_INIT;
-    hikebox_driver driver = HIKEBOX_INIT;
     hikebox_pass pass = HIKEBOX_INIT, part = HIKEBOX_INIT, other_pass = HIKEBOX_INIT;
     hikebox_pass quota = HIKEBOX_INIT, other_quota = HIKEBOX_INIT;
     hikebox_retry machine = HIKEBOX_INIT, other_machine = HIKEBOX_INIT, quota_machine = HIKEBOX_INIT;
     hikebox_usage usage = {6, 6, 6, 6, 6};
     hikebox_place place = {7, 7};
-    hikebox_decision decision = {5, true};
-    hikebox_next next = {9, 9, 9, 9, 9};
-    uint64_t number = 77, other = 78;
+    hikebox_next next = {9, 9, 9, 9, 9, 9};
+    const hikebox_course course = {1, 0, 0};
+    const hikebox_event event = {0, {0, 0, 0, 0}};
+    hikebox_line line = {5, 5, 5, true};
+    uint64_t number = 77, other = 78, most = 76;
     size_t length = 79;
     char text[8] = "unread";
     wants(read_policy("{\"recurs\":2}", &policy), HIKEBOX_OK);
-    wants(hikebox_driver_new(&policy, &driver), HIKEBOX_OK);
     wants(hikebox_budget_rising(3, &pass), HIKEBOX_OK);
     wants(hikebox_retry_new(&policy, &pass, HIKEBOX_NO_DEADLINE, &machine), HIKEBOX_OK);
     wants(hikebox_policy_share(&policy, &other_policy), HIKEBOX_OK);
     wants(hikebox_pass_split(&pass, &other_pass), HIKEBOX_OK);
     wants(hikebox_retry_new(&policy, &other_pass, HIKEBOX_NO_DEADLINE, &other_machine), HIKEBOX_OK);
-    wants(hikebox_quota_new(0, 1, 0, 100, &quota), HIKEBOX_OK);
+    wants(hikebox_quota_new(0, 1, 0, 100, false, &quota), HIKEBOX_OK);
     wants(hikebox_pass_split(&quota, &other_quota), HIKEBOX_OK);
     wants(hikebox_retry_new(&policy, &quota, HIKEBOX_NO_DEADLINE, &quota_machine), HIKEBOX_OK);
-    void *kinds[] = {&policy, &driver, &pass, &quota, &machine, &part};
-    enum { POLICY, DRIVER, PASS, QUOTA, RETRY, NOTHING, KINDS };
+    void *kinds[] = {&policy, &pass, &quota, &machine, &part};
+    enum { POLICY, PASS, QUOTA, RETRY, NOTHING, KINDS };
     for (int kind = 0; kind < KINDS; kind++) {
         void *handle = kinds[kind];
         hikebox_status refused = kind == NOTHING ? HIKEBOX_EMPTY : HIKEBOX_WRONG_KIND;
         hikebox_policy spare = HIKEBOX_INIT;
         if (kind != POLICY) {
             wants(hikebox_policy_share(handle, &spare), refused);
-            wants(hikebox_policy_size(handle, &number, &other), refused);
-            wants(hikebox_driver_new(handle, (hikebox_driver *)&spare), refused);
+            wants(hikebox_policy_size(handle, &number, &other, &most), refused);
+            wants(hikebox_policy_json(handle, text, sizeof text, &length), refused);
+            wants(hikebox_policy_course(handle, &course, &event, 1, &line, 1, &length, text, sizeof text, &length), refused);
             wants(hikebox_retry_new(handle, &other_pass, HIKEBOX_NO_DEADLINE, (hikebox_retry *)&spare), refused);
             wants(hikebox_retry_new(handle, &other_quota, HIKEBOX_NO_DEADLINE, (hikebox_retry *)&spare), refused);
             wants(retry_on_nothing(handle, HIKEBOX_NO_DEADLINE, (hikebox_retry *)&spare), refused);
             wants(hikebox_policy_free(handle), refused);
         }
-        if (kind != DRIVER) {
-            wants(hikebox_driver_next(handle, 0, no_words, 0, &decision), refused);
-            wants(hikebox_driver_last_text(handle, text, sizeof text, &length), refused);
-            wants(hikebox_driver_free(handle), refused);
-        }
         if (kind != PASS && kind != QUOTA) {
             wants(hikebox_pass_draw(handle, 0, &number), refused);
-            wants(hikebox_pass_deposit(handle, 0), refused);
+            wants(hikebox_pass_deposit(handle, 0, 1), refused);
+            wants(hikebox_pass_hand_back(handle), refused);
+            wants(hikebox_pass_set_terms(handle, 1, 1), refused);
             wants(hikebox_pass_split(handle, (hikebox_pass *)&spare), refused);
             wants(hikebox_pass_join(handle, &other_pass), refused);
             wants(hikebox_pass_join(&other_pass, handle), refused);
@@ -344,7 +281,6 @@ static int handles(void) {
         if (kind == QUOTA) wants(hikebox_pass_join(handle, &other_pass), HIKEBOX_DRAWS_ELSEWHERE);
         if (kind != RETRY) {
             wants(hikebox_retry_poll(handle, 0, no_words, HIKEBOX_NO_REPORT, 0, &next), refused);
-            wants(hikebox_retry_left(handle, 0, &number), refused);
             wants(hikebox_retry_cancel(handle), refused);
             wants(hikebox_retry_end(handle, &other_pass), refused);
             wants(hikebox_retry_end(handle, &other_quota), refused);
@@ -355,12 +291,12 @@ static int handles(void) {
         // A handle that holds something, of whatever kind, is not filled.
         wants(hikebox_policy_read("[", 1, handle, &place), HIKEBOX_FULL);
         wants(hikebox_policy_share(&other_policy, handle), HIKEBOX_FULL);
-        wants(hikebox_driver_new(&other_policy, handle), HIKEBOX_FULL);
+        wants(make_node("nonsense", &number, 0, (hikebox_policy *)&pass, &other_policy, handle), HIKEBOX_FULL);
         wants(hikebox_budget_fixed(1, handle), HIKEBOX_FULL);
         wants(hikebox_budget_rising(1, handle), HIKEBOX_FULL);
         wants(hikebox_pass_split(&other_pass, handle), HIKEBOX_FULL);
         wants(hikebox_retry_new(&other_policy, &other_pass, HIKEBOX_NO_DEADLINE, handle), HIKEBOX_FULL);
-        wants(hikebox_quota_new(0, 1, 0, 0, handle), HIKEBOX_FULL);
+        wants(hikebox_quota_new(0, 1, 0, 0, false, handle), HIKEBOX_FULL);
         wants(hikebox_pass_unlimited(handle), HIKEBOX_FULL);
         wants(hikebox_pass_split(&other_quota, handle), HIKEBOX_FULL);
         wants(hikebox_retry_new(&other_policy, &other_quota, HIKEBOX_NO_DEADLINE, handle), HIKEBOX_FULL);
@@ -373,18 +309,16 @@ static int handles(void) {
     wants(hikebox_pass_join(&quota, &other_quota), HIKEBOX_OK);
     wants(hikebox_policy_free(&other_policy), HIKEBOX_OK);
     // Nothing was lost and no result was written.
-    holds(number == 77 && other == 78 && length == 79 && decision.start == 5 && next.what == 9 && next.granted == 9);
+    holds(number == 77 && other == 78 && most == 76 && length == 79 && line.moment == 5 && next.what == 9 && next.granted == 9);
     holds(strcmp(text, "unread") == 0 && usage.window == 6 && usage.left == 6 && usage.next == 6);
     wants(hikebox_pass_close(&quota, &number), HIKEBOX_OK);
     holds(number == 0);
     wants(hikebox_pass_free(&quota), HIKEBOX_EMPTY);
-    wants(hikebox_policy_size(&policy, &number, &other), HIKEBOX_OK);
-    holds(number == 1 && other == 1);
+    wants(hikebox_policy_size(&policy, &number, &other, &most), HIKEBOX_OK);
+    holds(number == 1 && other == 1 && most == 2);
     wants(hikebox_pass_count(&pass, &number), HIKEBOX_OK);
     holds(number == 0);
     // Numbers and reports that are none, and reports out of turn.
-    wants(hikebox_driver_next(&driver, HIKEBOX_FAR + 1, no_words, 0, &decision), HIKEBOX_TOO_LARGE);
-    wants(hikebox_driver_next(&driver, 0, no_words, HIKEBOX_FAR + 1, &decision), HIKEBOX_TOO_LARGE);
     wants(hikebox_retry_poll(&machine, HIKEBOX_FAR + 1, no_words, 0, 0, &next), HIKEBOX_TOO_LARGE);
     wants(hikebox_retry_poll(&machine, 0, no_words, HIKEBOX_LOST, HIKEBOX_FAR + 1, &next), HIKEBOX_TOO_LARGE);
     wants(hikebox_retry_poll(&machine, 0, no_words, 3, 0, &next), HIKEBOX_NO_SUCH_REPORT);
@@ -399,15 +333,6 @@ static int handles(void) {
     wants(hikebox_retry_cancel(&machine), HIKEBOX_OK);
     wants(hikebox_retry_poll(&machine, 0, no_words, HIKEBOX_NO_REPORT, 0, &next), HIKEBOX_OK);
     holds(next.what == HIKEBOX_OVER && next.how == HIKEBOX_ENDED_BACKWARDS && next.granted == 1 && next.runs == 2);
-    // The driver refuses what is before its last event, and answers what it has.
-    wants(hikebox_driver_last_text(&driver, text, sizeof text, &length), HIKEBOX_NO_OUTPUT);
-    wants(hikebox_driver_next(&driver, 5, no_words, 0, &decision), HIKEBOX_OK);
-    wants(hikebox_driver_next(&driver, 4, no_words, 0, &decision), HIKEBOX_BACKWARDS);
-    holds(decision.goes_on && decision.start == 5);
-    wants(hikebox_driver_last_text(&driver, text, 0, &length), HIKEBOX_NO_ROOM);
-    holds(length == 1 && strcmp(text, "unread") == 0);
-    wants(hikebox_driver_last_text(&driver, text, 1, &length), HIKEBOX_OK);
-    holds(length == 1 && strcmp(text, "0nread") == 0);
     // Budgets: what a limit may be, and when one is closed.
     wants(hikebox_budget_fixed(HIKEBOX_MOST_TICKETS + 1, &part), HIKEBOX_LIMIT_TOO_LARGE);
     wants(hikebox_pass_raise(&pass, HIKEBOX_MOST_TICKETS + 1, &number), HIKEBOX_LIMIT_TOO_LARGE);
@@ -436,8 +361,6 @@ static int handles(void) {
     wants(hikebox_pass_close(&pass, &number), HIKEBOX_PASSES_OUT);
     wants(hikebox_pass_free(&pass), HIKEBOX_OK);
     wants(hikebox_pass_free(&pass), HIKEBOX_EMPTY);
-    wants(hikebox_driver_free(&driver), HIKEBOX_OK);
-    wants(hikebox_driver_free(&driver), HIKEBOX_EMPTY);
     wants(hikebox_policy_free(&policy), HIKEBOX_OK);
     wants(hikebox_policy_free(&policy), HIKEBOX_EMPTY);
     // What is no policy, and where it stops being JSON.
@@ -514,23 +437,23 @@ static uint64_t first_of(uint64_t window) {
 
 static void sees_at(int line, hikebox_pass *quota, uint64_t now, hikebox_usage wanted) {
     hikebox_usage got;
-    wants_at(line, hikebox_pass_seen(quota, now, &got), HIKEBOX_OK);
-    holds_at(line, got.window == wanted.window && got.asked == wanted.asked && got.given == wanted.given
+    wants_at(__FILE__, line, hikebox_pass_seen(quota, now, &got), HIKEBOX_OK);
+    holds_at(__FILE__, line, got.window == wanted.window && got.asked == wanted.asked && got.given == wanted.given
                        && got.left == wanted.left && got.next == wanted.next);
 }
 #define sees(quota, now, ...) sees_at(__LINE__, quota, now, (hikebox_usage){__VA_ARGS__})
 
 static void draws_at(int line, hikebox_pass *quota, uint64_t now, uint64_t wanted) {
     uint64_t ticket = 0;
-    wants_at(line, hikebox_pass_draw(quota, now, &ticket), HIKEBOX_OK);
-    holds_at(line, ticket == wanted);
+    wants_at(__FILE__, line, hikebox_pass_draw(quota, now, &ticket), HIKEBOX_OK);
+    holds_at(__FILE__, line, ticket == wanted);
 }
 #define draws(quota, now, wanted) draws_at(__LINE__, quota, now, wanted)
 
 static void closes_at(int line, hikebox_pass *quota, uint64_t wanted) {
     uint64_t tickets = 0;
-    wants_at(line, hikebox_pass_close(quota, &tickets), HIKEBOX_OK);
-    holds_at(line, tickets == wanted);
+    wants_at(__FILE__, line, hikebox_pass_close(quota, &tickets), HIKEBOX_OK);
+    holds_at(__FILE__, line, tickets == wanted);
 }
 #define closes(quota, wanted) closes_at(__LINE__, quota, wanted)
 
@@ -538,19 +461,21 @@ static void closes_at(int line, hikebox_pass *quota, uint64_t wanted) {
 static void terms(void) {
     hikebox_pass quota = HIKEBOX_INIT;
     uint64_t tickets = HIKEBOX_MOST_TICKETS, share = HIKEBOX_MOST_SHARE, far = HIKEBOX_FAR;
-    wants(hikebox_quota_new(far + 1, tickets + 1, share + 1, 0, &quota), HIKEBOX_TOO_LARGE);
-    wants(hikebox_quota_new(0, tickets + 1, share + 1, 0, &quota), HIKEBOX_RESERVE_TOO_LARGE);
-    wants(hikebox_quota_new(0, tickets + 1, share, far + 1, &quota), HIKEBOX_RESERVE_TOO_LARGE);
-    wants(hikebox_quota_new(0, tickets, share + 1, 0, &quota), HIKEBOX_SHARE_TOO_LARGE);
-    wants(hikebox_quota_new(0, tickets, share + 1, far + 1, &quota), HIKEBOX_SHARE_TOO_LARGE);
-    wants(hikebox_quota_new(0, tickets, share, 99, &quota), HIKEBOX_PERIOD_TOO_SHORT);
-    wants(hikebox_quota_new(0, tickets, share, far + 1, &quota), HIKEBOX_TOO_LARGE);
+    for (int carries = 0; carries < 2; carries++) {
+        wants(hikebox_quota_new(far + 1, tickets + 1, share + 1, 0, carries, &quota), HIKEBOX_TOO_LARGE);
+        wants(hikebox_quota_new(0, tickets + 1, share + 1, 0, carries, &quota), HIKEBOX_RESERVE_TOO_LARGE);
+        wants(hikebox_quota_new(0, tickets + 1, share, far + 1, carries, &quota), HIKEBOX_RESERVE_TOO_LARGE);
+        wants(hikebox_quota_new(0, tickets, share + 1, 0, carries, &quota), HIKEBOX_SHARE_TOO_LARGE);
+        wants(hikebox_quota_new(0, tickets, share + 1, far + 1, carries, &quota), HIKEBOX_SHARE_TOO_LARGE);
+        wants(hikebox_quota_new(0, tickets, share, 99, carries, &quota), HIKEBOX_PERIOD_TOO_SHORT);
+        wants(hikebox_quota_new(0, tickets, share, far + 1, carries, &quota), HIKEBOX_TOO_LARGE);
+    }
     holds(quota.held == NULL);
-    wants(hikebox_quota_new(0, tickets, share, far, &quota), HIKEBOX_OK);
+    wants(hikebox_quota_new(0, tickets, share, far, false, &quota), HIKEBOX_OK);
     sees(&quota, far - 1, 0, 0, 0, HIKEBOX_MOST_TICKETS, far);
     sees(&quota, far, 1, 0, 0, HIKEBOX_MOST_TICKETS, far);
     closes(&quota, 0);
-    wants(hikebox_quota_new(far, 1, 0, 100, &quota), HIKEBOX_OK);
+    wants(hikebox_quota_new(far, 1, 0, 100, false, &quota), HIKEBOX_OK);
     draws(&quota, far, 0);
     sees(&quota, 0, 0, 0, 1, 0, far);
     closes(&quota, 1);
@@ -560,15 +485,15 @@ static void terms(void) {
 static void windows(void) {
     hikebox_pass quota = HIKEBOX_INIT;
     uint64_t ticket = 77;
-    wants(hikebox_quota_new(0, 2, 500, 100, &quota), HIKEBOX_OK);
+    wants(hikebox_quota_new(0, 2, 500, 100, false, &quota), HIKEBOX_OK);
     sees(&quota, 0, 0, 0, 0, 2, 100);
     draws(&quota, 0, 0);
     draws(&quota, 99, 1);
     wants(hikebox_pass_draw(&quota, 99, &ticket), HIKEBOX_NO_TICKET);
-    wants(hikebox_pass_deposit(&quota, 99), HIKEBOX_OK);
+    wants(hikebox_pass_deposit(&quota, 99, 1), HIKEBOX_OK);
     wants(hikebox_pass_draw(&quota, 99, &ticket), HIKEBOX_NO_TICKET);
     holds(ticket == 77);
-    wants(hikebox_pass_deposit(&quota, 0), HIKEBOX_OK);
+    wants(hikebox_pass_deposit(&quota, 0, 1), HIKEBOX_OK);
     sees(&quota, 50, 0, 2, 2, 1, 100);
     draws(&quota, 99, 2);
     sees(&quota, 99, 0, 2, 3, 0, 100);
@@ -576,46 +501,162 @@ static void windows(void) {
     draws(&quota, 99, first_of(1) + 1);
     wants(hikebox_pass_draw(&quota, 199, &ticket), HIKEBOX_NO_TICKET);
     sees(&quota, 0, 1, 0, 2, 0, 200);
-    wants(hikebox_pass_deposit(&quota, 250), HIKEBOX_OK);
+    wants(hikebox_pass_deposit(&quota, 250, 1), HIKEBOX_OK);
     sees(&quota, 200, 2, 1, 0, 2, 300);
     draws(&quota, 300, first_of(3));
     wants(hikebox_pass_draw(&quota, HIKEBOX_FAR + 1, &ticket), HIKEBOX_TOO_LARGE);
     closes(&quota, 6);
-    wants(hikebox_quota_new(0, 0, 1000, 100, &quota), HIKEBOX_OK);
+    wants(hikebox_quota_new(0, 0, 1000, 100, false, &quota), HIKEBOX_OK);
     wants(hikebox_pass_draw(&quota, 5, &ticket), HIKEBOX_NO_TICKET);
-    wants(hikebox_pass_deposit(&quota, 5), HIKEBOX_OK);
+    wants(hikebox_pass_deposit(&quota, 5, 1), HIKEBOX_OK);
     draws(&quota, 5, 0);
     wants(hikebox_pass_draw(&quota, 5, &ticket), HIKEBOX_NO_TICKET);
     closes(&quota, 1);
-    wants(hikebox_quota_new(0, 1, 0, 100, &quota), HIKEBOX_OK);
-    for (int request = 0; request < 5; request++) wants(hikebox_pass_deposit(&quota, 99), HIKEBOX_OK);
+    wants(hikebox_quota_new(0, 1, 0, 100, false, &quota), HIKEBOX_OK);
+    for (int request = 0; request < 5; request++) wants(hikebox_pass_deposit(&quota, 99, 1), HIKEBOX_OK);
     draws(&quota, 99, 0);
     wants(hikebox_pass_draw(&quota, 99, &ticket), HIKEBOX_NO_TICKET);
     draws(&quota, 100, first_of(1));
     closes(&quota, 2);
     // Windows are counted from the one that the quota was made in; a call opens its own, and those between give nothing.
-    wants(hikebox_quota_new(1700000000042, 1, 0, 100, &quota), HIKEBOX_OK);
+    wants(hikebox_quota_new(1700000000042, 1, 0, 100, false, &quota), HIKEBOX_OK);
     draws(&quota, 1700000000099, 0);
     wants(hikebox_pass_draw(&quota, 0, &ticket), HIKEBOX_NO_TICKET);
     draws(&quota, 1700000500000, first_of(5000));
     wants(hikebox_pass_draw(&quota, 1700000500099, &ticket), HIKEBOX_NO_TICKET);
     sees(&quota, 1700000000200, 5000, 0, 1, 0, 1700000500100);
     closes(&quota, 2);
-    wants(hikebox_quota_new(0, 1, 0, 100, &quota), HIKEBOX_OK);
+    wants(hikebox_quota_new(0, 1, 0, 100, false, &quota), HIKEBOX_OK);
     draws(&quota, HIKEBOX_FAR, first_of(2999999999));
     sees(&quota, 0, 2999999999, 0, 1, 0, HIKEBOX_FAR);
     closes(&quota, 1);
     // The moment is looked at before the handle.
-    wants(hikebox_pass_deposit(&quota, HIKEBOX_FAR + 1), HIKEBOX_TOO_LARGE);
+    wants(hikebox_pass_deposit(&quota, HIKEBOX_FAR + 1, 1), HIKEBOX_TOO_LARGE);
     wants(hikebox_pass_draw(&quota, HIKEBOX_FAR + 1, &ticket), HIKEBOX_TOO_LARGE);
     holds(ticket == 77);
+}
+
+// Windows of 100 ms, of which each draws once what the one before left of its share: half a ticket a request.
+static void carried(void) {
+    hikebox_pass quota = HIKEBOX_INIT, part = HIKEBOX_INIT;
+    uint64_t ticket = 77;
+    wants(hikebox_quota_new(0, 0, 500, 100, true, &quota), HIKEBOX_OK);
+    wants(hikebox_pass_deposit(&quota, 90, 4), HIKEBOX_OK);
+    draws(&quota, 95, 0);
+    sees(&quota, 110, 1, 0, 0, 1, 200);
+    draws(&quota, 110, first_of(1) - 1);
+    wants(hikebox_pass_draw(&quota, 199, &ticket), HIKEBOX_NO_TICKET);
+    sees(&quota, 199, 1, 0, 0, 0, 200);
+    closes(&quota, 2);
+    wants(hikebox_quota_new(0, 0, 500, 100, false, &quota), HIKEBOX_OK);
+    wants(hikebox_pass_deposit(&quota, 90, 4), HIKEBOX_OK);
+    draws(&quota, 95, 0);
+    wants(hikebox_pass_draw(&quota, 110, &ticket), HIKEBOX_NO_TICKET);
+    closes(&quota, 1);
+    // Two are carried to window 1, which draws one of them. The other is not carried on, but the share of its own two requests.
+    wants(hikebox_quota_new(0, 1, 500, 100, true, &quota), HIKEBOX_OK);
+    wants(hikebox_pass_split(&quota, &part), HIKEBOX_OK);
+    wants(hikebox_pass_deposit(&quota, 0, 4), HIKEBOX_OK);
+    sees(&part, 0, 0, 4, 0, 3, 100);
+    sees(&part, 100, 1, 0, 0, 3, 200);
+    draws(&quota, 100, first_of(1) - 2);
+    wants(hikebox_pass_deposit(&part, 150, 2), HIKEBOX_OK);
+    sees(&quota, 150, 1, 2, 0, 3, 200);
+    sees(&part, 200, 2, 0, 0, 2, 300);
+    draws(&part, 200, first_of(2) - 1);
+    draws(&quota, 200, first_of(2));
+    wants(hikebox_pass_draw(&part, 299, &ticket), HIKEBOX_NO_TICKET);
+    sees(&quota, 300, 3, 0, 0, 1, 400);
+    wants(hikebox_pass_join(&quota, &part), HIKEBOX_OK);
+    closes(&quota, 3);
+    // An idle window leaves nothing, and hands nothing on. A ticket that was carried is given up where it is handed back.
+    wants(hikebox_quota_new(0, 0, 500, 100, true, &quota), HIKEBOX_OK);
+    wants(hikebox_pass_deposit(&quota, 0, 10), HIKEBOX_OK);
+    wants(hikebox_pass_draw(&quota, 200, &ticket), HIKEBOX_NO_TICKET);
+    sees(&quota, 200, 2, 0, 0, 0, 300);
+    wants(hikebox_pass_deposit(&quota, 200, 4), HIKEBOX_OK);
+    draws(&quota, 300, first_of(3) - 2);
+    wants(hikebox_pass_hand_back(&quota), HIKEBOX_OK);
+    draws(&quota, 300, first_of(3) - 1);
+    wants(hikebox_pass_draw(&quota, 300, &ticket), HIKEBOX_NO_TICKET);
+    closes(&quota, 1);
+    // Half of a window's numbers are of its own tickets, and half of those carried from it.
+    wants(hikebox_quota_new(0, HIKEBOX_MOST_TICKETS, HIKEBOX_MOST_SHARE, 100, true, &quota), HIKEBOX_OK);
+    sees(&quota, 0, 0, 0, 0, UINT64_C(2147483648), 100);
+    wants(hikebox_pass_deposit(&quota, 0, UINT64_C(4294967295)), HIKEBOX_OK);
+    sees(&quota, 100, 1, 0, 0, UINT64_C(4294967296), 200);
+    draws(&quota, 100, UINT64_C(2147483648));
+    closes(&quota, 1);
+    holds(ticket == 77);
+}
+
+// Several requests counted at once, of which each adds a quarter of a ticket, and those that are past a pass's parts.
+static void weights(void) {
+    hikebox_pass quota = HIKEBOX_INIT, part = HIKEBOX_INIT, least = HIKEBOX_INIT;
+    uint64_t ticket = 77;
+    wants(hikebox_quota_new(0, 1, 250, 100, false, &quota), HIKEBOX_OK);
+    wants(hikebox_pass_split(&quota, &part), HIKEBOX_OK);
+    wants(hikebox_pass_split(&part, &least), HIKEBOX_OK);
+    wants(hikebox_pass_deposit(&least, 0, 2), HIKEBOX_TOO_MANY_REQUESTS);
+    wants(hikebox_pass_deposit(&part, 0, 1048576), HIKEBOX_TOO_MANY_REQUESTS);
+    wants(hikebox_pass_deposit(&part, HIKEBOX_FAR + 1, 1048576), HIKEBOX_TOO_LARGE);
+    wants(hikebox_pass_deposit(&least, 0, 0), HIKEBOX_OK);
+    sees(&quota, 0, 0, 0, 0, 1, 100);
+    wants(hikebox_pass_deposit(&least, 0, 1), HIKEBOX_OK);
+    wants(hikebox_pass_deposit(&part, 0, 1048575), HIKEBOX_OK);
+    sees(&quota, 99, 0, 1048576, 0, 262145, 100);
+    wants(hikebox_pass_deposit(&part, 100, 8), HIKEBOX_OK);
+    for (uint64_t number = 0; number < 3; number++) draws(&least, 100, first_of(1) + number);
+    wants(hikebox_pass_draw(&least, 199, &ticket), HIKEBOX_NO_TICKET);
+    wants(hikebox_pass_deposit(&quota, 50, 4), HIKEBOX_OK);
+    draws(&part, 50, first_of(1) + 3);
+    wants(hikebox_pass_draw(&quota, 199, &ticket), HIKEBOX_NO_TICKET);
+    // The last request of a window opens the next before its time.
+    wants(hikebox_pass_deposit(&quota, 200, UINT64_C(4294967295)), HIKEBOX_OK);
+    sees(&quota, 200, 2, UINT64_C(4294967295), 0, UINT64_C(1073741824), 300);
+    wants(hikebox_pass_deposit(&least, 200, 1), HIKEBOX_OK);
+    sees(&quota, 200, 3, 0, 0, 1, 400);
+    wants(hikebox_pass_join(&part, &least), HIKEBOX_OK);
+    wants(hikebox_pass_join(&quota, &part), HIKEBOX_OK);
+    closes(&quota, 4);
+}
+
+// Terms that any pass sets, for the present window too; what was given stays given.
+static void new_terms(void) {
+    hikebox_pass quota = HIKEBOX_INIT, part = HIKEBOX_INIT;
+    uint64_t ticket = 77, tickets = HIKEBOX_MOST_TICKETS, share = HIKEBOX_MOST_SHARE;
+    wants(hikebox_quota_new(0, 2, 0, 100, false, &quota), HIKEBOX_OK);
+    wants(hikebox_pass_split(&quota, &part), HIKEBOX_OK);
+    draws(&quota, 0, 0);
+    wants(hikebox_pass_set_terms(&part, 1, 0), HIKEBOX_OK);
+    wants(hikebox_pass_draw(&quota, 0, &ticket), HIKEBOX_NO_TICKET);
+    sees(&part, 0, 0, 0, 1, 0, 100);
+    wants(hikebox_pass_set_terms(&quota, 3, 0), HIKEBOX_OK);
+    sees(&part, 0, 0, 0, 1, 2, 100);
+    draws(&part, 99, 1);
+    draws(&quota, 99, 2);
+    wants(hikebox_pass_draw(&part, 99, &ticket), HIKEBOX_NO_TICKET);
+    wants(hikebox_pass_set_terms(&part, 0, 500), HIKEBOX_OK);
+    sees(&quota, 99, 0, 0, 3, 0, 100);
+    wants(hikebox_pass_deposit(&quota, 100, 5), HIKEBOX_OK);
+    draws(&quota, 100, first_of(1));
+    draws(&part, 100, first_of(1) + 1);
+    wants(hikebox_pass_draw(&part, 199, &ticket), HIKEBOX_NO_TICKET);
+    // What no quota is made with is refused, and the terms stay.
+    wants(hikebox_pass_set_terms(&quota, tickets + 1, share + 1), HIKEBOX_RESERVE_TOO_LARGE);
+    wants(hikebox_pass_set_terms(&quota, tickets, share + 1), HIKEBOX_SHARE_TOO_LARGE);
+    sees(&quota, 199, 1, 5, 2, 0, 200);
+    wants(hikebox_pass_set_terms(&quota, tickets, share), HIKEBOX_OK);
+    sees(&part, 199, 1, 5, 2, tickets - 2, 200);
+    wants(hikebox_pass_join(&quota, &part), HIKEBOX_OK);
+    closes(&quota, 5);
 }
 
 // Passes of a quota: splits down to one part, joins, and when it is closed.
 static void passes(void) {
     hikebox_pass quota = HIKEBOX_INIT, part = HIKEBOX_INIT, least = HIKEBOX_INIT, none = HIKEBOX_INIT;
     uint64_t tickets = 77;
-    wants(hikebox_quota_new(0, 9, 0, 100, &quota), HIKEBOX_OK);
+    wants(hikebox_quota_new(0, 9, 0, 100, false, &quota), HIKEBOX_OK);
     wants(hikebox_pass_split(&quota, &part), HIKEBOX_OK);
     wants(hikebox_pass_split(&part, &least), HIKEBOX_OK);
     wants(hikebox_pass_split(&least, &none), HIKEBOX_TOO_MANY_PASSES);
@@ -634,7 +675,7 @@ static void passes(void) {
     wants(hikebox_pass_join(&quota, &part), HIKEBOX_OK);
     closes(&quota, 4);
     // It counts no passes.
-    wants(hikebox_quota_new(0, 1, 0, 100, &quota), HIKEBOX_OK);
+    wants(hikebox_quota_new(0, 1, 0, 100, false, &quota), HIKEBOX_OK);
     for (int times = 0; times < 70000; times++) {
         wants(hikebox_pass_split(&quota, &part), HIKEBOX_OK);
         wants(hikebox_pass_join(&quota, &part), HIKEBOX_OK);
@@ -649,20 +690,75 @@ static void passes(void) {
 // One failed run, begun at `from` and over at `to`: what is to be done then, and what was granted so far.
 static void fails_at(int line, hikebox_retry *machine, uint64_t from, uint64_t to, uint32_t what, uint64_t granted) {
     hikebox_next next;
-    wants_at(line, hikebox_retry_poll(machine, from, no_words, HIKEBOX_NO_REPORT, 0, &next), HIKEBOX_OK);
-    holds_at(line, next.what == HIKEBOX_RUN);
-    wants_at(line, hikebox_retry_poll(machine, to, no_words, HIKEBOX_LOST, 7, &next), HIKEBOX_OK);
-    holds_at(line, next.what == what && next.granted == granted);
+    wants_at(__FILE__, line, hikebox_retry_poll(machine, from, no_words, HIKEBOX_NO_REPORT, 0, &next), HIKEBOX_OK);
+    holds_at(__FILE__, line, next.what == HIKEBOX_RUN);
+    wants_at(__FILE__, line, hikebox_retry_poll(machine, to, no_words, HIKEBOX_LOST, 7, &next), HIKEBOX_OK);
+    holds_at(__FILE__, line, next.what == what && next.granted == granted);
 }
 #define fails(machine, from, to, what, granted) fails_at(__LINE__, machine, from, to, what, granted)
 
 // How a retry ended, after so many runs. A poll of one that is over changes nothing.
 static void ended_at(int line, hikebox_retry *machine, uint32_t how, uint64_t runs) {
     hikebox_next next;
-    wants_at(line, hikebox_retry_poll(machine, 0, no_words, HIKEBOX_NO_REPORT, 0, &next), HIKEBOX_OK);
-    holds_at(line, next.what == HIKEBOX_OVER && next.how == how && next.runs == runs);
+    wants_at(__FILE__, line, hikebox_retry_poll(machine, 0, no_words, HIKEBOX_NO_REPORT, 0, &next), HIKEBOX_OK);
+    holds_at(__FILE__, line, next.what == HIKEBOX_OVER && next.how == how && next.runs == runs);
 }
 #define ended(machine, how, runs) ended_at(__LINE__, machine, how, runs)
+
+// How many tickets a pass has.
+static void counts_at(int line, hikebox_pass *pass, uint64_t wanted) {
+    uint64_t tickets = 0;
+    wants_at(__FILE__, line, hikebox_pass_count(pass, &tickets), HIKEBOX_OK);
+    holds_at(__FILE__, line, tickets == wanted);
+}
+#define counts(pass, wanted) counts_at(__LINE__, pass, wanted)
+
+// Tickets handed back in their window and after it, by the pass that drew them and by one that a retry was ended into.
+static void returns(void) {
+    hikebox_policy policy = HIKEBOX_INIT;
+    hikebox_pass quota = HIKEBOX_INIT, part = HIKEBOX_INIT;
+    hikebox_retry machine = HIKEBOX_INIT;
+    uint64_t ticket = 77;
+    wants(read_policy("{\"meet\":[{\"recurs\":3},{\"spaced\":60}]}", &policy), HIKEBOX_OK);
+    wants(hikebox_quota_new(0, 1, 0, 100, false, &quota), HIKEBOX_OK);
+    wants(hikebox_pass_split(&quota, &part), HIKEBOX_OK);
+    wants(hikebox_pass_hand_back(&quota), HIKEBOX_NOTHING_TO_HAND_BACK);
+    draws(&quota, 0, 0);
+    wants(hikebox_pass_hand_back(&part), HIKEBOX_NOTHING_TO_HAND_BACK);
+    wants(hikebox_pass_draw(&part, 0, &ticket), HIKEBOX_NO_TICKET);
+    // In its window any pass draws one more for it, which has a number of its own.
+    wants(hikebox_pass_hand_back(&quota), HIKEBOX_OK);
+    wants(hikebox_pass_hand_back(&quota), HIKEBOX_NOTHING_TO_HAND_BACK);
+    counts(&quota, 0);
+    sees(&quota, 0, 0, 0, 0, 1, 100);
+    draws(&part, 99, 1);
+    wants(hikebox_pass_draw(&quota, 99, &ticket), HIKEBOX_NO_TICKET);
+    // Once the window is over none does.
+    draws(&quota, 100, first_of(1));
+    wants(hikebox_pass_hand_back(&part), HIKEBOX_OK);
+    counts(&part, 0);
+    wants(hikebox_pass_draw(&part, 100, &ticket), HIKEBOX_NO_TICKET);
+    sees(&part, 100, 1, 0, 1, 0, 200);
+    // A retry that is cancelled while it waits hands its ticket back by the pass that it is ended into.
+    wants(hikebox_retry_new(&policy, &quota, HIKEBOX_NO_DEADLINE, &machine), HIKEBOX_OK);
+    fails(&machine, 200, 210, HIKEBOX_WAIT, 1);
+    wants(hikebox_retry_cancel(&machine), HIKEBOX_OK);
+    wants(hikebox_retry_end(&machine, &quota), HIKEBOX_OK);
+    wants(hikebox_pass_draw(&part, 210, &ticket), HIKEBOX_NO_TICKET);
+    wants(hikebox_pass_hand_back(&quota), HIKEBOX_OK);
+    wants(hikebox_pass_hand_back(&quota), HIKEBOX_NOTHING_TO_HAND_BACK);
+    counts(&quota, 1);
+    draws(&quota, 299, first_of(2) + 1);
+    // One that drew nothing leaves the pass the ticket that it had.
+    wants(hikebox_retry_new(&policy, &quota, HIKEBOX_NO_DEADLINE, &machine), HIKEBOX_OK);
+    fails(&machine, 299, 299, HIKEBOX_OVER, 0);
+    wants(hikebox_retry_end(&machine, &quota), HIKEBOX_OK);
+    wants(hikebox_pass_hand_back(&quota), HIKEBOX_OK);
+    counts(&quota, 1);
+    wants(hikebox_pass_join(&quota, &part), HIKEBOX_OK);
+    closes(&quota, 1);
+    wants(hikebox_policy_free(&policy), HIKEBOX_OK);
+}
 
 // A pass of nothing: each draw is granted, and counted; and what a budget makes of calls that are meant for a quota.
 static void nothings(void) {
@@ -677,7 +773,9 @@ static void nothings(void) {
         holds(number == ticket);
     }
     wants(hikebox_pass_draw(&nothing, HIKEBOX_FAR + 1, &number), HIKEBOX_TOO_LARGE);
-    wants(hikebox_pass_deposit(&nothing, 7), HIKEBOX_OK);
+    wants(hikebox_pass_deposit(&nothing, 7, UINT64_MAX), HIKEBOX_OK);
+    wants(hikebox_pass_hand_back(&nothing), HIKEBOX_NOTHING_TO_HAND_BACK);
+    wants(hikebox_pass_set_terms(&nothing, HIKEBOX_MOST_TICKETS + 1, 0), HIKEBOX_NO_TERMS);
     wants(hikebox_pass_raise(&nothing, HIKEBOX_MOST_TICKETS + 1, &number), HIKEBOX_FIXED);
     wants(hikebox_pass_seen(&nothing, 7, &usage), HIKEBOX_WRONG_KIND);
     wants(hikebox_pass_split(&nothing, &part), HIKEBOX_OK);
@@ -694,9 +792,12 @@ static void nothings(void) {
     wants(hikebox_pass_count(&nothing, &number), HIKEBOX_OK);
     holds(number == 5 && part.held == NULL);
     closes(&nothing, 5);
-    wants(hikebox_pass_deposit(&budget, 3), HIKEBOX_OK);
+    wants(hikebox_pass_deposit(&budget, 3, UINT64_MAX), HIKEBOX_OK);
+    draws(&budget, 3, 0);
+    wants(hikebox_pass_hand_back(&budget), HIKEBOX_NOTHING_TO_HAND_BACK);
+    wants(hikebox_pass_set_terms(&budget, HIKEBOX_MOST_TICKETS + 1, 0), HIKEBOX_NO_TERMS);
     wants(hikebox_pass_raise(&budget, 9, &number), HIKEBOX_FIXED);
-    closes(&budget, 0);
+    closes(&budget, 1);
     wants(hikebox_policy_free(&policy), HIKEBOX_OK);
 }
 
@@ -708,7 +809,7 @@ static void drawings(void) {
     uint64_t tickets;
     wants(read_policy("{\"meet\":[{\"recurs\":3},{\"spaced\":60}]}", &policy), HIKEBOX_OK);
     wants(read_policy("{\"recurs\":3}", &often), HIKEBOX_OK);
-    wants(hikebox_quota_new(0, 1, 0, 100, &quota), HIKEBOX_OK);
+    wants(hikebox_quota_new(0, 1, 0, 100, false, &quota), HIKEBOX_OK);
     wants(hikebox_retry_new(&policy, &quota, HIKEBOX_NO_DEADLINE, &machine), HIKEBOX_OK);
     fails(&machine, 0, 99, HIKEBOX_WAIT, 1);
     fails(&machine, 159, 160, HIKEBOX_WAIT, 2);
@@ -747,7 +848,7 @@ static void drawings(void) {
     ended(&free_machine, HIKEBOX_ENDED_DONE, 4);
     wants(hikebox_retry_free(&free_machine), HIKEBOX_OK);
     // A retry that is freed keeps its pass.
-    wants(hikebox_quota_new(0, 1, 0, 100, &quota), HIKEBOX_OK);
+    wants(hikebox_quota_new(0, 1, 0, 100, false, &quota), HIKEBOX_OK);
     wants(hikebox_retry_new(&often, &quota, HIKEBOX_NO_DEADLINE, &machine), HIKEBOX_OK);
     wants(hikebox_retry_free(&machine), HIKEBOX_OK);
     wants(hikebox_pass_close(&quota, &tickets), HIKEBOX_PASSES_OUT);
@@ -756,11 +857,11 @@ static void drawings(void) {
     wants(hikebox_policy_free(&policy), HIKEBOX_OK);
 }
 
-// What a retry has left at a moment.
+// What a poll at a moment tells that a retry has left.
 static void has_left_at(int line, hikebox_retry *machine, uint64_t now, uint64_t wanted) {
-    uint64_t left;
-    wants_at(line, hikebox_retry_left(machine, now, &left), HIKEBOX_OK);
-    holds_at(line, left == wanted);
+    hikebox_next next;
+    wants_at(__FILE__, line, hikebox_retry_poll(machine, now, no_words, HIKEBOX_NO_REPORT, 0, &next), HIKEBOX_OK);
+    holds_at(__FILE__, line, next.left == wanted);
 }
 #define has_left(machine, now, wanted) has_left_at(__LINE__, machine, now, wanted)
 
@@ -785,7 +886,7 @@ static void spaced_deadlines(void) {
         hikebox_policy policy = HIKEBOX_INIT;
         hikebox_pass pass = HIKEBOX_INIT;
         hikebox_retry machine = HIKEBOX_INIT;
-        hikebox_next next = {0, 0, 0, 0, 0};
+        hikebox_next next = {0, 0, 0, 0, 0, 0};
         uint64_t now = 0, tickets;
         wants(read_policy(rows[row].json, &policy), HIKEBOX_OK);
         wants(hikebox_budget_fixed(9, &pass), HIKEBOX_OK);
@@ -812,11 +913,11 @@ static int deadlines(void) {
     hikebox_pass pass = HIKEBOX_INIT;
     hikebox_retry machine = HIKEBOX_INIT, empty = HIKEBOX_INIT;
     hikebox_next next;
-    uint64_t left = 77;
+    uint64_t tickets;
     spaced_deadlines();
     wants(read_policy("{\"spaced\":450}", &policy), HIKEBOX_OK);
     wants(read_policy("\"forever\"", &at_once), HIKEBOX_OK);
-    wants(hikebox_quota_new(0, 9, 0, 1000, &quota), HIKEBOX_OK);
+    wants(hikebox_quota_new(0, 9, 0, 1000, false, &quota), HIKEBOX_OK);
     wants(hikebox_budget_fixed(9, &pass), HIKEBOX_OK);
     // On a quota, from 5000 on: runs that take 60 fail at 5060 and 5570, and the next start would be 6020. What is left is
     // the same whatever the retry does.
@@ -857,17 +958,14 @@ static int deadlines(void) {
     wants(hikebox_retry_new(&policy, &pass, HIKEBOX_FAR + 1, &machine), HIKEBOX_TOO_LARGE);
     wants(hikebox_retry_new(&policy, &quota, HIKEBOX_NO_DEADLINE - 1, &empty), HIKEBOX_TOO_LARGE);
     wants(retry_on_nothing(&no_policy, HIKEBOX_FAR + 1, &empty), HIKEBOX_TOO_LARGE);
-    wants(hikebox_retry_left(&empty, HIKEBOX_FAR + 1, &left), HIKEBOX_TOO_LARGE);
-    wants(hikebox_retry_left(&empty, 0, &left), HIKEBOX_EMPTY);
-    wants(hikebox_retry_left((hikebox_retry *)&policy, 0, &left), HIKEBOX_WRONG_KIND);
-    holds(left == 77 && empty.held == NULL);
+    holds(empty.held == NULL);
     wants(hikebox_retry_end(&machine, &pass), HIKEBOX_OK);
     // Without one there is none.
     wants(retry_on_nothing(&policy, HIKEBOX_NO_DEADLINE, &machine), HIKEBOX_OK);
     has_left(&machine, 0, HIKEBOX_NO_DEADLINE);
     wants(hikebox_retry_free(&machine), HIKEBOX_OK);
-    wants(hikebox_pass_close(&pass, &left), HIKEBOX_OK);
-    holds(left == 2);
+    wants(hikebox_pass_close(&pass, &tickets), HIKEBOX_OK);
+    holds(tickets == 2);
     wants(hikebox_policy_free(&at_once), HIKEBOX_OK);
     wants(hikebox_policy_free(&policy), HIKEBOX_OK);
     return wrong;
@@ -877,7 +975,11 @@ static int quotas(void) {
     terms();
     nothings();
     windows();
+    carried();
+    weights();
+    new_terms();
     passes();
+    returns();
     drawings();
     return wrong;
 }
@@ -885,15 +987,15 @@ static int quotas(void) {
 // A call on a store that had `stored`: its status, what is kept then, and the range.
 static void leased_at(int line, hikebox_status status, const hikebox_stored *stored, const hikebox_range *range,
                       hikebox_status wanted, hikebox_stored kept, hikebox_range granted) {
-    wants_at(line, status, wanted);
-    holds_at(line, stored->window == kept.window && stored->given == kept.given && stored->asked == kept.asked);
-    holds_at(line, range->first == granted.first && range->tickets == granted.tickets);
+    wants_at(__FILE__, line, status, wanted);
+    holds_at(__FILE__, line, stored->window == kept.window && stored->given == kept.given && stored->asked == kept.asked);
+    holds_at(__FILE__, line, range->first == granted.first && range->tickets == granted.tickets);
 }
 
 static void allows_at(int line, uint64_t reserve, uint64_t share, uint64_t asked, uint64_t wanted) {
     uint64_t tickets = 77;
-    wants_at(line, hikebox_quota_allows(reserve, share, asked, &tickets), HIKEBOX_OK);
-    holds_at(line, tickets == wanted);
+    wants_at(__FILE__, line, hikebox_quota_allows(reserve, share, asked, &tickets), HIKEBOX_OK);
+    holds_at(__FILE__, line, tickets == wanted);
 }
 #define allows(...) allows_at(__LINE__, __VA_ARGS__)
 
@@ -1009,7 +1111,7 @@ static void windows_at_once(void) {
     static unsigned given[APART + TURNS];
     pthread_t threads[APART];
     uint64_t tickets, total = 0;
-    wants(hikebox_quota_new(0, RESERVE, 0, 100, &drawers[0].pass), HIKEBOX_OK);
+    wants(hikebox_quota_new(0, RESERVE, 0, 100, false, &drawers[0].pass), HIKEBOX_OK);
     for (int at = 1; at < APART; at++) {
         wants(hikebox_pass_split(&drawers[0].pass, &drawers[at].pass), HIKEBOX_OK);
         drawers[at].from = at;
@@ -1049,10 +1151,10 @@ static hikebox_totals plays_at(int line, const char *json, const hikebox_storm *
     hikebox_totals totals;
     size_t count = 99;
     memset(&totals, 0, sizeof totals);
-    wants_at(line, read_policy(json, &policy), HIKEBOX_OK);
-    wants_at(line, hikebox_storm_play(&policy, storm, windows_told, 128, &count, &totals), HIKEBOX_OK);
-    holds_at(line, count == wanted);
-    wants_at(line, hikebox_policy_free(&policy), HIKEBOX_OK);
+    wants_at(__FILE__, line, read_policy(json, &policy), HIKEBOX_OK);
+    wants_at(__FILE__, line, hikebox_storm_play(&policy, storm, windows_told, 128, &count, &totals), HIKEBOX_OK);
+    holds_at(__FILE__, line, count == wanted);
+    wants_at(__FILE__, line, hikebox_policy_free(&policy), HIKEBOX_OK);
     return totals;
 }
 #define plays(json, storm, wanted) plays_at(__LINE__, json, storm, wanted)
@@ -1063,8 +1165,8 @@ static void refuses_at(int line, hikebox_policy *policy, hikebox_storm storm) {
     size_t count = 99;
     memset(&totals, 7, sizeof totals);
     hikebox_totals before = totals;
-    wants_at(line, hikebox_storm_play(policy, &storm, windows_told, 128, &count, &totals), HIKEBOX_OUT_OF_RANGE);
-    holds_at(line, count == 99 && memcmp(&before, &totals, sizeof totals) == 0);
+    wants_at(__FILE__, line, hikebox_storm_play(policy, &storm, windows_told, 128, &count, &totals), HIKEBOX_OUT_OF_RANGE);
+    holds_at(__FILE__, line, count == 99 && memcmp(&before, &totals, sizeof totals) == 0);
 }
 #define refuses(field, number)                        \
     do {                                              \
@@ -1215,19 +1317,20 @@ static void run_once(hikebox_policy *policy, hikebox_pass *pass) {
 }
 
 static int calls(void) {
-    hikebox_policy policy = HIKEBOX_INIT, second = HIKEBOX_INIT;
-    hikebox_driver driver = HIKEBOX_INIT;
+    hikebox_policy policy = HIKEBOX_INIT, second = HIKEBOX_INIT, both = HIKEBOX_INIT, none = HIKEBOX_INIT;
+    const hikebox_course course = {4, 0, 0};
+    const hikebox_event event = {7, {0, 0, 0, 0}};
+    hikebox_line lines[3];
     hikebox_pass pass = HIKEBOX_INIT, part = HIKEBOX_INIT, sole = HIKEBOX_INIT;
     hikebox_pass quota = HIKEBOX_INIT, quota_part = HIKEBOX_INIT;
     hikebox_retry machine = HIKEBOX_INIT;
     hikebox_usage usage;
-    hikebox_decision decision;
     hikebox_next next;
     hikebox_storm storm = HIKEBOX_STORM;
     hikebox_totals totals;
-    uint64_t number, other;
+    uint64_t number = 5, other, most;
     char text[128];
-    size_t length;
+    size_t length, count;
     static const char json[] = "{\"gather\":[\"list\",{\"meet\":[{\"recurs\":2},{\"spaced\":10}]}]}";
     again(say_fault("{\"first\":{\"recurs\":-1}}", text, sizeof text, &length));
     holds(length == 91 && memcmp(text, "first: \"recurs\" is spelt {\"recurs\":N}, N from 0 to", 50) == 0);
@@ -1240,13 +1343,16 @@ static int calls(void) {
     storm.until = 100000;
     again(hikebox_storm_play(&policy, &storm, windows_told, 128, &length, &totals));
     holds(totals.requests == 4 && totals.lost == 4 && totals.calls == 12);
-    again(hikebox_policy_size(&second, &number, &other));
-    holds(number == 4 && other == 3);
-    again(hikebox_driver_new(&second, &driver));
-    for (uint64_t now = 0; now < 30; now += 10) again(hikebox_driver_next(&driver, now, no_words, 0, &decision));
-    holds(!decision.goes_on);
-    again(hikebox_driver_last_text(&driver, text, sizeof text, &length));
-    holds(length == 16 && memcmp(text, "[(0, 0), (1, 1)]", 16) == 0);
+    again(make_node("cap", &number, 1, &policy, &none, &both));
+    again(hikebox_policy_free(&both));
+    again(make_node("follow", &number, 0, &policy, &second, &both));
+    again(hikebox_policy_size(&both, &number, &other, &most));
+    holds(number == 9 && other == 4 && most == 4);
+    again(hikebox_policy_free(&both));
+    again(hikebox_policy_json(&second, text, sizeof text, &length));
+    holds(length == sizeof json - 1 && memcmp(text, json, length) == 0);
+    again(hikebox_policy_course(&second, &course, &event, 1, lines, 3, &count, text, sizeof text, &length));
+    holds(count == 3 && length == 26 && memcmp(text, "[][(0, 0)][(0, 0), (1, 1)]", 26) == 0);
     again(hikebox_budget_rising(3, &pass));
     again(hikebox_pass_split(&pass, &part));
     again(hikebox_pass_draw(&part, 0, &number));
@@ -1256,7 +1362,6 @@ static int calls(void) {
     run_once(&policy, &pass);
     run_once(&second, &pass);
     again(hikebox_retry_new(&policy, &pass, HIKEBOX_NO_DEADLINE, &machine));
-    again(hikebox_retry_left(&machine, 0, &number));
     again(hikebox_retry_cancel(&machine));
     again(hikebox_retry_poll(&machine, 0, no_words, HIKEBOX_NO_REPORT, 0, &next));
     holds(next.what == HIKEBOX_OVER && next.how == HIKEBOX_ENDED_CANCELLED);
@@ -1264,9 +1369,9 @@ static int calls(void) {
     again(hikebox_pass_count(&pass, &number));
     again(hikebox_pass_close(&pass, &other));
     holds(number == other);
-    again(hikebox_quota_new(0, 1, 1000, 100, &quota));
+    again(hikebox_quota_new(0, 1, 1000, 100, false, &quota));
     again(hikebox_pass_split(&quota, &quota_part));
-    again(hikebox_pass_deposit(&quota_part, 0));
+    again(hikebox_pass_deposit(&quota_part, 0, 1));
     again(hikebox_pass_draw(&quota_part, 0, &number));
     again(hikebox_pass_seen(&quota_part, 0, &usage));
     holds(number == 0 && usage.asked == 1 && usage.given == 1 && usage.left == 1);
@@ -1276,7 +1381,7 @@ static int calls(void) {
     again(hikebox_pass_count(&quota, &number));
     again(hikebox_pass_close(&quota, &other));
     holds(number == 1 && other == 1);
-    again(hikebox_quota_new(0, 1, 0, 100, &quota));
+    again(hikebox_quota_new(0, 1, 0, 100, false, &quota));
     again(hikebox_retry_new(&policy, &quota, HIKEBOX_NO_DEADLINE, &machine));
     again(hikebox_retry_free(&machine));
     wants(hikebox_pass_close(&quota, &number), HIKEBOX_PASSES_OUT);
@@ -1289,7 +1394,6 @@ static int calls(void) {
     // A close takes no memory, and leaves the pass where it is refused.
     wants(hikebox_pass_close(&sole, &number), HIKEBOX_PASSES_OUT);
     again(hikebox_pass_free(&sole));
-    again(hikebox_driver_free(&driver));
     again(hikebox_policy_free(&second));
     again(hikebox_policy_free(&policy));
     printf("done\n");
@@ -1307,7 +1411,9 @@ int main(int count, char **words) {
     if (!strcmp(what, "leases")) return leases();
     if (!strcmp(what, "fault")) return fault();
     if (!strcmp(what, "faults")) return faults();
-    if (!strcmp(what, "journals")) return journals();
+    if (!strcmp(what, "nodes")) return nodes();
+    if (!strcmp(what, "policies")) return policies();
+    if (!strcmp(what, "courses")) return courses();
     if (!strcmp(what, "storms")) return storms();
     if (!strcmp(what, "lasting")) return lasting();
     if (!strcmp(what, "shares")) return shares();

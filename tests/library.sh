@@ -1,5 +1,5 @@
 #!/usr/bin/env bash
-# Calls the library from C, linked and loaded: it steps 300 random policies as `zsched plan` does, retries end as
+# Calls the library from C, linked and loaded: 300 random policies have the courses that `zsched plan` prints, retries end as
 # `zsched pool` says, handles that are empty, full or of another kind are refused and nothing is lost, 16 threads draw
 # 10,000,000 tickets, each once, and valgrind finds no error and no leak. Each growth is refused in turn. HIKEBOX_LIB_DIR
 # names the folder of the files that bin/dist made, dist/ where it does not.
@@ -24,9 +24,9 @@ zsched=$dist/zsched
 python3 "$top/tests/exports.py" || failed=1
 "$top/bin/bindings" --check || failed=1
 flags=(-std=gnu11 -Wall -Wextra -Werror -O1 "-I$dist" -pthread)
-cc "${flags[@]}" -o "$work/linked" "$top/tests/library.c" "$dist/libhikebox.a"
+cc "${flags[@]}" -o "$work/linked" "$top/tests/library.c" "$top/tests/policies.c" "$dist/libhikebox.a"
 "$top/bin/install" --prefix "$work/home/.local" >"$work/out"
-cc "${flags[@]}" -o "$work/loaded" "$top/tests/library.c" "-L$dist" "-Wl,-rpath,$work/home/.local/lib" -lhikebox
+cc "${flags[@]}" -o "$work/loaded" "$top/tests/library.c" "$top/tests/policies.c" "-L$dist" "-Wl,-rpath,$work/home/.local/lib" -lhikebox
 cc "${flags[@]}" -o "$work/retry" "$top/examples/c/retry.c" "$dist/libhikebox.a"
 exported=$(nm -D --defined-only "$dist/libhikebox.so" | awk '{ print $NF }' | LC_ALL=C sort)
 declared=$(sed -nE 's/^(.* )?(hikebox_status |const char \*)(hikebox_[a-z_]*)\(.*/\3/p' "$top/include/hikebox.h" | LC_ALL=C sort)
@@ -60,17 +60,19 @@ for late in 1 840000 999999; do
     wrong "examples/c/retry.c, $late ns late, waits $(xargs <"$work/waits") and not $(xargs <"$work/whole")"
 done
 
-# The second, third and fourth block of docs/C.md, in functions that have what they name. The first stands in examples/c/poll.c.
+# The second to fifth block of docs/C.md, in functions that have what they name. The first stands in examples/c/poll.c.
 {
   printf '#include <hikebox.h>\n#include <stdio.h>\nuint64_t now(void);\n'
   printf 'int by_deadline(hikebox_policy policy, hikebox_pass pass);\nint by_deadline(hikebox_policy policy, hikebox_pass pass) {\n'
   block 2
-  printf 'return 0;\n}\nint program(hikebox_policy policy);\nint program(hikebox_policy policy) {\n'
+  printf 'return 0;\n}\nint by_nodes(void);\nint by_nodes(void) {\n'
   block 3
+  printf 'return 0;\n}\nint program(hikebox_policy policy);\nint program(hikebox_policy policy) {\n'
+  block 4
   printf 'return 0;\n}\nhikebox_stored load(int file);\nvoid store(int file, const hikebox_stored *stored);\n'
   printf 'uint64_t clock_of(int file);\nint lease(int file, uint64_t told, hikebox_pass pass);\n'
   printf 'int lease(int file, uint64_t told, hikebox_pass pass) {\n'
-  block 4
+  block 5
   printf 'return 0;\n}\n'
 } >"$work/page.c"
 cc "${flags[@]}" -c -o "$work/page.o" "$work/page.c" || wrong "docs/C.md: its blocks are not compiled"
@@ -80,7 +82,7 @@ import sys
 sys.exit(not sys.argv[2].strip() or sys.argv[2] not in open(sys.argv[1]).read())
 EOF
 
-python3 - "$top/examples/c/storm.c" "$(block 5)" <<'EOF' || wrong "docs/C.md: its block is not that of examples/c/storm.c"
+python3 - "$top/examples/c/storm.c" "$(block 6)" <<'EOF' || wrong "docs/C.md: its block is not that of examples/c/storm.c"
 import sys
 sys.exit(not sys.argv[2].strip() or sys.argv[2] not in open(sys.argv[1]).read())
 EOF
@@ -108,7 +110,7 @@ status=0
 "$work/poll" "$port" </dev/null >"$work/out" || status=$?
 [ "$status" = 1 ] && [ "$(cat "$work/out")" = 'Connection refused after retries' ] || wrong "examples/c/poll.c: $status, $(cat "$work/out")"
 
-# Policies, step by step.
+# Policies along their courses: each event as the others, and each with an input and words of its own.
 python3 "$top/tests/random_policies.py" 300 18 >"$work/policies"
 count=0 refused=0
 while IFS=$'\t' read -r options policy; do
@@ -124,9 +126,14 @@ while IFS=$'\t' read -r options policy; do
     printf '%s' "$policy" | "$zsched" check >"$work/want" 2>/dev/null || true
     printf '%s' "$policy" | "$work/linked" fault >"$work/out" && cmp -s "$work/out" "$work/want" ||
       wrong "fault $policy: $(cat "$work/out"), wanted $(cat "$work/want")"
-  elif [ "$said" != 0 ] || ! cmp -s "$work/out" "$work/want"; then
-    wrong "plan $policy $options: status $said, $(diff "$work/out" "$work/want" | head -n 3)"
+    continue
   fi
+  [ "$said" = 0 ] && cmp -s "$work/out" "$work/want" ||
+    wrong "plan $policy $options: status $said, $(diff "$work/out" "$work/want" | head -n 3)"
+  printf '%s' "$policy" | "$zsched" plan --steps "$steps" --from "$from" --took "$took" --inputs "$input,7,0,60" \
+    --words "$word" >"$work/want"
+  printf '%s' "$policy" | "$work/linked" plan "$steps" "$from" "$took" "$input,7,0,60" "seed:$word" >"$work/out" &&
+    cmp -s "$work/out" "$work/want" || wrong "plan $policy $options, seeded: $(diff "$work/out" "$work/want" | head -n 3)"
 done <"$work/policies"
 [ "$count" = 300 ] && [ "$refused" -lt 30 ] || wrong "$count policies, $refused refused"
 
@@ -147,11 +154,11 @@ ends 5 '{"recurs":0}' '[{"won":1}]' won:1
 ends 5 '"forever"' '[{"lost":1},{"lost":2},{"lost":3},{"won":4}]' lost:1 lost:2 lost:3 won:4
 
 for program in linked loaded; do
-  for words in handles budgets deadlines quotas leases faults journals lasting shares storms; do
+  for words in handles budgets deadlines quotas leases faults nodes policies courses lasting shares storms; do
     "$work/$program" "$words" || wrong "$program $words"
   done
   "$work/$program" draw 16 10000000 || wrong "$program draw"
-  for words in handles budgets deadlines quotas leases faults journals shares storms calls 'draw 4 20000'; do
+  for words in handles budgets deadlines quotas leases faults nodes policies courses shares storms calls 'draw 4 20000'; do
     # shellcheck disable=SC2086
     valgrind --quiet --leak-check=full --show-leak-kinds=all --error-exitcode=9 "$work/$program" $words >"$work/out" ||
       wrong "valgrind $program $words"

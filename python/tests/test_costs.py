@@ -82,6 +82,14 @@ def test_a_success_on_a_quota_is_counted_and_no_more() -> None:
     assert quota.seen().asked == 3
 
 
+def test_a_success_that_is_counted_as_such_costs_no_more() -> None:
+    quota = Quota(0, 1, 3600, counts_successes=True)
+    retrying = Retrying(recurs(3), budget=quota)
+    retrying(succeeds)
+    assert functions(lambda: retrying(succeeds))[1:] == ["run", "_deposit_won", "deposit", "lend", "moment", "deposit", "give_back"]
+    assert quota.seen().asked == 2
+
+
 def test_a_request_is_counted_once_whatever_follows(clock: VirtualClock) -> None:
     quota = Quota(reserve=10, share=0, per=3600, clock=clock)
     answers: List[Any] = [7, ValueError(), 7, ValueError(), ValueError(), ValueError()]

@@ -4,6 +4,7 @@ from __future__ import annotations
 
 import ctypes
 import re
+import threading
 from ctypes import byref, c_size_t, c_uint8, c_uint64
 from typing import Any, Dict, List, Tuple
 
@@ -13,7 +14,6 @@ from conftest import TOP
 from hikebox import _engine, _structs
 from hikebox._engine import Handle, Pass, PolicyHandle
 from hikebox._machine import Machine
-from hikebox._plan import Plan
 from hikebox.errors import EngineError
 
 HEADER = TOP / "include" / "hikebox.h"
@@ -27,8 +27,12 @@ TYPES: Dict[str, Any] = {
     "uint64_t *": (ctypes.POINTER(c_uint64),),
     "uint32_t": (ctypes.c_uint32,),
     "const uint32_t [4]": (ctypes.POINTER(ctypes.c_uint32),),
+    "bool": (ctypes.c_bool,),
+    "const uint64_t *": (ctypes.POINTER(c_uint64),),
     "hikebox_place *": (ctypes.POINTER(_structs.Place),),
-    "hikebox_decision *": (ctypes.POINTER(_structs.Decision),),
+    "const hikebox_course *": (ctypes.POINTER(_structs.Course),),
+    "const hikebox_event *": (ctypes.POINTER(_structs.Event),),
+    "hikebox_line *": (ctypes.POINTER(_structs.Line),),
     "hikebox_next *": (ctypes.POINTER(_structs.Next),),
     "hikebox_usage *": (ctypes.POINTER(_structs.Usage),),
     "const hikebox_storm *": (ctypes.POINTER(_structs.Storm),),
@@ -37,10 +41,15 @@ TYPES: Dict[str, Any] = {
     "hikebox_stored *": (ctypes.POINTER(_structs.Stored),),
     "const hikebox_asking *": (ctypes.POINTER(_structs.Asking),),
     "hikebox_range *": (ctypes.POINTER(_structs.Range),),
-    **{f"hikebox_{kind} *": (ctypes.POINTER(Handle),) for kind in ("policy", "driver", "pass", "retry")},
+    **{f"hikebox_{kind} *": (ctypes.POINTER(Handle),) for kind in ("policy", "pass", "retry")},
 }
 
-CTYPES: Dict[str, Any] = {"uint64_t": c_uint64, "uint32_t": ctypes.c_uint32, "bool": ctypes.c_bool}
+CTYPES: Dict[str, Any] = {
+    "uint64_t": c_uint64,
+    "uint32_t": ctypes.c_uint32,
+    "uint32_t[4]": _structs.Words,
+    "bool": ctypes.c_bool,
+}
 
 
 def header() -> str:
@@ -67,8 +76,8 @@ def test_the_signatures_are_those_of_the_header() -> None:
 
 def fields(body: str) -> List[Tuple[str, str]]:
     """The type and the name of each field of a struct."""
-    found = re.findall(r"(uint64_t|uint32_t|bool) ([\w, ]+);", body)
-    return [(word, name.strip()) for word, names in found for name in names.split(",")]
+    found = re.findall(r"(uint64_t|uint32_t|bool) (\w+)(\[4\])?;", body)
+    return [(word + count, name) for word, name, count in found]
 
 
 def test_the_structures_are_those_of_the_header() -> None:
@@ -76,7 +85,8 @@ def test_the_structures_are_those_of_the_header() -> None:
         (name, fields(body))
         for body, name in re.findall(r"typedef struct \{(.*?)\} (hikebox_\w+);", header(), flags=re.S)
     )
-    kinds: Dict[str, Any] = {"place": _structs.Place, "decision": _structs.Decision}
+    kinds: Dict[str, Any] = {"place": _structs.Place, "course": _structs.Course}
+    kinds.update({"event": _structs.Event, "line": _structs.Line})
     kinds.update({"next": _structs.Next, "usage": _structs.Usage, "storm": _structs.Storm})
     kinds.update({"window": _structs.Window, "totals": _structs.Totals})
     kinds.update({"stored": _structs.Stored, "asking": _structs.Asking, "range": _structs.Range})
@@ -88,11 +98,14 @@ def test_the_numbers_are_those_of_the_header() -> None:
     text = header()
     numbers = dict(re.findall(r"HIKEBOX_(\w+) = (\d+)", text))
     most = dict(re.findall(r"#define HIKEBOX_MOST_(\w+) (?:UINT64_C\()?(\d+)", text))
-    assert (int(most["TICKETS"]), int(most["SHARE"])) == (_engine.MOST_TICKETS, _engine.MOST_SHARE)
-    assert "#define HIKEBOX_NO_DEADLINE UINT64_MAX" in text and _engine.NO_DEADLINE == 2**64 - 1
+    known = (_engine.MOST_TICKETS, _engine.MOST_SHARE, _engine.MOST_STEPS)
+    assert (int(most["TICKETS"]), int(most["SHARE"]), int(most["STEPS"])) == known
+    for name in ("NO_DEADLINE", "NO_BOUND"):
+        assert f"#define HIKEBOX_{name} UINT64_MAX" in text and getattr(_engine, name) == 2**64 - 1
     for name in (
-        ["OK", "NO_MEMORY", "TOO_LARGE", "NOT_JSON", "NOT_A_POLICY", "OUT_OF_RANGE", "TOO_DEEP", "TOO_MANY"]
-        + ["BACKWARDS", "JOURNAL_FULL", "LIMIT_TOO_LARGE", "FIXED", "NO_TICKET", "TOO_MANY_PASSES", "PASSES_OUT"]
+        ["OK", "NO_MEMORY", "TOO_LARGE", "NO_ROOM", "NOT_JSON", "NOT_A_POLICY", "OUT_OF_RANGE", "TOO_DEEP", "TOO_MANY"]
+        + ["BACKWARDS", "LIMIT_TOO_LARGE", "FIXED", "NO_TICKET", "TOO_MANY_PASSES", "PASSES_OUT", "RACES_LOST"]
+        + ["NOTHING_TO_HAND_BACK"]
         + ["NO_REPORT", "WON", "LOST", "POLL", "RUN", "WAIT", "OVER", "ON_NOTHING", "ON_BUDGET", "ON_QUOTA"]
     ):
         assert int(numbers[name]) == getattr(_engine, name), name
@@ -116,23 +129,116 @@ def read(text: bytes) -> PolicyHandle:
     return handle
 
 
+NONE, NONE_EITHER = PolicyHandle(), PolicyHandle()
+
+
+def node(name: bytes, *numbers: int, first: PolicyHandle = NONE, second: PolicyHandle = NONE_EITHER) -> PolicyHandle:
+    made = PolicyHandle()
+    assert made.make((name, c_size_t(len(name))), numbers, first, second)
+    return made
+
+
 def test_handles_of_one_policy() -> None:
     policy = read(b'{"meet":[{"recurs":2},{"spaced":100}]}')
     second = policy.share()
     third = second.share()
     del policy, second
-    assert third.size() == (3, 2)
+    assert third.size() == (3, 2, 2)
     with pytest.raises(EngineError):
         PolicyHandle().share()
 
 
-def test_a_policy_is_read_once(monkeypatch: pytest.MonkeyPatch) -> None:
-    plan = Plan.of_text(b'{"recurs":2}')
-    monkeypatch.setattr("hikebox._plan._read", None)
-    lent = [plan.lend() for _ in range(1000)]
-    assert [handle.size() for handle in lent] == [(1, 1)] * 1000
-    for handle in lent:
-        plan.give_back(handle)
+def test_a_policy_is_made_node_by_node() -> None:
+    # {"NAME":[numbers, first, second]}
+    capped = node(b"cap", 1000, first=node(b"exponential", 100, 2))
+    both = node(b"meet", first=node(b"recurs", 5), second=capped)
+    assert both.json() == '{"meet":[{"recurs":5},{"cap":[1000,{"exponential":[100,2]}]}]}'
+    assert both.size() == (4, 3, 5) and capped.size() == (2, 2, None)
+    again = capped.share()
+    assert node(b"join", first=capped, second=again).size() == (5, 3, None)
+    assert node(b"forever").json() == '"forever"'
+    four = node(b"decorrelated", 3, 10, 3000, 2000)
+    assert four.json() == '{"decorrelated":[3,10,3000,2000]}'
+
+
+@pytest.mark.parametrize(
+    "name, numbers, under",
+    [
+        (b"recur", (5,), 0),  # no such node
+        (b"recurs", (), 0),  # not so many numbers
+        (b"recurs", (5, 6), 0),
+        (b"recurs", (5,), 1),  # not so many policies
+        (b"meet", (), 1),
+        (b"gate", (5,), 1),  # its words have to be read
+        (b"gather", (), 1),
+        (b"fixed", (0,), 0),  # out of range
+        (b"exponential", (1, 1001), 0),
+        (b"spaced", (2**62,), 0),
+    ],
+)
+def test_a_node_is_refused(name: bytes, numbers: Tuple[int, ...], under: int) -> None:
+    parts = [node(b"spaced", 7) if place < under else PolicyHandle() for place in range(2)]
+    made = PolicyHandle()
+    assert not made.make((name, c_size_t(len(name))), numbers, *parts)
+    assert not made.handle.held and all(part.size() == (1, 1, None) for part in parts[:under])
+
+
+def test_a_node_too_deep_or_too_many() -> None:
+    policy = node(b"forever")
+    for _ in range(31):
+        policy = node(b"nothing", first=policy)
+    assert policy.size() == (32, 32, None)
+    assert not PolicyHandle().make((b"nothing", c_size_t(7)), (), policy, NONE_EITHER)
+    policy = node(b"recurs", 1)
+    for _ in range(7):
+        policy = node(b"meet", first=policy, second=policy.share())
+    assert policy.size() == (255, 8, 1)
+    assert node(b"nothing", first=policy).size() == (256, 9, 1)
+    assert not PolicyHandle().make((b"meet", c_size_t(4)), (), policy, node(b"forever"))
+
+
+def test_a_course_has_a_line_for_each_event() -> None:
+    policy = read(b'{"meet":[{"recurs":2},{"jitter":[1,0,2000,{"spaced":100}]}]}')
+    middle = (0, 0, 2**31, 0, 0)
+    # the words of the lane 1: none, half and most of twice the delay
+    events = [(7, 9, 0, 9, 9), middle, (7, 0, 2**32 - 1, 0, 0)]
+    assert policy.course(9, 50, 3, events) == [(50, 50, "(0, 0)"), (53, 153, "(1, 1)"), (156, None, "(2, 2)")]
+    assert policy.course(2, 50, 0, [middle]) == [(50, 150, "(0, 0)"), (150, 250, "(1, 1)")]
+    assert policy.course(0, 50, 0, [middle]) == []
+    with pytest.raises(EngineError) as caught:
+        policy.course(1, 2**62, 0, [middle])
+    assert caught.value.status == _engine.OUT_OF_RANGE
+
+
+def test_a_course_with_long_outputs() -> None:
+    listed = read(b'{"gather":["list",{"spaced":1}]}')
+    told = listed.course(1000, 0, 0, [(0, 0, 0, 0, 0)])
+    assert len(told) == 1000 and told[-1].start == 1000
+    assert [each.output for each in told] == [str(list(range(length))) for length in range(1000)]
+    assert len(read(b'{"spaced":1}').course(_engine.MOST_STEPS, 0, 0, [(0, 0, 0, 0, 0)])) == 4096
+
+
+def test_threads_share_a_policy() -> None:
+    policy = node(b"meet", first=node(b"recurs", 3), second=node(b"spaced", 10))
+    seen: List[Any] = []
+
+    def uses() -> None:
+        machine, drawn = Machine(), Pass.of_budget(10_000, False)
+        for _ in range(300):
+            above = node(b"cap", 5, first=policy)
+            assert machine.begin(policy, drawn)
+            polled = machine.poll(0, _engine.NO_REPORT, 0), machine.poll(0, _engine.LOST, 0)
+            machine.end(drawn)
+            seen.append((above.size(), policy.json(), policy.course(2, 0, 0, [(0, 0, 0, 0, 0)])[1].start, polled[1][:2]))
+        drawn.close()
+
+    threads = [threading.Thread(target=uses) for _ in range(6)]
+    for thread in threads:
+        thread.start()
+    for thread in threads:
+        thread.join()
+    text = '{"meet":[{"recurs":3},{"spaced":10}]}'
+    assert seen == [((4, 3, 3), text, 20, (_engine.WAIT, 10))] * 1800
 
 
 def test_wrong_handles_are_refused_and_nothing_is_lost() -> None:
@@ -147,7 +253,7 @@ def test_wrong_handles_are_refused_and_nothing_is_lost() -> None:
     assert library.hikebox_policy_free(drawn.at) == 2
     assert library.hikebox_budget_fixed(1, drawn.at) == 3
     assert library.hikebox_retry_poll(policy.at, 0, words, 0, 0, byref(_structs.Next())) == 2
-    assert policy.size() == (1, 1) and drawn.draw() == 0
+    assert policy.size() == (1, 1, 2) and drawn.draw() == 0
     machine = Machine()
     assert machine.begin(policy, drawn)
     with pytest.raises(EngineError) as caught:
@@ -186,6 +292,48 @@ def test_a_retry_on_a_quota_as_a_machine() -> None:
     machine.end(drawn)
     assert drawn.draw(5_999) is None and drawn.draw(6_000) == 6 * 2**32
     assert drawn.count() == 2 == drawn.close()
+
+
+def test_tickets_of_passes_come_back_and_terms_change() -> None:
+    quota = Pass.of_quota(0, 2, 0, 1000)
+    part = quota.split()
+    assert part is not None and not part.hand_back()
+    assert (part.draw(0), quota.draw(0), quota.draw(0)) == (0, 1, None)
+    # another number is dealt for the one that came back, and a pass hands its latest back once
+    assert part.hand_back() and not part.hand_back()
+    assert (part.count(), quota.seen(0)[1:4]) == (0, (0, 1, 1))
+    assert (part.draw(0), quota.draw(0)) == (2, None)
+    part.set_terms(3, 0)
+    assert (quota.draw(0), part.draw(0)) == (3, None)
+    quota.set_terms(0, 500)
+    assert quota.seen(0)[1:4] == (0, 3, 0)
+    part.deposit(0, c_uint64(8))
+    assert (part.draw(0), quota.draw(0)) == (4, None)
+    # the latest of two passes that are joined, and none once its window is over
+    quota.join(part)
+    assert quota.hand_back() and quota.seen(1000)[:4] == (1, 0, 0, 0)
+    assert quota.close() == 3
+
+
+def test_passes_that_take_no_ticket_back_and_have_no_terms() -> None:
+    for drawn in (Pass.of_budget(5, False), Pass.of_budget(5, True), Pass.of_nothing()):
+        assert drawn.draw() == 0 and not drawn.hand_back() and drawn.count() == 1
+        drawn.deposit(0, c_uint64(2**40))
+        with pytest.raises(EngineError) as caught:
+            drawn.set_terms(1, 1)
+        assert caught.value.status == 39
+    part = Pass.of_quota(0, 1, 1000, 1000).split()
+    assert part is not None
+    for count, status in ((2**20 + 1, 44), (2**64 - 1, 44)):
+        with pytest.raises(EngineError) as caught:
+            part.deposit(0, c_uint64(count))
+        assert caught.value.status == status
+    part.deposit(0, c_uint64(2**20))
+    assert part.seen(0)[1:4] == (2**20, 0, 2**20 + 1)
+    for reserve, share, status in ((2**32 + 1, 0, 35), (0, 1_000_001, 36)):
+        with pytest.raises(EngineError) as caught:
+            part.set_terms(reserve, share)
+        assert caught.value.status == status
 
 
 def test_a_retry_with_a_deadline_as_a_machine() -> None:
@@ -243,7 +391,7 @@ def test_a_retry_ends_on_what_it_draws_on_alone() -> None:
     library = _engine.library
     assert library.hikebox_pass_draw(policy.at, 0, byref(c_uint64())) == 2
     assert library.hikebox_pass_draw(quota.at, 0, byref(c_uint64())) == 1
-    assert library.hikebox_pass_deposit(quota.at, 2**62) == 5
+    assert library.hikebox_pass_deposit(quota.at, 2**62, 1) == 5
 
 
 def test_a_pass_that_was_freed_keeps_the_budget_open() -> None:

@@ -167,6 +167,22 @@ def test_a_quota_over_all_requests(server: Server, clock: VirtualClock) -> None:
     assert quota.seen() == Usage(window=0, asked=6, given=4, left=0)
 
 
+def test_a_quota_of_successes_that_takes_tickets_back(server: Server, clock: VirtualClock) -> None:
+    quota = Quota(1, 0.5, 3600, clock=clock, counts_successes=True, returns_tickets=True)
+    with session(clock, recurs(9), budget=quota) as made:
+        for asked in (1, 2):
+            server.says(503, 200)
+            assert made.get(server.url).status_code == 200
+            assert quota.seen() == Usage(window=0, asked=asked, given=0, left=1 + asked // 2)
+        server.says(503)
+        assert made.get(server.url).status_code == 503
+        assert quota.seen() == Usage(window=0, asked=2, given=2, left=0)
+    quota.set_terms(reserve=2)
+    server.says(503, 200)
+    assert pool(clock, recurs(9), budget=quota).request("GET", server.url).status == 200
+    assert quota.seen() == Usage(window=0, asked=3, given=2, left=1)
+
+
 def test_threads_share_an_adapter(server: Server, clock: VirtualClock) -> None:
     with Budget(60) as budget:
         one = session(clock, recurs(10), budget=budget)

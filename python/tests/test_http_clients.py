@@ -172,6 +172,18 @@ def test_a_quota_over_all_requests(kind: str, server: Server, clock: VirtualCloc
     assert (usage.asked, usage.given, usage.left) == (4, 3, 0)
 
 
+@KINDS
+def test_a_quota_of_successes_that_takes_tickets_back(kind: str, server: Server, clock: VirtualClock) -> None:
+    quota = Quota(1, 0.5, 3600, clock=clock, counts_successes=True, returns_tickets=True)
+    client = Client(kind, clock, recurs(9), budget=quota)
+    server.says(503, 200)
+    assert client.request("GET", server.url).status == 200
+    assert (quota.seen().asked, quota.seen().given) == (1, 0)
+    server.says(503)
+    assert client.request("GET", server.url).status == 503
+    assert (quota.seen().asked, quota.seen().given) == (1, 1)
+
+
 def test_responses_that_are_followed_are_let_go(server: Server, clock: VirtualClock) -> None:
     async def main() -> int:
         server.says(503, 503, 200)

@@ -8,6 +8,7 @@ import os
 import pickle
 import random
 import subprocess
+import threading
 from datetime import timedelta
 from pathlib import Path
 from typing import Any, Callable, List, Tuple
@@ -159,6 +160,49 @@ def test_random_policies_are_written_and_read_as_they_are() -> None:
         assert policy.nodes == len(nodes)
 
 
+def test_what_a_builder_is_refused_is_told_as_of_the_text() -> None:
+    under = spaced(1)
+    for _ in range(31):
+        under = under.cap(2)
+    with pytest.raises(PolicyError) as built:
+        under.nothing()
+    with pytest.raises(PolicyError) as read:
+        Policy.from_dict({"nothing": under.to_dict()})
+    assert (built.value.fault, built.value.place, built.value.hint) == (Fault.TOO_DEEP, read.value.place, read.value.hint)
+    # what is over words is read, and refused as well
+    with pytest.raises(PolicyError) as built:
+        under.gather("sum")
+    assert built.value.fault is Fault.TOO_DEEP
+
+
+def test_a_policy_may_stand_twice_in_another() -> None:
+    policy = recurs(2) & spaced(1)
+    both = policy | policy
+    assert both == Policy.from_dict({"join": [policy.to_dict(), policy.to_dict()]})
+    assert (both.nodes, both.depth, both.most_retries) == (7, 3, 2)
+    assert policy.then(policy).most_retries == 4
+
+
+def test_threads_build_on_one_policy_and_preview_it() -> None:
+    policy = recurs(3) & exponential(0.1, 2)
+    seen: List[Any] = []
+
+    def work() -> None:
+        for count in range(100):
+            built = policy.cap(1) & recurs(count)
+            seen.append((count, built.to_json(), [step.next_ms for step in built.preview(5)], built.most_retries))
+
+    threads = [threading.Thread(target=work) for _ in range(6)]
+    for thread in threads:
+        thread.start()
+    for thread in threads:
+        thread.join()
+    assert len(seen) == 600
+    for count, text, starts, most in seen:
+        assert text == '{"meet":[{"cap":[1000,{"meet":[{"recurs":3},{"exponential":[100,2]}]}]},{"recurs":%d}]}' % count
+        assert (starts, most) == ([100, 300, 700][:count] + [None], min(count, 3))
+
+
 def some_words(rng: random.Random) -> Any:
     return tuple(rng.choice([0, 2**31, 2**32 - 1, rng.randrange(2**32)]) for _ in range(4))
 
@@ -168,14 +212,16 @@ def test_300_random_policies_answer_as_their_definitions_say() -> None:
     for _ in range(300):
         tree = reference.some_plan(rng, rng.randrange(1, 9))
         words = [some_words(rng) for _ in range(7)]
-        code, took = rng.choice([0, 7, 503, FAR]), rng.choice([0, 1, 40, 5000])
+        codes = [rng.choice([0, 7, 503, FAR]) for _ in range(rng.randrange(1, 8))]
+        took = rng.choice([0, 1, 40, 5000])
         numbers = iter([word / 2**32 for four in words for word in four])
         policy = Policy.from_dict(tree)
-        steps = policy.preview(7, start=0.02, took=milliseconds(took), input=code, random=numbers.__next__)
+        steps = policy.preview(7, start=0.02, took=milliseconds(took), input=codes, random=numbers.__next__)
         history: List[reference.Event] = []
         now = 20
-        for step, four in zip(steps, words):
-            history.append(reference.Event(now, four, code))
+        for index, (step, four) in enumerate(zip(steps, words)):
+            # (the last code comes again and again)
+            history.append(reference.Event(now, four, codes[min(index, len(codes) - 1)]))
             wanted = reference.answer(tree, history)
             assert (step.at_ms, step.next_ms) == (now, wanted.start), tree
             assert step.output == wanted.output, tree
@@ -518,12 +564,41 @@ def test_a_preview_takes_inputs_in_turn() -> None:
     steps = spaced(0.5).while_input(equal=202).preview(input=[202, 202, 200])
     assert [str(step) for step in steps] == ["0: 0 next 500", "500: 1 next 1000", "1000: 2 done"]
     assert [step.next_ms for step in spaced(1).while_input(equal=7).preview(3, input=[7])] == [1000, 2000, 3000]
+    assert [step.output for step in identity().preview(2, input=[1, 2, 3])] == [1, 2]
+    assert [step.output for step in identity().preview(1, input=[])] == [0]
+    for wrong in (-1, FAR + 1):
+        with pytest.raises(PolicyError, match=f"preview: input: {wrong} is not from 0 to {FAR}"):
+            identity().preview(input=wrong)
     with pytest.raises(TypeError):
         spaced(1).while_input()
     with pytest.raises(TypeError):
         spaced(1) & 3  # type: ignore[operator]
     with pytest.raises(TypeError):
         spaced(1).then(3)  # type: ignore[arg-type]
+
+
+def test_a_preview_has_so_many_steps_at_most() -> None:
+    assert forever().preview(0) == forever().preview(-1) == []
+    steps = spaced(1).preview(4096)
+    assert (len(steps), steps[-1].next_ms) == (4096, 4_096_000)
+    with pytest.raises(PolicyError, match="preview: steps: 4097 is not from 0 to 4096"):
+        forever().preview(4097)
+    assert len(recurs(2).preview(4096)) == 3
+    listed = forever().gather("list").preview(300)
+    assert listed[-1].output == list(range(299))
+
+
+def test_a_preview_asks_for_four_numbers_an_event() -> None:
+    asked: List[float] = []
+
+    def number() -> float:
+        asked.append(0.25)
+        return 0.25
+
+    assert [step.delay for step in spaced(1).jittered(0, 1).preview(3, random=number)] == [0.25] * 3
+    assert len(asked) == 12
+    # no more than its nodes let it have
+    assert len((recurs(1) & spaced(1)).preview(9, random=number)) == 2 and len(asked) == 20
 
 
 def test_a_policy_is_a_value(tmp_path: Path) -> None:

@@ -429,7 +429,8 @@ def test_coroutines_share_a_quota_and_one_that_is_cancelled_gives_its_tickets_ri
 
     assert asyncio.run(main()) == [3] * 10
     gc.collect()
-    assert quota.close() == 31
+    # the ticket of the one that was cancelled while it waited came back
+    assert quota.close() == 30
 
 
 # Its end
@@ -456,7 +457,8 @@ def test_as_a_context(clock: VirtualClock) -> None:
     assert not quota.closed
     del attempts
     gc.collect()
-    assert quota.close() == 1
+    # the loop was left before its second turn, so the ticket for that came back
+    assert quota.close() == 0
 
 
 def test_counts_while_others_draw(clock: VirtualClock) -> None:

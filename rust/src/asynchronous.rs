@@ -66,8 +66,8 @@ macro_rules! until_it_succeeds {
 /// timer. An async function will do, and an async closure that changes nothing which it captures; one that does is
 /// retried by `Retrying::call_async_mut`, with Rust 1.85 or later.
 ///
-/// A retry whose future is dropped is cancelled: its tickets stay counted, and it draws no more. A wait of nothing does
-/// not touch the timer.
+/// A retry whose future is dropped is cancelled: it draws no more, and its tickets stay counted, but of a quota the one
+/// of a retry for which it waited. A wait of nothing does not touch the timer.
 ///
 /// ```
 /// use hikebox::{retry_async, Budget, Policy};

@@ -1,6 +1,7 @@
 //! Passes of a quota that count requests, each for some of the threads: so that no two threads wait for one lock.
 
 use crate::engine::{Handle, PassKind};
+use std::cell::Cell;
 use std::sync::atomic::{AtomicUsize, Ordering};
 use std::sync::{Mutex, MutexGuard, PoisonError};
 use std::time::Instant;
@@ -11,46 +12,62 @@ const SLOTS: usize = 16;
 #[derive(Default)]
 pub(crate) struct Counters([Slot; SLOTS]);
 
-/// One, on cache lines of its own.
+/// One, on cache lines of its own; it has a pass once a request was counted here.
 #[derive(Default)]
 #[repr(align(128))]
-struct Slot(Mutex<Counter>);
+struct Slot(Mutex<Option<Counter>>);
 
-#[derive(Default)]
+/// A pass, and the window of the request that it counted last, by the system's clock: so a request is counted without
+/// reckoning its moment. One before the window is counted in the quota's latest, as one in it is.
 pub(crate) struct Counter {
-    /// A pass, once a request was counted here.
-    pub(crate) pass: Option<Handle<PassKind>>,
-    /// The window of that request.
-    pub(crate) latest: Option<Window>,
-}
-
-/// A window by the system's clock, so that a request is counted without reckoning its moment.
-#[derive(Clone, Copy)]
-pub(crate) struct Window {
-    /// Its first moment, in milliseconds.
+    pub(crate) pass: Handle<PassKind>,
+    /// The first moment of the window, in milliseconds.
     pub(crate) first: u64,
-    pub(crate) begins: Instant,
     pub(crate) ends: Instant,
 }
 
 thread_local! {
-    static SLOT: usize = next_slot();
+    /// The thread's, or [`SLOTS`] before it has one.
+    static SLOT: Cell<usize> = const { Cell::new(SLOTS) };
 }
 
+/// One for this thread, which has none yet.
+#[cold]
 fn next_slot() -> usize {
     static NEXT: AtomicUsize = AtomicUsize::new(0);
-    NEXT.fetch_add(1, Ordering::Relaxed) % SLOTS
+    let slot = NEXT.fetch_add(1, Ordering::Relaxed) % SLOTS;
+    SLOT.with(|own| own.set(slot));
+    slot
+}
+
+impl Counter {
+    /// Counts so many requests at this instant, where its window is not over and its pass counts so many at once, and says
+    /// whether it did.
+    #[inline]
+    pub(crate) fn count(&mut self, now: Instant, requests: u32) -> bool {
+        now < self.ends && self.pass.deposit(self.first, requests)
+    }
 }
 
 impl Counters {
     /// The one of this thread.
-    pub(crate) fn own(&self) -> MutexGuard<'_, Counter> {
-        let Slot(counter) = &self.0[SLOT.with(|slot| *slot)];
+    #[inline]
+    pub(crate) fn own(&self) -> MutexGuard<'_, Option<Counter>> {
+        let Slot(counter) = self.0.get(SLOT.with(Cell::get)).unwrap_or_else(|| &self.0[next_slot()]);
         counter.lock().unwrap_or_else(PoisonError::into_inner)
+    }
+
+    /// Counts a request at this instant, where this thread's counter can, and says whether it did.
+    pub(crate) fn count_one(&self, now: Instant) -> bool {
+        match &mut *self.own() {
+            Some(counter) => counter.count(now, 1),
+            None => false,
+        }
     }
 
     /// All passes.
     pub(crate) fn into_passes(self) -> impl Iterator<Item = Handle<PassKind>> {
-        self.0.into_iter().filter_map(|Slot(counter)| counter.into_inner().unwrap_or_else(PoisonError::into_inner).pass)
+        let counters = self.0.into_iter().map(|Slot(counter)| counter.into_inner());
+        counters.filter_map(|counter| Some(counter.unwrap_or_else(PoisonError::into_inner)?.pass))
     }
 }

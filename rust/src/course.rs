@@ -29,7 +29,7 @@ pub(crate) struct Lost {
 
 /// A retry from its first run on. The engine hears of it at its first failure, with the moments at which the first run
 /// began and failed: until then there is nothing to decide, and nothing is drawn, locked or allocated. Of a success it
-/// hears nothing: the retry is dropped then, and gives its tickets back to be counted.
+/// hears nothing: the retry is dropped then, and gives its tickets to be counted.
 #[derive(Debug)]
 pub(crate) struct Course {
     began: Instant,
@@ -78,18 +78,30 @@ impl Course {
             None => self.begun.insert(Begun::new(terms, self.began)?),
         };
         begun.due = begun.step(passed, Some(Report::Lost(lost.code)), &lost.words)?;
-        Ok(match begun.due {
+        let wait = match begun.due {
             Some(due) => asked.max(Duration::from_millis(due - begun.latest)),
             None => asked,
-        })
+        };
+        begun.machine.set_waits(!wait.is_zero());
+        Ok(wait)
     }
 
-    /// Begins the run that is due, where the engine did not at the failure before.
+    /// The run under way succeeded, and ends the retry: the ticket of the last retry, of a store.
+    #[inline]
+    pub(crate) fn won(&mut self) -> Option<u64> {
+        self.begun.as_mut().and_then(|begun| begun.machine.succeeded())
+    }
+
+    /// Begins the run that was waited for: in the engine, too, where that did not at the failure before.
     pub(crate) fn resume(&mut self, clock: impl FnOnce() -> Instant) -> Result<(), Cause> {
         let began = self.began;
         match &mut self.begun {
             Some(begun) if begun.due.is_some() => begun.resume(clock().saturating_duration_since(began)),
-            _ => Ok(()),
+            Some(begun) => {
+                begun.machine.set_waits(false);
+                Ok(())
+            }
+            None => Ok(()),
         }
     }
 

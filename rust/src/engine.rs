@@ -13,6 +13,10 @@ pub(crate) struct Raw {
     held: *mut c_void,
 }
 
+impl Raw {
+    const EMPTY: Self = Self { held: ptr::null_mut() };
+}
+
 #[repr(C)]
 #[derive(Clone, Copy, Debug, Default)]
 pub(crate) struct Place {
@@ -21,9 +25,26 @@ pub(crate) struct Place {
 }
 
 #[repr(C)]
+#[derive(Clone, Copy, Debug)]
+pub(crate) struct Course {
+    pub(crate) steps: u64,
+    pub(crate) from: u64,
+    pub(crate) took: u64,
+}
+
+#[repr(C)]
+#[derive(Clone, Copy, Debug)]
+pub(crate) struct Event {
+    pub(crate) input: u64,
+    pub(crate) words: [u32; 4],
+}
+
+#[repr(C)]
 #[derive(Clone, Copy, Debug, Default)]
-pub(crate) struct Decision {
+pub(crate) struct Line {
+    pub(crate) moment: u64,
     pub(crate) start: u64,
+    pub(crate) text_to: u64,
     pub(crate) goes_on: bool,
 }
 
@@ -35,6 +56,7 @@ pub(crate) struct Next {
     pub(crate) until: u64,
     pub(crate) granted: u64,
     pub(crate) runs: u64,
+    pub(crate) left: u64,
 }
 
 #[repr(C)]
@@ -152,6 +174,8 @@ const RESERVE_TOO_LARGE: u32 = 35;
 const SHARE_TOO_LARGE: u32 = 36;
 const PERIOD_TOO_SHORT: u32 = 37;
 const RACES_LOST: u32 = 38;
+const NOTHING_TO_HAND_BACK: u32 = 43;
+const TOO_MANY_REQUESTS: u32 = 44;
 
 pub(crate) const NO_REPORT: u32 = 0;
 pub(crate) const WON: u32 = 1;
@@ -175,6 +199,10 @@ pub(crate) const ON_QUOTA: u64 = 2;
 pub(crate) const FAR: u64 = (1 << 62) - 1;
 /// The deadline of a retry that has none.
 pub(crate) const NO_DEADLINE: u64 = u64::MAX;
+/// The bound of a policy whose nodes give none.
+const NO_BOUND: u64 = u64::MAX;
+/// The most events of a course.
+pub(crate) const MOST_STEPS: u64 = 4096;
 /// The most tickets of a budget, and of a window of a quota.
 #[cfg(feature = "leased")]
 pub(crate) const MOST_TICKETS: u64 = 1 << 32;
@@ -188,26 +216,40 @@ extern "C" {
         capacity: usize,
         length: *mut usize,
     ) -> u32;
-    fn hikebox_policy_size(policy: *mut Raw, nodes: *mut u64, depth: *mut u64) -> u32;
-    fn hikebox_policy_free(policy: *mut Raw) -> u32;
-
-    fn hikebox_driver_new(policy: *mut Raw, driver: *mut Raw) -> u32;
-    fn hikebox_driver_next(
-        driver: *mut Raw,
-        now: u64,
-        words: *const [u32; 4],
-        input: u64,
-        decision: *mut Decision,
+    fn hikebox_policy_node(
+        name: *const u8,
+        length: usize,
+        numbers: *const u64,
+        count: usize,
+        first: *mut Raw,
+        second: *mut Raw,
+        made: *mut Raw,
     ) -> u32;
-    fn hikebox_driver_last_text(driver: *mut Raw, text: *mut u8, capacity: usize, length: *mut usize) -> u32;
-    fn hikebox_driver_free(driver: *mut Raw) -> u32;
+    fn hikebox_policy_json(policy: *mut Raw, text: *mut u8, capacity: usize, length: *mut usize) -> u32;
+    fn hikebox_policy_share(policy: *mut Raw, other: *mut Raw) -> u32;
+    fn hikebox_policy_size(policy: *mut Raw, nodes: *mut u64, depth: *mut u64, most: *mut u64) -> u32;
+    fn hikebox_policy_course(
+        policy: *mut Raw,
+        course: *const Course,
+        events: *const Event,
+        given: usize,
+        lines: *mut Line,
+        capacity: usize,
+        count: *mut usize,
+        text: *mut u8,
+        room: usize,
+        length: *mut usize,
+    ) -> u32;
+    fn hikebox_policy_free(policy: *mut Raw) -> u32;
 
     fn hikebox_budget_fixed(limit: u64, pass: *mut Raw) -> u32;
     fn hikebox_budget_rising(limit: u64, pass: *mut Raw) -> u32;
-    fn hikebox_quota_new(now: u64, reserve: u64, share: u64, period: u64, pass: *mut Raw) -> u32;
+    fn hikebox_quota_new(now: u64, reserve: u64, share: u64, period: u64, carries: bool, pass: *mut Raw) -> u32;
     fn hikebox_pass_unlimited(pass: *mut Raw) -> u32;
     fn hikebox_pass_draw(pass: *mut Raw, now: u64, ticket: *mut u64) -> u32;
-    fn hikebox_pass_deposit(pass: *mut Raw, now: u64) -> u32;
+    fn hikebox_pass_deposit(pass: *mut Raw, now: u64, requests: u64) -> u32;
+    fn hikebox_pass_hand_back(pass: *mut Raw) -> u32;
+    fn hikebox_pass_set_terms(pass: *mut Raw, reserve: u64, share: u64) -> u32;
     fn hikebox_pass_split(pass: *mut Raw, part: *mut Raw) -> u32;
     fn hikebox_pass_join(pass: *mut Raw, other: *mut Raw) -> u32;
     fn hikebox_pass_raise(pass: *mut Raw, to: u64, limit: *mut u64) -> u32;
@@ -225,7 +267,6 @@ extern "C" {
         code: u64,
         next: *mut Next,
     ) -> u32;
-    fn hikebox_retry_left(retry: *mut Raw, now: u64, left: *mut u64) -> u32;
     fn hikebox_retry_cancel(retry: *mut Raw) -> u32;
     fn hikebox_retry_end(retry: *mut Raw, pass: *mut Raw) -> u32;
     fn hikebox_retry_free(retry: *mut Raw) -> u32;
@@ -277,6 +318,7 @@ pub(crate) enum Status {
     ShareTooLarge,
     PeriodTooShort,
     RacesLost,
+    NothingToHandBack,
     /// What no call of this crate is answered, unless the caller is at fault.
     Other(u32),
 }
@@ -302,6 +344,7 @@ impl Status {
             SHARE_TOO_LARGE => Self::ShareTooLarge,
             PERIOD_TOO_SHORT => Self::PeriodTooShort,
             RACES_LOST => Self::RacesLost,
+            NOTHING_TO_HAND_BACK => Self::NothingToHandBack,
             other => Self::Other(other),
         })
     }
@@ -333,18 +376,12 @@ pub(crate) trait Kind {
 #[derive(Debug)]
 pub(crate) enum PolicyKind {}
 #[derive(Debug)]
-pub(crate) enum DriverKind {}
-#[derive(Debug)]
 pub(crate) enum PassKind {}
 #[derive(Debug)]
 pub(crate) enum RetryKind {}
 
 impl Kind for PolicyKind {
     const FREE: unsafe extern "C" fn(*mut Raw) -> u32 = hikebox_policy_free;
-}
-
-impl Kind for DriverKind {
-    const FREE: unsafe extern "C" fn(*mut Raw) -> u32 = hikebox_driver_free;
 }
 
 impl Kind for PassKind {
@@ -368,7 +405,7 @@ unsafe impl<K: Kind> Send for Handle<K> {}
 impl<K: Kind> Handle<K> {
     /// The handle that `call` fills.
     fn filled(call: impl FnOnce(*mut Raw) -> u32) -> Result<Self, Status> {
-        let mut handle = Self { raw: Raw { held: ptr::null_mut() }, kind: PhantomData };
+        let mut handle = Self { raw: Raw::EMPTY, kind: PhantomData };
         Status::of(call(&mut handle.raw))?;
         Ok(handle)
     }
@@ -394,6 +431,57 @@ impl Handle<PolicyKind> {
         read.map_err(|status| (status, place))
     }
 
+    /// The policy of the node of this name with these numbers, over these policies, of which there are two at most.
+    pub(crate) fn node(name: &str, numbers: &[u64], over: &mut [Self]) -> Result<Self, Status> {
+        let (mut none, mut neither, mut over) = (Raw::EMPTY, Raw::EMPTY, over.iter_mut().map(Self::raw));
+        let first = over.next().unwrap_or(&mut none);
+        let second = over.next().unwrap_or(&mut neither);
+        Self::filled(|made| unsafe {
+            hikebox_policy_node(name.as_ptr(), name.len(), numbers.as_ptr(), numbers.len(), first, second, made)
+        })
+    }
+
+    /// A second handle to the same policy.
+    pub(crate) fn share(&mut self) -> Result<Self, Status> {
+        Self::filled(|other| unsafe { hikebox_policy_share(self.raw(), other) })
+    }
+
+    /// Its JSON, without spaces.
+    pub(crate) fn json(&mut self) -> Result<String, Status> {
+        text(|text, room, length| unsafe { hikebox_policy_json(self.raw(), text, room, length) })
+    }
+
+    pub(crate) fn size(&mut self) -> Size {
+        let (mut nodes, mut depth, mut most) = (0, 0, 0);
+        let status = unsafe { hikebox_policy_size(self.raw(), &mut nodes, &mut depth, &mut most) };
+        debug_assert_eq!(status, OK);
+        Size { nodes, depth, most: (most != NO_BOUND).then_some(most) }
+    }
+
+    /// What it does along a course: its lines, and their outputs, one after another.
+    pub(crate) fn course(&mut self, course: Course, events: &[Event]) -> Result<(Vec<Line>, String), Status> {
+        let (mut lines, mut count) = (vec![Line::default(); 16], 0);
+        let text = text(|text, room, length| {
+            lines.resize(lines.len().max(count), Line::default());
+            unsafe {
+                hikebox_policy_course(
+                    self.raw(),
+                    &course,
+                    events.as_ptr(),
+                    events.len(),
+                    lines.as_mut_ptr(),
+                    lines.len(),
+                    &mut count,
+                    text,
+                    room,
+                    length,
+                )
+            }
+        })?;
+        lines.truncate(count);
+        Ok((lines, text))
+    }
+
     /// Plays a storm under it, of at most so many windows: those that there are, and the totals.
     pub(crate) fn play(&mut self, storm: &Storm, room: usize) -> Result<(Vec<Window>, Totals), Status> {
         let (mut windows, mut count, mut totals) = (vec![Window::default(); room], 0, Totals::default());
@@ -403,36 +491,19 @@ impl Handle<PolicyKind> {
         windows.truncate(count);
         Ok((windows, totals))
     }
+}
 
-    /// How many nodes it has, and how deep it is.
-    pub(crate) fn size(&mut self) -> (u64, u64) {
-        let (mut nodes, mut depth) = (0, 0);
-        let status = unsafe { hikebox_policy_size(self.raw(), &mut nodes, &mut depth) };
-        debug_assert_eq!(status, OK);
-        (nodes, depth)
-    }
+/// How many nodes a policy has, how deep it is, and at how many events it goes on at most, where its nodes tell.
+#[derive(Clone, Copy, Debug)]
+pub(crate) struct Size {
+    pub(crate) nodes: u64,
+    pub(crate) depth: u64,
+    pub(crate) most: Option<u64>,
 }
 
 /// What is wrong with a text that is no policy, and where.
 pub(crate) fn fault(json: &str) -> Result<String, Status> {
     text(|text, room, length| unsafe { hikebox_policy_fault(json.as_ptr(), json.len(), text, room, length) })
-}
-
-impl Handle<DriverKind> {
-    pub(crate) fn new(policy: &mut Handle<PolicyKind>) -> Result<Self, Status> {
-        Self::filled(|driver| unsafe { hikebox_driver_new(policy.raw(), driver) })
-    }
-
-    pub(crate) fn next(&mut self, now: u64, words: &[u32; 4], input: u64) -> Result<Decision, Status> {
-        let mut decision = Decision::default();
-        Status::of(unsafe { hikebox_driver_next(self.raw(), now, words, input, &mut decision) })?;
-        Ok(decision)
-    }
-
-    pub(crate) fn last_text(&mut self) -> Result<String, Status> {
-        let driver = self.raw();
-        text(|text, room, length| unsafe { hikebox_driver_last_text(driver, text, room, length) })
-    }
 }
 
 impl Handle<PassKind> {
@@ -445,8 +516,8 @@ impl Handle<PassKind> {
     }
 
     /// The first pass of a quota, whose windows are counted from the one of this moment, up to [`FAR`].
-    pub(crate) fn quota(now: u64, reserve: u64, share: u64, period: u64) -> Result<Self, Status> {
-        Self::filled(|pass| unsafe { hikebox_quota_new(now, reserve, share, period, pass) })
+    pub(crate) fn quota(now: u64, reserve: u64, share: u64, period: u64, carries: bool) -> Result<Self, Status> {
+        Self::filled(|pass| unsafe { hikebox_quota_new(now, reserve, share, period, carries, pass) })
     }
 
     /// A pass that draws on nothing.
@@ -461,10 +532,30 @@ impl Handle<PassKind> {
         Ok(ticket)
     }
 
-    /// Counts a request of a quota.
-    pub(crate) fn deposit(&mut self, now: u64) {
-        let status = unsafe { hikebox_pass_deposit(self.raw(), now) };
-        debug_assert_eq!(status, OK);
+    /// Counts so many requests of a quota, where they are no more than the pass has parts, and says whether they are.
+    pub(crate) fn deposit(&mut self, now: u64, requests: u32) -> bool {
+        let status = unsafe { hikebox_pass_deposit(self.raw(), now, requests.into()) };
+        debug_assert!([OK, TOO_MANY_REQUESTS].contains(&status));
+        status == OK
+    }
+
+    /// Hands the latest ticket of a quota back, and says whether there was one.
+    pub(crate) fn hand_back(&mut self) -> bool {
+        loop {
+            match Status::of(unsafe { hikebox_pass_hand_back(self.raw()) }) {
+                Ok(()) => return true,
+                // As many other tickets came back meanwhile.
+                Err(Status::RacesLost) => {}
+                Err(status) => {
+                    debug_assert_eq!(status, Status::NothingToHandBack);
+                    return false;
+                }
+            }
+        }
+    }
+
+    pub(crate) fn set_terms(&mut self, reserve: u64, share: u64) -> Result<(), Status> {
+        Status::of(unsafe { hikebox_pass_set_terms(self.raw(), reserve, share) })
     }
 
     pub(crate) fn split(&mut self) -> Result<Self, Status> {
@@ -520,25 +611,20 @@ impl Handle<RetryKind> {
         Self::begun(policy, &mut Handle::unlimited()?, deadline)
     }
 
-    /// How many milliseconds it has at this moment up to its deadline, or [`NO_DEADLINE`].
-    pub(crate) fn left(&mut self, now: u64) -> u64 {
-        let mut left = 0;
-        let status = unsafe { hikebox_retry_left(self.raw(), now, &mut left) };
-        debug_assert_eq!(status, OK);
-        left
-    }
-
-    pub(crate) fn poll(&mut self, now: u64, words: &[u32; 4], report: u32, code: u64) -> Result<Next, Status> {
-        let mut next = Next::default();
-        Status::of(unsafe { hikebox_retry_poll(self.raw(), now, words, report, code, &mut next) })?;
-        Ok(next)
+    /// Steps it, and tells what it is at; or says that it is refused, as a report of no run is, and what was told before
+    /// stays.
+    #[inline]
+    pub(crate) fn poll(&mut self, now: u64, words: &[u32; 4], report: u32, code: u64, told: &mut Next) -> bool {
+        let status = unsafe { hikebox_retry_poll(self.raw(), now, words, report, code, told) };
+        status == OK
     }
 
     /// Ends it as cancelled where it is not over, and tells how it ended: a poll of what is over changes nothing.
-    pub(crate) fn cancel(&mut self) -> Next {
+    pub(crate) fn cancel(&mut self, told: &mut Next) {
         let status = unsafe { hikebox_retry_cancel(self.raw()) };
         debug_assert_eq!(status, OK);
-        self.poll(0, &[0; 4], NO_REPORT, 0).unwrap_or_default()
+        let told = self.poll(0, &[0; 4], NO_REPORT, 0, told);
+        debug_assert!(told);
     }
 
     /// Gives its pass back to one of the same.

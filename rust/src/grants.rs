@@ -10,7 +10,7 @@ use std::sync::Arc;
 use std::time::Instant;
 
 /// What retries draw their tickets on: a [`Budget`], a [`Quota`], an `Arc` of [`Tickets`], or [`Unlimited`] for
-/// nothing. Whatever retries takes any of them.
+/// nothing; with the feature `leased` also `Leased` and `LeasedQuota`. Whatever retries takes any of them.
 ///
 /// ```
 /// use hikebox::{retry, Budget, Grants, Policy, Quota, RetryError, Unlimited};
@@ -41,8 +41,8 @@ impl<S: Tickets + 'static> Grants for Arc<S> {}
 #[derive(Clone, Copy, Debug, Default, PartialEq, Eq, Hash)]
 pub struct Unlimited;
 
-/// A store of tickets outside of the engine, as a table of a database or a file (with the feature `leased`, `Leased`
-/// and `LeasedQuota` are such). An `Arc` of it is given to whatever retries:
+/// A store of tickets outside of the engine, as a table of a database (with the feature `leased`, `Leased` and
+/// `LeasedQuota` are such, by a file). An `Arc` of it is given to whatever retries:
 ///
 /// ```
 /// use hikebox::{retry, Policy, RetryError, Tickets};
@@ -80,6 +80,23 @@ pub trait Tickets: Send + Sync {
     /// What keeps it from knowing. The retry is not made then, and ends as
     /// [`RetryError::StoreFailed`](crate::RetryError::StoreFailed).
     fn draw(&self) -> Result<bool, Box<dyn Error + Send + Sync>>;
+
+    /// The same with a number of the store's own, by which it knows a ticket that comes back. Unless it is said, each is 0.
+    ///
+    /// # Errors
+    ///
+    /// As of [`Tickets::draw`].
+    fn draw_numbered(&self) -> Result<Option<u64>, Box<dyn Error + Send + Sync>> {
+        Ok(if self.draw()? { Some(0) } else { None })
+    }
+
+    /// Takes the ticket of this number back: its retry was cancelled, or dropped, while it waited. Unless it is said, the
+    /// ticket stays drawn.
+    fn hand_back(&self, _ticket: u64) {}
+
+    /// Hears of a call that succeeded: of one that was retried with the ticket of the last retry, which a store may take
+    /// back. Unless it is said, nothing is done.
+    fn succeeded(&self, _last: Option<u64>) {}
 }
 
 /// The error of a store of [`Tickets`]. Clones are the same failure, and equal.
@@ -132,6 +149,14 @@ mod sealed {
         /// A request is made at this moment: a quota, or a store, counts it.
         fn count_request(&self, _now: Instant) {}
 
+        /// Whether it is told of successes.
+        fn hears_of_successes(&self) -> bool {
+            false
+        }
+
+        /// A request has succeeded, of a store with the ticket of its last retry: one that counts successes counts it.
+        fn count_success(&self, _last: Option<u64>, _clock: &mut dyn FnMut() -> Instant) {}
+
         /// Moment 0 of a retry that began then, in milliseconds: of a quota it is the one on the quota's clock.
         fn origin(&self, _began: Instant) -> u64 {
             0
@@ -154,10 +179,21 @@ pub enum Source {
 impl Source {
     /// A request is made now. The clock is looked at only where that matters.
     pub(crate) fn count_request_now(&self) {
+        if let Self::Quota(quota) = self {
+            if !quota.counts_successes() {
+                quota.deposit_by_clock(now());
+            }
+        } else if let Self::Store(store) = self {
+            store.deposit();
+        }
+    }
+
+    /// A request has succeeded now.
+    pub(crate) fn count_success_now(&self, last: Option<u64>) {
         match self {
-            Self::Quota(quota) => quota.deposit_by_clock(now()),
-            Self::Store(store) => store.deposit(),
-            Self::Budget(_) | Self::Unlimited => (),
+            Self::Quota(quota) if quota.counts_successes() => quota.deposit(),
+            Self::Store(store) => store.succeeded(last),
+            Self::Budget(_) | Self::Quota(_) | Self::Unlimited => (),
         }
     }
 }
@@ -165,6 +201,14 @@ impl Source {
 impl DrawnOn for Source {
     fn source(&self) -> Source {
         self.clone()
+    }
+
+    fn hears_of_successes(&self) -> bool {
+        match self {
+            Self::Quota(quota) => quota.hears_of_successes(),
+            Self::Store(_) => true,
+            Self::Budget(_) | Self::Unlimited => false,
+        }
     }
 
     fn origin(&self, began: Instant) -> u64 {
@@ -187,7 +231,19 @@ impl DrawnOn for Quota {
     }
 
     fn count_request(&self, now: Instant) {
-        self.deposit_by_clock(now);
+        if !self.counts_successes() {
+            self.deposit_by_clock(now);
+        }
+    }
+
+    fn hears_of_successes(&self) -> bool {
+        self.counts_successes() || self.returns_tickets()
+    }
+
+    fn count_success(&self, _last: Option<u64>, clock: &mut dyn FnMut() -> Instant) {
+        if self.counts_successes() {
+            self.deposit_by_clock(clock());
+        }
     }
 
     fn origin(&self, began: Instant) -> u64 {
@@ -202,6 +258,14 @@ impl<S: Tickets + 'static> DrawnOn for Arc<S> {
 
     fn count_request(&self, _now: Instant) {
         self.deposit();
+    }
+
+    fn hears_of_successes(&self) -> bool {
+        true
+    }
+
+    fn count_success(&self, last: Option<u64>, _clock: &mut dyn FnMut() -> Instant) {
+        self.succeeded(last);
     }
 }
 

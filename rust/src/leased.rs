@@ -2,16 +2,16 @@
 
 use crate::budget::{Budget, BudgetError, Pass};
 use crate::engine::{lease_of_budget, lease_of_quota, uptime, Asking, Range, Stored, MOST_TICKETS};
-use crate::grants::Tickets;
-use crate::quota::{Terms, Usage};
+use crate::grants::{DrawnOn, Grants, Source, Tickets};
+use crate::quota::{thousandths, Terms, Usage, Uses};
 use crate::store::{CountFile, StoreError, Window};
 use std::error::Error;
 use std::path::Path;
-use std::sync::{Mutex, MutexGuard, PoisonError};
+use std::sync::{Arc, Mutex, MutexGuard, PoisonError};
 use std::time::{Duration, Instant};
 
 /// A budget that all processes with the same file and name share, Python's (`hikebox.Leased`) too. Threads may share
-/// it.
+/// it; it is cheap to clone, and all clones draw from one lease.
 ///
 /// A process leases a range of tickets by one change of the file under its lock, which is written to the disk before it
 /// is granted, and then draws from the range by a [`Budget`] of its own. So each ticket is in one lease, and is drawn
@@ -30,18 +30,18 @@ use std::time::{Duration, Instant};
 /// # std::fs::remove_file(&file)?;
 /// # Ok::<(), Box<dyn std::error::Error>>(())
 /// ```
-#[derive(Debug)]
+#[derive(Clone, Debug)]
 pub struct Leased {
     file: CountFile,
     name: String,
     limit: u64,
     period: Option<Duration>,
     lease: u64,
-    held: Mutex<Option<Lease>>,
+    held: Arc<Held>,
 }
 
 /// A quota that all processes with the same file and name share, Python's (`hikebox.LeasedQuota`) too. Threads may
-/// share it.
+/// share it; it is cheap to clone, and all clones are the same quota.
 ///
 /// It is a [`Quota`](crate::Quota) over all processes: in each window of the machine's uptime they draw no more tickets
 /// than the reserve, and the share of the requests that they told the file in it. Requests are counted in the process;
@@ -62,22 +62,47 @@ pub struct Leased {
 /// # std::fs::remove_file(&file)?;
 /// # Ok::<(), Box<dyn std::error::Error>>(())
 /// ```
-#[derive(Debug)]
+#[derive(Clone, Debug)]
 pub struct LeasedQuota {
     file: CountFile,
     name: String,
-    terms: Terms,
+    period: u64,
     lease: Option<u64>,
-    held: Mutex<Option<Lease>>,
+    uses: Uses,
+    shared: Arc<Shared>,
+}
+
+/// What the clones of a quota have in common.
+#[derive(Debug)]
+struct Shared {
+    terms: Mutex<Terms>,
+    held: Held,
     requests: Mutex<Requests>,
+}
+
+/// What this process may draw.
+#[derive(Debug, Default)]
+struct Held {
+    /// Locked also while another is asked for.
+    lease: Mutex<Option<Lease>>,
+    /// Tickets that came back.
+    back: Mutex<Vec<Ticket>>,
 }
 
 /// A range of tickets, and the pass that draws from it.
 #[derive(Debug)]
 struct Lease {
     first: u64,
+    window: u64,
     until: Option<Instant>,
     pass: Pass,
+}
+
+/// A ticket, by its window and its number there.
+#[derive(Clone, Copy, Debug)]
+struct Ticket {
+    window: u64,
+    number: u64,
 }
 
 /// The requests of a window that the file was not told yet.
@@ -108,7 +133,7 @@ impl Leased {
             limit,
             period: None,
             lease: (limit / 64).clamp(1, 1000),
-            held: Mutex::new(None),
+            held: Arc::default(),
         }
     }
 
@@ -117,6 +142,7 @@ impl Leased {
     #[must_use]
     pub fn in_each(mut self, period: Duration) -> Self {
         self.period = Some(period);
+        self.held = Arc::default();
         self
     }
 
@@ -135,7 +161,7 @@ impl Leased {
     ///
     /// [`StoreError`] where a new lease is wanted and the file grants none.
     pub fn draw(&self) -> Result<Option<u64>, StoreError> {
-        draw(&self.held, || self.take())
+        Ok(self.held.draw(|| self.take())?.map(|ticket| ticket.number))
     }
 
     /// A new lease, or `None` where the limit is reached.
@@ -156,7 +182,7 @@ impl Leased {
             return Ok(None);
         }
         counts.set(key, window.as_ref(), &[stored.given])?;
-        Lease::of(range, window.map(|window| window.until)).map(Some)
+        Lease::of(range, number, window.map(|window| window.until)).map(Some)
     }
 }
 
@@ -175,13 +201,14 @@ impl LeasedQuota {
         per: Duration,
     ) -> Result<Self, BudgetError> {
         let terms = Terms::new(reserve, share, per)?.checked()?;
+        let (held, requests) = Default::default();
         Ok(Self {
             file: CountFile::new(path),
             name: name.into(),
-            terms,
+            period: terms.period,
             lease: None,
-            held: Mutex::new(None),
-            requests: Mutex::new(Requests::default()),
+            uses: Uses::default(),
+            shared: Arc::new(Shared { terms: Mutex::new(terms), held, requests }),
         })
     }
 
@@ -193,13 +220,52 @@ impl LeasedQuota {
         self
     }
 
+    /// The quota, on which a call counts as a request where it succeeds: [`Quota::counting_successes`].
+    ///
+    /// [`Quota::counting_successes`]: crate::Quota::counting_successes
+    #[must_use]
+    pub fn counting_successes(mut self) -> Self {
+        self.uses.counts_successes = true;
+        self
+    }
+
+    /// The quota, to which a call that succeeds after retries hands the ticket of the last one back:
+    /// [`Quota::returning_tickets`]. What comes back this process alone draws again, while the window lasts.
+    ///
+    /// [`Quota::returning_tickets`]: crate::Quota::returning_tickets
+    #[must_use]
+    pub fn returning_tickets(mut self) -> Self {
+        self.uses.returns_tickets = true;
+        self
+    }
+
+    /// Sets the reserve and the share that this process names to the file, from its next lease on.
+    ///
+    /// # Errors
+    ///
+    /// [`BudgetError`] says which of them is out of its range; then nothing changes.
+    pub fn set_terms(&self, reserve: u64, share: f64) -> Result<(), BudgetError> {
+        let terms = Terms { reserve, share: thousandths(share)?, period: self.period }.checked()?;
+        *lock(&self.shared.terms) = terms;
+        Ok(())
+    }
+
+    fn terms(&self) -> Terms {
+        *lock(&self.shared.terms)
+    }
+
     /// Counts a request. The file is not asked.
     pub fn deposit(&self) {
-        let mut requests = lock(&self.requests);
-        // Where the uptime can't be told, the request is not counted.
+        self.deposit_of(1);
+    }
+
+    /// Counts so many requests at once.
+    pub fn deposit_of(&self, requests: u32) {
+        let mut counted = lock(&self.shared.requests);
+        // Where the uptime can't be told, none is counted.
         if let Ok(now) = uptime() {
-            requests.reach(now / self.terms.period);
-            requests.count += 1;
+            counted.reach(now / self.period);
+            counted.count += u64::from(requests);
         }
     }
 
@@ -210,9 +276,13 @@ impl LeasedQuota {
     ///
     /// [`StoreError`] where a new lease is wanted and the file grants none.
     pub fn draw(&self) -> Result<Option<u64>, StoreError> {
-        draw(&self.held, || match self.ask(true)? {
+        Ok(self.ticket()?.map(|ticket| ticket.number))
+    }
+
+    fn ticket(&self) -> Result<Option<Ticket>, StoreError> {
+        self.shared.held.draw(|| match self.ask(true)? {
             Found { range: Range { tickets: 0, .. }, .. } => Ok(None),
-            Found { range, window, .. } => Lease::of(range, Some(window.until)).map(Some),
+            Found { range, window, .. } => Lease::of(range, window.number, Some(window.until)).map(Some),
         })
     }
 
@@ -223,7 +293,7 @@ impl LeasedQuota {
     /// [`StoreError`] where the file can't be read or written, or has lost its count of the present window.
     pub fn seen(&self) -> Result<Usage, StoreError> {
         let Found { window, stored: Stored { given, asked, .. }, .. } = self.ask(false)?;
-        let left = self.terms.allowed(asked).saturating_sub(given);
+        let left = self.terms().allowed(asked).saturating_sub(given);
         Ok(Usage { window: window.number, asked, given, left, next: None })
     }
 
@@ -231,43 +301,94 @@ impl LeasedQuota {
     /// Requests that were told are not told again, also where that failed.
     fn ask(&self, wants_tickets: bool) -> Result<Found, StoreError> {
         let counts = self.file.lock()?;
-        let window = Window::present(self.terms.period)?;
-        let key = format!("quota of {} ms of {}", self.terms.period, self.name);
+        let (window, terms) = (Window::present(self.period)?, self.terms());
+        let key = format!("quota of {} ms of {}", self.period, self.name);
         let mut stored = counts.of::<2>(&key, Some(&window))?;
         // comes to the window before any request is told, as none is where the file has a later one
-        self.lease_of(&window, 0, 0, &mut stored)?;
-        let told = lock(&self.requests).take(window.number);
-        let allowed = self.terms.allowed(stored.asked.saturating_add(told));
+        terms.lease(window.number, 0, 0, &mut stored)?;
+        let told = lock(&self.shared.requests).take(window.number);
+        let allowed = terms.allowed(stored.asked.saturating_add(told));
         let wanted = if wants_tickets { self.lease.unwrap_or((allowed / 64).clamp(1, 1000)) } else { 0 };
-        let range = self.lease_of(&window, told, wanted, &mut stored)?;
+        let range = terms.lease(window.number, told, wanted, &mut stored)?;
         if told + range.tickets > 0 {
             counts.set(key, Some(&window), &[stored.given, stored.asked])?;
         }
         Ok(Found { window, stored, range })
     }
+}
 
-    /// Takes a range of the present window, and tells requests of it.
-    fn lease_of(&self, window: &Window, told: u64, wanted: u64, stored: &mut Stored) -> Result<Range, StoreError> {
-        let asking = Asking { window: window.number, told, wanted };
-        lease_of_quota(self.terms.reserve, self.terms.share, asking, stored).ok_or(StoreError::Lost)
+impl Terms {
+    /// Takes a range of a window, and tells requests of it.
+    fn lease(self, window: u64, told: u64, wanted: u64, stored: &mut Stored) -> Result<Range, StoreError> {
+        let asking = Asking { window, told, wanted };
+        lease_of_quota(self.reserve, self.share, asking, stored).ok_or(StoreError::Lost)
     }
 }
 
-/// An `Arc` of it is given to whatever retries.
+impl Grants for Leased {}
+
+impl DrawnOn for Leased {
+    fn source(&self) -> Source {
+        Source::Store(Arc::new(self.clone()))
+    }
+}
+
 impl Tickets for Leased {
     fn draw(&self) -> Result<bool, Box<dyn Error + Send + Sync>> {
         Ok(Self::draw(self)?.is_some())
     }
 }
 
-/// An `Arc` of it is given to whatever retries. Each call that is retried counts as one request.
+impl Grants for LeasedQuota {}
+
+impl DrawnOn for LeasedQuota {
+    fn source(&self) -> Source {
+        Source::Store(Arc::new(self.clone()))
+    }
+
+    fn count_request(&self, _now: Instant) {
+        Tickets::deposit(self);
+    }
+
+    fn hears_of_successes(&self) -> bool {
+        true
+    }
+
+    fn count_success(&self, last: Option<u64>, _clock: &mut dyn FnMut() -> Instant) {
+        self.succeeded(last);
+    }
+}
+
+/// Each call that is retried counts as one request. The number of a ticket that may come back is that of its window and
+/// then its own, `window << 32 | number`.
 impl Tickets for LeasedQuota {
     fn deposit(&self) {
-        Self::deposit(self);
+        if !self.uses.counts_successes {
+            Self::deposit(self);
+        }
     }
 
     fn draw(&self) -> Result<bool, Box<dyn Error + Send + Sync>> {
         Ok(Self::draw(self)?.is_some())
+    }
+
+    fn draw_numbered(&self) -> Result<Option<u64>, Box<dyn Error + Send + Sync>> {
+        Ok(self.ticket()?.map(|Ticket { window, number }| window << 32 | number))
+    }
+
+    /// This process draws it again, while its window lasts. The file is not asked.
+    fn hand_back(&self, ticket: u64) {
+        let ticket = Ticket { window: ticket >> 32, number: ticket % MOST_TICKETS };
+        lock(&self.shared.held.back).push(ticket);
+    }
+
+    fn succeeded(&self, last: Option<u64>) {
+        if self.uses.counts_successes {
+            Self::deposit(self);
+        }
+        if let (true, Some(ticket)) = (self.uses.returns_tickets, last) {
+            self.hand_back(ticket);
+        }
     }
 }
 
@@ -287,29 +408,38 @@ impl Requests {
 }
 
 impl Lease {
-    fn of(range: Range, until: Option<Instant>) -> Result<Self, StoreError> {
-        Ok(Self { first: range.first, until, pass: Budget::new(range.tickets)?.pass()? })
+    fn of(range: Range, window: u64, until: Option<Instant>) -> Result<Self, StoreError> {
+        let pass = Budget::new(range.tickets)?.pass()?;
+        Ok(Self { first: range.first, window, until, pass })
     }
 
-    fn draw(&mut self) -> Option<u64> {
+    /// A ticket of its window that came back, or one of the range. Those of windows that are over are given up.
+    fn draw(&mut self, back: &Mutex<Vec<Ticket>>) -> Option<Ticket> {
         if self.until.map_or(false, |until| Instant::now() >= until) {
             return None;
         }
-        self.pass.draw().map(|ticket| self.first + ticket)
+        let mut back = lock(back);
+        back.retain(|ticket| ticket.window == self.window);
+        back.pop().or_else(|| {
+            let number = self.first + self.pass.draw()?;
+            Some(Ticket { window: self.window, number })
+        })
     }
 }
 
-/// A ticket of the lease that is held, or of the one that is taken in its place.
-fn draw(
-    held: &Mutex<Option<Lease>>,
-    take: impl FnOnce() -> Result<Option<Lease>, StoreError>,
-) -> Result<Option<u64>, StoreError> {
-    let mut held = lock(held);
-    if let Some(ticket) = held.as_mut().and_then(Lease::draw) {
-        return Ok(Some(ticket));
+impl Held {
+    /// A ticket of the lease that is held, or of the one that is taken in its place. One that is used up is held until
+    /// then: its tickets may come back.
+    fn draw(&self, take: impl FnOnce() -> Result<Option<Lease>, StoreError>) -> Result<Option<Ticket>, StoreError> {
+        let mut held = lock(&self.lease);
+        if let Some(ticket) = held.as_mut().and_then(|lease| lease.draw(&self.back)) {
+            return Ok(Some(ticket));
+        }
+        match take()? {
+            Some(lease) => Ok(held.insert(lease).draw(&self.back)),
+            None => Ok(None),
+        }
     }
-    *held = take()?;
-    Ok(held.as_mut().and_then(Lease::draw))
 }
 
 fn lock<T>(shared: &Mutex<T>) -> MutexGuard<'_, T> {

@@ -1,6 +1,6 @@
 //! Retries by schedules and shared budgets.
 //!
-//! A [`Schedule`] says when to call again and when to stop; as a [`Policy`] it was read and found right by the engine.
+//! A [`Schedule`] says when to call again and when to stop; as a [`Policy`] it was built and found right by the engine.
 //! A [`Budget`] is a number of retries that all threads of a program share, and a [`Quota`] one in each window of time,
 //! which grows with the requests made. [`retry()`] runs a call by both, and gives its first success, or its last error
 //! with the reason why it was the last:
@@ -25,8 +25,7 @@
 //! - With the feature `tokio`, `retry_async` retries futures. [`Retrying::sleep`] takes the waits of any runtime.
 //! - With the feature `tower`, `RetryPolicy` is a `tower::retry::Policy`.
 //! - With the feature `leased`, `Leased` and `LeasedQuota` are shared by all processes of a machine, by a file. A store
-//!   of
-//!   your own implements [`Tickets`].
+//!   of your own implements [`Tickets`].
 //! - With the feature `serde`, a policy is read and written as a part of a configuration.
 //! - [`Machine`] is a retry that a host with a clock of its own steps.
 //! - [`Storm`] shows what a policy does to a peer that fails for a while, when thousands of calls fail together.
@@ -131,7 +130,7 @@ mod pages {
     /// fn is_json(fault: PolicyFault) -> bool {
     ///     match fault {
     ///         NotJson { .. } => false,
-    ///         NotAPolicy | OutOfRange | TooMany | TooDeep | JournalFull | NoMemory => true,
+    ///         NotAPolicy | OutOfRange | TooMany | TooDeep | NoMemory => true,
     ///     }
     /// }
     /// ```

@@ -33,13 +33,20 @@ use std::time::Duration;
 ///
 /// A moment is the time since one that the host chooses, and counts in whole milliseconds, rounded down. On a
 /// [`Quota`](crate::Quota) it draws at the moments that it is stepped at, so these are on one clock with all others of
-/// the quota, and the host deposits each request: `quota.deposit_at(now)`.
+/// the quota, and the host deposits each request: `quota.deposit_at(now)`. One that is dropped while it waits hands the
+/// ticket of the run back that never began.
 #[derive(Debug)]
 pub struct Machine {
+    /// `None` only while it is dropped.
     handle: Option<Handle<RetryKind>>,
     draws_on: DrawsOn,
+    deadline: u64,
     /// What its last step told.
     told: Next,
+    /// Whether its latest ticket is for a run that has not begun: then that goes back.
+    waits: bool,
+    /// Whether its last run succeeded.
+    won: bool,
 }
 
 /// What a retry draws on.
@@ -58,6 +65,8 @@ enum DrawsOn {
 struct Drawn {
     store: Arc<dyn Tickets>,
     granted: u64,
+    /// The number of the latest ticket.
+    ticket: Option<u64>,
     failure: Option<StoreFailure>,
     ended: Option<Ended>,
 }
@@ -153,7 +162,8 @@ impl Machine {
             Source::Store(_) | Source::Unlimited => Handle::on_nothing(policy, deadline),
         });
         let handle = Some(handle.map_err(BudgetError::of)?);
-        Ok(Self { handle, draws_on: DrawsOn::of(source), told: Next::default() })
+        let (draws_on, told) = (DrawsOn::of(source), Next::default());
+        Ok(Self { handle, draws_on, deadline, told, waits: false, won: false })
     }
 
     /// Steps it at the moment `now`, which is not before that of the step before, with random words of its own. A
@@ -174,30 +184,53 @@ impl Machine {
 
     /// The same at a moment in milliseconds: the one to wait for, or `None` where a run is under way.
     pub(crate) fn step_at(&mut self, now: u64, report: Option<Report>, words: &[u32; 4]) -> Result<Option<u64>, Ended> {
-        let next = self.poll(now, report, words);
+        self.poll(now, report, words);
         if let DrawsOn::Store(drawn) = &mut self.draws_on {
-            if let Some(ended) = drawn.refuses(next.granted) {
+            if let Some(ended) = drawn.refuses(self.told.granted) {
                 self.cancel();
                 return Err(ended);
             }
         }
-        match next.what {
-            engine::WAIT => Ok(Some(next.until)),
-            engine::OVER => Err(ended_of(next.how)),
-            _ => Ok(None),
+        match self.told.what {
+            engine::WAIT => {
+                self.waits = true;
+                Ok(Some(self.told.until))
+            }
+            engine::OVER => {
+                self.won = self.told.how == engine::ENDED_WON;
+                Err(ended_of(self.told.how))
+            }
+            _ => {
+                self.waits = false;
+                Ok(None)
+            }
         }
     }
 
-    fn poll(&mut self, now: u64, report: Option<Report>, words: &[u32; 4]) -> Next {
+    /// Whether its next run is yet to begin, where its host does not step it when that does.
+    pub(crate) fn set_waits(&mut self, waits: bool) {
+        self.waits = waits;
+    }
+
+    /// Its run succeeded, and it is not stepped any more: the ticket of its last retry, of a store.
+    pub(crate) fn succeeded(&mut self) -> Option<u64> {
+        self.won = true;
+        match &self.draws_on {
+            DrawsOn::Store(drawn) => drawn.ticket,
+            _ => None,
+        }
+    }
+
+    fn poll(&mut self, now: u64, report: Option<Report>, words: &[u32; 4]) {
         let (report, code) = match report {
             None => (engine::NO_REPORT, 0),
             Some(Report::Won(code)) => (engine::WON, code.min(FAR)),
             Some(Report::Lost(code)) => (engine::LOST, code.min(FAR)),
         };
-        if let Ok(next) = self.handle().poll(now, words, report, code) {
-            self.told = next;
+        if let Some(handle) = &mut self.handle {
+            let told = handle.poll(now, words, report, code, &mut self.told);
+            debug_assert!(!told || self.told.left == self.left_at(now));
         }
-        self.told
     }
 
     /// How many retries it was granted.
@@ -215,11 +248,16 @@ impl Machine {
 
     /// How long it is from a moment to the deadline, as the time that a run may be given: none where that is past. `None`
     /// where there is no deadline.
-    pub fn left(&mut self, now: Duration) -> Option<Duration> {
-        match self.handle().left(whole_millis(now)) {
+    pub fn left(&self, now: Duration) -> Option<Duration> {
+        match self.left_at(whole_millis(now)) {
             NO_DEADLINE => None,
             left => Some(Duration::from_millis(left)),
         }
+    }
+
+    /// The same in milliseconds, as the engine tells it at each step.
+    fn left_at(&self, now: u64) -> u64 {
+        if self.deadline == NO_DEADLINE { NO_DEADLINE } else { self.deadline.saturating_sub(now) }
     }
 
     /// Why the store of tickets failed, where it did.
@@ -230,18 +268,17 @@ impl Machine {
         }
     }
 
-    /// Ends it as cancelled, where it is not over.
+    /// Ends it as cancelled, where it is not over. On a quota, where it waited, its latest ticket goes back when it is
+    /// dropped.
     pub fn cancel(&mut self) {
-        self.told = self.handle().cancel();
-    }
-
-    fn handle(&mut self) -> &mut Handle<RetryKind> {
-        self.handle.as_mut().expect("a machine has its handle until it is dropped")
+        if let Some(handle) = &mut self.handle {
+            handle.cancel(&mut self.told);
+        }
     }
 }
 
 impl Drop for Machine {
-    /// Gives its tickets back to be counted.
+    /// Gives its tickets to be counted, and back the one of a run that never began, or that the quota wants back.
     fn drop(&mut self) {
         let handle = match self.handle.take() {
             Some(handle) => handle,
@@ -249,8 +286,9 @@ impl Drop for Machine {
         };
         match &self.draws_on {
             DrawsOn::Budget(budget) => budget.with(|root| handle.end(root)),
-            DrawsOn::Quota(quota) => quota.with(|root| handle.end(root)),
-            DrawsOn::Store(_) | DrawsOn::Nothing => (),
+            DrawsOn::Quota(quota) => quota.end(handle, self.waits || (self.won && quota.returns_tickets())),
+            DrawsOn::Store(drawn) => drawn.end(self.waits),
+            DrawsOn::Nothing => (),
         }
     }
 }
@@ -268,16 +306,19 @@ impl DrawsOn {
 
 impl Drawn {
     fn new(store: Arc<dyn Tickets>) -> Self {
-        Self { store, granted: 0, failure: None, ended: None }
+        Self { store, granted: 0, ticket: None, failure: None, ended: None }
     }
 
     /// How the retry ended, where it did: the store is asked where the schedule went on to one retry more than were granted,
     /// and may have no ticket, or fail.
     fn refuses(&mut self, wanted: u64) -> Option<Ended> {
         if wanted > self.granted && self.ended.is_none() {
-            match self.store.draw() {
-                Ok(true) => self.granted += 1,
-                Ok(false) => self.ended = Some(Ended::BudgetRefused),
+            match self.store.draw_numbered() {
+                Ok(Some(ticket)) => {
+                    self.granted += 1;
+                    self.ticket = Some(ticket);
+                }
+                Ok(None) => self.ended = Some(Ended::BudgetRefused),
                 Err(error) => {
                     self.failure = Some(StoreFailure::new(error));
                     self.ended = Some(Ended::Broken(Cause::StoreFailed));
@@ -285,6 +326,13 @@ impl Drawn {
             }
         }
         self.ended
+    }
+
+    /// Hands the latest ticket back, where the run for which it was drawn never began.
+    fn end(&self, waits: bool) {
+        if let (true, Some(ticket)) = (waits, self.ticket) {
+            self.store.hand_back(ticket);
+        }
     }
 }
 

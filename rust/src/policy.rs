@@ -1,17 +1,14 @@
 //! Policies: schedules that were read and are right.
 
-use crate::engine::{self, DriverKind, Handle, Place, PolicyKind, Status};
+use crate::engine::{self, Event, Handle, Place, PolicyKind, Size, Status, MOST_STEPS};
 use crate::schedule::Schedule;
 use std::error::Error;
 use std::fmt;
 use std::str::FromStr;
 use std::sync::{Arc, Mutex, PoisonError};
 
-/// The most events that a driver keeps.
-const MOST_EVENTS: usize = 65_536;
-
-/// A schedule that the engine has read, of at most 256 nodes and depth at most 32. It is cheap to clone, and threads
-/// may share it.
+/// A schedule that the engine has found right, of at most 256 nodes and depth at most 32. It is cheap to clone, and
+/// threads may share it; all retries by it have one plan.
 ///
 /// ```
 /// use hikebox::{Policy, Schedule};
@@ -25,10 +22,14 @@ const MOST_EVENTS: usize = 65_536;
 /// ```
 #[derive(Clone)]
 pub struct Policy {
-    json: Arc<str>,
-    handle: Arc<Mutex<Handle<PolicyKind>>>,
-    nodes: u64,
-    depth: u64,
+    shared: Arc<Shared>,
+}
+
+struct Shared {
+    json: String,
+    size: Size,
+    /// Locked for as long as a share of the plan is taken: at the first failure of a call, and not at a success.
+    handle: Mutex<Handle<PolicyKind>>,
 }
 
 /// Why a text or a [`Schedule`] is no policy: its first fault, where that is, and what is wanted there.
@@ -83,43 +84,64 @@ pub struct Line {
 }
 
 impl Policy {
-    /// The policy of a schedule, or its first fault.
+    /// The policy of a schedule, or its first fault. It is built node by node, and no text is read.
     pub fn new(schedule: &Schedule) -> Result<Self, PolicyError> {
-        match schedule.fault() {
-            None => Self::from_json(schedule.as_json()),
-            Some(refused) => Err(PolicyError {
-                fault: PolicyFault::OutOfRange,
-                place: refused.call.clone(),
-                hint: refused.why.to_owned(),
-            }),
+        if let Some(refused) = schedule.fault() {
+            let (place, hint) = (refused.call.clone(), refused.why.to_owned());
+            return Err(PolicyError { fault: PolicyFault::OutOfRange, place, hint });
+        }
+        match schedule.build() {
+            Ok(handle) => Self::of(handle).map_err(PolicyError::of),
+            Err(Status::NoMemory) => Err(PolicyError::no_memory()),
+            // (of the text it is known where)
+            Err(_) => Self::from_json(schedule.as_json()),
         }
     }
 
     /// The policy that a JSON text spells, or the text's first fault.
     pub fn from_json(json: &str) -> Result<Self, PolicyError> {
-        let mut handle = Handle::read(json).map_err(|(status, place)| PolicyError::of_text(json, status, place))?;
-        let (nodes, depth) = handle.size();
-        Ok(Self { json: json.into(), handle: Arc::new(Mutex::new(handle)), nodes, depth })
+        let handle = Handle::read(json).map_err(|(status, place)| PolicyError::of_text(json, status, place))?;
+        Self::of(handle).map_err(PolicyError::of)
     }
 
-    /// The policy's JSON text, as it was read.
+    fn of(mut handle: Handle<PolicyKind>) -> Result<Self, Status> {
+        let (json, size) = (handle.json()?, handle.size());
+        Ok(Self { shared: Arc::new(Shared { json, size, handle: Mutex::new(handle) }) })
+    }
+
+    /// The policy's JSON text, without spaces, as the engine writes it.
     pub fn as_json(&self) -> &str {
-        &self.json
+        &self.shared.json
     }
 
     /// How many nodes it has.
     pub fn nodes(&self) -> u64 {
-        self.nodes
+        self.shared.size.nodes
     }
 
     /// How deep it is.
     pub fn depth(&self) -> u64 {
-        self.depth
+        self.shared.size.depth
+    }
+
+    /// At how many failures it goes on at most, whatever comes, or `None` where its nodes alone don't bound that.
+    ///
+    /// ```
+    /// use hikebox::Policy;
+    ///
+    /// let policy: Policy = r#"{ "follow": [{ "recurs": 2 }, { "recurs": 3 }] }"#.parse()?;
+    /// assert_eq!(policy.most_retries(), Some(5));
+    /// assert_eq!(policy.as_json(), r#"{"follow":[{"recurs":2},{"recurs":3}]}"#);
+    /// assert_eq!(Policy::from_json("\"forever\"")?.most_retries(), None);
+    /// # Ok::<(), hikebox::PolicyError>(())
+    /// ```
+    pub fn most_retries(&self) -> Option<u64> {
+        self.shared.size.most
     }
 
     /// What the policy would do, event by event, as `zsched plan` prints it: the first event is at 0, each further one
     /// at the start planned before it, with the input 0 and random words that pick the middle of each jitter. It ends
-    /// after `steps` events (at most 65,536), or with the one at which the policy is done.
+    /// after `steps` events (at most 4,096), or with the one at which the policy is done.
     ///
     /// ```
     /// use hikebox::Policy;
@@ -130,48 +152,32 @@ impl Policy {
     /// # Ok::<(), hikebox::PolicyError>(())
     /// ```
     pub fn preview(&self, steps: usize) -> Result<Vec<Line>, PolicyError> {
-        let mut driver = Driver::new(self)?;
-        let mut lines = Vec::new();
-        let mut moment = Some(0);
-        while let (Some(now), true) = (moment, lines.len() < steps.min(MOST_EVENTS)) {
-            let line = driver.next(now, [1 << 31; 4], 0)?;
-            moment = line.next;
-            lines.push(line);
-        }
-        Ok(lines)
+        let steps = u64::try_from(steps).unwrap_or(MOST_STEPS).min(MOST_STEPS);
+        let course = engine::Course { steps, from: 0, took: 0 };
+        let event = Event { input: 0, words: [1 << 31; 4] };
+        let mut policy = self.share().map_err(PolicyError::of)?;
+        let (lines, text) = policy.course(course, &[event]).map_err(PolicyError::of)?;
+        let ends = lines.iter().map(|line| line.text_to as usize);
+        let begins = std::iter::once(0).chain(ends);
+        Ok(lines.iter().zip(begins).map(|(line, begin)| Line::of(line, begin, &text)).collect())
+    }
+
+    /// A handle of its own, so that nobody waits for the policy's while it is used.
+    pub(crate) fn share(&self) -> Result<Handle<PolicyKind>, Status> {
+        self.with(Handle::<PolicyKind>::share)
     }
 
     /// Lends the handle to one call.
     pub(crate) fn with<T>(&self, call: impl FnOnce(&mut Handle<PolicyKind>) -> T) -> T {
-        call(&mut self.handle.lock().unwrap_or_else(PoisonError::into_inner))
+        call(&mut self.shared.handle.lock().unwrap_or_else(PoisonError::into_inner))
     }
 }
 
-/// A policy that is stepped by hand.
-struct Driver {
-    handle: Handle<DriverKind>,
-}
-
-impl Driver {
-    fn new(policy: &Policy) -> Result<Self, PolicyError> {
-        Ok(Self { handle: policy.with(Handle::<DriverKind>::new).map_err(PolicyError::of)? })
-    }
-
-    /// One event, with its line.
-    fn next(&mut self, now: u64, words: [u32; 4], input: u64) -> Result<Line, PolicyError> {
-        let next = self.step(now, words, input)?;
-        Ok(Line { moment: now, output: self.output()?, next })
-    }
-
-    /// One event: the planned start, or `None` where the policy is done.
-    fn step(&mut self, now: u64, words: [u32; 4], input: u64) -> Result<Option<u64>, PolicyError> {
-        let decision = self.handle.next(now, &words, input).map_err(PolicyError::of)?;
-        Ok(decision.goes_on.then_some(decision.start))
-    }
-
-    /// The last output, as text.
-    fn output(&mut self) -> Result<String, PolicyError> {
-        self.handle.last_text().map_err(PolicyError::of)
+impl Line {
+    /// A line whose output begins there among the outputs of all.
+    fn of(line: &engine::Line, begin: usize, text: &str) -> Self {
+        let output = text.get(begin..line.text_to as usize).unwrap_or_default().to_owned();
+        Self { moment: line.moment, output, next: line.goes_on.then_some(line.start) }
     }
 }
 
@@ -285,14 +291,14 @@ impl TryFrom<Schedule> for Policy {
 /// As its text.
 impl std::hash::Hash for Policy {
     fn hash<H: std::hash::Hasher>(&self, state: &mut H) {
-        self.json.hash(state);
+        self.as_json().hash(state);
     }
 }
 
-/// Policies are equal where their texts are.
+/// Policies are equal where they have the same nodes with the same parameters, however they were spelt.
 impl PartialEq for Policy {
     fn eq(&self, other: &Self) -> bool {
-        self.json == other.json
+        self.as_json() == other.as_json()
     }
 }
 
@@ -300,13 +306,13 @@ impl Eq for Policy {}
 
 impl fmt::Debug for Policy {
     fn fmt(&self, f: &mut fmt::Formatter<'_>) -> fmt::Result {
-        write!(f, "Policy({})", self.json)
+        write!(f, "Policy({})", self.as_json())
     }
 }
 
 impl fmt::Display for Policy {
     fn fmt(&self, f: &mut fmt::Formatter<'_>) -> fmt::Result {
-        f.write_str(&self.json)
+        f.write_str(self.as_json())
     }
 }
 

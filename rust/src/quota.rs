@@ -2,17 +2,17 @@
 
 use crate::budget::BudgetError;
 use crate::clock::{now, whole_millis};
-use crate::counters::{Counter, Counters, Window};
+use crate::counters::{Counter, Counters};
 #[cfg(feature = "leased")]
 use crate::engine::{quota_allows, FAR, MOST_TICKETS};
-use crate::engine::{Handle, PassKind, Status, Used};
+use crate::engine::{Handle, PassKind, RetryKind, Status, Used};
 use std::fmt;
 use std::sync::{Arc, Mutex, MutexGuard, PoisonError};
 use std::time::{Duration, Instant};
 
-/// Retries for a service, shared by all threads of a program: in each window of time no more are granted than a reserve,
-/// and a share of the requests made in it. Nothing is carried from a window to the next. It is cheap to clone; all
-/// clones are the same quota.
+/// Retries for a service, shared by all threads of a program: in each window of time no more are granted than a
+/// reserve, and a share of the requests made in it. Nothing is carried from a window to the next, but by
+/// [`Quota::carrying`]. It is cheap to clone; all clones are the same quota.
 ///
 /// A retry draws a ticket where its run fails, and begins after its delay, maybe in a later window: more retries can
 /// begin in a window than it granted. Each call that is retried counts as one request, before its first run:
@@ -36,6 +36,16 @@ use std::time::{Duration, Instant};
 #[derive(Clone)]
 pub struct Quota {
     shared: Arc<Shared>,
+    uses: Uses,
+}
+
+/// How calls use a quota.
+#[derive(Clone, Copy, Debug, Default)]
+pub(crate) struct Uses {
+    /// They count where they succeed, and not where they begin.
+    pub(crate) counts_successes: bool,
+    /// They hand the last ticket back where they succeed.
+    pub(crate) returns_tickets: bool,
 }
 
 struct Shared {
@@ -82,12 +92,13 @@ pub struct Usage {
     pub window: u64,
     /// The requests that were counted in it.
     pub asked: u64,
-    /// The tickets that it has given out.
+    /// The tickets that it has given out: of a quota that carries, its own alone.
     pub given: u64,
-    /// The tickets that it may yet give for the requests counted so far.
+    /// The tickets that it may yet give for the requests counted so far, and what is left of those carried to it.
     pub left: u64,
     /// When the next window begins, as a moment of the quota's. If that is further off than the window's length, this
-    /// one was opened by a call whose clock was ahead. `None` of a `LeasedQuota`.
+    /// one was opened by a call whose clock was ahead, or by the requests past the 4,294,967,296 of the window before.
+    /// `None` of a `LeasedQuota`.
     pub next: Option<Duration>,
 }
 
@@ -118,7 +129,7 @@ impl Quota {
     ///
     /// [`BudgetError`] says which of them is out of its range.
     pub fn new_at(began: Instant, reserve: u64, share: f64, per: Duration) -> Result<Self, BudgetError> {
-        Self::made(Duration::ZERO, began, Terms::new(reserve, share, per)?)
+        Self::made(Duration::ZERO, began, Terms::new(reserve, share, per)?, false)
     }
 
     /// The same for a host that has a clock of its own, whose moment is this one: windows are counted from the one that
@@ -131,19 +142,125 @@ impl Quota {
     ///
     /// [`BudgetError`] says which of them is out of its range.
     pub fn new_of_host(moment: Duration, reserve: u64, share: f64, per: Duration) -> Result<Self, BudgetError> {
-        let now = now();
-        Self::made(moment, now.checked_sub(moment).unwrap_or(now), Terms::new(reserve, share, per)?)
+        Self::made(moment, beginning(moment), Terms::new(reserve, share, per)?, false)
     }
 
-    fn made(moment: Duration, began: Instant, terms: Terms) -> Result<Self, BudgetError> {
+    /// A quota as by [`Quota::new`] that carries: each window may draw, once, what the one before left of its share,
+    /// but none of its reserve. So a run that fails just after a window's end is retried by the requests before it. A
+    /// window gives at most 2,147,483,648 tickets of its own, and leaves as many at most.
+    ///
+    /// ```
+    /// use hikebox::Quota;
+    /// use std::time::Duration;
+    ///
+    /// let (quota, at) = (Quota::carrying(0, 0.5, Duration::from_secs(60))?, Duration::from_secs);
+    /// let mut pass = quota.pass()?;
+    /// pass.deposit_of_at(at(55), 4);
+    /// assert!(pass.draw_at(at(58)).is_some());
+    /// assert!(pass.draw_at(at(61)).is_some());
+    /// assert!(pass.draw_at(at(61)).is_none());
+    /// # Ok::<(), hikebox::BudgetError>(())
+    /// ```
+    ///
+    /// # Errors
+    ///
+    /// [`BudgetError`] says which of them is out of its range.
+    pub fn carrying(reserve: u64, share: f64, per: Duration) -> Result<Self, BudgetError> {
+        Self::carrying_at(now(), reserve, share, per)
+    }
+
+    /// The same with windows that are counted from this moment, as by [`Quota::new_at`].
+    ///
+    /// # Errors
+    ///
+    /// [`BudgetError`] says which of them is out of its range.
+    pub fn carrying_at(began: Instant, reserve: u64, share: f64, per: Duration) -> Result<Self, BudgetError> {
+        Self::made(Duration::ZERO, began, Terms::new(reserve, share, per)?, true)
+    }
+
+    /// The same for a host that has a clock of its own, whose moment is this one, as by [`Quota::new_of_host`].
+    ///
+    /// # Errors
+    ///
+    /// [`BudgetError`] says which of them is out of its range.
+    pub fn carrying_of_host(moment: Duration, reserve: u64, share: f64, per: Duration) -> Result<Self, BudgetError> {
+        Self::made(moment, beginning(moment), Terms::new(reserve, share, per)?, true)
+    }
+
+    fn made(moment: Duration, began: Instant, terms: Terms, carries: bool) -> Result<Self, BudgetError> {
         let Terms { reserve, share, period } = terms;
-        let root = Handle::quota(whole_millis(moment), reserve, share, period).map_err(BudgetError::of)?;
+        let root = Handle::quota(whole_millis(moment), reserve, share, period, carries).map_err(BudgetError::of)?;
         Ok(Self::of(root, began, period))
     }
 
     fn of(root: Handle<PassKind>, began: Instant, period: u64) -> Self {
         let (root, counters) = (Mutex::new(root), Counters::default());
-        Self { shared: Arc::new(Shared { root, counters, began, period }) }
+        Self { shared: Arc::new(Shared { root, counters, began, period }), uses: Uses::default() }
+    }
+
+    /// The quota, on which a call counts as a request where it succeeds, and not before its first run: so a callee that
+    /// fails for good dries it out down to the reserve. What is counted by hand is so in any case.
+    ///
+    /// ```
+    /// use hikebox::{retry, Policy, Quota, RetryError};
+    /// use std::time::Duration;
+    ///
+    /// let quota = Quota::new(0, 0.5, Duration::from_secs(3600))?.counting_successes();
+    /// let policy: Policy = r#"{"recurs":3}"#.parse()?;
+    /// assert_eq!(retry(&policy, &quota, || Err::<(), _>("gone")), Err(RetryError::BudgetRefused("gone")));
+    /// assert_eq!(quota.seen().asked, 0);
+    /// for _ in 0..2 {
+    ///     assert_eq!(retry(&policy, &quota, || Ok::<_, ()>(5)), Ok(5));
+    /// }
+    /// assert_eq!(quota.seen().left, 1);
+    /// # Ok::<(), Box<dyn std::error::Error>>(())
+    /// ```
+    #[must_use]
+    pub fn counting_successes(mut self) -> Self {
+        self.uses.counts_successes = true;
+        self
+    }
+
+    /// The quota, to which a call that succeeds after retries hands the ticket of the last one back, as by AWS's SDKs: so
+    /// faults that a retry mends take less of it than faults that last.
+    ///
+    /// ```
+    /// use hikebox::{retry, Policy, Quota};
+    /// use std::time::Duration;
+    ///
+    /// let quota = Quota::new(2, 0.0, Duration::from_secs(3600))?.returning_tickets();
+    /// let policy: Policy = r#"{"recurs":3}"#.parse()?;
+    /// let mut runs = 0;
+    /// let answer = retry(&policy, &quota, || {
+    ///     runs += 1;
+    ///     if runs < 3 { Err("not yet") } else { Ok(runs) }
+    /// });
+    /// assert_eq!(answer, Ok(3));
+    /// assert_eq!((quota.granted(), quota.seen().left), (1, 1));
+    /// # Ok::<(), Box<dyn std::error::Error>>(())
+    /// ```
+    #[must_use]
+    pub fn returning_tickets(mut self) -> Self {
+        self.uses.returns_tickets = true;
+        self
+    }
+
+    pub(crate) fn counts_successes(&self) -> bool {
+        self.uses.counts_successes
+    }
+
+    pub(crate) fn returns_tickets(&self) -> bool {
+        self.uses.returns_tickets
+    }
+
+    /// Sets the reserve and the share, as [`Quota::new`] takes them, while the quota is used, as where a service reads its
+    /// configuration again: each draw goes by them from now on, also in the present window. What was given stays given.
+    ///
+    /// # Errors
+    ///
+    /// [`BudgetError`] says which of them is out of its range; then nothing changes.
+    pub fn set_terms(&self, reserve: u64, share: f64) -> Result<(), BudgetError> {
+        self.lock().set_terms(reserve, thousandths(share)?).map_err(BudgetError::of)
     }
 
     /// A pass of the quota, for a thread that counts requests and draws by itself.
@@ -161,38 +278,45 @@ impl Quota {
         self.deposit_by_clock(now());
     }
 
-    /// The same at a moment of a host that has a clock of its own: the time since one that it chooses.
-    pub fn deposit_at(&self, now: Duration) {
-        self.lock().deposit(whole_millis(now));
+    /// Counts so many requests at once: a dear one as several, or those of a while.
+    pub fn deposit_of(&self, requests: u32) {
+        self.count(now(), requests);
     }
 
-    /// The same at this instant.
+    /// [`Quota::deposit`] at a moment of a host that has a clock of its own: the time since one that it chooses.
+    pub fn deposit_at(&self, now: Duration) {
+        self.deposit_of_at(now, 1);
+    }
+
+    /// [`Quota::deposit_of`] at such a moment.
+    pub fn deposit_of_at(&self, now: Duration, requests: u32) {
+        let counted = self.lock().deposit(whole_millis(now), requests);
+        debug_assert!(counted);
+    }
+
+    /// Counts a request at this instant.
     #[inline]
     pub(crate) fn deposit_by_clock(&self, now: Instant) {
-        let counter = &mut *self.shared.counters.own();
-        match (counter.latest, &mut counter.pass) {
-            (Some(window), Some(pass)) if window.begins <= now && now < window.ends => pass.deposit(window.first),
-            _ => self.open(counter, now),
+        if !self.shared.counters.count_one(now) {
+            self.count(now, 1);
         }
     }
 
-    /// Counts a request where the counter has no pass yet, or another window than that of this instant.
+    /// Counts requests at this instant, by this thread's counter, which comes to the instant's window; or by the quota's
+    /// first pass, where they are more than the counter's counts at once.
     #[cold]
-    fn open(&self, counter: &mut Counter, now: Instant) {
+    fn count(&self, now: Instant, requests: u32) {
         let Shared { began, period, .. } = *self.shared;
-        let moment = self.millis_at(now);
-        let first = moment / period * period;
-        let after = |millis| began.checked_add(Duration::from_millis(millis));
-        counter.latest = match (after(first), after(first.saturating_add(period))) {
-            (Some(begins), Some(ends)) => Some(Window { first, begins, ends }),
-            _ => None,
-        };
-        if counter.pass.is_none() {
-            counter.pass = self.lock().split().ok();
+        let first = self.millis_at(now) / period * period;
+        let counter = &mut *self.shared.counters.own();
+        if let Some(ends) = began.checked_add(Duration::from_millis(first.saturating_add(period))) {
+            *counter = match counter.take() {
+                Some(counter) => Some(Counter { first, ends, ..counter }),
+                None => self.lock().split().ok().map(|pass| Counter { pass, first, ends }),
+            };
         }
-        match &mut counter.pass {
-            Some(pass) => pass.deposit(moment),
-            None => self.lock().deposit(moment),
+        if !counter.as_mut().map_or(false, |counter| counter.count(now, requests)) {
+            self.deposit_of_at(self.moment(now), requests);
         }
     }
 
@@ -206,7 +330,8 @@ impl Quota {
         usage(self.lock().seen(whole_millis(now)))
     }
 
-    /// How many tickets were granted, in all windows, to retries that have ended and to passes that were given back.
+    /// How many tickets were granted, in all windows, to retries that have ended and to passes that were given back, less
+    /// those that came back.
     pub fn granted(&self) -> u64 {
         self.lock().count()
     }
@@ -222,19 +347,34 @@ impl Quota {
     }
 
     /// Closes the quota, where no other clone of it, no pass and no retry is alive, and answers how many tickets were
-    /// drawn of it; otherwise the quota comes back.
+    /// drawn of it, less those that came back; otherwise the quota comes back.
     ///
     /// # Errors
     ///
     /// The quota itself.
     pub fn close(self) -> Result<u64, Self> {
-        let Shared { root, counters, began, period } = match Arc::try_unwrap(self.shared) {
+        let Self { shared, uses } = self;
+        let Shared { root, counters, began, period } = match Arc::try_unwrap(shared) {
             Ok(shared) => shared,
-            Err(shared) => return Err(Self { shared }),
+            Err(shared) => return Err(Self { shared, uses }),
         };
         let mut root = root.into_inner().unwrap_or_else(PoisonError::into_inner);
         counters.into_passes().for_each(|pass| root.join(pass));
-        root.close().map_err(|_| Self::of(root, began, period))
+        root.close().map_err(|_| Self { uses, ..Self::of(root, began, period) })
+    }
+
+    /// Takes the pass of a retry back, which is over or dropped, and its latest ticket where that comes back.
+    pub(crate) fn end(&self, retry: Handle<RetryKind>, returns_ticket: bool) {
+        let root = &mut *self.lock();
+        match if returns_ticket { root.split().ok() } else { None } {
+            // (the latest ticket of a pass of its own is the retry's)
+            Some(mut part) => {
+                retry.end(&mut part);
+                part.hand_back();
+                root.join(part);
+            }
+            None => retry.end(root),
+        }
     }
 
     /// Lends the first pass to one call.
@@ -260,7 +400,8 @@ impl QuotaPass {
     }
 
     /// A ticket that no other draw got, or `None` where the present window has none left: a later one may, and so may
-    /// this one after more requests. Ticket n of a window, from 0, has the number `window << 32 | n`.
+    /// this one after more requests. Ticket n of a window, from 0, has the number `window << 32 | n`; those that are
+    /// carried to a window, which are drawn first, have the last numbers of the one before.
     #[must_use = "the ticket is drawn, if there is one"]
     pub fn draw(&mut self) -> Option<u64> {
         self.draw_at(self.quota.moment(now()))
@@ -271,10 +412,32 @@ impl QuotaPass {
         self.seen_at(self.quota.moment(now()))
     }
 
+    /// Counts so many requests at once, as [`Quota::deposit_of`].
+    pub fn deposit_of(&mut self, requests: u32) {
+        self.deposit_of_at(self.quota.moment(now()), requests);
+    }
+
+    /// Hands the latest ticket that it drew back, and says whether there was one: not where it drew none since the last
+    /// that it handed back. Another may be drawn in the ticket's window for it, by any pass; where that is over, or the
+    /// ticket was carried from it, none is.
+    pub fn hand_back(&mut self) -> bool {
+        let handed = self.handle().hand_back();
+        self.tickets -= u64::from(handed);
+        handed
+    }
+
     /// [`QuotaPass::deposit`] at a moment of a host that has a clock of its own. A moment in an earlier window than the
     /// latest counts as one of the latest.
     pub fn deposit_at(&mut self, now: Duration) {
-        self.handle().deposit(whole_millis(now));
+        self.deposit_of_at(now, 1);
+    }
+
+    /// [`QuotaPass::deposit_of`] at such a moment.
+    pub fn deposit_of_at(&mut self, now: Duration, requests: u32) {
+        // (a pass counts a million at once; more are counted by the quota's own)
+        if !self.handle().deposit(whole_millis(now), requests) {
+            self.quota.deposit_of_at(now, requests);
+        }
     }
 
     /// [`QuotaPass::draw`] at such a moment.
@@ -301,7 +464,7 @@ impl QuotaPass {
         usage(self.handle().seen(whole_millis(now)))
     }
 
-    /// How many tickets it drew.
+    /// How many tickets it drew, and did not hand back.
     pub fn count(&self) -> u64 {
         self.tickets
     }
@@ -324,6 +487,12 @@ fn usage(used: Used) -> Usage {
     Usage { window, asked, given, left, next: Some(Duration::from_millis(next)) }
 }
 
+/// Moment 0 of a host whose clock tells this moment now.
+fn beginning(moment: Duration) -> Instant {
+    let now = now();
+    now.checked_sub(moment).unwrap_or(now)
+}
+
 /// The shortest window, in milliseconds.
 #[cfg(feature = "leased")]
 const LEAST_PERIOD: u64 = 100;
@@ -334,13 +503,18 @@ const MOST_SHARE: f64 = 10_000.0;
 impl Terms {
     /// The terms in the engine's units, where they have such; what else they have to keep to, the engine says.
     pub(crate) fn new(reserve: u64, share: f64, per: Duration) -> Result<Self, BudgetError> {
-        let thousandths = (share * 1000.0).round();
-        if !(0.0..=MOST_SHARE).contains(&thousandths) || share < 0.0 || (share > 0.0 && thousandths == 0.0) {
-            return Err(BudgetError::ShareOutOfRange);
-        }
         let period = u64::try_from(per.as_millis()).unwrap_or(u64::MAX);
-        Ok(Self { reserve, share: thousandths as u64, period })
+        Ok(Self { reserve, share: thousandths(share)?, period })
     }
+}
+
+/// Thousandths of a ticket, of a share that is such a number.
+pub(crate) fn thousandths(share: f64) -> Result<u64, BudgetError> {
+    let thousandths = (share * 1000.0).round();
+    if !(0.0..=MOST_SHARE).contains(&thousandths) || share < 0.0 || (share > 0.0 && thousandths == 0.0) {
+        return Err(BudgetError::ShareOutOfRange);
+    }
+    Ok(thousandths as u64)
 }
 
 #[cfg(feature = "leased")]

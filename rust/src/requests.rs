@@ -2,7 +2,7 @@
 
 use crate::clock::now;
 use crate::course::{Course, Lost, Terms};
-use crate::grants::{Grants, Source};
+use crate::grants::{DrawnOn, Grants, Source};
 use crate::policy::Policy;
 use crate::retrying::LONGEST;
 use crate::words;
@@ -100,6 +100,7 @@ type Outcome<A, Response, E> = Option<Arc<dyn Fn(Result<&Response, &E>) -> A + S
 struct Settings<Request, Response, E> {
     policy: Policy,
     source: Source,
+    hears_of_successes: bool,
     deadline: Option<Duration>,
     copy: Copying<Request>,
     when: Asked<E, bool>,
@@ -125,9 +126,11 @@ impl<Request, Response, E> RetryPolicy<Request, Response, E> {
         budget: impl Grants,
         copy: impl Fn(&Request) -> Option<Request> + Send + Sync + 'static,
     ) -> Self {
+        let source = budget.source();
         let settings = Settings {
             policy,
-            source: budget.source(),
+            hears_of_successes: source.hears_of_successes(),
+            source,
             deadline: None,
             copy: Arc::new(copy),
             when: None,
@@ -211,10 +214,20 @@ impl<Request, Response, E, B: Noted> RetryPolicy<Request, Response, E, B> {
     }
 }
 
+impl<Request, Response, E, B> RetryPolicy<Request, Response, E, B> {
+    /// The request was answered as it should be.
+    #[inline(never)]
+    fn succeeded(&self) {
+        let last = self.course.as_ref().and_then(|course| lock(course).won());
+        self.settings.source.count_success_now(last);
+    }
+}
+
 fn sleeping(wait: Duration) -> Pin<Box<Sleep>> {
     Box::pin(sleep(wait))
 }
 
+#[inline]
 fn lock(course: &Mutex<Course>) -> MutexGuard<'_, Course> {
     course.lock().unwrap_or_else(PoisonError::into_inner)
 }
@@ -278,7 +291,14 @@ where
 
     #[inline]
     fn retry(&self, _: &Request, result: Result<&Response, &E>) -> Option<Self::Future> {
-        let code = self.settings.code_of_failure(result)?;
+        let code = match self.settings.code_of_failure(result) {
+            Some(code) => code,
+            None if result.is_ok() && self.settings.hears_of_successes => {
+                self.succeeded();
+                return None;
+            }
+            None => return None,
+        };
         self.again(code, result)
     }
 
@@ -305,6 +325,7 @@ impl<Request, Response, E> Clone for Settings<Request, Response, E> {
         Self {
             policy: self.policy.clone(),
             source: self.source.clone(),
+            hears_of_successes: self.hears_of_successes,
             deadline: self.deadline,
             copy: self.copy.clone(),
             when: self.when.clone(),

@@ -323,7 +323,12 @@ impl<E, H: Hooked<E>, K: FnMut() -> Instant, S, R: Random> Retrying<'_, E, (), H
     /// What follows a run that ended so.
     pub(crate) fn after<T>(&mut self, course: &mut Course, ran: Result<T, E>) -> Then<T, E> {
         let error = match ran {
-            Ok(value) => return Then::End(Ok(value)),
+            Ok(value) => {
+                if self.terms.budget.hears_of_successes() {
+                    self.succeeded(course);
+                }
+                return Then::End(Ok(value));
+            }
             Err(error) => error,
         };
         let now = (self.host.clock)();
@@ -341,6 +346,11 @@ impl<E, H: Hooked<E>, K: FnMut() -> Instant, S, R: Random> Retrying<'_, E, (), H
             return Then::Again { wait, error };
         }
         Then::Again { wait: later(now, wait).saturating_duration_since((self.host.clock)()), error }
+    }
+
+    #[cold]
+    fn succeeded(&mut self, course: &mut Course) {
+        self.terms.budget.count_success(course.won(), &mut self.host.clock);
     }
 
     /// The next run, which begins after the wait for it.

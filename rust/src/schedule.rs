@@ -1,6 +1,6 @@
 //! Schedules as expressions.
 
-use crate::engine::FAR;
+use crate::engine::{Handle, PolicyKind, Status, FAR};
 use std::fmt;
 use std::ops::{BitAnd, BitOr, Range, RangeInclusive, Shr};
 use std::time::Duration;
@@ -9,7 +9,7 @@ use std::time::Duration;
 ///
 /// Leaves are functions of this type, nodes over schedules are methods; `&`, `|` and `>>` are [`meet`](Schedule::meet),
 /// [`join`](Schedule::join) and [`feed`](Schedule::feed), as `&&`, `||` and `>>>` of ZIO's `Schedule`. A `Schedule` is
-/// text, and nothing is checked before it becomes a [`Policy`](crate::Policy).
+/// a list of nodes, and the engine hears of none before it becomes a [`Policy`](crate::Policy).
 ///
 /// All times are whole milliseconds: a duration is rounded up. One that is not 0 and is below a millisecond is refused
 /// when the [`Policy`](crate::Policy) is made, and so is a ratio below a thousandth, and what else is out of its range:
@@ -39,8 +39,26 @@ use std::time::Duration;
 #[must_use]
 pub struct Schedule {
     json: String,
+    /// Its nodes, each after those that it is over.
+    nodes: Vec<Node>,
     /// The first builder that was called with what it does not take.
     fault: Option<Refused>,
+}
+
+/// A node, over none of the schedules before it or over the last one or two.
+#[derive(Clone, Debug, PartialEq, Eq, Hash)]
+struct Node {
+    name: &'static str,
+    given: Given,
+    over: usize,
+}
+
+/// The parameters of a node.
+#[derive(Clone, Debug, PartialEq, Eq, Hash)]
+enum Given {
+    Numbers(Vec<u64>),
+    /// With words among them, as JSON has them.
+    Words(String),
 }
 
 /// A call of a builder, as it is written, and what is wrong with it.
@@ -77,37 +95,38 @@ pub enum Fold {
 impl Schedule {
     /// Goes on at once, for ever; the output counts from 0.
     pub fn forever() -> Self {
-        Self::leaf("\"forever\"")
+        Self::leaf("forever", [])
     }
 
     /// Goes on at once, `times` times: so `times + 1` calls in all.
     pub fn recurs(times: u64) -> Self {
-        Self::node("recurs", times).checked(number(times), format_args!("recurs({times})"))
+        Self::leaf("recurs", [times]).checked(number(times), format_args!("recurs({times})"))
     }
 
     /// Goes on `delay` after each event, for ever.
     pub fn spaced(delay: Duration) -> Self {
-        Self::node("spaced", millis(delay)).checked(span(delay), format_args!("spaced({delay:?})"))
+        Self::leaf("spaced", [millis(delay)]).checked(span(delay), format_args!("spaced({delay:?})"))
     }
 
     /// Goes on at fixed intervals from the first event on; where a call takes longer than one, at once.
     pub fn fixed(interval: Duration) -> Self {
-        Self::node("fixed", millis(interval)).checked(interval_of(interval), format_args!("fixed({interval:?})"))
+        Self::leaf("fixed", [millis(interval)]).checked(interval_of(interval), format_args!("fixed({interval:?})"))
     }
 
     /// Goes on at the next boundary of windows of this length, from the first event on.
     pub fn windowed(interval: Duration) -> Self {
-        Self::node("windowed", millis(interval)).checked(interval_of(interval), format_args!("windowed({interval:?})"))
+        Self::leaf("windowed", [millis(interval)])
+            .checked(interval_of(interval), format_args!("windowed({interval:?})"))
     }
 
     /// Delays of `base`, twice `base`, three times `base` and so on.
     pub fn linear(base: Duration) -> Self {
-        Self::node("linear", millis(base)).checked(span(base), format_args!("linear({base:?})"))
+        Self::leaf("linear", [millis(base)]).checked(span(base), format_args!("linear({base:?})"))
     }
 
     /// Delays of `base`, each `factor` (1 to 1000) times the one before.
     pub fn exponential(base: Duration, factor: u64) -> Self {
-        Self::node("exponential", format_args!("[{},{factor}]", millis(base))).checked(
+        Self::leaf("exponential", [millis(base), factor]).checked(
             span(base).or(factor_of(factor, 1..=1000, FACTOR)),
             format_args!("exponential({base:?}, {factor})"),
         )
@@ -116,7 +135,7 @@ impl Schedule {
     /// Delays of `base`, each `thousandths` (1 to 1,000,000) thousandths of the one before: 1500 makes each half as
     /// long again.
     pub fn exponential_milli(base: Duration, thousandths: u64) -> Self {
-        Self::node("exponential_milli", format_args!("[{},{thousandths}]", millis(base))).checked(
+        Self::leaf("exponential_milli", [millis(base), thousandths]).checked(
             span(base).or(factor_of(thousandths, 1..=1_000_000, THOUSANDTHS)),
             format_args!("exponential_milli({base:?}, {thousandths})"),
         )
@@ -124,7 +143,7 @@ impl Schedule {
 
     /// Delays of `first` times 1, 1, 2, 3, 5 and so on.
     pub fn fibonacci(first: Duration) -> Self {
-        Self::node("fibonacci", millis(first)).checked(span(first), format_args!("fibonacci({first:?})"))
+        Self::leaf("fibonacci", [millis(first)]).checked(span(first), format_args!("fibonacci({first:?})"))
     }
 
     /// Random delays, each from `base` up to `factor` (1 to 1000) times the one before, and none longer than `longest`;
@@ -147,52 +166,52 @@ impl Schedule {
     }
 
     fn delays(lane: u8, base: Duration, thousandths: u64, longest: Duration) -> Self {
-        Self::node("decorrelated", format_args!("[{lane},{},{thousandths},{}]", millis(base), millis(longest)))
+        Self::leaf("decorrelated", [lane.into(), millis(base), thousandths, millis(longest)])
     }
 
     /// Goes on at once; the output is the time since the first event.
     pub fn elapsed() -> Self {
-        Self::leaf("\"elapsed\"")
+        Self::leaf("elapsed", [])
     }
 
     /// Goes on at once; the output is the input, which of a retry is the failure's code.
     pub fn identity() -> Self {
-        Self::leaf("\"identity\"")
+        Self::leaf("identity", [])
     }
 
     /// Goes on at once; the output is `start`, and then `times * x + plus` of the output `x` before.
     pub fn unfold(start: u64, times: u64, plus: u64) -> Self {
-        Self::node("unfold", format_args!("[{start},{times},{plus}]"))
+        Self::leaf("unfold", [start, times, plus])
             .checked(number(start.max(times).max(plus)), format_args!("unfold({start}, {times}, {plus})"))
     }
 
     /// Goes on once, after `delay`.
     pub fn lone(delay: Duration) -> Self {
-        Self::node("lone", millis(delay)).checked(span(delay), format_args!("lone({delay:?})"))
+        Self::leaf("lone", [millis(delay)]).checked(span(delay), format_args!("lone({delay:?})"))
     }
 
     /// Goes on while both do, at the later start.
     #[must_use]
     pub fn meet(self, other: Self) -> Self {
-        self.with("meet", other)
+        Self::over("meet", [self, other])
     }
 
     /// Goes on while one of both does, at the earlier start.
     #[must_use]
     pub fn join(self, other: Self) -> Self {
-        self.with("join", other)
+        Self::over("join", [self, other])
     }
 
     /// This schedule until it is done, and from that event on the other one.
     #[must_use]
     pub fn then(self, other: Self) -> Self {
-        self.with("follow", other)
+        Self::over("follow", [self, other])
     }
 
     /// The other schedule with this one's outputs as its inputs; it goes on while both do, at the later start.
     #[must_use]
     pub fn feed(self, other: Self) -> Self {
-        self.with("feed", other)
+        Self::over("feed", [self, other])
     }
 
     /// Done at the first input of which the test is false. Of a retry the input is the failure's code.
@@ -228,7 +247,7 @@ impl Schedule {
             Fold::Max => "max",
             Fold::List => "list",
         };
-        self.over("gather", |json| format!("[\"{kind}\",{json}]"))
+        Self::node("gather", Given::Words(format!("\"{kind}\"")), [self])
     }
 
     /// Each delay is longer by `delay`.
@@ -252,7 +271,7 @@ impl Schedule {
     /// Each delay is longer by the output, in milliseconds.
     #[must_use]
     pub fn add_out(self) -> Self {
-        self.over("add_out", str::to_owned)
+        Self::over("add_out", [self])
     }
 
     /// Each delay is multiplied by a random ratio out of `ratios`, in thousandths from 0 to 10: `0.8..1.2` is what
@@ -300,19 +319,19 @@ impl Schedule {
     /// The output is the first part of a pair.
     #[must_use]
     pub fn first(self) -> Self {
-        self.over("first", str::to_owned)
+        Self::over("first", [self])
     }
 
     /// The output is the second part of a pair.
     #[must_use]
     pub fn second(self) -> Self {
-        self.over("second", str::to_owned)
+        Self::over("second", [self])
     }
 
     /// The output is nothing.
     #[must_use]
     pub fn nothing(self) -> Self {
-        self.over("nothing", str::to_owned)
+        Self::over("nothing", [self])
     }
 
     /// The schedule's JSON text, which `zsched plan` and all other ways into Hikebox read.
@@ -325,31 +344,52 @@ impl Schedule {
         self.fault.as_ref()
     }
 
-    fn leaf(json: &str) -> Self {
-        Self { json: json.to_owned(), fault: None }
+    /// The policy, which the engine builds node by node.
+    pub(crate) fn build(&self) -> Result<Handle<PolicyKind>, Status> {
+        let mut built: Vec<Handle<PolicyKind>> = Vec::new();
+        for Node { name, given, over } in &self.nodes {
+            let mut under = built.split_off(built.len() - over);
+            built.push(match given {
+                Given::Numbers(numbers) => Handle::node(name, numbers, &mut under)?,
+                Given::Words(words) => read(name, words, &mut under)?,
+            });
+        }
+        built.pop().ok_or(Status::NotAPolicy)
     }
 
-    fn node(name: &str, value: impl fmt::Display) -> Self {
-        Self { json: format!("{{\"{name}\":{value}}}"), fault: None }
+    fn leaf<const N: usize>(name: &'static str, numbers: [u64; N]) -> Self {
+        Self::node(name, Given::Numbers(numbers.into()), [])
     }
 
-    /// A node over this schedule, which keeps its fault.
-    fn over(self, name: &str, value: impl FnOnce(&str) -> String) -> Self {
-        Self { fault: self.fault, ..Self::node(name, value(&self.json)) }
+    /// A node over these schedules that has no parameter.
+    fn over<const N: usize>(name: &'static str, under: [Self; N]) -> Self {
+        Self::node(name, Given::Numbers(Vec::new()), under)
     }
 
-    fn with(self, name: &str, other: Self) -> Self {
-        let fault = self.fault.or(other.fault);
-        Self { fault, ..Self::node(name, format_args!("[{},{}]", self.json, other.json)) }
+    /// A node over these schedules, of which it keeps the first fault.
+    fn node<const N: usize>(name: &'static str, given: Given, under: [Self; N]) -> Self {
+        let (mut members, mut nodes, mut fault) = (given.spelt(), Vec::new(), None);
+        for schedule in under {
+            members.push(schedule.json);
+            nodes.extend(schedule.nodes);
+            fault = fault.or(schedule.fault);
+        }
+        let json = match members.as_slice() {
+            [] => format!("\"{name}\""),
+            [member] => format!("{{\"{name}\":{member}}}"),
+            members => format!("{{\"{name}\":[{}]}}", members.join(",")),
+        };
+        nodes.push(Node { name, given, over: N });
+        Self { json, nodes, fault }
     }
 
-    fn under(self, name: &str, builder: &str, time: Duration) -> Self {
-        self.over(name, |json| format!("[{},{json}]", millis(time)))
+    fn under(self, name: &'static str, builder: &str, time: Duration) -> Self {
+        Self::node(name, Given::Numbers(vec![millis(time)]), [self])
             .checked(span(time), format_args!("{builder}({time:?})"))
     }
 
     fn ratios(self, lane: u8, least: u64, most: u64) -> Self {
-        self.over("jitter", |json| format!("[{lane},{least},{most},{json}]"))
+        Self::node("jitter", Given::Numbers(vec![lane.into(), least, most]), [self])
     }
 
     fn gate(self, side: &str, want: bool, test: Test) -> Self {
@@ -359,7 +399,7 @@ impl Schedule {
             Test::Equal(number) => ("equal", number),
         };
         let builder = format!("{}_{side}", if want { "while" } else { "until" });
-        self.over("gate", |json| format!("[\"{side}\",{want},\"{name}\",{than},{json}]"))
+        Self::node("gate", Given::Words(format!("\"{side}\",{want},\"{name}\",{than}")), [self])
             .checked(number(than), format_args!("{builder}({test:?})"))
     }
 
@@ -369,6 +409,26 @@ impl Schedule {
             self.fault = Some(Refused { call: call.to_string(), why });
         }
         self
+    }
+}
+
+/// A node with words among its parameters, which the engine reads from JSON alone.
+fn read(name: &str, words: &str, under: &mut [Handle<PolicyKind>]) -> Result<Handle<PolicyKind>, Status> {
+    let mut json = format!("{{\"{name}\":[{words}");
+    for policy in under {
+        json += ",";
+        json += &policy.json()?;
+    }
+    Handle::read(&(json + "]}")).map_err(|(status, _)| status)
+}
+
+impl Given {
+    /// As the first members of the node's JSON.
+    fn spelt(&self) -> Vec<String> {
+        match self {
+            Self::Numbers(numbers) => numbers.iter().map(ToString::to_string).collect(),
+            Self::Words(words) => vec![words.clone()],
+        }
     }
 }
 

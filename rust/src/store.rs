@@ -35,7 +35,7 @@ const HEADER: &str = "hikebox counts 1 ";
 const PATIENCE: Duration = Duration::from_secs(5);
 
 /// A file of counts.
-#[derive(Debug)]
+#[derive(Clone, Debug)]
 pub(crate) struct CountFile {
     path: PathBuf,
 }

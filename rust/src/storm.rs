@@ -2,7 +2,7 @@
 
 use crate::budget::BudgetError;
 use crate::clock::whole_millis;
-use crate::engine::{self, Handle, PassKind, PolicyKind, Status, ON_BUDGET, ON_NOTHING, ON_QUOTA};
+use crate::engine::{self, Handle, PassKind, Status, ON_BUDGET, ON_NOTHING, ON_QUOTA};
 use crate::policy::Policy;
 use crate::quota::Terms;
 use std::error::Error;
@@ -276,7 +276,7 @@ impl Storm {
         self.fault = match Terms::new(reserve, share, per) {
             Ok(Terms { reserve, share, period }) => {
                 self.storm = engine::Storm { draws_on: ON_QUOTA, reserve, share, period, ..self.storm };
-                Handle::quota(0, reserve, share, period).err().map(BudgetError::of)
+                Handle::quota(0, reserve, share, period, false).err().map(BudgetError::of)
             }
             Err(fault) => Some(fault),
         };
@@ -291,9 +291,7 @@ impl Storm {
     /// [`StormError`] names the first parameter that is out of its range.
     pub fn play(&self) -> Result<StormReport, StormError> {
         let storm = self.checked()?;
-        // (a handle of its own, so that nobody waits for the policy's)
-        let read = Handle::<PolicyKind>::read(self.policy.as_json());
-        let mut policy = read.map_err(|(status, _)| StormError::of(status))?;
+        let mut policy = self.policy.share().map_err(StormError::of)?;
         let room = usize::try_from(storm.until / storm.window + 1).map_err(|_| StormError::NoMemory)?;
         let (windows, totals) = policy.play(&storm, room).map_err(StormError::of)?;
         let windows = windows.into_iter().map(StormWindow::of).collect();

@@ -107,7 +107,8 @@ async fn a_future_that_is_dropped_gives_its_quotas_pass_back() {
     let forever = policy(r#"{"spaced":60}"#);
     let retry = retry_async(&forever, &quota, || async { Err::<(), _>(()) });
     assert!(timeout(Duration::from_millis(150), retry).await.is_err());
-    assert_eq!(quota.close().unwrap(), 3);
+    // runs at 0, 60 and 120: the ticket of the one at 180, which never began, came back
+    assert_eq!(quota.close().unwrap(), 2);
 }
 
 #[tokio::test(start_paused = true)]

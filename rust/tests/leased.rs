@@ -1,7 +1,9 @@
 //! Budgets and quotas that processes share by a file.
 #![cfg(feature = "leased")]
 
-use hikebox::{retry, BudgetError, Leased, LeasedQuota, Policy, RetryError, StoreError, Usage};
+use hikebox::{
+    retry, BudgetError, Leased, LeasedQuota, Machine, Policy, Report, RetryError, Step, StoreError, Tickets, Usage,
+};
 use std::collections::{HashMap, HashSet};
 use std::env;
 use std::fs;
@@ -409,4 +411,101 @@ fn retries_draw_on_what_processes_share() {
     let nowhere = Arc::new(Leased::new("/no/such/folder/file", "b", 3));
     let broken = retry(&policy, &nowhere, || Err::<(), _>("no")).unwrap_err();
     assert!(matches!(broken, RetryError::StoreFailed(failure, "no") if failure.get().is::<StoreError>()));
+}
+
+/// What was asked and given of a quota, as the file has it.
+fn asked_and_given(quota: &LeasedQuota) -> (u64, u64) {
+    let usage = quota.seen().unwrap();
+    (usage.asked, usage.given)
+}
+
+#[test]
+fn clones_draw_from_one_lease() {
+    let file = Scratch::new("clones");
+    let budget = Leased::new(&file.0, "b", 9).lease(3);
+    let quota = long_quota(&file.0, 9, 0.0).lease(3);
+    assert_eq!([budget.draw().unwrap(), budget.clone().draw().unwrap()], [Some(0), Some(1)]);
+    assert_eq!([quota.draw().unwrap(), quota.clone().draw().unwrap()], [Some(0), Some(1)]);
+    // one by windows is another budget
+    assert_eq!(budget.clone().in_each(Duration::from_secs(1_000_000)).draw().unwrap(), Some(0));
+    assert_eq!(budget.draw().unwrap(), Some(2));
+    quota.clone().deposit_of(7);
+    assert_eq!(asked_and_given(&quota), (7, 3));
+}
+
+#[test]
+fn a_leased_ticket_that_comes_back_is_drawn_by_this_process_again() {
+    let (file, policy) = (Scratch::new("back"), r#"{"spaced":1}"#.parse::<Policy>().unwrap());
+    let quota = long_quota(&file.0, 3, 0.0).lease(2).returning_tickets();
+    for _ in 0..20 {
+        let mut runs = 0;
+        let answer = retry(&policy, &quota, || {
+            runs += 1;
+            if runs == 2 { Ok(runs) } else { Err("busy") }
+        });
+        assert_eq!(answer, Ok(2));
+    }
+    // all of them by the first ticket of one lease
+    assert_eq!(asked_and_given(&quota), (20, 2));
+    let mut machine = Machine::new(&policy, &quota).unwrap();
+    assert_eq!(machine.step(Duration::ZERO, None), Step::Run);
+    assert!(matches!(machine.step(Duration::ZERO, Some(Report::Lost(0))), Step::Wait(_)));
+    drop(machine);
+    assert_eq!(quota.draw().unwrap(), Some(0));
+    // what comes back once the range is used up is drawn before another is asked for, and after the window is
+    let (second, third) = (quota.draw_numbered().unwrap().unwrap(), quota.draw_numbered().unwrap().unwrap());
+    assert_eq!((quota.draw().unwrap(), asked_and_given(&quota)), (None, (20, 3)));
+    quota.hand_back(second);
+    assert_eq!([quota.draw().unwrap(), quota.draw().unwrap()], [Some(1), None]);
+    quota.hand_back(third);
+    assert_eq!([quota.draw().unwrap(), quota.draw().unwrap()], [Some(2), None]);
+}
+
+#[test]
+fn a_leased_ticket_of_a_window_that_is_over_does_not_come_back() {
+    let file = Scratch::new("too-late");
+    let quota = LeasedQuota::new(&file.0, "w", 1, 0.0, Duration::from_millis(300)).unwrap();
+    let began = Instant::now();
+    while began.elapsed() < Duration::from_secs(60) {
+        let early = quota.draw_numbered().unwrap();
+        thread::sleep(Duration::from_millis(300));
+        let before = quota.seen().unwrap().window;
+        let drawn = quota.draw().unwrap();
+        early.into_iter().for_each(|ticket| quota.hand_back(ticket));
+        let again = quota.draw().unwrap();
+        if (early.is_some(), quota.seen().unwrap().window) == (true, before) {
+            assert_eq!((drawn, again), (Some(0), None));
+            return;
+        }
+    }
+    panic!("no two draws came in one window");
+}
+
+#[test]
+fn calls_on_a_leased_quota_count_where_they_succeed() {
+    let (file, policy) = (Scratch::new("successes"), r#"{"recurs":3}"#.parse::<Policy>().unwrap());
+    let quota = long_quota(&file.0, 1, 0.5).counting_successes();
+    assert_eq!(retry(&policy, &quota, || Err::<(), _>("gone")), Err(RetryError::BudgetRefused("gone")));
+    assert_eq!(asked_and_given(&quota), (0, 1));
+    for _ in 0..4 {
+        assert_eq!(retry(&policy, &quota, || Ok::<_, ()>(5)), Ok(5));
+    }
+    assert_eq!(quota.seen().unwrap().left, 2);
+}
+
+#[test]
+fn terms_of_a_leased_quota_are_set_from_the_next_lease_on() {
+    let file = Scratch::new("set-terms");
+    let (quota, other) = (long_quota(&file.0, 3, 0.0).lease(2), long_quota(&file.0, 3, 0.0).lease(2));
+    let draws = |quota: &LeasedQuota, count| (0..count).map(|_| quota.draw().unwrap()).collect::<Vec<_>>();
+    assert_eq!(draws(&quota, 1), [Some(0)]);
+    quota.set_terms(0, 0.0).unwrap();
+    assert_eq!(draws(&quota, 2), [Some(1), None]);
+    quota.clone().set_terms(4, 0.5).unwrap();
+    assert_eq!(quota.set_terms(1 << 33, 0.5), Err(BudgetError::ReserveTooLarge));
+    assert_eq!(quota.set_terms(1, -0.5), Err(BudgetError::ShareOutOfRange));
+    quota.deposit_of(2);
+    assert_eq!(draws(&quota, 4), [Some(2), Some(3), Some(4), None]);
+    // each process by the terms that it names
+    assert_eq!(draws(&other, 1), [None]);
 }

@@ -1,6 +1,7 @@
 //! Policies step as `zsched plan` says, on random ones and at the limits.
 
 use hikebox::{Fold, Policy, PolicyFault, Schedule, Test};
+use std::collections::HashSet;
 use std::io::Write;
 use std::process::{Command, Stdio};
 use std::time::Duration;
@@ -106,7 +107,48 @@ fn three_hundred_random_policies_step_as_zsched_says() {
         let policy = Policy::new(&schedule).unwrap();
         let lines: String = policy.preview(12).unwrap().iter().map(|line| format!("{line}\n")).collect();
         assert_eq!(lines, zsched(schedule.as_json()), "{schedule}");
+        // built by its nodes it is what its text spells, and the engine writes that text
+        assert_eq!(policy.as_json(), schedule.as_json());
+        assert_eq!(schedule.as_json().parse(), Ok(policy));
     }
+}
+
+#[test]
+fn policies_are_equal_however_they_were_spelt() {
+    let schedule = Schedule::recurs(3) & Schedule::spaced(Duration::from_millis(100)).until_input(Test::AtLeast(500));
+    let built = Policy::new(&schedule).unwrap();
+    let text = "{ \"meet\": [ {\"recurs\":3},\n {\"gate\":[\"input\", false, \"at_least\", 500, {\"spaced\":100}]} ] }";
+    let read: Policy = text.parse().unwrap();
+    assert_eq!((&read, read.to_string()), (&built, schedule.to_string()));
+    assert_eq!((read.nodes(), read.depth(), read.most_retries()), (4, 3, Some(3)));
+    let more = Policy::new(&Schedule::recurs(4)).unwrap();
+    assert_ne!(read, more);
+    assert_eq!(HashSet::from([read, built, more.clone(), more]).len(), 2);
+}
+
+#[test]
+fn a_policy_tells_how_often_it_goes_on_at_most() {
+    let most = |schedule: Schedule| Policy::new(&schedule).unwrap().most_retries();
+    let (two, five, second) = (Schedule::recurs(2), Schedule::recurs(5), Duration::from_secs(1));
+    assert_eq!(most(two.clone() & five.clone()), Some(2));
+    assert_eq!(most(two.clone() | five.clone()), Some(5));
+    assert_eq!(most(two.clone().then(five.clone()).then(Schedule::lone(second))), Some(8));
+    assert_eq!(most(Schedule::forever() >> five.clone().jittered(0.5..1.5).gather(Fold::List)), Some(5));
+    assert_eq!(most(Schedule::forever() | five.clone()), None);
+    assert_eq!(most(five.renew(second)), None);
+    assert_eq!(most(Schedule::spaced(second).up_to(second)), None);
+}
+
+#[test]
+fn a_preview_has_as_many_lines_as_there_are_and_their_outputs() {
+    let numbers = |count: u64| (0..count).map(|number| number.to_string()).collect::<Vec<_>>().join(", ");
+    let lists = Policy::new(&Schedule::forever().gather(Fold::List)).unwrap().preview(300).unwrap();
+    assert_eq!(lists.len(), 300);
+    assert!((0..).zip(&lists).all(|(count, line)| line.output == format!("[{}]", numbers(count))));
+    let lone = Policy::new(&Schedule::lone(Duration::from_millis(7))).unwrap().preview(9).unwrap();
+    assert_eq!(lone.iter().map(|line| (line.moment, line.next)).collect::<Vec<_>>(), [(0, Some(7)), (7, None)]);
+    let forever = Policy::new(&Schedule::forever()).unwrap();
+    assert_eq!([0, 4096, 4097, usize::MAX].map(|steps| forever.preview(steps).unwrap().len()), [0, 4096, 4096, 4096]);
 }
 
 #[test]
@@ -125,7 +167,10 @@ fn faults_are_those_of_the_text() {
         deep = deep.nothing();
     }
     assert_eq!(Policy::new(&deep).unwrap().depth(), 32);
-    assert_eq!(Policy::new(&deep.nothing()).unwrap_err().fault(), PolicyFault::TooDeep);
+    let deeper = deep.nothing();
+    let refused = Policy::new(&deeper).unwrap_err();
+    assert_eq!((refused.fault(), refused.hint()), (PolicyFault::TooDeep, "a plan is at most 32 deep"));
+    assert_eq!(Policy::from_json(deeper.as_json()), Err(refused));
 
     let mut wide = Schedule::forever();
     for _ in 0..7 {

@@ -372,3 +372,112 @@ fn a_thread_counts_in_the_window_that_its_clock_tells() {
     assert_eq!(counted(710), (7, 3));
     assert_eq!(quota.close().unwrap(), 0);
 }
+
+/// A quota that carries, with no reserve and a ticket for each request, by windows of 100 ms.
+fn carrying() -> Quota {
+    Quota::carrying(0, 1.0, at(100)).unwrap()
+}
+
+/// The tickets that are drawn at this moment, until there is none.
+fn all_drawn(pass: &mut QuotaPass, moment: u64) -> Vec<u64> {
+    std::iter::from_fn(|| pass.draw_at(at(moment))).collect()
+}
+
+#[test]
+fn what_a_window_leaves_of_its_share_is_drawn_once_in_the_next() {
+    let quota = carrying();
+    let (mut first, mut second) = (quota.pass().unwrap(), quota.pass().unwrap());
+    first.deposit_of_at(at(10), 5);
+    assert_eq!([first.draw_at(at(50)), second.draw_at(at(99))], [Some(0), Some(1)]);
+    second.deposit_of_at(at(100), 2);
+    // three of the five, which are drawn first, and the window's own two
+    assert_eq!(told(quota.seen_at(at(100))), [1, 2, 0, 5]);
+    assert_eq!([first.draw_at(at(100)), second.draw_at(at(110))], [Some(WINDOW - 3), Some(WINDOW - 2)]);
+    assert_eq!(all_drawn(&mut first, 199), [WINDOW - 1, WINDOW, WINDOW + 1]);
+    assert_eq!(told(quota.seen_at(at(199))), [1, 2, 2, 0]);
+    assert_eq!([first.draw_at(at(200)), second.draw_at(at(200))], [None, None]);
+    assert_eq!((first.count(), second.count()), (5, 2));
+    drop((first, second));
+    assert_eq!(quota.close().unwrap(), 7);
+}
+
+#[test]
+fn what_was_carried_is_not_carried_on() {
+    let quota = carrying();
+    let mut pass = quota.pass().unwrap();
+    pass.deposit_of_at(at(10), 5);
+    assert_eq!(pass.draw_at(at(100)), Some(WINDOW - 5));
+    pass.deposit_of_at(at(150), 2);
+    // window 2 has the two requests of window 1, and nothing of the four tickets that were left there of window 0
+    assert_eq!(all_drawn(&mut pass, 200), [2 * WINDOW - 2, 2 * WINDOW - 1]);
+    assert_eq!(pass.count(), 3);
+}
+
+#[test]
+fn nothing_is_carried_by_other_quotas_nor_past_an_idle_window() {
+    let plain = Quota::new(0, 1.0, at(100)).unwrap();
+    for (quota, moment, left) in [(plain, 100, 0), (carrying(), 199, 3), (carrying(), 200, 0)] {
+        let mut pass = quota.pass().unwrap();
+        pass.deposit_of_at(at(10), 5);
+        assert_eq!([pass.draw_at(at(10)), pass.draw_at(at(10))], [Some(0), Some(1)]);
+        assert_eq!(all_drawn(&mut pass, moment).len(), left);
+    }
+}
+
+#[test]
+fn a_reserve_is_not_carried() {
+    let quota = Quota::carrying(3, 0.5, at(100)).unwrap();
+    let mut pass = quota.pass().unwrap();
+    pass.deposit_of_at(at(10), 4);
+    assert_eq!(told(pass.seen_at(at(10))), [0, 4, 0, 5]);
+    assert_eq!(told(pass.seen_at(at(100))), [1, 0, 0, 5]);
+    assert_eq!([0; 3].map(|_| pass.draw_at(at(100)).unwrap()), [WINDOW - 2, WINDOW - 1, WINDOW]);
+    // the two of window 1 that are left are of its reserve
+    assert_eq!(all_drawn(&mut pass, 200), [2 * WINDOW, 2 * WINDOW + 1, 2 * WINDOW + 2]);
+    // a window has half of its numbers for its own tickets
+    assert_eq!(Quota::carrying(1 << 32, 0.0, at(100)).unwrap().seen_at(at(0)).left, 1 << 31);
+}
+
+#[test]
+fn a_ticket_that_is_handed_back_is_not_carried() {
+    let quota = Quota::carrying(0, 0.5, at(100)).unwrap();
+    let mut pass = quota.pass().unwrap();
+    pass.deposit_of_at(at(10), 10);
+    assert_eq!([0; 3].map(|_| pass.draw_at(at(20)).unwrap()), [0, 1, 2]);
+    assert!(pass.hand_back());
+    // two of the five are left, since three were given
+    assert_eq!(pass.draw_at(at(100)), Some(WINDOW - 2));
+    // and one that was carried is given up
+    assert!(pass.hand_back());
+    assert_eq!(all_drawn(&mut pass, 100), [WINDOW - 1]);
+    assert_eq!(pass.count(), 3);
+}
+
+#[test]
+fn a_retry_draws_what_is_carried() {
+    // two requests in the first window, the call and one by hand: the first failure draws there, the second in the next
+    for (carries, granted) in [(false, 1), (true, 2)] {
+        let now = Cell::new(Instant::now());
+        let made = if carries { Quota::carrying_at } else { Quota::new_at };
+        let quota = made(now.get(), 0, 1.0, Duration::from_secs(3600)).unwrap();
+        quota.deposit_at(at(0));
+        let policy = policy(r#"{"spaced":3600000}"#);
+        let ended = Retrying::new(&policy, &quota)
+            .clock(|| now.get())
+            .sleep(|time| now.set(now.get() + time))
+            .call(|| Err::<(), _>("no"));
+        assert_eq!(ended, Err(RetryError::BudgetRefused("no")));
+        assert_eq!(quota.close().unwrap(), granted);
+    }
+}
+
+#[test]
+fn a_host_carries_by_its_own_clock() {
+    let millis = |millis: u64| at(1_700_000_000_000 + millis);
+    let quota = Quota::carrying_of_host(millis(42), 0, 0.5, at(100)).unwrap();
+    quota.deposit_of_at(millis(99), 4);
+    let mut pass = quota.pass().unwrap();
+    assert_eq!([0; 3].map(|_| pass.draw_at(millis(100))), [Some(WINDOW - 2), Some(WINDOW - 1), None]);
+    assert_eq!(Quota::carrying(0, 20.0, at(100)).unwrap_err(), BudgetError::ShareOutOfRange);
+    assert_eq!(Quota::carrying_of_host(millis(0), 0, 0.0, at(99)).unwrap_err(), BudgetError::PeriodTooShort);
+}

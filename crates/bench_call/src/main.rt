@@ -6,12 +6,12 @@
 //! `nothing`, `budget` or `quota`. It prints a count and no time; a script counts its instructions from outside.
 #![tactic(auto)]
 
-ghost use Rattle.std.specs.Prelude.{◌≡◌, [], IfSome};
+ghost use Rattle.std.specs.Prelude.{◌≡◌, [], IfOk};
 ghost use Rattle.sched_driver_stepper.specs.Standing.{standing_after};
 
 use sched_run::{
-    Budget, Draws, Machine, MidWords, Millis, Moment, OnBudget, OnQuota, Plan, Quota, Stepper,
-    Terms, Unlimited, VirtualClock, retry_call,
+    Budget, Draws, Machine, MidWords, Millis, Moment, NoMemory, OnBudget, OnQuota, Plan, Quota,
+    SharedPlan, Stepper, Terms, Unlimited, VirtualClock, retry_call,
 };
 use std::alloc::{AllocGlobal, Global};
 use std::sync::Wait;
@@ -59,12 +59,13 @@ fn counted<R: Wait + AllocGlobal>(rt: &R, what: What, on: &str, calls: u64) -> O
     if what == What::Call {
         return Some(call_alone(calls));
     }
-    let stepper = stepper(alloc)?;
+    let plan = SharedPlan::new(alloc, Plan::forever().ok()?).ok()?;
     let limit = if what == What::Refused { 0 } else { 4294967296 };
     match on {
         "budget" => {
             let (budget, pass) = Budget::by_parts(alloc, limit).ok()?;
-            Some(calls_by(rt, what, stepper, OnBudget::new(pass, &budget), calls))
+            let pass = OnBudget::new(pass, &budget);
+            Some(calls_by(rt, what, &plan, pass, calls))
         }
         "quota" => {
             let terms = Terms {
@@ -73,17 +74,11 @@ fn counted<R: Wait + AllocGlobal>(rt: &R, what: What, on: &str, calls: u64) -> O
                 period: Millis::from(1000),
             };
             let (quota, pass) = Quota::new(alloc, Moment::new(0)?, terms).ok()?;
-            Some(calls_by(rt, what, stepper, OnQuota::new(pass, &quota), calls))
+            let pass = OnQuota::new(pass, &quota);
+            Some(calls_by(rt, what, &plan, pass, calls))
         }
-        _ => Some(calls_by(rt, what, stepper, Unlimited::new(), calls)),
+        _ => Some(calls_by(rt, what, &plan, Unlimited::new(), calls)),
     }
-}
-
-// What steps a plan that always goes on at once.
-fn stepper(alloc: Global) -> Option<Stepper>
-    ensures { IfSome result (λ stepper. stepper ≡ standing_after stepper.plan []) }
-{
-    Stepper::new(alloc, Plan::forever().ok()?).ok()
 }
 
 // The closure alone, so often; it answers the sum of what it gave.
@@ -106,54 +101,96 @@ fn attempt(state: &mut u64, left: u64) -> Result<u64, u64> {
     if left == 0 { Ok(*state) } else { Err(*state) }
 }
 
-// Calls of this kind by a drawing; it answers how many retries were granted.
-fn calls_by<R: Wait + AllocGlobal, D: Draws>(
-    rt: &R,
-    what: What,
-    stepper: Stepper,
-    drawing: D,
-    calls: u64,
-) -> u64
-    requires { stepper ≡ standing_after stepper.plan [] }
-{
-    let mut state: u64 = 1;
-    if what == What::Granted {
-        let (_, drawing) = one_call(rt, stepper, drawing, &mut state, calls);
-        return drawing.granted();
-    }
-    let failures = if what == What::Refused { 1 } else { 0 };
-    let mut stepper = stepper;
-    let mut drawing = drawing;
-    for _ in 0..calls {
-        let (same_stepper, same_drawing) = one_call(rt, stepper, drawing, &mut state, failures);
-        stepper = same_stepper;
-        drawing = same_drawing;
-    }
-    drawing.granted()
+// What draws with a pass that can be split.
+trait Splits: Draws {
+    // One that draws on the same, with a pass of its own.
+    fn part(&mut self) -> Result<Self, NoMemory>;
 }
 
-// One call, which fails so often and then succeeds, with a retry of its own; it answers what the retry was made of, for
-// the next one.
-fn one_call<R: Wait + AllocGlobal, D: Draws>(
+impl<'a> Splits for OnBudget<&'a Budget> {
+    fn part(&mut self) -> Result<Self, NoMemory> {
+        self.split().map_err(|_| NoMemory)
+    }
+}
+
+impl<'a> Splits for OnQuota<&'a Quota> {
+    fn part(&mut self) -> Result<Self, NoMemory> {
+        self.split().map_err(|_| NoMemory)
+    }
+}
+
+impl Splits for Unlimited {
+    fn part(&mut self) -> Result<Self, NoMemory> {
+        Ok(Unlimited::new())
+    }
+}
+
+// Calls of this kind, with retries of this plan; it answers how many retries were granted, and for calls that succeed at
+// once the sum of what they gave.
+fn calls_by<R: Wait + AllocGlobal, D: Splits>(
     rt: &R,
-    stepper: Stepper,
-    drawing: D,
+    what: What,
+    plan: &SharedPlan,
+    mut pass: D,
+    calls: u64,
+) -> u64 {
+    let mut state: u64 = 1;
+    if what == What::Granted {
+        return one_call(rt, plan, &mut pass, &mut state, calls);
+    }
+    let failures = if what == What::Refused { 1 } else { 0 };
+    let mut sum: u64 = 0;
+    for _ in 0..calls {
+        sum = sum.wrapping_add(one_call(rt, plan, &mut pass, &mut state, failures));
+    }
+    sum
+}
+
+// One call, which fails so often and then succeeds, with a retry of its own; it answers how many retries were granted, and
+// what the call gave where there was none.
+fn one_call<R: Wait + AllocGlobal, D: Splits>(
+    rt: &R,
+    plan: &SharedPlan,
+    pass: &mut D,
     state: &mut u64,
     failures: u64,
-) -> (Stepper, D)
-    requires { stepper ≡ standing_after stepper.plan [] }
-    ensures { result.0 ≡ standing_after result.0.plan [] }
-{
+) -> u64 {
     let mut clock = VirtualClock::at(Moment::new(0).unwrap());
-    let mut machine = Machine::new(stepper, drawing);
     let mut left = failures;
-    let ending = retry_call(rt, &mut machine, &mut clock, &mut MidWords, || {
-        let given = attempt(state, left);
-        left = left.saturating_sub(1);
-        given
-    });
-    drop(ending);
-    let (mut stepper, drawing) = machine.into_parts();
-    stepper.reset();
-    (stepper, drawing)
+    let (ending, retry) = retry_call(
+        rt,
+        &mut |alloc| begun(alloc, plan, pass),
+        &mut clock,
+        &mut MidWords,
+        || {
+            let given = attempt(state, left);
+            left = left.saturating_sub(1);
+            given
+        },
+    );
+    match retry {
+        Some(retry) => granted(retry),
+        None => match ending.into_result() {
+            Ok(given) => given,
+            Err(given) => given,
+        },
+    }
+}
+
+// How many retries there were, told apart from the calls that succeed at once.
+#[cold]
+#[inline(never)]
+fn granted<D: Draws>(retry: Machine<Stepper, D>) -> u64 {
+    retry.granted()
+}
+
+// What a retry is made of: what steps the plan, and a pass of its own.
+fn begun<D: Splits>(
+    alloc: Global,
+    plan: &SharedPlan,
+    pass: &mut D,
+) -> Result<(Stepper, D), NoMemory>
+    ensures { IfOk result (λ made. made.0 ≡ standing_after made.0.plan []) }
+{
+    Ok((Stepper::of_shared(alloc, plan.share()?)?, pass.part()?))
 }

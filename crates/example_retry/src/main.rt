@@ -3,10 +3,13 @@
 //! in the last error.
 #![tactic(auto)]
 
+ghost use Rattle.std.specs.Prelude.{◌≡◌, [], IfOk};
+ghost use Rattle.sched_run.specs.Standing.{standing_after};
+
 use anyhow::{Context, Result};
 use sched_run::{
-    Budget, CallEnding, Machine, OnBudget, Plan, PlanFault, Stepper, SystemClock, SystemWords,
-    Tagged, retry_call,
+    Budget, CallEnding, NoMemory, OnBudget, Plan, PlanFault, SharedPlan, Stepper, SystemClock,
+    SystemWords, Tagged, retry_call,
 };
 use std::alloc::{AllocGlobal, Global};
 use std::random::RandomSource;
@@ -32,22 +35,38 @@ fn back_off(alloc: Global) -> Result<Plan, PlanFault> {
     Plan::meet(alloc, Plan::recurs(4)?, jittered)
 }
 
+// What the retry is made of at the first failure: what steps the plan, and a pass of its own.
+fn begun<'a>(
+    alloc: Global,
+    plan: &SharedPlan,
+    pass: &mut OnBudget<&'a Budget>,
+) -> Result<(Stepper, OnBudget<&'a Budget>), NoMemory>
+    ensures { IfOk result (λ made. made.0 ≡ standing_after made.0.plan []) }
+{
+    let part = pass.split().map_err(|_| NoMemory)?;
+    Ok((Stepper::of_shared(alloc, plan.share()?)?, part))
+}
+
 // The text of the file, once it can be read.
 fn read<R: Runtime + RandomSource + AllocGlobal + Wait>(rt: &R, path: &str) -> Result<String> {
     let alloc = rt.alloc();
     let mut clock = SystemClock::new(rt)?;
     let mut words = SystemWords::new(rt)?;
-    let stepper = Stepper::new(alloc, back_off(alloc)?)?;
-    let (budget, pass) = Budget::new(alloc, 10)?;
-    let mut retry = Machine::new(stepper, OnBudget::new(pass, &budget));
-    let ending = retry_call(
+    let plan = SharedPlan::new(alloc, back_off(alloc)?)?;
+    let (budget, pass) = Budget::by_parts(alloc, 10)?;
+    let mut pass = OnBudget::new(pass, &budget);
+    let (ending, retry) = retry_call(
         rt,
-        &mut retry,
+        &mut |alloc| begun(alloc, &plan, &mut pass),
         &mut clock,
         &mut words,
         || read_once(rt, path),
     );
-    told(rt, retry.granted(), ending)
+    let retries = match retry {
+        Some(retry) => retry.granted(),
+        None => 0,
+    };
+    told(rt, retries, ending)
 }
 
 // What came of it, after a line that tells how many retries there were.

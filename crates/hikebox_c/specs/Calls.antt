@@ -29,6 +29,10 @@ abbrev pub OnHeld : {A : Type 0} → (Held → Result A Status → Held → Type
 OnHeld does None w tells = (w ≡ None) × tells (Err Empty)
 OnHeld {A} does (Some u) w tells = (r : Result A Status) × (v : Held) × (w ≡ Some v) × does u r v × tells r
 
+-- this comes of a call, and is told
+abbrev pub Comes : {A : Type 0} → (Result A Status → Type 0) → (Result A Status → Type 0) → Type 0
+Comes {A} does tells = (r : Result A Status) × does r × tells r
+
 -- something is made for a handle, which is refused where it is full
 abbrev pub Makes : (Result (Box Held Global) Status → Type 0) → Option Held → ℕ → Option Held → Type 0
 Makes made u code v = MatchBool (is_some u)

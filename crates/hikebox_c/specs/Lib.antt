@@ -1,7 +1,7 @@
 pub mod Calls
+pub mod Texts
 pub mod Policies
-pub mod Faults
-pub mod Drivers
+pub mod Courses
 pub mod Passes
 pub mod Retries
 pub mod Leases

@@ -29,7 +29,6 @@ pub struct Range {
     pub tickets: u64,
 }
 
-/// Leases tickets of a budget that has so many: writes what the store is to keep, and the range.
 #[unsafe(no_mangle)]
 pub extern "C" fn hikebox_lease_of_budget(
     limit: u64,
@@ -43,8 +42,6 @@ pub extern "C" fn hikebox_lease_of_budget(
     tell_lease(Grants::Budget(limit), asking, stored, range)
 }
 
-/// Leases tickets of a window of a quota that has this reserve and this share: writes what the store is to keep, and the
-/// range.
 #[unsafe(no_mangle)]
 pub extern "C" fn hikebox_lease_of_quota(
     reserve: u64,
@@ -59,7 +56,6 @@ pub extern "C" fn hikebox_lease_of_quota(
     tell_lease(quota(reserve, share), asking, stored, range)
 }
 
-/// Writes how many tickets a window of so many requests may give, by a quota that has this reserve and this share.
 #[unsafe(no_mangle)]
 pub extern "C" fn hikebox_quota_allows(
     reserve: u64,

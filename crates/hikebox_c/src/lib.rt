@@ -2,11 +2,11 @@
 //! lists the refusals of each, and what the caller owes.
 #![tactic(auto)]
 
-mod drivers;
-mod faults;
+mod courses;
 mod joins;
 mod leases;
 mod passes;
 mod policies;
 mod retries;
 mod storms;
+mod texts;

@@ -3,11 +3,11 @@ ghost use Rattle.std.specs.Prelude.{◌≡◌, ◌<◌, ◌≤◌, Err};
 ghost use Rattle.sched_time.specs.declared.numbers.TheConstants.{FAR};
 ghost use Rattle.sched_handle.specs.Fills.{Frees};
 ghost use Rattle.sched_handle.specs.Passes.{AreOfOne};
-ghost use Rattle.sched_handle.specs.Retries.{Leaves, Cancels};
+ghost use Rattle.sched_handle.specs.Retries.{Cancels};
 ghost use Rattle.sched_handle.specs.Status.{told};
 ghost use Rattle.sched_handle.specs.declared.held.Kind.TheVariants as kind;
 ghost use Rattle.sched_handle.specs.declared.status.Status.TheVariants as status;
-ghost use Rattle.hikebox_c.specs.Calls.{Tells, Kept, OnHeld};
+ghost use Rattle.hikebox_c.specs.Calls.{Tells, OnHeld};
 ghost use Rattle.hikebox_c.specs.Passes.{JoinsHeld};
 ghost use Rattle.hikebox_c.specs.Retries.{deadline_of, NewRetry, NewRetryBy, Reports, PollsAt};
 
@@ -17,8 +17,6 @@ use sched_handle::{Handle, Held, Kind, Reply, Status, tell, tick_at};
 use sched_time::{Millis, Moment};
 use std::alloc::Global;
 
-/// Puts a retry that has not begun into `retry`, with the policy and a pass split off `pass`. It plans no run past the
-/// deadline, and 2^64 - 1 is none.
 #[unsafe(no_mangle)]
 pub extern "C" fn hikebox_retry_new(
     alloc: Global,
@@ -77,7 +75,6 @@ fn deadline_at(deadline: u64) -> Result<Option<Moment>, Status>
     }
 }
 
-/// Steps the retry at `now`, with what is reported of its run, and writes what is to be done.
 #[unsafe(no_mangle)]
 pub extern "C" fn hikebox_retry_poll(
     alloc: Global,
@@ -128,32 +125,6 @@ fn reported(report: u32, code: u64) -> Result<Option<Ran>, Status>
     }
 }
 
-/// Writes how many milliseconds the retry has at `now` up to its deadline: 0 where that is past, and 2^64 - 1 where it has
-/// none.
-#[unsafe(no_mangle)]
-pub extern "C" fn hikebox_retry_left(
-    alloc: Global,
-    retry: &mut Handle,
-    now: u64,
-    left: &mut u64,
-) -> u32
-    ensures left { now ≤ FAR →
-        OnHeld (Kept (Leaves now)) retry.old.held retry.new.held (Tells result left.old left.new) }
-    ensures too_large { FAR < now → (retry.new.held ≡ retry.old.held)
-        × Tells result left.old left.new (Err status.TooLarge) }
-{
-    let Some(now) = Moment::new(now) else {
-        return Status::TooLarge.code();
-    };
-    let Some(held) = retry.take(alloc) else {
-        return Status::Empty.code();
-    };
-    let answer = held.left(now);
-    retry.put(held);
-    tell(answer, left)
-}
-
-/// Ends a retry that is not over as cancelled, whatever run is under way.
 #[unsafe(no_mangle)]
 pub extern "C" fn hikebox_retry_cancel(alloc: Global, retry: &mut Handle) -> u32
     ensures { OnHeld Cancels retry.old.held retry.new.held (λ r. result ≡ told r) }
@@ -169,7 +140,6 @@ pub extern "C" fn hikebox_retry_cancel(alloc: Global, retry: &mut Handle) -> u32
     }
 }
 
-/// Frees the retry and joins its pass, with the tickets that it was granted, into `pass`.
 #[unsafe(no_mangle)]
 pub extern "C" fn hikebox_retry_end(alloc: Global, retry: &mut Handle, pass: &mut Handle) -> u32
     requires { AreOfOne pass.old.held retry.old.held }
@@ -178,7 +148,6 @@ pub extern "C" fn hikebox_retry_end(alloc: Global, retry: &mut Handle, pass: &mu
     join_into(alloc, Kind::Retry, retry, pass)
 }
 
-/// Frees the retry and its pass: what it drew on can't be closed then.
 #[unsafe(no_mangle)]
 pub extern "C" fn hikebox_retry_free(alloc: Global, retry: &mut Handle) -> u32
     ensures { Frees kind.Retry retry.old.held result retry.new.held }

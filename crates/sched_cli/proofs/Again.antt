@@ -9,7 +9,7 @@ use Rattle.sched_plan_json.specs.declared.faults.ReadFault.TheVariants as readin
 use Rattle.sched_task_law.specs.Past.{Past}
 use Rattle.sched_pool_json.specs.Job.{Job}
 use Rattle.sched_cli_check.specs.Checking.{PrintsCheck}
-use Rattle.sched_cli_plan.specs.Course.{Course}
+use Rattle.sched_plan_course.specs.Course.{Course}
 use Rattle.sched_cli_plan.specs.PlanText.{plan_text}
 use Rattle.sched_cli_plan.specs.Printing.{Prints, IsInput, SpellsPlan, SpellsFault, SpellsNothing}
 use Rattle.sched_cli_plan.specs.Whole.{IsWholeInput, StopsReading, WritesFront, count_of_reads}

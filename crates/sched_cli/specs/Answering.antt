@@ -6,7 +6,7 @@ use Rattle.sched_plan_hint.specs.Faults as plans
 use Rattle.sched_plan_hint.specs.declared.faults.ToldFault.{ToldFault}
 use Rattle.sched_cli_check.specs.Checking.{PrintsCheck}
 use Rattle.sched_cli_check.specs.JobsFaults as jobs
-use Rattle.sched_cli_plan.specs.Course.{course_of, steady}
+use Rattle.sched_plan_course.specs.Course.{course_of, steady}
 use Rattle.sched_cli_plan.specs.Printing.{Prints, IsInput}
 use Rattle.sched_cli_plan.specs.Whole.{IsWholeInput, StopsReading}
 use Rattle.sched_cli_plan.specs.declared.faults.PrintFault.{PrintFault}

@@ -1,6 +1,6 @@
 //! Printing what is asked for of a text that is there as a whole.
 ghost use Rattle.std.specs.Prelude.{◌≡◌};
-ghost use Rattle.sched_cli_plan.specs.Course.{course_of, steady};
+ghost use Rattle.sched_plan_course.specs.Course.{course_of, steady};
 ghost use Rattle.sched_cli_plan.specs.Printing.{Prints};
 ghost use Rattle.sched_cli_check.specs.Checking.{PrintsCheck};
 ghost use Rattle.sched_cli_pool.specs.JobsPrinting.{count_of_pool_reads, count_of_pool_writes};

@@ -13,7 +13,7 @@ use Rattle.sched_plan_json.specs.declared.faults.ReadFault.TheVariants as readin
 use Rattle.sched_cli_plan.specs.Refusal.{refusal_of}
 use Rattle.sched_cli_plan.specs.Printing.{Prints, ReadsPlan, ReadsValue}
 use Rattle.sched_cli_plan.specs.Whole.{IsWholeInput}
-use Rattle.sched_cli_plan.specs.Course.{Course}
+use Rattle.sched_plan_course.specs.Course.{Course}
 use Rattle.sched_cli_plan.specs.declared.faults.PrintFault.{PrintFault}
 use Rattle.sched_cli_plan.specs.declared.faults.PrintFault.TheVariants.{ReadFailed, TooLong, NotJson, NotAPlan, OutOfRange, TooDeep, TooMany, NoMemory, WriteFailed}
 

@@ -1,51 +1,26 @@
--- What is printed of a plan: a line for each event of its run.
-use Rattle.std.specs.Prelude.{ℕ, ◌+◌, suc, zero, List, [], ◌∷◌, ◌++◌, flat_map, length, Option, Some, None, option_map, codes, decimal}
-use Rattle.sched_time.specs.Capped.{capped}
-use Rattle.sched_time.specs.Decision.{start_of}
+-- What is printed of a plan: a line for each event of its course.
+use Rattle.std.specs.Prelude.{ℕ, List, ◌++◌, flat_map, codes, decimal}
 use Rattle.sched_time.specs.declared.starts.Decision.{Decision}
 use Rattle.sched_time.specs.declared.starts.Decision.TheVariants.{Go, Done}
-use Rattle.sched_plan.specs.Datum.{num}
 use Rattle.sched_plan.specs.DatumText.{text_of}
 use Rattle.sched_plan.specs.Schedule.{Schedule}
-use Rattle.sched_plan.specs.History.{last_moment, prefixes}
-use Rattle.sched_plan.specs.Answer.{answer}
-use Rattle.sched_plan.specs.declared.history.Event.{Event}
-use Rattle.sched_cli_plan.specs.Course.{Course, item_or_last}
-
--- event n of the run: the last input and the last words are those of all later events too
-abbrev pub event_at : Course → ℕ → ℕ → Event
-event_at o n now = record { now = now; words = item_or_last [] o.words n; input = num (item_or_last 0 o.inputs n) }
-
--- the moment of the event that follows: `from` at first, then the planned start and the time that its work took
-abbrev pub next_moment : Schedule → Course → List Event → Option ℕ
-next_moment s o [] = Some o.from
-next_moment s o (e ∷ h) = option_map (λ start. capped (start + o.took)) (start_of (answer s (e ∷ h)).decision)
-
--- the history with the event at this moment, if there is one
-abbrev pub and_at : Course → List Event → Option ℕ → List Event
-and_at o h None = h
-and_at o h (Some now) = h ++ event_at o (length h) now ∷ []
-
--- the first n events of the run, or as many as come before the schedule is done
-abbrev pub run : Schedule → Course → ℕ → List Event
-run s o zero = []
-run s o (suc n) = and_at o (run s o n) (next_moment s o (run s o n))
+use Rattle.sched_plan_course.specs.Course.{Course}
+use Rattle.sched_plan_course.specs.Lines.{course_lines}
+use Rattle.sched_plan_course.specs.declared.lines.Line.{Line}
 
 -- `next START`, or `done`
 abbrev pub decision_text : Decision → List ℕ
 decision_text (Go start) = codes " next " ++ decimal start
 decision_text Done = codes " done"
 
--- the line of a history's last event: `MOMENT: OUTPUT next START` or `MOMENT: OUTPUT done`
-abbrev pub line_text : Schedule → List Event → List ℕ
-line_text s h =
-    decimal (last_moment h) ++ codes ": " ++ text_of (answer s h).output
-    ++ decision_text (answer s h).decision ++ codes "\n"
+-- `MOMENT: OUTPUT next START` or `MOMENT: OUTPUT done`
+abbrev pub line_text : Line → List ℕ
+line_text l = decimal l.moment ++ codes ": " ++ text_of l.output ++ decision_text l.decision ++ codes "\n"
 
--- a line for each event
-abbrev pub lines_text : Schedule → List Event → List ℕ
-lines_text s h = flat_map (line_text s) (prefixes h)
+-- the lines of a plan, one after another
+abbrev pub lines_text : List Line → List ℕ
+lines_text ls = flat_map line_text ls
 
 -- what is printed of a plan
 abbrev pub plan_text : Schedule → Course → List ℕ
-plan_text s o = lines_text s (run s o o.steps)
+plan_text s o = lines_text (course_lines s o)

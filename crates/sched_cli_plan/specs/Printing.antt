@@ -10,7 +10,7 @@ use Rattle.sched_plan_json.specs.declared.faults.ReadFault.TheVariants as readin
 pub use Rattle.sched_plan_json.specs.Texts.{Spells, SpellsPlan, SpellsFault, SpellsNothing}
 use Rattle.sched_cli_plan.specs.PlanText.{plan_text}
 use Rattle.sched_cli_plan.specs.Whole.{IsWholeInput, StopsReading, WritesFront}
-use Rattle.sched_cli_plan.specs.Course.{Course}
+use Rattle.sched_plan_course.specs.Course.{Course}
 use Rattle.sched_cli_plan.specs.declared.faults.PrintFault.{PrintFault}
 use Rattle.sched_cli_plan.specs.declared.faults.PrintFault.TheVariants.{ReadFailed, TooLong, NotJson, NotAPlan, OutOfRange}
 use Rattle.sched_cli_plan.specs.declared.faults.PrintFault.TheVariants.{TooDeep, TooMany, NoMemory, WriteFailed}

@@ -5,7 +5,6 @@
 mod again;
 mod counts;
 mod faults;
-mod options;
 mod printing;
 mod streams;
 mod whole;
@@ -13,7 +12,7 @@ mod whole;
 pub use again::Given;
 pub use counts::Counted;
 pub use faults::PrintFault;
-pub use options::{MOST_STEPS, PlanCourse, PlanOptions};
 pub use printing::{print_course, print_plan, read_value};
+pub use sched_plan_course::{MOST_STEPS, PlanCourse, PlanOptions};
 pub use streams::{Sink, Source};
 pub use whole::{LONGEST_INPUT, put_all, put_long, read_all};

@@ -1,22 +1,17 @@
-ghost use Rattle.std.specs.Prelude.{◌≡◌, ◌<◌, ◌≤◌, ◌++◌, length, string_bytes, IfOk, IfErr, OnOk};
-ghost use Rattle.sched_time.specs.declared.numbers.TheConstants.{FAR};
-ghost use Rattle.sched_plan.specs.History.{last_moment};
-ghost use Rattle.sched_plan.specs.Answer.{answer};
-ghost use Rattle.sched_step.specs.Starts.{StartsBy};
-ghost use Rattle.sched_driver.specs.Driven.{after};
-ghost use Rattle.sched_cli_plan.specs.Course.{course_of, steady};
-ghost use Rattle.sched_cli_plan.specs.PlanText.{event_at, line_text, plan_text};
+ghost use Rattle.std.specs.Prelude.{◌≡◌, ◌++◌, string_bytes, OnOk};
+ghost use Rattle.sched_plan_course.specs.Course.{course_of, steady};
+ghost use Rattle.sched_cli_plan.specs.PlanText.{line_text, plan_text};
 ghost use Rattle.sched_cli_plan.specs.Printing.{Prints, ReadsPlan, ReadsValue, WritesText};
 ghost use Rattle.sched_cli_plan.specs.Whole.{count_of_reads, count_of_writes};
 
 use crate::faults::PrintFault;
-use crate::options::{PlanCourse, PlanOptions};
 use crate::streams::{Sink, Source};
 use crate::whole::{put_all, put_long, read_all};
-use sched_driver::{DriveFault, Driver};
-use sched_plan::{Plan, Val};
+use sched_plan::Plan;
+use sched_plan_course::{Line, PlanCourse, PlanOptions, line_at};
 use sched_plan_json::read_plan;
-use sched_time::{Moment, NoMemory, Tick};
+use sched_step::initial;
+use sched_time::NoMemory;
 use serde_json::Value;
 use std::alloc::Global;
 
@@ -54,7 +49,7 @@ pub fn print_course<R: Source, W: Sink>(
 {
     let bytes = read_all(alloc, reader)?;
     let plan = plan_in(alloc, &bytes)?;
-    write_plan(alloc, plan, writer, course)
+    write_plan(alloc, &plan, writer, course)
 }
 
 /// The JSON value that the bytes spell. Refused with `NotJson` where they are no JSON text, and with `NoMemory`.
@@ -80,65 +75,36 @@ fn plan_in(alloc: Global, bytes: &[u8]) -> Result<Plan, PrintFault>
 // Writes the plan's lines, many at a time.
 fn write_plan<W: Sink>(
     alloc: Global,
-    plan: Plan,
+    plan: &Plan,
     writer: &mut W,
     course: &PlanCourse,
 ) -> Result<(), PrintFault>
-    ensures text { WritesText (W.taken writer.old) (W.taken writer.new) (plan_text plan (course_of course.now)) result }
+    ensures text { WritesText (W.taken writer.old) (W.taken writer.new)
+        (plan_text plan.now (course_of course.now)) result }
     ensures counts { W.failures writer.new ≡ count_of_writes result (W.failures writer.old) }
 {
-    let mut driver = Driver::new(alloc, plan)?;
+    let mut state = initial(alloc, plan)?;
     let mut lines = String::new(alloc);
-    let mut now = course.from;
-    for step in 0..course.steps {
-        step_at(alloc, &mut driver, now, step as usize, course)?;
-        add_line(alloc, &mut lines, &driver, now)?;
-        let Some(start) = driver.next_start() else {
+    let mut now = course.first();
+    for number in 0..course.steps() {
+        let line = line_at(alloc, plan, &mut state, course.event(number as usize, now))?;
+        add_line(alloc, &mut lines, &line)?;
+        let Some(start) = line.decision.start() else {
             return put_all(writer, lines.as_bytes());
         };
         put_long(writer, &mut lines)?;
-        now = start.plus(course.took);
+        now = course.after(start);
     }
     put_all(writer, lines.as_bytes())
 }
 
-// Steps the driver with event `number` of the course, at `now`.
-fn step_at(
-    alloc: Global,
-    driver: &mut Driver,
-    now: Moment,
-    number: usize,
-    course: &PlanCourse,
-) -> Result<(), PrintFault>
-    requires later { last_moment driver.old.journal ≤ now }
-    requires room { length driver.old.journal < 65536 }
-    ensures event { IfOk result (λ _. driver.new ≡ after driver.old (event_at (course_of course.now) number now)) }
-    ensures start { IfOk result (λ _. StartsBy now (answer driver.new.plan driver.new.journal).decision) }
-    ensures err { IfErr result (λ fault. fault ≡ PrintFault.NoMemory) }
+// Adds the line's text.
+fn add_line(alloc: Global, lines: &mut String, line: &Line) -> Result<(), NoMemory>
+    ensures { OnOk result (string_bytes lines.new ≡ string_bytes lines.old ++ line_text line.now) }
 {
-    let words = course.words(number);
-    let tick = Tick { now, words };
-    match driver.next(alloc, tick, Val::from(course.input(number))) {
-        Ok(_) => Ok(()),
-        Err(DriveFault::NoMemory) => Err(PrintFault::NoMemory),
-        Err(DriveFault::Backwards { .. } | DriveFault::JournalFull) => unreachable!(),
-    }
-}
-
-// Adds the line of the driver's last event, which was at `now`.
-fn add_line(alloc: Global, lines: &mut String, driver: &Driver, now: Moment) -> Result<(), NoMemory>
-    requires some { 0 < length driver.now.journal }
-    requires last { now ≡ last_moment driver.now.journal }
-    ensures line { OnOk result
-        (string_bytes lines.new ≡ string_bytes lines.old ++ line_text driver.now.plan driver.now.journal) }
-    ensures in_range { OnOk result (now ≤ FAR) }
-{
-    let Some(output) = driver.last() else {
-        unreachable!()
-    };
-    let output = output.text(alloc)?;
-    write!(lines, "{}: {}", now.get(), output)?;
-    match driver.next_start() {
+    let output = line.output.text(alloc)?;
+    write!(lines, "{}: {}", line.moment.get(), output)?;
+    match line.decision.start() {
         Some(start) => write!(lines, " next {}\n", start.get())?,
         None => lines.push_str(" done\n")?,
     }

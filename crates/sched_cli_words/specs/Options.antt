@@ -1,7 +1,7 @@
 use Rattle.std.specs.Prelude.{◌≡◌, ℕ, ◌≤◌, ◌<◌, ◌^◌, ◌⊎◌, List, [], ◌∷◌, All}
 use Rattle.sched_time.specs.declared.numbers.TheConstants.{FAR}
-use Rattle.sched_cli_plan.specs.Course.{Course, course_of}
-use Rattle.sched_cli_plan.specs.declared.options.PlanOptions.{PlanOptions}
+use Rattle.sched_plan_course.specs.Course.{Course, course_of}
+use Rattle.sched_plan_course.specs.declared.courses.PlanOptions.{PlanOptions}
 use Rattle.sched_cli_words.specs.Quotas.{QuotaIsInRange}
 use Rattle.sched_cli_words.specs.Seeded.{fours, seeded}
 use Rattle.sched_cli_words.specs.declared.options.PoolOptions.{PoolOptions}

@@ -3,8 +3,8 @@ use crate::check::check_command;
 use crate::options::{MOST_TICKETS, MOST_TURNS, MOST_WORKERS};
 use crate::quota_words::quota_option;
 use clap::{Arg, Command, value_parser};
-use sched_cli_plan::MOST_STEPS;
 use sched_cli_storm_words::storm_command;
+use sched_plan_course::MOST_STEPS;
 use sched_time::FAR;
 use std::alloc::{AllocError, Global};
 

@@ -1,8 +1,8 @@
 ghost use Rattle.std.specs.Prelude.{◌≤◌};
 
 use crate::quotas::QuotaOptions;
-use sched_cli_plan::{PlanCourse, PlanOptions};
 use sched_cli_storm_words::StormOptions;
+use sched_plan_course::{PlanCourse, PlanOptions};
 
 /// The most workers of a pool.
 pub const MOST_WORKERS: u64 = 16;

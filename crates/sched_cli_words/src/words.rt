@@ -10,7 +10,7 @@ use crate::seeded::seeded_words;
 use crate::storms::storm;
 use clap::error::ErrorKind;
 use clap::{ArgMatches, Error};
-use sched_cli_plan::{MOST_STEPS, PlanCourse, PlanOptions};
+use sched_plan_course::{MOST_STEPS, PlanCourse, PlanOptions};
 use sched_time::{Millis, Moment};
 use std::alloc::{AllocError, Global};
 

@@ -1,2 +1,5 @@
 pub mod Ended
 pub mod Told
+pub mod First
+pub mod Unbegun
+pub mod Goes

@@ -12,9 +12,8 @@ use Rattle.sched_effect.specs.declared.ran.Ran.{Ran}
 use Rattle.sched_task.specs.Course.{Answered}
 use Rattle.sched_task.specs.Words.{next_four}
 use Rattle.sched_task.specs.declared.endings.How.{How}
-use Rattle.sched_task_law.specs.Kind.{a_retry, a_repeat}
+use Rattle.sched_task_law.specs.Kind.{Kind}
 use Rattle.sched_task_law.specs.Lists.{last_element}
-use Rattle.sched_task_law.specs.Past.{Past}
 use Rattle.sched_task_law.proofs.Lists.{last_element-push}
 use Rattle.sched_run_machine.specs.Machine.{StandsFor}
 use Rattle.sched_run_machine.specs.Next.{Finds}
@@ -22,10 +21,8 @@ use Rattle.sched_run_machine.specs.declared.next.Next.{Next}
 use Rattle.sched_run_machine.specs.declared.next.Next.TheVariants.{Poll, Wait}
 use Rattle.sched_run_machine.proofs.Calls.{plan_after}
 use Rattle.sched_run_machine.specs.Retrying.{Retrying}
-use Rattle.sched_repeat.specs.Machine.{StandsFor as StandsForRepeat}
-use Rattle.sched_repeat.proofs.Calls.{plan_told}
 use Rattle.sched_closure.specs.Turns.{Turning, Calling, calling, Finishes, Turn}
-use Rattle.sched_closure.specs.Calls.{retry_turning, machine_turning, repeat_turning, repeat_machine_turning}
+use Rattle.sched_closure.specs.Calls.{task_turning, machine_turning}
 
 -- where nothing is to be run, no run is under way
 pub idle_found : (over : Option How) (running : Bool) (next : Next) → Finds over running next →
@@ -88,7 +85,7 @@ module _ {K C I F : Type 0} (tells : K → ℕ → K → Type 0) (waits : K → 
     with_task s v = calling v s.clock s.words s.call s.last
 
     -- what it may be of after turns it may be of before them
-    narrowed : (s : Calling M K C (Result I F)) (ticks : List Tick) (n : Calling M K C (Result I F)) →
+    pub narrowed : (s : Calling M K C (Result I F)) (ticks : List Tick) (n : Calling M K C (Result I F)) →
         FoldsTo (Turn on_m tells waits gives item_code fault_code) s ticks n → (v : T) → may n.task v → may s.task v
     narrowed s [] n turns v by = subst (λ (k : Calling M K C (Result I F)). may k.task v) (sym turns) by
     narrowed s (tick ∷ ticks) n turns v by =
@@ -120,28 +117,16 @@ module _ {K C I F : Type 0} (tells : K → ℕ → K → Type 0) (waits : K → 
         } in
         (rest.0, (with_task turns.0 one.0, here, rest.1), rest.2, rest.3)
 
--- a machine of a retry, and one of a repeat
-module _ {R : Type 0} (stands : R → Driven → Type 0) (keeps : Bool) (goes_by : R → Schedule → Type 0) where
-  pub retry_follows : {D : Type 0} (grants : Grants D) → Follows (machine_turning grants keeps stands goes_by) (retry_turning grants keeps)
-      (StandsFor stands keeps grants) (λ m v. goes_by m.driver v.past.driver.plan) (λ (v : Retrying D). v.past.runs)
-  retry_follows grants = record {
+-- a machine of a retry, or of a repeat
+module _ {R D : Type 0} (stands : R → Driven → Type 0) (kind : Kind) (goes_by : R → Schedule → Type 0) (grants : Grants D) where
+  pub machine_follows : Follows (machine_turning grants kind stands goes_by) (task_turning grants kind)
+      (StandsFor stands kind grants) (λ m v. goes_by m.driver v.past.driver.plan) (λ (v : Retrying D). v.past.runs)
+  machine_follows = record {
     running = λ m v st. st.under_way;
     due = λ m v start st due. due v st;
     narrows = λ m n v t told polls by. polls.narrows v.past.driver.plan by;
     polls = λ m n v t told st polls by.
         let was = polls.leads v st by in
-        (was.0, was.1, was.2, λ p by. subst (λ (s : Schedule). goes_by p.driver s) (sym (plan_after grants (a_retry keeps) v t told was.0 was.1)) by);
-    adds = λ v u t told poll. poll.runs;
-  }
-
-  pub repeat_follows : Follows (repeat_machine_turning keeps stands goes_by) (repeat_turning keeps)
-      (StandsForRepeat stands keeps) (λ m v. goes_by m.driver v.driver.plan) (λ (v : Past). v.runs)
-  repeat_follows = record {
-    running = λ m v st. st.under_way;
-    due = λ m v start st due. due v st;
-    narrows = λ m n v t told polls by. polls.narrows v.driver.plan by;
-    polls = λ m n v t told st polls by.
-        let was = polls.leads v st by in
-        (was.0, was.1, was.2, λ p by. subst (λ (s : Schedule). goes_by p.driver s) (sym (plan_told (a_repeat keeps) v t told was.0 was.1)) by);
+        (was.0, was.1, was.2, λ p by. subst (λ (s : Schedule). goes_by p.driver s) (sym (plan_after grants kind v t told was.0 was.1)) by);
     adds = λ v u t told poll. poll.runs;
   }

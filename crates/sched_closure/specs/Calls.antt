@@ -1,42 +1,26 @@
 -- What takes turns where a closure is called: retries and repeats, and the machines that stand for them.
-use Rattle.std.specs.Prelude.{◌≡◌, Bool}
+use Rattle.std.specs.Prelude.{◌≡◌}
 use Rattle.sched_plan.specs.Schedule.{Schedule}
 use Rattle.sched_driver.specs.Driven.{Driven}
 use Rattle.sched_ticket_draws.specs.Grants.{Grants}
-use Rattle.sched_task_law.specs.Kind.{a_retry, a_repeat}
-use Rattle.sched_task_law.specs.Past.{Past, is_under_way, waits_for}
+use Rattle.sched_task_law.specs.Kind.{Kind}
+use Rattle.sched_task_law.specs.Past.{is_under_way, waits_for}
 use Rattle.sched_run_machine.specs.Retrying.{Retrying}
 use Rattle.sched_run_machine.specs.Machine.{Machine, StandsFor, Polls}
 use Rattle.sched_run_machine.specs.Next.{HostPoll}
-use Rattle.sched_repeat.specs.Machine.{RepeatMachine, ToldPoll, StandsFor as StandsForRepeat, Polls as PollsRepeat}
 use Rattle.sched_closure.specs.Turns.{Turning}
 
-module _ {D : Type 0} (grants : Grants D) (keeps : Bool) where
-  abbrev pub retry_turning : Turning (Retrying D)
-  retry_turning = record {
+module _ {D : Type 0} (grants : Grants D) (kind : Kind) where
+  abbrev pub task_turning : Turning (Retrying D)
+  task_turning = record {
     running = λ v. is_under_way v.past.runs v.past.begun;
     due = λ v start. start ≡ waits_for v.past;
-    polls = HostPoll grants (a_retry keeps);
+    polls = HostPoll grants kind;
   }
 
   abbrev pub machine_turning : {R : Type 0} → (R → Driven → Type 0) → (R → Schedule → Type 0) → Turning (Machine R D)
   machine_turning stands goes_by = record {
     running = λ m. m.under_way;
-    due = λ m start. (v : Retrying D) → StandsFor stands keeps grants m v → start ≡ waits_for v.past;
-    polls = Polls stands keeps goes_by grants;
-  }
-
-module _ (keeps : Bool) where
-  abbrev pub repeat_turning : Turning Past
-  repeat_turning = record {
-    running = λ v. is_under_way v.runs v.begun;
-    due = λ v start. start ≡ waits_for v;
-    polls = ToldPoll (a_repeat keeps);
-  }
-
-  abbrev pub repeat_machine_turning : {R : Type 0} → (R → Driven → Type 0) → (R → Schedule → Type 0) → Turning (RepeatMachine R)
-  repeat_machine_turning stands goes_by = record {
-    running = λ m. m.under_way;
-    due = λ m start. (v : Past) → StandsForRepeat stands keeps m v → start ≡ waits_for v;
-    polls = PollsRepeat stands keeps goes_by;
+    due = λ m start. (v : Retrying D) → StandsFor stands kind grants m v → start ≡ waits_for v.past;
+    polls = Polls stands kind goes_by grants;
   }

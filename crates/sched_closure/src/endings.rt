@@ -1,8 +1,7 @@
 //! How calls of a closure ended, with what the last one gave.
-ghost use Rattle.std.specs.Prelude.{◌≡◌, Some, true, is_some};
+ghost use Rattle.std.specs.Prelude.{◌≡◌, Some, true, false, is_some};
 ghost use Rattle.sched_effect.specs.Runs.{ran_by};
-ghost use Rattle.sched_run_machine.specs.Machine.{EndsAs};
-ghost use Rattle.sched_repeat.specs.Machine.{EndsAs as EndsAsRepeat};
+ghost use Rattle.sched_run_machine.specs.Aims.{EndsAs};
 ghost use Rattle.sched_closure.specs.Endings.{how_of, gave, how_of_repeat, gave_of_repeat};
 
 use sched_effect::Coded;
@@ -88,7 +87,7 @@ pub(crate) fn retry_ending<I: Coded + Drop, F: Coded + Drop>(
     over: Option<How>,
 ) -> CallEnding<I, F>
     requires over { is_some over ≡ true }
-    requires ends { EndsAs (ran_by I.coded F.coded outcome) over }
+    requires ends { EndsAs false (ran_by I.coded F.coded outcome) over }
     ensures over { over ≡ Some (how_of result) }
     ensures gave { gave result ≡ outcome }
 {
@@ -109,7 +108,7 @@ pub(crate) fn repeat_ending<I: Coded + Drop, F: Coded + Drop>(
     over: Option<How>,
 ) -> RepeatCallEnding<I, F>
     requires over { is_some over ≡ true }
-    requires ends { EndsAsRepeat (ran_by I.coded F.coded outcome) over }
+    requires ends { EndsAs true (ran_by I.coded F.coded outcome) over }
     ensures over { over ≡ Some (how_of_repeat result) }
     ensures gave { gave_of_repeat result ≡ outcome }
 {

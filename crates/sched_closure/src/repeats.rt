@@ -1,19 +1,20 @@
 //! A closure that is called again after each success.
-ghost use Rattle.std.specs.Prelude.{◌≡◌, List, Some, None};
+ghost use Rattle.std.specs.Prelude.{◌≡◌, ℕ, List, Some, None};
 ghost use Rattle.std.specs.List.{FoldsTo};
 ghost use Rattle.sched_time.specs.declared.numbers.Tick.{Tick as Ticked};
-ghost use Rattle.sched_task_law.specs.Past.{Past};
-ghost use Rattle.sched_repeat.specs.Machine.{StandsFor};
+ghost use Rattle.sched_ticket_draws.specs.Freely.{free_grants};
+ghost use Rattle.sched_task_law.specs.Kind.{a_repeat};
+ghost use Rattle.sched_run_machine.specs.Retrying.{Retrying};
+ghost use Rattle.sched_run_machine.specs.Machine.{StandsFor};
 ghost use Rattle.sched_closure.specs.Turns.{calling, Turn};
-ghost use Rattle.sched_closure.specs.Calls.{repeat_turning};
+ghost use Rattle.sched_closure.specs.Calls.{task_turning};
 ghost use Rattle.sched_closure.specs.Endings.{how_of_repeat, gave_of_repeat, EndsWith};
 
 use crate::endings::{RepeatCallEnding, repeat_ending};
 use crate::turns::call_on;
 use rand_core::Rng;
 use sched_effect::Coded;
-use sched_repeat::RepeatMachine;
-use sched_run_machine::Drives;
+use sched_run_machine::{Drives, RepeatMachine};
 use sched_task::Clock;
 use std::alloc::AllocGlobal;
 use std::sync::Wait;
@@ -42,14 +43,14 @@ where
     requires unended { repeat.old.over ≡ None }
     requires callable { C.IsAlwaysCallable call }
     ensures turns { (ticks : List Ticked) × (called : C)
-        × ((v : Past) → StandsFor S.stands S.keeps repeat.old v →
-        S.goes_by repeat.new.driver v.driver.plan → (u : Past)
-        × FoldsTo (Turn (repeat_turning S.keeps) K.tells K.waits C.step I.coded F.coded)
+        × ((v : Retrying ℕ) → StandsFor S.stands (a_repeat S.keeps) free_grants repeat.old v →
+        S.goes_by repeat.new.driver v.past.driver.plan → (u : Retrying ℕ)
+        × FoldsTo (Turn (task_turning free_grants (a_repeat S.keeps)) K.tells K.waits C.step I.coded F.coded)
         (calling v clock.old (G.stream words.old) call None)
         ticks
         (calling u clock.new (G.stream words.new) called (Some (gave_of_repeat result)))
-        × EndsWith I.coded F.coded u.over u.runs (how_of_repeat result) (gave_of_repeat result)
-        × StandsFor S.stands S.keeps repeat.new u) }
+        × EndsWith I.coded F.coded u.past.over u.past.runs (how_of_repeat result) (gave_of_repeat result)
+        × StandsFor S.stands (a_repeat S.keeps) free_grants repeat.new u) }
     ensures over { repeat.new.over ≡ Some (how_of_repeat result) }
 {
     let outcome = call_on(rt, repeat, clock, words, call);

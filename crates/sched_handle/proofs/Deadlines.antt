@@ -78,16 +78,17 @@ abbrev number_of : Option How → Bool → ℕ
 number_of None late = 0
 number_of (Some ended) late = how_number ended late
 
-told_unended : (running : Bool) (start : Option ℕ) (late : Bool) (granted runs : ℕ) →
-    (reply_to (if running then next.Run else next_by_start start) late granted runs).how ≡ 0
-told_unended true start late granted runs = refl
-told_unended false None late granted runs = refl
-told_unended false (Some start) late granted runs = refl
+told_unended : (running : Bool) (start : Option ℕ) (late : Bool) (granted runs left : ℕ) →
+    (reply_to (if running then next.Run else next_by_start start) late granted runs left).how ≡ 0
+told_unended true start late granted runs left = refl
+told_unended false None late granted runs left = refl
+told_unended false (Some start) late granted runs left = refl
 
-told_as : (v : Past) (over : Option How) (late : Bool) (granted runs : ℕ) →
-    (reply_to (next_by_ending v over) late granted runs).how ≡ number_of over late
-told_as v None late granted runs = told_unended (is_under_way v.runs v.begun) (next_start_of v.driver) late granted runs
-told_as v (Some ended) late granted runs = refl
+told_as : (v : Past) (over : Option How) (late : Bool) (granted runs left : ℕ) →
+    (reply_to (next_by_ending v over) late granted runs left).how ≡ number_of over late
+told_as v None late granted runs left =
+    told_unended (is_under_way v.runs v.begun) (next_start_of v.driver) late granted runs left
+told_as v (Some ended) late granted runs left = refl
 
 told_by : (over : Option How) (planned late : Bool) → (planned || late) ≡ says_done over → (planned ≡ true → late ≡ false) →
     (planned ≡ nat_eq (number_of over late) 2) × (late ≡ nat_eq (number_of over late) 8)
@@ -105,13 +106,13 @@ told_by (Some (how.Broken fault.Backwards)) planned late is apart = or_false pla
 abbrev pub TellsEnding : Option ℕ → Past → ℕ → Type 0
 TellsEnding deadline v number = (plan_is_done deadline v ≡ nat_eq number 2) × (is_late deadline v ≡ nat_eq number 8)
 
-pub tells_ending : (keeps : Bool) (deadline : Option ℕ) (v : Past) (granted runs : ℕ) → Law (a_retry keeps) v →
+pub tells_ending : (keeps : Bool) (deadline : Option ℕ) (v : Past) (granted runs left : ℕ) → Law (a_retry keeps) v →
     schedule_is_done v.driver ≡ (plan_is_done deadline v || is_late deadline v) →
-    TellsEnding deadline v (reply_to (next_of v) (is_late deadline v) granted runs).how
-tells_ending keeps deadline v granted runs law parts =
+    TellsEnding deadline v (reply_to (next_of v) (is_late deadline v) granted runs left).how
+tells_ending keeps deadline v granted runs left law parts =
     let planned = plan_is_done deadline v in
     let late = is_late deadline v in
-    let told = told_as v v.over late granted runs in
+    let told = told_as v v.over late granted runs left in
     let by = told_by v.over planned late (sym parts ∙ done_where keeps v v.over law law.ended)
     (not_late deadline (beneath deadline v.driver).plan v.driver.journal) in (
       by.0 ∙ ap (λ n. nat_eq n 2) (sym told),
@@ -119,9 +120,9 @@ tells_ending keeps deadline v granted runs law parts =
     )
 
 -- what is told to wait for is in time
-pub waits_in_time : (deadline : Option ℕ) (next : Next) (late : Bool) (granted runs : ℕ) → WaitsInTime deadline next →
-    (reply_to next late granted runs).what ≡ 2 → is_past deadline (reply_to next late granted runs).until ≡ false
-waits_in_time deadline next.Poll late granted runs in_time waits = absurd cc
-waits_in_time deadline next.Run late granted runs in_time waits = absurd cc
-waits_in_time deadline (next.Wait start) late granted runs in_time waits = in_time
-waits_in_time deadline (next.Over ended) late granted runs in_time waits = absurd cc
+pub waits_in_time : (deadline : Option ℕ) (next : Next) (late : Bool) (granted runs left : ℕ) → WaitsInTime deadline next →
+    (reply_to next late granted runs left).what ≡ 2 → is_past deadline (reply_to next late granted runs left).until ≡ false
+waits_in_time deadline next.Poll late granted runs left in_time waits = absurd cc
+waits_in_time deadline next.Run late granted runs left in_time waits = absurd cc
+waits_in_time deadline (next.Wait start) late granted runs left in_time waits = in_time
+waits_in_time deadline (next.Over ended) late granted runs left in_time waits = absurd cc

@@ -1,7 +1,7 @@
 -- What a handle holds, and which kind of thing it is.
 use Rattle.std.specs.Prelude.{◌≡◌, ◌≢◌, Result, Err}
 use Rattle.sched_handle.specs.declared.held.Held.{Held}
-use Rattle.sched_handle.specs.declared.held.Held.TheVariants.{Room, Policy, Driver, Pass, Retry}
+use Rattle.sched_handle.specs.declared.held.Held.TheVariants.{Room, Policy, Pass, Retry}
 use Rattle.sched_handle.specs.declared.held.Kind.{Kind}
 use Rattle.sched_handle.specs.declared.held.Kind.TheVariants as kind
 use Rattle.sched_handle.specs.declared.status.Status.{Status}
@@ -10,7 +10,6 @@ use Rattle.sched_handle.specs.declared.status.Status.TheVariants.{WrongKind, NoM
 abbrev pub kind_of : Held → Kind
 kind_of Room = kind.Room
 kind_of (Policy s) = kind.Policy
-kind_of (Driver d) = kind.Driver
 kind_of (Pass s) = kind.Pass
 kind_of (Retry r) = kind.Retry
 

@@ -4,7 +4,6 @@ pub mod Replies
 pub mod Held
 pub mod Fills
 pub mod Policies
-pub mod Drivers
 pub mod Drawing
 pub mod Passes
 pub mod Retries

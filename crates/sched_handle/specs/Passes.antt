@@ -11,7 +11,7 @@ use Rattle.sched_ticket_quota.specs.declared.view.Terms.{Terms}
 use Rattle.sched_ticket_draws.specs.Budgets.{OfBudget}
 use Rattle.sched_ticket_draws.specs.Quotas.{OfQuota}
 use Rattle.sched_ticket_draws.specs.Drawing.{granted_by}
-use Rattle.sched_ticket_draws.specs.Passes.{Deposits, are_like, OfOne, Joined, IsTotal, NoTotal}
+use Rattle.sched_ticket_draws.specs.Passes.{are_like, OfOne, Joined, IsTotal, NoTotal}
 use Rattle.sched_ticket_draws.specs.declared.drawing.Drawing.{Drawing}
 use Rattle.sched_ticket_draws.specs.declared.drawing.Drawing.TheVariants.{Budget, Quota, Unlimited}
 use Rattle.sched_handle.specs.Drawing.{Parted, NoSplit}
@@ -42,11 +42,11 @@ NoQuota k TooLarge = (k.reserve ≤ 4294967296) × (k.share ≤ 1000000) × (FAR
 NoQuota k NoMemory = AreTerms k × (k.period ≤ FAR)
 NoQuota k _ = ⊥
 
--- a quota of these terms is made at this moment, with its first pass, or none for this reason
-abbrev pub MakesQuota : ℕ → Terms → Result (Box Held Global) Status → Type 0
-MakesQuota now k (Ok b) = (s : OfQuota) × (b.value ≡ Pass (Quota s)) × (s.quota.terms ≡ k)
-    × (s.quota.start ≡ now / k.period) × (s.pass.has ≡ quota.first_view k)
-MakesQuota now k (Err s) = NoQuota k s
+-- a quota of these terms, that carries or does not, is made at this moment, with its first pass, or none for this reason
+abbrev pub MakesQuota : ℕ → Terms → Bool → Result (Box Held Global) Status → Type 0
+MakesQuota now k c (Ok b) = (s : OfQuota) × (b.value ≡ Pass (Quota s)) × (s.quota.terms ≡ k) × (s.quota.carries ≡ c)
+    × (s.quota.start ≡ now / k.period) × (s.pass.has ≡ quota.first_of_kind c k) × (s.pass.latest ≡ None)
+MakesQuota now k c (Err s) = NoQuota k s
 
 -- a pass that draws on nothing is made, or there is no memory
 abbrev pub MakesUnlimited : Result (Box Held Global) Status → Type 0
@@ -57,10 +57,6 @@ MakesUnlimited (Err s) = s ≡ NoMemory
 abbrev pub OnPass : {A : Type 0} → (Drawing → Result A Status → Drawing → Type 0) → Held → Result A Status → Held → Type 0
 OnPass does (Pass d) r v = (e : Drawing) × (v ≡ Pass e) × does d r e
 OnPass does u r v = OtherKind u r v
-
--- a deposit is never refused
-abbrev pub DepositsAt : ℕ → Drawing → Result (Unit {0}) Status → Drawing → Type 0
-DepositsAt now d r e = (r ≡ Ok tt) × Deposits now d e
 
 -- a new pass is split off, or none
 abbrev pub Splits : Drawing → Result (Box Held Global) Status → Drawing → Type 0

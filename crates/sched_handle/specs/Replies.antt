@@ -1,14 +1,7 @@
 -- What calls answer.
-use Rattle.std.specs.Prelude.{ℕ, true, false, Option, Some, None}
 use Rattle.sched_ticket_quota.specs.declared.pass.Usage.{Usage as Seen}
-use Rattle.sched_handle.specs.declared.replies.Decided.{Decided}
 use Rattle.sched_handle.specs.declared.replies.Place.{Place}
 use Rattle.sched_handle.specs.declared.replies.Usage.{Usage}
-
--- a start that is planned, or none
-abbrev pub decided_of : Option ℕ → Decided
-decided_of (Some start) = record { start = start; goes_on = true }
-decided_of None = record { start = 0; goes_on = false }
 
 -- what is known of a window, as C sees it
 abbrev pub usage_of : Seen → Usage

@@ -10,6 +10,7 @@ use Rattle.sched_effect.specs.declared.ran.Ran.{Ran}
 use Rattle.sched_task.specs.declared.endings.How.{How}
 use Rattle.sched_task.specs.declared.endings.How.TheVariants as how
 use Rattle.sched_task.specs.declared.endings.RunFault.TheVariants as fault
+use Rattle.sched_task_law.specs.Kind.{a_retry}
 use Rattle.sched_task_law.specs.Past.{Past, schedule_is_done}
 use Rattle.sched_run_machine.specs.Retrying.{Retrying, gives_up}
 use Rattle.sched_run_machine.specs.Deadline.{is_past, late, until_from}
@@ -21,11 +22,10 @@ use Rattle.sched_ticket_draws.specs.Drawing.{drawing_grants}
 use Rattle.sched_ticket_draws.specs.declared.drawing.Drawing.{Drawing}
 use Rattle.sched_run_machine.specs.declared.next.Next.{Next}
 use Rattle.sched_run_machine.specs.declared.next.Next.TheVariants as next
-use Rattle.sched_handle.specs.Held.{IsOther, OtherKind}
+use Rattle.sched_handle.specs.Held.{OtherKind}
 use Rattle.sched_handle.specs.Drawing.{Parted, NoSplit}
 use Rattle.sched_handle.specs.declared.held.Held.{Held}
 use Rattle.sched_handle.specs.declared.held.Held.TheVariants.{Policy, Pass, Retry}
-use Rattle.sched_handle.specs.declared.held.Kind.TheVariants as kind
 use Rattle.sched_handle.specs.declared.replies.Reply.{Reply}
 use Rattle.sched_handle.specs.declared.status.Status.{Status}
 use Rattle.sched_handle.specs.declared.status.Status.TheVariants.{WrongKind, NoMemory, NoRun}
@@ -37,7 +37,7 @@ Hosted = Machine (Until Standing) Drawing
 
 -- it may stand for this retry, whose schedule is that of the deadline
 abbrev pub MayBe : Hosted → Retrying Drawing → Type 0
-MayBe m u = StandsFor (StandsUntil IsStepped) false drawing_grants m u
+MayBe m u = StandsFor (StandsUntil IsStepped) (a_retry false) drawing_grants m u
 
 -- the number by which C knows how a retry ended: of one that is done, by its deadline or by its plan
 abbrev pub how_number : How → Bool → ℕ
@@ -50,15 +50,16 @@ how_number (how.Broken fault.JournalFull) is_late = 6
 how_number (how.Broken fault.Backwards) is_late = 7
 how_number how.Failed is_late = 9
 
--- what is to be done: what, how it ended, the moment to wait for, the tickets granted and the runs reported
-abbrev pub reply_to : Next → Bool → ℕ → ℕ → Reply
-reply_to next.Poll is_late granted runs =
-    record { what = 0; how = 0; until = 0; granted = granted; runs = runs }
-reply_to next.Run is_late granted runs = record { what = 1; how = 0; until = 0; granted = granted; runs = runs }
-reply_to (next.Wait start) is_late granted runs =
-    record { what = 2; how = 0; until = start; granted = granted; runs = runs }
-reply_to (next.Over h) is_late granted runs =
-    record { what = 3; how = how_number h is_late; until = 0; granted = granted; runs = runs }
+-- what is to be done: what, how it ended, the moment to wait for, the tickets granted, the runs reported and the time left
+abbrev pub reply_to : Next → Bool → ℕ → ℕ → ℕ → Reply
+reply_to next.Poll is_late granted runs left =
+    record { what = 0; how = 0; until = 0; granted = granted; runs = runs; left = left }
+reply_to next.Run is_late granted runs left =
+    record { what = 1; how = 0; until = 0; granted = granted; runs = runs; left = left }
+reply_to (next.Wait start) is_late granted runs left =
+    record { what = 2; how = 0; until = start; granted = granted; runs = runs; left = left }
+reply_to (next.Over h) is_late granted runs left =
+    record { what = 3; how = how_number h is_late; until = 0; granted = granted; runs = runs; left = left }
 
 -- whether the plan of a retry, without its deadline, is done; and whether it has a start that is past the deadline
 abbrev pub plan_is_done : Option ℕ → Past → Bool
@@ -67,16 +68,25 @@ plan_is_done deadline v = schedule_is_done (beneath deadline v.driver)
 abbrev pub is_late : Option ℕ → Past → Bool
 is_late deadline v = is_some (late deadline (next_start_of (beneath deadline v.driver)))
 
--- of runs past 2^64 - 1 that many are told
-abbrev pub reply_of : Option ℕ → Past → Reply
-reply_of deadline v = reply_to (next_of v) (is_late deadline v) v.granted (min (length v.runs) 18446744073709551615)
+-- how long a retry has at a moment up to its deadline: 0 where that is past, and 2^64 - 1 without one
+abbrev pub left_number : Option ℕ → ℕ
+left_number None = 18446744073709551615
+left_number (Some left) = left
 
--- What a retry is at: there is a retry that it may stand for, and of each such one this is told. It waits for no moment
--- past its deadline, has ended as done exactly where its plan is done, and as late where that has a start past the
--- deadline.
-pub record Shows (m : Hosted) (x : Reply) : Type 0 where
+abbrev pub left_at : Option ℕ → ℕ → ℕ
+left_at deadline now = left_number (option_map (λ end. end - now) deadline)
+
+-- of runs past 2^64 - 1 that many are told
+abbrev pub reply_of : Option ℕ → ℕ → Past → Reply
+reply_of deadline now v = reply_to (next_of v) (is_late deadline v) v.granted
+    (min (length v.runs) 18446744073709551615) (left_at deadline now)
+
+-- What a retry is at, at this moment: there is a retry that it may stand for, and of each such one this is told. It waits
+-- for no moment past its deadline, has ended as done exactly where its plan is done, and as late where that has a start
+-- past the deadline.
+pub record Shows (m : Hosted) (now : ℕ) (x : Reply) : Type 0 where
   pub stands : (u : Retrying Drawing) × MayBe m u
-  pub tells : (u : Retrying Drawing) → MayBe m u → x ≡ reply_of m.driver.deadline u.past
+  pub tells : (u : Retrying Drawing) → MayBe m u → x ≡ reply_of m.driver.deadline now u.past
   pub in_time : x.what ≡ 2 → is_past m.driver.deadline x.until ≡ false
   pub done : (u : Retrying Drawing) → MayBe m u → plan_is_done m.driver.deadline u.past ≡ nat_eq x.how 2
   pub late : (u : Retrying Drawing) → MayBe m u → is_late m.driver.deadline u.past ≡ nat_eq x.how 8
@@ -111,7 +121,7 @@ Retries deadline policy u r v = OtherKind u r v
 
 -- One poll, in which the runs that finish are those told, of each retry that it may stand for; its deadline stays.
 pub record IsPoll (m : Hosted) (t : Tick) (told : List Ran) (n : Hosted) : Type 0 where
-  pub polls : PollsMachine (StandsUntil IsStepped) false (GoesUntil GoesByPlan) drawing_grants m t told n
+  pub polls : PollsMachine (StandsUntil IsStepped) (a_retry false) (GoesUntil GoesByPlan) drawing_grants m t told n
   pub deadline : n.driver.deadline ≡ m.driver.deadline
 
 -- the run under way ends as it is reported, and then one begins where it may
@@ -120,26 +130,14 @@ Ends m t ran n = (k : Hosted) × IsPoll m t (ran ∷ []) k × IsPoll k t [] n
 
 -- a poll, after a report where there is one
 abbrev pub RetryPolls : Tick → Option Ran → Hosted → Result Reply Status → Hosted → Type 0
-RetryPolls t None m (Ok x) n = IsPoll m t [] n × Shows n x
-RetryPolls t (Some ran) m (Ok x) n = Ends m t ran n × Shows n x
+RetryPolls t None m (Ok x) n = IsPoll m t [] n × Shows n t.now x
+RetryPolls t (Some ran) m (Ok x) n = Ends m t ran n × Shows n t.now x
 RetryPolls t (Some ran) m (Err NoRun) n = (is_told m ≡ false) × (n ≡ m)
 RetryPolls t report m (Err _) n = ⊥
 
 abbrev pub Polls : Tick → Option Ran → Held → Result Reply Status → Held → Type 0
 Polls t report (Retry m) x v = (n : Hosted) × (v ≡ Retry n) × RetryPolls t report m x n
 Polls t report u x v = OtherKind u x v
-
--- how long a retry has at a moment up to its deadline: 0 where that is past, and 2^64 - 1 without one
-abbrev pub left_number : Option ℕ → ℕ
-left_number None = 18446744073709551615
-left_number (Some left) = left
-
-abbrev pub left_at : Option ℕ → ℕ → ℕ
-left_at deadline now = left_number (option_map (λ end. end - now) deadline)
-
-abbrev pub Leaves : ℕ → Held → Result ℕ Status → Type 0
-Leaves now u (Ok n) = (m : Hosted) × (u ≡ Retry m) × (n ≡ left_at m.driver.deadline now)
-Leaves now u (Err s) = IsOther kind.Retry u s
 
 -- a retry that is not over ends as cancelled, whichever it is
 pub record GivesUp (m n : Hosted) : Type 0 where

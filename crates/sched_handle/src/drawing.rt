@@ -1,6 +1,7 @@
 //! The calls on what a retry draws by that may be refused, with their statuses.
 ghost use Rattle.std.specs.Prelude.{◌≡◌, IfOk, IfErr};
-ghost use Rattle.sched_handle.specs.Drawing.{Draws as DrawsTicket, Parted, NoSplit, Raises, Sees};
+ghost use Rattle.sched_handle.specs.Drawing.{Draws as DrawsTicket, Deposits, HandsBack, SetsTerms};
+ghost use Rattle.sched_handle.specs.Drawing.{Parted, NoSplit, Raises, Sees};
 
 use crate::replies::Usage;
 use crate::status::Status;
@@ -25,6 +26,39 @@ pub(crate) fn ticket(drawing: &mut Drawing, now: Moment) -> Result<u64, Status>
                 Err(Status::NoTicket)
             }
         }
+    }
+}
+
+/// Counts so many requests at once, where it draws on a quota; nothing else counts any.
+pub(crate) fn deposit(drawing: &mut Drawing, now: Moment, requests: u64) -> Result<(), Status>
+    ensures { Deposits now requests drawing.old result drawing.new }
+{
+    match drawing {
+        Drawing::Budget(_) => Ok(()),
+        Drawing::Quota(pass) => Ok(pass.deposit_of(now, requests)?),
+        Drawing::Unlimited(_) => Ok(()),
+    }
+}
+
+/// Hands the latest ticket of a quota back. Nothing else takes one.
+pub(crate) fn hand_back(drawing: &mut Drawing) -> Result<(), Status>
+    ensures { HandsBack drawing.old result drawing.new }
+{
+    match drawing {
+        Drawing::Budget(_) => Err(Status::NothingToHandBack),
+        Drawing::Quota(pass) => Ok(pass.hand_back()?),
+        Drawing::Unlimited(_) => Err(Status::NothingToHandBack),
+    }
+}
+
+/// Sets the reserve and the share of a quota. Nothing else has terms.
+pub(crate) fn set_terms(drawing: &mut Drawing, reserve: u64, share: u64) -> Result<(), Status>
+    ensures { SetsTerms reserve share drawing.old result drawing.new }
+{
+    match drawing {
+        Drawing::Budget(_) => Err(Status::NoTerms),
+        Drawing::Quota(pass) => Ok(pass.set_terms(reserve, share)?),
+        Drawing::Unlimited(_) => Err(Status::NoTerms),
     }
 }
 

@@ -1,14 +1,16 @@
 //! Handles.
-ghost use Rattle.std.specs.Prelude.{◌≡◌, false, Option, Some, None, is_some, option_map};
+ghost use Rattle.std.specs.Prelude.{◌≡◌, false, Option, Some, None, is_some, option_map, IfOk, IfErr};
 ghost use Rattle.sched_handle.specs.declared.held.Held.{Held as What};
+ghost use Rattle.sched_handle.specs.declared.held.Held.TheVariants as what;
 ghost use Rattle.sched_handle.specs.Handle.{handle_owns, what_coded};
-ghost use Rattle.sched_handle.specs.Fills.{Fills, Frees};
+ghost use Rattle.sched_handle.specs.Fills.{Fills, Frees, HasNoPolicy};
 
 mod parts;
 
 use crate::held::{Held, Kind};
 use crate::status::Status;
 use parts::Parts;
+use sched_plan::SharedPlan;
 use std::alloc::Global;
 use std::marker::Model;
 use std::mem;
@@ -77,6 +79,20 @@ impl Handle {
             }
             Err(status) => status.code(),
         }
+    }
+
+    /// The plan of the policy that the handle holds, with one more owner.
+    pub fn plan(&mut self, alloc: Global) -> Result<SharedPlan, Status>
+        ensures kept { self.new.held ≡ self.old.held }
+        ensures ok { IfOk result (λ plan. self.old.held ≡ Some (what.Policy plan)) }
+        ensures err { IfErr result (HasNoPolicy self.old.held) }
+    {
+        let Some(held) = self.take(alloc) else {
+            return Err(Status::Empty);
+        };
+        let plan = held.plan();
+        self.put(held);
+        plan
     }
 
     /// Frees what the handle holds, where it is of this kind, and answers the number of the status.

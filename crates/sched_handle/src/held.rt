@@ -4,7 +4,6 @@ ghost use Rattle.sched_handle.specs.Held.{kind_of};
 ghost use Rattle.sched_handle.specs.declared.status.Status.TheVariants as status;
 
 use crate::status::Status;
-use sched_driver::Driver;
 use sched_driver_stepper::Stepper;
 use sched_plan::SharedPlan;
 use sched_run_machine::{Machine, Until};
@@ -17,10 +16,8 @@ use std::mem;
 pub enum Held {
     /// Room for what is being made.
     Room,
-    /// A policy, which other handles, drivers and retries may hold too.
+    /// A policy, which other handles and retries may hold too.
     Policy(SharedPlan),
-    /// A driver.
-    Driver(Driver),
     /// A pass, with what it draws on.
     Pass(Drawing),
     /// A retry, which keeps no journal, and has a deadline or none.
@@ -32,7 +29,6 @@ pub enum Held {
 pub enum Kind {
     Room,
     Policy,
-    Driver,
     Pass,
     Retry,
 }
@@ -45,7 +41,6 @@ impl Held {
         match self {
             Held::Room => Kind::Room,
             Held::Policy(_) => Kind::Policy,
-            Held::Driver(_) => Kind::Driver,
             Held::Pass(_) => Kind::Pass,
             Held::Retry(_) => Kind::Retry,
         }

@@ -1,9 +1,8 @@
-//! Handles: what a host that isn't written in Rattle holds of us, each a pointer to a policy, a driver, a pass or a retry,
-//! and what each call on it does and replies.
+//! Handles: what a host that isn't written in Rattle holds of us, each a pointer to a policy, a pass or a retry, and what
+//! each call on it does and replies.
 #![tactic(auto)]
 
 mod drawing;
-mod drivers;
 mod handle;
 mod held;
 mod passes;
@@ -14,5 +13,5 @@ mod status;
 
 pub use handle::Handle;
 pub use held::{Held, Kind};
-pub use replies::{Decided, Place, Reply, Size, Usage, put_text, tell, tick_at};
+pub use replies::{Place, Reply, Size, Usage, tell, tick_at};
 pub use status::Status;

@@ -2,9 +2,9 @@
 ghost use Rattle.std.specs.Prelude.{◌≡◌, true, false, Some, None, IfOk, IfErr, IfSome, IfNone};
 ghost use Rattle.std.specs.Borrow.{LendsIfOk, sem};
 ghost use Rattle.sched_ticket_draws.specs.contracts.drawing.Drawing.{the_row as drawing_row};
-ghost use Rattle.sched_handle.specs.Drawing.{Draws, Parted, NoSplit, Raises, Sees};
+ghost use Rattle.sched_handle.specs.Drawing.{Draws, Deposits, HandsBack, SetsTerms, Parted, NoSplit, Raises, Sees};
 ghost use Rattle.sched_handle.specs.Held.{IsOther};
-ghost use Rattle.sched_handle.specs.Passes.{MakesBudget, terms_of, MakesQuota, MakesUnlimited, OnPass, DepositsAt, Splits};
+ghost use Rattle.sched_handle.specs.Passes.{MakesBudget, terms_of, MakesQuota, MakesUnlimited, OnPass, Splits};
 ghost use Rattle.sched_handle.specs.Passes.{CountsTickets, Closes, drawing_of, draw_alike, DrawOnOne, Joins};
 ghost use Rattle.sched_handle.specs.contracts.held.Held.{the_row as held_row};
 ghost use Rattle.sched_handle.specs.declared.held.Held.TheVariants as what;
@@ -38,7 +38,8 @@ impl Held {
     }
 
     /// A quota of `reserve` tickets and `share` thousandths of a ticket for each request, in each window of `period`
-    /// milliseconds, and its first pass. The window of `now` is open, and windows are counted from it on.
+    /// milliseconds, that carries or does not, and its first pass. The window of `now` is open, and windows are counted
+    /// from it on.
     #[tactic(auto, using(crate::proofs::Quotas::no_quota))]
     pub fn quota(
         alloc: Global,
@@ -46,8 +47,9 @@ impl Held {
         reserve: u64,
         share: u64,
         period: u64,
+        carries: bool,
     ) -> Result<Box<Held>, Status>
-        ensures { MakesQuota now (terms_of reserve share period) result }
+        ensures { MakesQuota now (terms_of reserve share period) carries result }
     {
         let Some(period) = Millis::new(period) else {
             return Err(if reserve > MAX_RESERVE {
@@ -63,7 +65,7 @@ impl Held {
             share,
             period,
         };
-        let pass = OnQuota::of_terms(alloc, now, terms)?;
+        let pass = OnQuota::of_terms(alloc, now, terms, carries)?;
         Held::Pass(Drawing::Quota(pass)).boxed(alloc)
     }
 
@@ -82,13 +84,28 @@ impl Held {
         drawing::ticket(pass, now)
     }
 
-    /// Counts a request, where it is a pass of a quota. A pass of anything else counts none.
-    pub fn deposit(&mut self, now: Moment) -> Result<(), Status>
-        ensures { OnPass (DepositsAt now) self.old result self.new }
+    /// Counts so many requests at once, where it is a pass of a quota. A pass of anything else counts none.
+    pub fn deposit(&mut self, now: Moment, requests: u64) -> Result<(), Status>
+        ensures { OnPass (Deposits now requests) self.old result self.new }
     {
         let pass = self.pass_mut()?;
-        pass.deposit(now);
-        Ok(())
+        drawing::deposit(pass, now, requests)
+    }
+
+    /// Hands the latest ticket of a quota back that was drawn with this pass, or with one joined into it since.
+    pub fn hand_back(&mut self) -> Result<(), Status>
+        ensures { OnPass HandsBack self.old result self.new }
+    {
+        let pass = self.pass_mut()?;
+        drawing::hand_back(pass)
+    }
+
+    /// Sets the reserve and the share of a quota, by which each draw goes from now on.
+    pub fn set_terms(&mut self, reserve: u64, share: u64) -> Result<(), Status>
+        ensures { OnPass (SetsTerms reserve share) self.old result self.new }
+    {
+        let pass = self.pass_mut()?;
+        drawing::set_terms(pass, reserve, share)
     }
 
     /// Splits a pass off, for which there is no memory wanted once it is split.
@@ -186,7 +203,6 @@ impl Held {
             Held::Retry(retry) => Some(retry.drawing()),
             Held::Room => None,
             Held::Policy(_) => None,
-            Held::Driver(_) => None,
         }
     }
 
@@ -203,10 +219,6 @@ impl Held {
             Held::Room => None,
             Held::Policy(policy) => {
                 drop(policy);
-                None
-            }
-            Held::Driver(driver) => {
-                drop(driver);
                 None
             }
         }

@@ -2,16 +2,16 @@
 ghost use Rattle.std.specs.Prelude.{◌≡◌, [], IfOk, IfErr};
 ghost use Rattle.sched_driver_stepper.specs.Standing.{standing_after};
 ghost use Rattle.sched_handle.specs.Held.{Wants, IsOther};
-ghost use Rattle.sched_handle.specs.Policies.{ReadsPolicy, TellsPlace, Shares, Sizes, Drives};
+ghost use Rattle.sched_handle.specs.Policies.{IsMade, ReadsPolicy, TellsPlace, Shares, Sizes};
 ghost use Rattle.sched_handle.specs.declared.held.Held.TheVariants as what;
 ghost use Rattle.sched_handle.specs.declared.held.Kind.TheVariants as kind;
 
 use crate::held::Held;
 use crate::replies::{Place, Size};
 use crate::status::Status;
-use sched_driver::Driver;
 use sched_driver_stepper::Stepper;
-use sched_plan::SharedPlan;
+use sched_plan::{Plan, SharedPlan};
+use sched_plan_bound::most_goes;
 use sched_plan_json::{TextFault, read_text};
 use std::alloc::Global;
 
@@ -33,6 +33,13 @@ impl Held {
             }
             Err(fault) => return Err(Status::from(fault)),
         };
+        Held::of_plan(alloc, plan)
+    }
+
+    /// The policy of this plan.
+    pub fn of_plan(alloc: Global, plan: Plan) -> Result<Box<Held>, Status>
+        ensures { IsMade plan result }
+    {
         match SharedPlan::new(alloc, plan) {
             Ok(plan) => Held::Policy(plan).boxed(alloc),
             Err(_) => Err(Status::NoMemory),
@@ -70,7 +77,7 @@ impl Held {
         Held::Policy(plan).boxed(alloc)
     }
 
-    /// How many nodes the policy has, and how deep it is.
+    /// How many nodes the policy has, how deep it is, and at how many events it goes on at most.
     pub fn size(&self) -> Result<Size, Status>
         ensures { Sizes self.now result }
     {
@@ -78,18 +85,8 @@ impl Held {
         Ok(Size {
             nodes: plan.nodes() as u64,
             depth: plan.depth() as u64,
+            most: most_goes(plan).unwrap_or(u64::MAX),
         })
-    }
-
-    /// A driver of the policy, before its first event.
-    pub fn driver(&self, alloc: Global) -> Result<Box<Held>, Status>
-        ensures { Drives self.now result }
-    {
-        let plan = self.plan()?;
-        match Driver::of_shared(alloc, plan) {
-            Ok(driver) => Held::Driver(driver).boxed(alloc),
-            Err(_) => Err(Status::NoMemory),
-        }
     }
 
     /// What steps the policy and keeps no journal, before its first event.

@@ -1,7 +1,7 @@
 //! What calls answer, as C sees it, and what they are given.
-ghost use Rattle.std.specs.Prelude.{◌≡◌, ◌<◌, ◌++◌, true, false, length, drop, IfOk, IfErr, OnOk, OnErr};
+ghost use Rattle.std.specs.Prelude.{◌≡◌, ◌<◌, IfOk, IfErr, OnErr};
 ghost use Rattle.sched_time.specs.declared.numbers.TheConstants.{FAR};
-ghost use Rattle.sched_handle.specs.Replies.{nowhere, decided_of, usage_of};
+ghost use Rattle.sched_handle.specs.Replies.{nowhere, usage_of};
 ghost use Rattle.sched_handle.specs.Status.{told};
 ghost use Rattle.sched_handle.specs.declared.status.Status.TheVariants as Status;
 
@@ -26,69 +26,39 @@ impl Place {
     }
 }
 
-/// How many nodes a policy has, and how deep it is.
+/// How many nodes a policy has, how deep it is, and at how many events it goes on at most, 2^64 - 1 where its nodes give
+/// no such number.
 #[derive(Clone, Copy)]
 pub struct Size {
     pub nodes: u64,
     pub depth: u64,
+    pub most: u64,
 }
 
-/// What a policy decides at an event: the start that it plans, or 0, and whether it goes on.
-#[repr(C)]
-#[derive(Clone, Copy)]
-pub struct Decided {
-    pub start: u64,
-    pub goes_on: bool,
-}
-
-/// What a retry is at.
+/// What a retry is at: what the host is to do (0 to poll, 1 to run, 2 to wait, 3 nothing), how it ended and the moment to
+/// wait for, or 0, the tickets that it was granted, the runs that were reported, and the milliseconds that are left up to
+/// its deadline, 0 where that is past, and 2^64 - 1 where there is none.
 #[repr(C)]
 #[derive(Clone, Copy)]
 pub struct Reply {
-    /// What the host is to do: 0 to poll, 1 to run, 2 to wait, 3 nothing.
     pub what: u32,
-    /// How it ended, or 0.
     pub how: u32,
-    /// The moment to wait for, or 0.
     pub until: u64,
-    /// How many tickets it was granted.
     pub granted: u64,
-    /// How many runs were reported.
     pub runs: u64,
+    pub left: u64,
 }
 
-/// What is known of a window of a quota.
+/// What is known of a window of a quota: which it is, from 0 on, the requests that were counted in it, the tickets that it
+/// has given out and those that it may yet give for these, and when the next begins.
 #[repr(C)]
 #[derive(Clone, Copy)]
 pub struct Usage {
-    /// Which window it is, from 0 on.
     pub window: u64,
-    /// The requests that were counted in it.
     pub asked: u64,
-    /// The tickets that it has given out.
     pub given: u64,
-    /// The tickets that it may yet give for the requests counted.
     pub left: u64,
-    /// When the next window begins.
     pub next: u64,
-}
-
-impl Decided {
-    /// What this start says.
-    pub fn of(start: Option<Moment>) -> Decided
-        ensures { result ≡ decided_of start }
-    {
-        match start {
-            Some(start) => Decided {
-                start: start.get(),
-                goes_on: true,
-            },
-            None => Decided {
-                start: 0,
-                goes_on: false,
-            },
-        }
-    }
 }
 
 impl Usage {
@@ -134,21 +104,4 @@ pub fn tell<T: Copy + Drop>(answer: Result<T, Status>, place: &mut T) -> u32
         }
         Err(status) => status.code(),
     }
-}
-
-/// Puts the text's bytes into the room, and their number into `size`. `NoRoom` where there are more, and then no byte
-/// is written.
-pub fn put_text(text: &str, room: &mut [u8], size: &mut usize) -> Result<(), Status>
-    ensures size { size.new ≡ length text.now }
-    ensures ok { OnOk result (room.new ≡ text.now ++ drop (length text.now) room.old) }
-    ensures err { IfErr result (λ status. (status ≡ Status.NoRoom) × (length room.old < length text.now)) }
-    ensures unchanged { OnErr result (room.new ≡ room.old) }
-{
-    let bytes = text.as_bytes();
-    *size = bytes.len();
-    if room.len() < bytes.len() {
-        return Err(Status::NoRoom);
-    }
-    room[..bytes.len()].copy_from_slice(bytes);
-    Ok(())
 }

@@ -2,7 +2,7 @@
 ghost use Rattle.std.specs.Prelude.{◌≡◌, []};
 ghost use Rattle.sched_driver_stepper.specs.Standing.{standing_after};
 ghost use Rattle.sched_handle.specs.Retries.{IsFresh, Retries};
-ghost use Rattle.sched_handle.specs.Retries.{IsPoll, RetryPolls, Polls, Shows, Leaves, Cancels};
+ghost use Rattle.sched_handle.specs.Retries.{IsPoll, RetryPolls, Polls, Shows, Cancels};
 ghost use Rattle.sched_handle.specs.Retries.{reply_to, how_number, left_number};
 
 use crate::held::Held;
@@ -42,19 +42,7 @@ impl Held {
             Held::Retry(retry) => poll_retry(alloc, retry, tick, report),
             Held::Room => Err(Status::WrongKind),
             Held::Policy(_) => Err(Status::WrongKind),
-            Held::Driver(_) => Err(Status::WrongKind),
             Held::Pass(_) => Err(Status::WrongKind),
-        }
-    }
-
-    /// How many milliseconds the retry has at this moment up to its deadline: 0 where that is past, and 2^64 - 1 where
-    /// there is none.
-    pub fn left(&self, now: Moment) -> Result<u64, Status>
-        ensures { Leaves now self.now result }
-    {
-        match self {
-            Held::Retry(retry) => Ok(left_of(retry.driver().left(now))),
-            _ => Err(Status::WrongKind),
         }
     }
 
@@ -69,7 +57,6 @@ impl Held {
             }
             Held::Room => Err(Status::WrongKind),
             Held::Policy(_) => Err(Status::WrongKind),
-            Held::Driver(_) => Err(Status::WrongKind),
             Held::Pass(_) => Err(Status::WrongKind),
         }
     }
@@ -108,25 +95,26 @@ fn poll_retry(
 // Begins a run where one may begin, and answers what the retry is at then.
 fn poll_at(retry: &mut Machine<Until<Stepper>, Drawing>, tick: &Tick) -> Reply
     ensures polls { IsPoll retry.old tick.entry.now [] retry.new }
-    ensures shows { Shows retry.new result }
+    ensures shows { Shows retry.new tick.entry.now.now result }
 {
     retry.poll(tick);
-    reply(retry)
+    reply(retry, tick.now)
 }
 
-// What the retry is at, as C sees it.
-fn reply(retry: &Machine<Until<Stepper>, Drawing>) -> Reply
-    ensures { Shows retry.now result }
+// What the retry is at, at this moment, as C sees it.
+fn reply(retry: &Machine<Until<Stepper>, Drawing>, now: Moment) -> Reply
+    ensures { Shows retry.now now result }
 {
     let next = retry.next();
     let late = retry.driver().late_start();
     let granted = retry.granted();
     let runs = retry.told();
-    reply_to(next, late.is_some(), granted, runs)
+    let left = left_of(retry.driver().left(now));
+    reply_to(next, late.is_some(), granted, runs, left)
 }
 
-fn reply_to(next: Next, is_late: bool, granted: u64, runs: u64) -> Reply
-    ensures { result ≡ reply_to next is_late granted runs }
+fn reply_to(next: Next, is_late: bool, granted: u64, runs: u64, left: u64) -> Reply
+    ensures { result ≡ reply_to next is_late granted runs left }
 {
     let (what, how, until) = match next {
         Next::Poll => (0, 0, 0),
@@ -140,6 +128,7 @@ fn reply_to(next: Next, is_late: bool, granted: u64, runs: u64) -> Reply
         until,
         granted,
         runs,
+        left,
     }
 }
 

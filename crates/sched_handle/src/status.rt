@@ -2,10 +2,9 @@
 ghost use Rattle.std.specs.Prelude.{◌≡◌};
 ghost use Rattle.sched_handle.specs.Status.{code_of};
 
-use sched_driver::DriveFault;
 use sched_plan_json::TextFault;
 use sched_ticket::TicketFault;
-use sched_ticket_quota::{QuotaFault, Refusal};
+use sched_ticket_quota::{NotBack, QuotaFault, Refusal, WeightTooLarge};
 use thiserror::Error;
 
 /// Why a call was refused, as its text says.
@@ -33,12 +32,8 @@ pub enum Status {
     TooDeep,
     #[error("the policy has too many nodes")]
     TooMany,
-    #[error("the moment is before the last event")]
+    #[error("the window is before the one that is counted")]
     Backwards,
-    #[error("the journal is full")]
-    JournalFull,
-    #[error("there is no output yet")]
-    NoOutput,
     #[error("the limit is more than 4294967296 tickets")]
     LimitTooLarge,
     #[error("there is no limit that can be raised")]
@@ -55,14 +50,20 @@ pub enum Status {
     ShareTooLarge,
     #[error("the window is shorter than 100 ms")]
     PeriodTooShort,
-    #[error("64 races with other draws were lost")]
+    #[error("64 races with others were lost")]
     RacesLost,
+    #[error("there are no terms that can be set")]
+    NoTerms,
     #[error("there is no such report")]
     NoSuchReport,
     #[error("no run is under way")]
     NoRun,
     #[error("the pass draws on something else")]
     DrawsElsewhere,
+    #[error("there is no ticket to hand back")]
+    NothingToHandBack,
+    #[error("the requests are more than the pass has parts")]
+    TooManyRequests,
 }
 
 impl Status {
@@ -83,8 +84,6 @@ impl Status {
             Status::TooDeep => 13,
             Status::TooMany => 14,
             Status::Backwards => 20,
-            Status::JournalFull => 21,
-            Status::NoOutput => 22,
             Status::LimitTooLarge => 30,
             Status::Fixed => 31,
             Status::NoTicket => 32,
@@ -94,9 +93,12 @@ impl Status {
             Status::ShareTooLarge => 36,
             Status::PeriodTooShort => 37,
             Status::RacesLost => 38,
+            Status::NoTerms => 39,
             Status::NoSuchReport => 40,
             Status::NoRun => 41,
             Status::DrawsElsewhere => 42,
+            Status::NothingToHandBack => 43,
+            Status::TooManyRequests => 44,
         }
     }
 }
@@ -148,6 +150,31 @@ impl From<Refusal> for Status {
     }
 }
 
+impl From<NotBack> for Status {
+    ghost use Rattle.std.specs.Prelude.{◌≡◌};
+    ghost use Rattle.sched_handle.specs.Status.{of_not_back};
+
+    ghost from_gives = { λ fault status. status ≡ of_not_back fault };
+
+    fn from(fault: NotBack) -> Self {
+        match fault {
+            NotBack::NoTicket => Status::NothingToHandBack,
+            NotBack::RacesLost => Status::RacesLost,
+        }
+    }
+}
+
+impl From<WeightTooLarge> for Status {
+    ghost use Rattle.std.specs.Prelude.{◌≡◌};
+    ghost use Rattle.sched_handle.specs.declared.status.Status.TheVariants.{TooManyRequests};
+
+    ghost from_gives = { λ _ status. status ≡ TooManyRequests };
+
+    fn from(_: WeightTooLarge) -> Self {
+        Status::TooManyRequests
+    }
+}
+
 impl From<TextFault> for Status {
     ghost use Rattle.std.specs.Prelude.{◌≡◌};
     ghost use Rattle.sched_handle.specs.Status.{of_text};
@@ -162,21 +189,6 @@ impl From<TextFault> for Status {
             TextFault::TooDeep => Status::TooDeep,
             TextFault::TooMany => Status::TooMany,
             TextFault::NoMemory => Status::NoMemory,
-        }
-    }
-}
-
-impl From<DriveFault> for Status {
-    ghost use Rattle.std.specs.Prelude.{◌≡◌};
-    ghost use Rattle.sched_handle.specs.Status.{of_drive};
-
-    ghost from_gives = { λ fault status. status ≡ of_drive fault };
-
-    fn from(fault: DriveFault) -> Self {
-        match fault {
-            DriveFault::Backwards { floor: _ } => Status::Backwards,
-            DriveFault::JournalFull => Status::JournalFull,
-            DriveFault::NoMemory => Status::NoMemory,
         }
     }
 }

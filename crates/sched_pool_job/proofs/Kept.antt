@@ -77,7 +77,7 @@ waits_unended v = by_test (is_some v.over || (is_under_way v.runs v.begun || v.d
 
 -- what is left of a retry says what it has done
 pub end_is : (v : Past) → Law retry v → ended v.driver v.runs v.begun v.over v.granted ≡ v
-end_is v law = ap (λ b. record v { denied = b }) (sym (denied_is true v v.over law.ended))
+end_is v law = ap (λ b. record v { denied = b }) (sym (denied_is retry refl v v.over law.ended))
 
 -- and keeps its law
 pub law_left : (v : Past) (driver : Driven) (runs : List Ran) (begun : List ℕ) (over : Option How) (granted : ℕ) → Law retry v →

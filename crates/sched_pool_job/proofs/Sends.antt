@@ -13,8 +13,8 @@ use Rattle.sched_pool_job.specs.contracts.jobs.Job as Job
 runner_sends : (X I F : _) (e ic fc : _) → IsSend X → IsSend (Runner.the_row X I F e ic fc)
 runner_sends X I F e ic fc x = search (sendable, crosses) depth 60
 
-machine_sends : (R D : _) (r d : _) → IsSend R → IsSend D → IsSend (Machine.the_row R D r d)
-machine_sends R D r d s p = search (sendable, crosses) depth 60
+machine_sends : (R D A : _) (r d a : _) → IsSend R → IsSend D → IsSend A → IsSend (Machine.the_row R D A r d a)
+machine_sends R D A r d a s p q = search (sendable, crosses) depth 60
 
 drawing_sends : (B : _) (r : _) → IsSend B → IsSend (OnBudget.the_row B r)
 drawing_sends B r b = search (sendable, crosses, pass.the_send) depth 60

@@ -1,5 +1,5 @@
 -- What a pass has counted and set after each call.
-use Rattle.std.proofs.Common.{◌≡◌, ◌≤◌, ◌+◌, ◌++◌, ℕ, inl, inr, true, false, List, length, refl, sym, ap, ◌∙◌, subst, arith}
+use Rattle.std.proofs.Common.{◌≡◌, ◌≤◌, ◌+◌, ◌++◌, ℕ, inl, inr, true, false, List, length, sym, ap, ◌∙◌, subst, arith}
 use Rattle.sched_ticket.specs.Lists.{Each}
 use Rattle.sched_ticket_quota.specs.Windows.{window_of}
 use Rattle.sched_ticket_quota.specs.Calls.{Turned, Deposited, Told}

@@ -1,5 +1,5 @@
 -- A retry stays on its quota through all polls of a loop.
-use Rattle.std.proofs.Common.{◌≡◌, ℕ, Bool, List, [], ◌∷◌, length, Option, sym, ap, ◌∙◌, subst}
+use Rattle.std.proofs.Common.{◌≡◌, ℕ, Bool, true, List, [], ◌∷◌, length, Option, sym, ap, ◌∙◌, subst}
 use Rattle.std.specs.Prelude.{All}
 use Rattle.std.proofs.lemmas.List.Elements.{All-set}
 use Rattle.sched_time.specs.declared.numbers.Tick.{Tick}
@@ -32,7 +32,7 @@ module _ {T C : Type 0} (ended : T → Option How) (waits_for : T → Option ℕ
       (All-set P before.tasks poll.place poll.task (keeps is.task poll.tick poll.ready poll.task was is.poll_is) here)
 
 -- what a poll draws keeps the pass's requests, and the terms that it has set
-draws_kept : (h : Happened) (now : ℕ) (d e : OfQuota) → DrawsIn quota_grants h now d e →
+draws_kept : (h : Happened) (now : ℕ) (d e : OfQuota) → DrawsIn quota_grants true h now d e →
     kept_of e.pass.has ≡ kept_of d.pass.has
 draws_kept (recurs r) now d e drew = drew_kept d now e drew
 draws_kept (stops_denied r) now d e drew = drew_none_kept d now e drew

@@ -1,14 +1,15 @@
 -- Retries that are taken back, one by one, and the close of their quota.
-use Rattle.std.proofs.Common.{◌≡◌, ℕ, ◌≤◌, true, List, [], ◌∷◌, ◌++◌, map, length, cond, refl, sym, ap, ◌∙◌, subst, arith, length-append, eq-eqb, ne_eqb, lt_of_not-le}
+use Rattle.std.proofs.Common.{◌≡◌, ℕ, ◌+◌, ◌≤◌, Option, None, Some, true, List, [], ◌∷◌, ◌++◌, map, length, cond, refl, sym, ap, ◌∙◌, subst, arith, length-append, eq-eqb, ne_eqb, lt_of_not-le}
 use Rattle.std.specs.Prelude.{All}
 use mathlib.Core.Logic.{dite}
 use native.Mathlib.Decide.{ℕ_discrete, dec_le}
 use Rattle.std.proofs.lemmas.List.Elements.{All-nil, All-push, All-weaker}
-use Rattle.sched_ticket.specs.Lists.{times, is, Each, IsSame}
+use Rattle.sched_ticket.specs.Lists.{total, times, is, Each, IsSame}
 use Rattle.sched_ticket.proofs.Sums.{total-append, Each-append, is-same, is-other}
 use Rattle.sched_ticket_quota.specs.Windows.{window_of, first_of, within, allowed, count_in}
 use Rattle.sched_ticket_quota.proofs.Numbers.{within-yes, within-low, within-high}
 use Rattle.sched_ticket_quota.specs.View.{joined_view}
+use Rattle.sched_ticket_quota.specs.Calls.{Joined, joined_by}
 use Rattle.sched_ticket_quota.specs.Held.{Name, Held, IsOf}
 use Rattle.sched_ticket_quota.specs.Whole.{IsWhole}
 use Rattle.sched_ticket_quota.specs.declared.view.Terms.{Terms}
@@ -36,28 +37,57 @@ none_taken quota pass of unused = record {
   noted = subst (λ (ts : List ℕ). IsSame [] (map window_of ts)) (sym unused.tickets) (λ h. refl);
 }
 
+-- a pass has the tickets, the requests and the terms that two had, in whichever order
+record IsBoth (v w u : View) : Type 0 where
+  tickets : length u.tickets ≡ length v.tickets + length w.tickets
+  windows : IsSame (map window_of v.tickets ++ map window_of w.tickets) (map window_of u.tickets)
+  requests : length u.requests ≡ length v.requests + length w.requests
+  early : Each (λ n. window_of n ≡ 0) v.requests → Each (λ n. window_of n ≡ 0) w.requests → Each (λ n. window_of n ≡ 0) u.requests
+  unchanged : v.changes ≡ [] → w.changes ≡ [] → u.changes ≡ []
+
+has_both : (v w u : View) → u ≡ joined_view v w → IsBoth v w u
+has_both v w u joined =
+    let tickets = ap (λ (x : View). x.tickets) joined in
+    let requests = ap (λ (x : View). x.requests) joined in record {
+      tickets = ap length tickets ∙ length-append v.tickets w.tickets;
+      windows = λ h. ap (total h) (sym (ap (map window_of) tickets ∙ mapped_append window_of v.tickets w.tickets));
+      requests = ap length requests ∙ length-append v.requests w.requests;
+      early = λ these those. subst (Each (λ n. window_of n ≡ 0)) (sym requests) (Each-append (λ n. window_of n ≡ 0) v.requests w.requests these those);
+      unchanged = λ none none'. ap (λ (x : View). x.changes) joined ∙ ap (λ (xs : List ℕ). xs ++ w.changes) none ∙ none';
+    }
+
+turned : (v w u : View) → IsBoth w v u → IsBoth v w u
+turned v w u both = record {
+  tickets = omega (arith, both.tickets);
+  windows = λ h. omega (arith, both.windows h, total-append h (map window_of v.tickets) (map window_of w.tickets), total-append h (map window_of w.tickets) (map window_of v.tickets));
+  requests = omega (arith, both.requests);
+  early = λ these those. both.early those these;
+  unchanged = λ none none'. both.unchanged none' none;
+}
+
+joined_both : (latest : Option ℕ) (v w u : View) → u ≡ joined_by latest v w → IsBoth v w u
+joined_both None v w u joined = has_both v w u joined
+joined_both (Some t) v w u joined = turned v w u (has_both w v u joined)
+
 -- one more, with its pass
 pub one_taken : (quota : Name) (ends : List Past) (v : Past) (p own q : Held) (windows noted : List ℕ) →
     AreTaken quota ends p windows → Law retry v → v.granted ≡ length own.has.tickets → length own.has.requests ≡ 1 →
     own.has.changes ≡ [] → Each (λ n. window_of n ≡ 0) own.has.requests →
-    IsSame noted (map window_of own.has.tickets) → IsOf quota q → q.has ≡ joined_view p.has own.has →
+    IsSame noted (map window_of own.has.tickets) → IsOf quota q → Joined p own q →
     ((x : ℕ) → times x q.has.tickets ≤ 1) → AreTaken quota (ends ++ v ∷ []) q (windows ++ noted)
 one_taken quota ends v p own q windows noted taken law granted asked unchanged early same of join once =
     let f : Past → ℕ = λ w. w.granted in
-    let tickets : q.has.tickets ≡ p.has.tickets ++ own.has.tickets = ap (λ (w : View). w.tickets) join in
-    let requests : q.has.requests ≡ p.has.requests ++ own.has.requests = ap (λ (w : View). w.requests) join in
+    let both = joined_both own.latest p.has own.has q.has join.has in
+    let noted-same = joined_same windows (map window_of p.has.tickets) noted (map window_of own.has.tickets) taken.noted same in
     record {
       laws = All-push (Law retry) ends v taken.laws law;
       of = of;
-      sum = omega (arith, ap length tickets, length-append p.has.tickets own.has.tickets, taken.sum, granted, total-append f ends (v ∷ []));
+      sum = omega (arith, both.tickets, taken.sum, granted, total-append f ends (v ∷ []));
       once = once;
-      asked = omega (arith, ap length requests, length-append p.has.requests own.has.requests, taken.asked, asked, length-append ends (v ∷ []));
-      unchanged = ap (λ (w : View). w.changes) join ∙ ap (λ (xs : List ℕ). xs ++ own.has.changes) taken.unchanged ∙ unchanged;
-      early = subst (Each (λ n. window_of n ≡ 0)) (sym requests) (Each-append (λ n. window_of n ≡ 0) p.has.requests own.has.requests taken.early early);
-      noted =
-          subst (λ (ts : List ℕ). IsSame (windows ++ noted) (map window_of ts)) (sym tickets)
-          (subst (λ (ws : List ℕ). IsSame (windows ++ noted) ws) (sym (mapped_append window_of p.has.tickets own.has.tickets))
-          (joined_same windows (map window_of p.has.tickets) noted (map window_of own.has.tickets) taken.noted same));
+      asked = omega (arith, both.requests, taken.asked, asked, length-append ends (v ∷ []));
+      unchanged = both.unchanged taken.unchanged unchanged;
+      early = both.early taken.early early;
+      noted = λ h. noted-same h ∙ both.windows h;
     }
 
 as_many : (jobs : List Job) (ends : List Past) → AreEndsOf jobs ends → length ends ≡ length jobs

@@ -1,5 +1,5 @@
 -- What a repeat hands out once it is over.
-use Rattle.std.specs.Prelude.{◌≡◌, ℕ, List, [], ◌∷◌, Option, Some, None, Result, Ok, Err}
+use Rattle.std.specs.Prelude.{◌≡◌, ℕ, List, Option, Some, None, Result, Ok, Err}
 use Rattle.sched_effect.specs.declared.ran.Ran.{Ran}
 use Rattle.sched_effect.specs.declared.ran.Ran.TheVariants.{Lost}
 use Rattle.sched_task.specs.declared.endings.How.{How}
@@ -34,8 +34,3 @@ module _ {F : Type 0} (fault_code : F → ℕ) where
   RepeatFits over runs (Failed fault) = (over ≡ Some how.Failed) × (last_element runs ≡ Some (Lost (fault_code fault)))
   RepeatFits over runs Cancelled = over ≡ Some how.Cancelled
   RepeatFits over runs (Broken fault) = over ≡ Some (how.Broken fault)
-
-  -- the ending that a run came to has the code of that run, where it has a fault
-  abbrev pub HasCode : List Ran → Option (RepeatEnding F) → Type 0
-  HasCode told (Some (Failed fault)) = told ≡ Lost (fault_code fault) ∷ []
-  HasCode told _ = Unit {0}

@@ -1,10 +1,10 @@
 //! What a repeat hands out once it is over.
-ghost use Rattle.std.specs.Prelude.{◌≡◌, Some, IfSome};
-ghost use Rattle.sched_effect.specs.Runs.{ran_by};
-ghost use Rattle.sched_repeat.specs.Machine.{EndsAs};
+ghost use Rattle.std.specs.Prelude.{◌≡◌, true, IfSome};
+ghost use Rattle.sched_run_machine.specs.Runner.{IsOver, given_by};
 ghost use Rattle.sched_repeat.specs.Ending.{how_of, over_by, HandsOut};
 
 use sched_effect::Coded;
+use sched_run_machine::Polled;
 use sched_task::{How, RunFault};
 
 /// How a repeat ended. The answer of one whose schedule is done is its driver's last output.
@@ -34,18 +34,20 @@ impl<F: Drop> RepeatEnding<F> {
     }
 }
 
-/// The ending of a repeat whose last run gave this and which is over so, or `None` where it goes on.
+// The ending of a repeat whose run gave this when it was polled and which is over so, or `None` where it goes on.
 pub(crate) fn ending_of<I: Coded + Drop, F: Coded + Drop>(
-    run: Result<I, F>,
+    polled: Polled<I, F>,
     over: Option<How>,
 ) -> Option<RepeatEnding<F>>
-    requires { EndsAs (ran_by I.coded F.coded run) over }
+    requires { IsOver I.coded F.coded true polled over }
     ensures over { over ≡ over_by result }
-    ensures value { IfSome result (HandsOut (Some run)) }
+    ensures value { IfSome result (HandsOut (given_by polled)) }
 {
-    match run {
-        Err(fault) => Some(RepeatEnding::Failed(fault)),
-        Ok(_) => match over {
+    match polled {
+        Polled::Pending => None,
+        Polled::CannotBegin | Polled::CannotRun => Some(RepeatEnding::Broken(RunFault::NoMemory)),
+        Polled::Finished(Err(fault)) => Some(RepeatEnding::Failed(fault)),
+        Polled::Finished(Ok(_)) => match over {
             None => None,
             Some(How::ScheduleDone) => Some(RepeatEnding::ScheduleDone),
             Some(How::Broken(cause)) => Some(RepeatEnding::Broken(cause)),

@@ -6,13 +6,11 @@ ghost use Rattle.sched_task_law.specs.Past.{nothing_yet, waits_for};
 ghost use Rattle.sched_repeat.specs.Repeating.{RepeatLaw, RepeatPoll, gives_up};
 ghost use Rattle.sched_repeat.specs.Ending.{RepeatFits};
 
-use crate::attempts::tell;
-use crate::endings::RepeatEnding;
-use crate::machine::RepeatMachine;
+use crate::endings::{RepeatEnding, ending_of};
 use futures::task::{Context, Poll};
 use sched_driver::Driver;
 use sched_effect::{Coded, Effect};
-use sched_run_machine::{Runner, ready_where};
+use sched_run_machine::{Machine, RepeatMachine, Runner, ready_where};
 use sched_task::{How, Task};
 use sched_time::{Moment, Tick};
 use std::alloc::Global;
@@ -28,8 +26,11 @@ pub struct Repeat<X: Effect> {
 }
 
 impl<X: Effect> Model for Repeat<X> {
-    ghost use Rattle.std.specs.Prelude.{is_some, IfSome};
-    ghost use Rattle.sched_repeat.specs.Repeating.{Repeating, coded_repeating, repeating, RepeatLaw, IsOf};
+    ghost use Rattle.std.specs.Prelude.{is_some};
+    ghost use Rattle.sched_ticket_draws.specs.Freely.{free_grants};
+    ghost use Rattle.sched_task_law.specs.Kind.{repeat};
+    ghost use Rattle.sched_run_machine.specs.Of.{made_of, IsTask};
+    ghost use Rattle.sched_repeat.specs.Repeating.{Repeating, coded_repeating, of_made};
 
     ghost Value = { Repeating };
 
@@ -37,11 +38,9 @@ impl<X: Effect> Model for Repeat<X> {
 
     ghost use Rattle.sched_repeat.specs.Ending.{RepeatFits};
 
-    ghost view = { λ r. repeating r.machine r.runner (is_some r.ending) };
+    ghost view = { λ r. of_made (made_of free_grants r.machine r.runner (is_some r.ending)) };
 
-    ghost invariant = { λ r. RepeatLaw (repeating r.machine r.runner (is_some r.ending))
-        × IsOf r.machine r.runner
-        × IfSome r.ending (RepeatFits X.Fault.coded r.machine.over r.runner.runs) };
+    ghost invariant = { λ r. IsTask free_grants repeat (RepeatFits X.Fault.coded) r.machine r.runner r.ending };
 }
 
 impl<X: Effect> Repeat<X> {
@@ -54,7 +53,7 @@ impl<X: Effect> Repeat<X> {
     {
         Repeat {
             runner: Runner::new(alloc, effect),
-            machine: RepeatMachine::new(driver),
+            machine: Machine::repeating(driver),
             ending: None,
         }
     }
@@ -73,7 +72,8 @@ impl<X: Effect> Repeat<X> {
             return ready_where(self.machine.over());
         }
         let polled = self.runner.poll_run(tick, cx);
-        self.ending = tell(alloc, &mut self.machine, tick, polled);
+        self.machine.report_poll(alloc, tick, &polled);
+        self.ending = ending_of(polled, self.machine.over());
         ready_where(self.machine.over())
     }
 
@@ -144,7 +144,8 @@ impl<X: Effect> Repeat<X> {
             ending: _,
         } = self;
         let (effect, _) = runner.into_parts();
-        (effect, machine.into_driver())
+        let (driver, _) = machine.into_parts();
+        (effect, driver)
     }
 }
 

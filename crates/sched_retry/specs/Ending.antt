@@ -1,5 +1,5 @@
 -- What a task hands out once it is over.
-use Rattle.std.specs.Prelude.{◌≡◌, ℕ, List, [], ◌∷◌, Option, Some, None, Result, Ok, Err}
+use Rattle.std.specs.Prelude.{◌≡◌, ℕ, List, Option, Some, None, Result, Ok, Err}
 use Rattle.sched_effect.specs.declared.ran.Ran.{Ran}
 use Rattle.sched_effect.specs.declared.ran.Ran.TheVariants as ran
 use Rattle.sched_task.specs.declared.endings.How.{How}
@@ -39,10 +39,3 @@ module _ {I F : Type 0} (item_code : I → ℕ) (fault_code : F → ℕ) where
       (over ≡ Some how.BudgetRefused) × (last_element runs ≡ Some (ran.Lost (fault_code fault)))
   EndingFits over runs Cancelled = over ≡ Some how.Cancelled
   EndingFits over runs (Broken fault) = over ≡ Some (how.Broken fault)
-
-  -- the ending that a run came to has the code of that run, where it has an item or a fault
-  abbrev pub HasCode : List Ran → Option (Ending I F) → Type 0
-  HasCode told (Some (Won item)) = told ≡ ran.Won (item_code item) ∷ []
-  HasCode told (Some (ScheduleDone fault)) = told ≡ ran.Lost (fault_code fault) ∷ []
-  HasCode told (Some (BudgetRefused fault)) = told ≡ ran.Lost (fault_code fault) ∷ []
-  HasCode told _ = Unit {0}

@@ -1,10 +1,10 @@
 //! What a task hands out once it is over.
-ghost use Rattle.std.specs.Prelude.{◌≡◌, Some, IfSome};
-ghost use Rattle.sched_effect.specs.Runs.{ran_by};
-ghost use Rattle.sched_run_machine.specs.Machine.{EndsAs};
+ghost use Rattle.std.specs.Prelude.{◌≡◌, false, IfSome};
+ghost use Rattle.sched_run_machine.specs.Runner.{IsOver, given_by};
 ghost use Rattle.sched_retry.specs.Ending.{how_of, over_by, HandsOut};
 
 use sched_effect::Coded;
+use sched_run_machine::Polled;
 use sched_task::{How, RunFault};
 
 /// How a retry ended, with what it ended with.
@@ -37,18 +37,20 @@ impl<I: Drop, F: Drop> Ending<I, F> {
     }
 }
 
-// The ending of a retry whose last run gave this and which is over so, or `None` where it goes on.
+// The ending of a retry whose run gave this when it was polled and which is over so, or `None` where it goes on.
 pub(crate) fn ending_of<I: Coded + Drop, F: Coded + Drop>(
-    run: Result<I, F>,
+    polled: Polled<I, F>,
     over: Option<How>,
 ) -> Option<Ending<I, F>>
-    requires { EndsAs (ran_by I.coded F.coded run) over }
+    requires { IsOver I.coded F.coded false polled over }
     ensures over { over ≡ over_by result }
-    ensures value { IfSome result (HandsOut (Some run)) }
+    ensures value { IfSome result (HandsOut (given_by polled)) }
 {
-    match run {
-        Ok(item) => Some(Ending::Won(item)),
-        Err(fault) => match over {
+    match polled {
+        Polled::Pending => None,
+        Polled::CannotBegin | Polled::CannotRun => Some(Ending::Broken(RunFault::NoMemory)),
+        Polled::Finished(Ok(item)) => Some(Ending::Won(item)),
+        Polled::Finished(Err(fault)) => match over {
             None => None,
             Some(How::ScheduleDone) => Some(Ending::ScheduleDone(fault)),
             Some(How::BudgetRefused) => Some(Ending::BudgetRefused(fault)),

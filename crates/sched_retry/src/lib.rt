@@ -1,7 +1,6 @@
 //! Effects that are tried again, with a ticket of a shared budget for each retry.
 #![tactic(auto)]
 
-mod attempts;
 mod endings;
 mod retry;
 mod whole;

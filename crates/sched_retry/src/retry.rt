@@ -8,8 +8,7 @@ ghost use Rattle.sched_task_law.specs.Law.{is_stop};
 ghost use Rattle.sched_run_machine.specs.Retrying.{RetryLaw, RetryPoll, gives_up};
 ghost use Rattle.sched_retry.specs.Ending.{EndingFits};
 
-use crate::attempts::tell;
-use crate::endings::Ending;
+use crate::endings::{Ending, ending_of};
 use crate::whole::Whole;
 use futures::task::{Context, Poll};
 use sched_driver::Driver;
@@ -31,9 +30,10 @@ pub struct Retry<X: Effect, D: Draws> {
 }
 
 impl<X: Effect, D: Draws> Model for Retry<X, D> {
-    ghost use Rattle.std.specs.Prelude.{is_some, IfSome};
+    ghost use Rattle.std.specs.Prelude.{is_some};
     ghost use Rattle.sched_run_machine.specs.Retrying.{Retrying, coded_retrying};
-    ghost use Rattle.sched_retry.specs.Of.{retry_of, IsOf};
+    ghost use Rattle.sched_task_law.specs.Kind.{retry};
+    ghost use Rattle.sched_run_machine.specs.Of.{made_of, IsTask};
 
     ghost Value = { Retrying D };
 
@@ -41,10 +41,10 @@ impl<X: Effect, D: Draws> Model for Retry<X, D> {
 
     ghost use Rattle.sched_retry.specs.Ending.{EndingFits};
 
-    ghost view = { λ r. retry_of D.grants r.machine r.runner (is_some r.ending) };
+    ghost view = { λ r. made_of D.grants r.machine r.runner (is_some r.ending) };
 
-    ghost invariant = { λ r. IsOf D.grants r.machine r.runner (is_some r.ending)
-        × IfSome r.ending (EndingFits X.Item.coded X.Fault.coded r.machine.over r.runner.runs) };
+    ghost invariant = { λ r.
+        IsTask D.grants retry (EndingFits X.Item.coded X.Fault.coded) r.machine r.runner r.ending };
 }
 
 impl<X: Effect, D: Draws> Retry<X, D> {
@@ -78,7 +78,8 @@ impl<X: Effect, D: Draws> Retry<X, D> {
             return ready_where(self.machine.over());
         }
         let polled = self.runner.poll_run(tick, cx);
-        self.ending = tell(alloc, &mut self.machine, tick, polled);
+        self.machine.report_poll(alloc, tick, &polled);
+        self.ending = ending_of(polled, self.machine.over());
         ready_where(self.machine.over())
     }
 

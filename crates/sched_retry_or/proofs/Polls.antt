@@ -325,7 +325,7 @@ module _ {D : Type 0} (grants : Grants D) (lawful : Lawful grants) where
         × IsFalling grants item_code fault_code v (Some now) stopped (Some e) answering answer
 
     ends_by : (now : How) (e : RetryOrEnding I F) (h : Happened) → May retry_or was t h →
-        after retry_or was t h ≡ (record v.past { over = Some now }) → DrawsIn grants h t.now v.drawing v.drawing →
+        after retry_or was t h ≡ (record v.past { over = Some now }) → DrawsIn grants true h t.now v.drawing v.drawing →
         Asks was h (falling v over (is_some ending) asked answered) (falling v (Some now) true answering answer) →
         (is_stop (Some now) ≡ true → HasFallen (record v.past { over = Some now }) answering answer) →
         RetryOrFits item_code fault_code (Some now) v.past.runs answer e → Ends now e

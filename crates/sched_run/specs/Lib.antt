@@ -6,6 +6,7 @@ pub use Rattle.sched_plan.specs.History
 pub use Rattle.sched_plan.specs.Answer
 pub use Rattle.sched_driver.specs.Driven
 pub use Rattle.sched_driver.specs.Driver
+pub use Rattle.sched_driver_stepper.specs.Standing
 pub use Rattle.sched_ticket.specs.Held
 pub use Rattle.sched_ticket_quota.specs.Held as QuotaHeld
 pub use Rattle.sched_ticket_quota.specs.Calls as QuotaCalls

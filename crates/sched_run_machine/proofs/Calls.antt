@@ -1,24 +1,24 @@
--- Each call on a machine is one poll of each retry that it may stand for.
+-- Each call on a machine is one poll of each task that it may stand for.
 use Rattle.std.proofs.Common.{◌≡◌, ℕ, if◌then◌else◌, ◌+◌, ◌<◌, ◌≤◌, inl, inr, Bool, true, false, List, [], ◌∷◌, ◌++◌, length, min, Option, Some, None, is_some, IfSome, IsSomeAnd, refl, sym, ap, ◌∙◌, subst, arith}
 use Rattle.std.specs.Bool.{MatchBool}
 use Rattle.std.proofs.lemmas.List.{append-nil, length_push}
 use Rattle.sched_time.specs.declared.numbers.Tick.{Tick}
 use Rattle.sched_plan.specs.Schedule.{Schedule}
 use Rattle.sched_driver.specs.Driven.{Driven}
+use Rattle.sched_effect.specs.Runs.{code_of}
 use Rattle.sched_effect.specs.declared.ran.Ran.{Ran}
-use Rattle.sched_effect.specs.declared.ran.Ran.TheVariants.{Won, Lost}
 use Rattle.sched_task.specs.declared.endings.How.{How}
 use Rattle.sched_task.specs.declared.endings.How.TheVariants as how
 use Rattle.sched_ticket_draws.specs.Grants.{Grants, Lawful}
-use Rattle.sched_task_law.specs.Kind.{Kind, a_retry}
+use Rattle.sched_task_law.specs.Kind.{Kind, keeps, draws, falls_back, calls}
 use Rattle.sched_task_law.specs.Past.{Past, is_under_way, waits_for}
-use Rattle.sched_task_law.specs.Poll.{Happened, stays, cannot_begin, runs_on, cannot_run, ends, breaks, stops_done, stops_denied, recurs, asks, cannot_ask, falls, after, CanRun, Steps, May}
+use Rattle.sched_task_law.specs.Poll.{Happened, stays, cannot_begin, runs_on, cannot_run, ends, breaks, stops_done, stops_denied, recurs, asks, cannot_ask, falls, stop, after, CanRun, Steps, May}
 use Rattle.sched_task_law.proofs.Lists.{by_test}
 use Rattle.sched_task_law.proofs.Law.{under_way_then, finished_then, law_of_nothing, law_cancelled}
-use Rattle.sched_run_machine.specs.Retrying.{Retrying, DrawsIn, gives_up}
+use Rattle.sched_run_machine.specs.Retrying.{Retrying, Drawn, DrawsIn, gives_up}
 use Rattle.sched_run_machine.proofs.Settles.{next, settles, rests}
 use Rattle.sched_run_machine.specs.Drives.{unstepped, SteppedOn}
-use Rattle.sched_run_machine.specs.Machine.{Machine, begins, unbegun, breaks_off, cancelled, StandsFor, Looks, IsMachine, Polls, Ends}
+use Rattle.sched_run_machine.specs.Machine.{Machine, begins, unbegun, breaks_off, cancelled, StandsFor, Looks, IsMachine, Polls, Stops, Ends}
 use Rattle.sched_run_machine.specs.Next.{HostPoll}
 
 -- whatever happens in a poll, the schedule stays
@@ -41,14 +41,14 @@ pub plan_after : {D : Type 0} (grants : Grants D) (kind : Kind) (v : Retrying D)
 plan_after grants kind v t told u polled =
     ap (λ (p : Past). p.driver.plan) polled.poll.poll.leaves ∙ same_plan kind v.past t polled.poll.poll.happened
 
-module _ {R D : Type 0} (stands : R → Driven → Type 0) (keeps : Bool) (goes_by : R → Schedule → Type 0) (grants : Grants D)
-    (lawful : Lawful grants) where
-  -- a machine that has not begun stands for a retry that has not
+module _ {R D : Type 0} (stands : R → Driven → Type 0) (kind : Kind) (goes_by : R → Schedule → Type 0) (grants : Grants D)
+    (lawful : Lawful grants) (alone : falls_back kind ≡ false) where
+  -- a machine that has not begun stands for a task that has not
   pub stands_new : (r : R) (p : D) (plan : Schedule) → grants.stands p → stands r (unstepped plan) →
-      StandsFor stands keeps grants (begins grants r p) (unbegun grants plan p)
+      StandsFor stands kind grants (begins grants r p) (unbegun grants plan p)
   stands_new r p plan holds fresh = record {
     law = record {
-      law = law_of_nothing (a_retry keeps) plan;
+      law = law_of_nothing kind plan;
       granted = omega arith;
       denied = λ yes. absurd cc;
       stands = holds;
@@ -63,18 +63,18 @@ module _ {R D : Type 0} (stands : R → Driven → Type 0) (keeps : Bool) (goes_
   }
 
   module _ (m : Machine R D) (t : Tick) where
-    -- the retry after a poll in which this happened, and the machine n that may stand for it
-    polled : (n : Machine R D) (v : Retrying D) → StandsFor stands keeps grants m v → (h : Happened) (q : D) (told : List Ran) →
-        v.past.over ≡ None → May (a_retry keeps) v.past t h → DrawsIn grants h t.now v.drawing q → grants.stands q →
-        (after (a_retry keeps) v.past t h).runs ≡ v.past.runs ++ told →
-        stands n.driver (after (a_retry keeps) v.past t h).driver →
-        n.under_way ≡ is_under_way (after (a_retry keeps) v.past t h).runs (after (a_retry keeps) v.past t h).begun →
-        n.over ≡ (after (a_retry keeps) v.past t h).over → n.drawing ≡ q → n.had ≡ m.had →
+    -- the task after a poll in which this happened, and the machine n that may stand for it
+    polled : (n : Machine R D) (v : Retrying D) → StandsFor stands kind grants m v → (h : Happened) (q : D) (told : List Ran) →
+        v.past.over ≡ None → May kind v.past t h → DrawsIn grants (draws kind) h t.now v.drawing q → grants.stands q →
+        (after kind v.past t h).runs ≡ v.past.runs ++ told →
+        stands n.driver (after kind v.past t h).driver →
+        n.under_way ≡ is_under_way (after kind v.past t h).runs (after kind v.past t h).begun →
+        n.over ≡ (after kind v.past t h).over → n.drawing ≡ q → n.had ≡ m.had →
         n.told ≡ min (length (v.past.runs ++ told)) 18446744073709551615 →
-        (u : Retrying D) × HostPoll grants (a_retry keeps) v t told u × StandsFor stands keeps grants n u
+        (u : Retrying D) × HostPoll grants kind v t told u × StandsFor stands kind grants n u
     polled n v st h q told unended may draws holds runs driver under_way over drawing had count =
-        let was = settles grants lawful (a_retry keeps) v t h q refl st.law unended may draws holds in (
-          next grants lawful (a_retry keeps) v t h q,
+        let was = settles grants lawful kind v t h q st.law unended may draws holds in (
+          next grants lawful kind v t h q,
           record { poll = was.poll; runs = runs },
           record {
             law = was.law;
@@ -88,75 +88,75 @@ module _ {R D : Type 0} (stands : R → Driven → Type 0) (keeps : Bool) (goes_
         )
 
     -- polls of the value that a contract sees
-    pub polled_as : (w n : Machine R D) (told : List Ran) → m ≡ w → Polls stands keeps goes_by grants m t told n →
-        Polls stands keeps goes_by grants w t told n
-    polled_as w n told same polls = subst (λ (m : Machine R D). Polls stands keeps goes_by grants m t told n) same polls
+    pub polled_as : (w n : Machine R D) (told : List Ran) → m ≡ w → Polls stands kind goes_by grants m t told n →
+        Polls stands kind goes_by grants w t told n
+    polled_as w n told same polls = subst (λ (m : Machine R D). Polls stands kind goes_by grants m t told n) same polls
 
     -- and what they leave
-    pub left : (w n : Machine R D) (told : List Ran) → m ≡ w → Polls stands keeps goes_by grants w t told n →
-        IsMachine stands keeps goes_by grants m → IsMachine stands keeps goes_by grants n
+    pub left : (w n : Machine R D) (told : List Ran) → m ≡ w → Polls stands kind goes_by grants w t told n →
+        IsMachine stands kind goes_by grants m → IsMachine stands kind goes_by grants n
     left w n told same polls is s by =
-        let was = subst (λ (m : Machine R D). IsMachine stands keeps goes_by grants m) same is s (polls.narrows s by) in
+        let was = subst (λ (m : Machine R D). IsMachine stands kind goes_by grants m) same is s (polls.narrows s by) in
         let after = polls.leads was.0 was.2 (subst (λ (s : Schedule). goes_by n.driver s) (sym was.1) by) in
-        (after.0, plan_after grants (a_retry keeps) was.0 t told after.0 after.1 ∙ was.1, after.2)
+        (after.0, plan_after grants kind was.0 t told after.0 after.1 ∙ was.1, after.2)
 
     -- polls in which the driver stays as it is
     same_driver_polls : (n : Machine R D) (told : List Ran) → n.driver ≡ m.driver →
-        ((v : Retrying D) → StandsFor stands keeps grants m v →
-        (u : Retrying D) × HostPoll grants (a_retry keeps) v t told u × StandsFor stands keeps grants n u) →
-        Polls stands keeps goes_by grants m t told n
+        ((v : Retrying D) → StandsFor stands kind grants m v →
+        (u : Retrying D) × HostPoll grants kind v t told u × StandsFor stands kind grants n u) →
+        Polls stands kind goes_by grants m t told n
     same_driver_polls n told same leads = record {
       narrows = λ s by. subst (λ (r : R). goes_by r s) same by;
       leads = λ v st _. leads v st;
     }
 
-    -- a retry that stays as it is
-    stayed : (v : Retrying D) → StandsFor stands keeps grants m v → May (a_retry keeps) v.past t stays →
-        (u : Retrying D) × HostPoll grants (a_retry keeps) v t [] u × StandsFor stands keeps grants m u
+    -- a task that stays as it is
+    stayed : (v : Retrying D) → StandsFor stands kind grants m v → May kind v.past t stays →
+        (u : Retrying D) × HostPoll grants kind v t [] u × StandsFor stands kind grants m u
     stayed v st may =
-        (v, record { poll = rests grants lawful (a_retry keeps) v t (is_some v.past.over) refl st.law may; runs = sym (append-nil v.past.runs) }, st)
+        (v, record { poll = rests grants lawful kind v t (is_some v.past.over) refl st.law may; runs = sym (append-nil v.past.runs) }, st)
 
-    pub stays_as : Looks stands keeps grants m t true → Polls stands keeps goes_by grants m t [] m
+    pub stays_as : Looks stands kind grants m t true → Polls stands kind goes_by grants m t [] m
     stays_as may = same_driver_polls m [] refl (λ v st. stayed v st (may v st))
 
     -- What a look tells: one that is over stays as it is, and so does one that waits for a later moment; else a run can
     -- be polled.
-    pub looks_over : is_some m.over ≡ true → Looks stands keeps grants m t true
+    pub looks_over : is_some m.over ≡ true → Looks stands kind grants m t true
     looks_over over v st = inl (ap is_some (sym st.over) ∙ over)
 
     pub looks : (due : Option ℕ) (later : Bool) → m.over ≡ None →
-        ((v : Retrying D) → StandsFor stands keeps grants m v → due ≡ waits_for v.past) →
-        MatchBool later (IsSomeAnd due (λ s. t.now < s)) (IfSome due (λ s. s ≤ t.now)) → Looks stands keeps grants m t later
+        ((v : Retrying D) → StandsFor stands kind grants m v → due ≡ waits_for v.past) →
+        MatchBool later (IsSomeAnd due (λ s. t.now < s)) (IfSome due (λ s. s ≤ t.now)) → Looks stands kind grants m t later
     looks due true unended is later =
         λ v st. inr (subst (λ (due : Option ℕ). IsSomeAnd due (λ s. t.now < s)) (is v st) later)
     looks due false unended is later = λ v st.
         let none = sym st.over ∙ unended in
         record {
           unended = none;
-          unstopped = rw none at st.law.law.ended refl;
+          unstopped = (rw none at st.law.law.ended) alone;
           due = subst (λ (due : Option ℕ). IfSome due (λ s. s ≤ t.now)) (is v st) later;
         }
 
     -- a run that is under way can be polled
-    pub can_end : m.over ≡ None → m.under_way ≡ true → Looks stands keeps grants m t false
+    pub can_end : m.over ≡ None → m.under_way ≡ true → Looks stands kind grants m t false
     can_end unended running v st =
         let none = sym st.over ∙ unended in
         let under = sym st.under_way ∙ running in
-        record { unended = none; unstopped = rw none at st.law.law.ended refl; due = rw (none, under) tt }
+        record { unended = none; unstopped = (rw none at st.law.law.ended) alone; due = rw (none, under) tt }
 
     -- no run finishes, and none is told
-    none_told : (v : Retrying D) → StandsFor stands keeps grants m v →
+    none_told : (v : Retrying D) → StandsFor stands kind grants m v →
         m.told ≡ min (length (v.past.runs ++ [])) 18446744073709551615
     none_told v st =
         st.told ∙ ap (λ (runs : List Ran). min (length runs) 18446744073709551615) (sym (append-nil v.past.runs))
 
     -- Polls of the value w that a contract sees, of which a run can be polled.
-    module _ (w : Machine R D) (same : m ≡ w) (can_run : Looks stands keeps grants w t false) where
-      can : (v : Retrying D) → StandsFor stands keeps grants m v → CanRun v.past t
-      can v st = can_run v (subst (λ (m : Machine R D). StandsFor stands keeps grants m v) same st)
+    module _ (w : Machine R D) (same : m ≡ w) (can_run : Looks stands kind grants w t false) where
+      can : (v : Retrying D) → StandsFor stands kind grants m v → CanRun v.past t
+      can v st = can_run v (subst (λ (m : Machine R D). StandsFor stands kind grants m v) same st)
 
       -- a run begins, or is under way
-      pub begins_run : Polls stands keeps goes_by grants w t [] (record m { under_way = true })
+      pub begins_run : Polls stands kind goes_by grants w t [] (record m { under_way = true })
       begins_run =
           polled_as w (record m { under_way = true }) [] same (same_driver_polls (record m { under_way = true }) [] refl (λ v st.
           polled (record m { under_way = true }) v st runs_on v.drawing [] (can v st).unended (can v st) refl st.law.stands
@@ -164,8 +164,8 @@ module _ {R D : Type 0} (stands : R → Driven → Type 0) (keeps : Bool) (goes_
           (none_told v st)))
 
       -- memory is refused to it, or to its beginning
-      broken : (begun : Bool) → (m.under_way ≡ true → begun ≡ true) → (v : Retrying D) → StandsFor stands keeps grants m v →
-          (u : Retrying D) × HostPoll grants (a_retry keeps) v t [] u × StandsFor stands keeps grants (breaks_off begun m) u
+      broken : (begun : Bool) → (m.under_way ≡ true → begun ≡ true) → (v : Retrying D) → StandsFor stands kind grants m v →
+          (u : Retrying D) × HostPoll grants kind v t [] u × StandsFor stands kind grants (breaks_off begun m) u
       broken true begun v st =
           polled (breaks_off true m) v st cannot_run v.drawing [] (can v st).unended (can v st) refl st.law.stands
           (sym (append-nil v.past.runs)) st.driver (sym (under_way_then v.past t st.law.law.counted)) refl st.drawing refl
@@ -178,7 +178,7 @@ module _ {R D : Type 0} (stands : R → Driven → Type 0) (keeps : Bool) (goes_
           (sym (append-nil v.past.runs)) st.driver (sym none) refl st.drawing refl (none_told v st)
 
       pub breaks_run : (begun : Bool) → (w.under_way ≡ true → begun ≡ true) →
-          Polls stands keeps goes_by grants w t [] (breaks_off begun m)
+          Polls stands kind goes_by grants w t [] (breaks_off begun m)
       breaks_run begun running =
           polled_as w (breaks_off begun m) [] same (same_driver_polls (breaks_off begun m) [] refl (broken begun (λ is.
           running (sym (ap (λ (m : Machine R D). m.under_way) same) ∙ is))))
@@ -188,72 +188,79 @@ module _ {R D : Type 0} (stands : R → Driven → Type 0) (keeps : Bool) (goes_
       ended s over q =
           record m { driver = s; under_way = false; over = over; drawing = q; told = min (m.told + 1) 18446744073709551615 }
 
-      counted : (v : Retrying D) (r : Ran) → StandsFor stands keeps grants m v →
+      counted : (v : Retrying D) (r : Ran) → StandsFor stands kind grants m v →
           min (m.told + 1) 18446744073709551615 ≡ min (length (v.past.runs ++ r ∷ [])) 18446744073709551615
       counted v r st =
           omega (arith, st.told, length_push v.past.runs r)
 
-      idle : (v : Retrying D) (r : Ran) → StandsFor stands keeps grants m v →
-          false ≡ is_under_way (after (a_retry keeps) v.past t (ends r)).runs (after (a_retry keeps) v.past t (ends r)).begun
+      idle : (v : Retrying D) (r : Ran) → StandsFor stands kind grants m v →
+          false ≡ is_under_way (after kind v.past t (ends r)).runs (after kind v.past t (ends r)).begun
       idle v r st = sym (finished_then v.past t r st.law.law.counted)
 
-      drew_by : (v : Retrying D) (got : Bool) (q : D) → StandsFor stands keeps grants m v → grants.drew m.drawing t.now got q →
-          grants.drew v.drawing t.now got q
-      drew_by v got q st drew = subst (λ (p : D). grants.drew p t.now got q) st.drawing drew
-
-      same_driver : (v : Retrying D) (s : R) → StandsFor stands keeps grants m v → s ≡ m.driver → stands s v.past.driver
+      same_driver : (v : Retrying D) (s : R) → StandsFor stands kind grants m v → s ≡ m.driver → stands s v.past.driver
       same_driver v s st same = subst (λ (r : R). stands r v.past.driver) (sym same) st.driver
 
-      steps : (v : Retrying D) (s : R) (code : ℕ) (done : Bool) → StandsFor stands keeps grants m v →
-          SteppedOn stands keeps v.past.driver t code done s → Steps (a_retry keeps) v.past t (Lost code)
-      steps v s code done st step = record { can = can v st; called = refl; room = step.room }
+      -- no fallback is asked at a stop
+      stopped : (how : How) → Some how ≡ stop kind how
+      stopped how = rw alone refl
 
-      ends_leads : (r : Ran) (over : Option How) (s : R) (q : D) → Ends stands keeps goes_by grants m.driver m.drawing t r over s q →
-          grants.stands q → (v : Retrying D) → StandsFor stands keeps grants m v → goes_by s v.past.driver.plan →
-          (u : Retrying D) × HostPoll grants (a_retry keeps) v t (r ∷ []) u × StandsFor stands keeps grants (ended s over q) u
-      ends_leads (Won code) over s q came holds v st by =
-          let can_be = can v st in
-          polled (ended s over q) v st (ends (Won code)) q (Won code ∷ []) can_be.unended (can_be, refl) (came.2 ∙ st.drawing) holds
-          refl (same_driver v s st came.1) (idle v (Won code) st) came.0 refl refl
-          (counted v (Won code) st)
-      ends_leads (Lost code) None s q came holds v st by =
-          let step = came.0 v.past.driver st.driver by in let steps = steps v s code false st step in
-          polled (ended s None q) v st (recurs (Lost code)) q (Lost code ∷ []) steps.can.unended (steps, step.done_is)
-          (drew_by v true q st came.1) holds refl step.stands_on (idle v (Lost code) st) (sym steps.can.unended) refl refl
-          (counted v (Lost code) st)
-      ends_leads (Lost code) (Some how.ScheduleDone) s q came holds v st by =
-          let step = came.0 v.past.driver st.driver by in let steps = steps v s code true st step in
-          polled (ended s (Some how.ScheduleDone) q) v st (stops_done (Lost code)) q (Lost code ∷ []) steps.can.unended
-          (steps, step.done_is) (came.1 ∙ st.drawing) holds refl step.stands_on (idle v (Lost code) st) refl refl refl
-          (counted v (Lost code) st)
-      ends_leads (Lost code) (Some how.BudgetRefused) s q came holds v st by =
-          let step = came.0 v.past.driver st.driver by in let steps = steps v s code false st step in
-          polled (ended s (Some how.BudgetRefused) q) v st (stops_denied (Lost code)) q (Lost code ∷ []) steps.can.unended
-          (steps, step.done_is, refl) (drew_by v false q st came.1) holds refl step.stands_on (idle v (Lost code) st)
-          refl refl refl
-          (counted v (Lost code) st)
-      ends_leads (Lost code) (Some (how.Broken fault)) s q came holds v st by =
-          let can_be = can v st in
-          polled (ended s (Some (how.Broken fault)) q) v st (breaks (Lost code) fault) q (Lost code ∷ []) can_be.unended
-          (can_be, refl, came.0 v.past.driver st.driver) (came.2 ∙ st.drawing) holds refl (same_driver v s st came.1)
-          (idle v (Lost code) st) refl refl refl
-          (counted v (Lost code) st)
-      ends_leads (Lost code) (Some how.Won) s q came holds v st by = absurd came
-      ends_leads (Lost code) (Some how.Failed) s q came holds v st by = absurd came
-      ends_leads (Lost code) (Some how.Cancelled) s q came holds v st by = absurd came
+      -- it ends a run that calls for a step
+      module _ (r : Ran) (called : calls kind r ≡ true) where
+        steps : (v : Retrying D) (s : R) (done : Bool) → StandsFor stands kind grants m v →
+            SteppedOn stands (keeps kind) v.past.driver t (code_of r) done s → Steps kind v.past t r
+        steps v s done st step = record { can = can v st; called = called; room = step.room }
 
-      pub ends_run : (r : Ran) (over : Option How) (s : R) (q : D) → Ends stands keeps goes_by grants m.driver m.drawing t r over s q →
+        stops_leads : (over : Option How) (s : R) (q : D) →
+            Stops stands kind goes_by grants m.driver m.drawing t (code_of r) over s q → grants.stands q → (v : Retrying D) →
+            StandsFor stands kind grants m v → goes_by s v.past.driver.plan →
+            (u : Retrying D) × HostPoll grants kind v t (r ∷ []) u × StandsFor stands kind grants (ended s over q) u
+        stops_leads None s q came holds v st by =
+            let step = came.0 v.past.driver st.driver by in let steps = steps v s false st step in
+            polled (ended s None q) v st (recurs r) q (r ∷ []) steps.can.unended (steps, step.done_is)
+            (subst (λ (p : D). Drawn grants (draws kind) t.now p q) st.drawing came.1) holds refl step.stands_on (idle v r st)
+            (sym steps.can.unended) refl refl (counted v r st)
+        stops_leads (Some how.ScheduleDone) s q came holds v st by =
+            let step = came.0 v.past.driver st.driver by in let steps = steps v s true st step in
+            polled (ended s (Some how.ScheduleDone) q) v st (stops_done r) q (r ∷ []) steps.can.unended (steps, step.done_is)
+            (came.1 ∙ st.drawing) holds refl step.stands_on (idle v r st) (stopped how.ScheduleDone) refl refl (counted v r st)
+        stops_leads (Some how.BudgetRefused) s q came holds v st by =
+            let step = came.1 v.past.driver st.driver by in let steps = steps v s false st step in
+            polled (ended s (Some how.BudgetRefused) q) v st (stops_denied r) q (r ∷ []) steps.can.unended
+            (steps, step.done_is, came.0) (subst (λ (p : D). grants.drew p t.now false q) st.drawing came.2) holds refl
+            step.stands_on (idle v r st) (stopped how.BudgetRefused) refl refl (counted v r st)
+        stops_leads (Some (how.Broken fault)) s q came holds v st by =
+            let can_be = can v st in
+            polled (ended s (Some (how.Broken fault)) q) v st (breaks r fault) q (r ∷ []) can_be.unended
+            (can_be, called, came.0 v.past.driver st.driver) (came.2 ∙ st.drawing) holds refl (same_driver v s st came.1)
+            (idle v r st) refl refl refl (counted v r st)
+        stops_leads (Some how.Won) s q came holds v st by = absurd came
+        stops_leads (Some how.Failed) s q came holds v st by = absurd came
+        stops_leads (Some how.Cancelled) s q came holds v st by = absurd came
+
+      -- it ends a run as it went
+      ends_leads : (r : Ran) (over : Option How) (s : R) (q : D) → Ends stands kind goes_by grants m.driver m.drawing t r over s q →
+          grants.stands q → (v : Retrying D) → StandsFor stands kind grants m v → goes_by s v.past.driver.plan →
+          (u : Retrying D) × HostPoll grants kind v t (r ∷ []) u × StandsFor stands kind grants (ended s over q) u
+      ends_leads r over s q came holds v st by =
+          by_test (calls kind r) (λ called. stops_leads r called over s q (rw called at came) holds v st by)
+          (λ uncalled.
+          let final = rw uncalled at came in
+          let can_be = can v st in
+          polled (ended s over q) v st (ends r) q (r ∷ []) can_be.unended (can_be, uncalled) (final.2 ∙ st.drawing) holds refl
+          (same_driver v s st final.1) (idle v r st) final.0 refl refl (counted v r st))
+
+      pub ends_run : (r : Ran) (over : Option How) (s : R) (q : D) → Ends stands kind goes_by grants m.driver m.drawing t r over s q →
           grants.stands q → ((c : Schedule) → goes_by s c → goes_by m.driver c) →
-          Polls stands keeps goes_by grants w t (r ∷ []) (ended s over q)
+          Polls stands kind goes_by grants w t (r ∷ []) (ended s over q)
       ends_run r over s q came holds narrows =
           polled_as w (ended s over q) (r ∷ []) same (record { narrows = narrows; leads = ends_leads r over s q came holds })
 
   -- one that gives up
-  pub cancels : (m : Machine R D) (v : Retrying D) → StandsFor stands keeps grants m v →
-      StandsFor stands keeps grants (cancelled m) (gives_up v)
+  pub cancels : (m : Machine R D) (v : Retrying D) → StandsFor stands kind grants m v →
+      StandsFor stands kind grants (cancelled m) (gives_up v)
   cancels m v st = record {
     law = record {
-      law = law_cancelled (a_retry keeps) v.past st.law.law;
+      law = law_cancelled kind v.past st.law.law;
       granted = st.law.granted;
       denied = st.law.denied;
       stands = st.law.stands;
@@ -271,18 +278,18 @@ module _ {R D : Type 0} (stands : R → Driven → Type 0) (keeps : Bool) (goes_
   }
 
   -- one that is not over ends as cancelled
-  pub cancels_unended : (m : Machine R D) → m.over ≡ None → IsMachine stands keeps goes_by grants m →
-      IsMachine stands keeps goes_by grants (record m { over = Some how.Cancelled })
+  pub cancels_unended : (m : Machine R D) → m.over ≡ None → IsMachine stands kind goes_by grants m →
+      IsMachine stands kind goes_by grants (record m { over = Some how.Cancelled })
   cancels_unended m unended is s by =
       let was = is s by in (
         gives_up was.0,
         was.1,
-        subst (λ (over : Option How). StandsFor stands keeps grants (record m { over = over }) (gives_up was.0))
+        subst (λ (over : Option How). StandsFor stands kind grants (record m { over = over }) (gives_up was.0))
             (ap (λ (over : Option How). if is_some over then over else Some how.Cancelled) unended) (cancels m was.0 was.2),
       )
 
   -- what is always so of a machine: it has what draws as that stands, and no fewer tickets than at its beginning
-  pub has_drawn : (m : Machine R D) (s : Schedule) → goes_by m.driver s → IsMachine stands keeps goes_by grants m →
+  pub has_drawn : (m : Machine R D) (s : Schedule) → goes_by m.driver s → IsMachine stands kind goes_by grants m →
       (m.had ≤ grants.granted m.drawing) × grants.stands m.drawing
   has_drawn m s by is =
       let was = is s by in let st = was.2 in (
@@ -291,5 +298,5 @@ module _ {R D : Type 0} (stands : R → Driven → Type 0) (keeps : Bool) (goes_
       )
 
   -- so it is of the value that a contract sees
-  pub seen : (m w : Machine R D) → m ≡ w → IsMachine stands keeps goes_by grants m → IsMachine stands keeps goes_by grants w
-  seen m w same = subst (λ (m : Machine R D). IsMachine stands keeps goes_by grants m) same
+  pub seen : (m w : Machine R D) → m ≡ w → IsMachine stands kind goes_by grants m → IsMachine stands kind goes_by grants w
+  seen m w same = subst (λ (m : Machine R D). IsMachine stands kind goes_by grants m) same

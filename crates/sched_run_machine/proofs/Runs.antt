@@ -1,7 +1,8 @@
 -- What the polls of a task leave of its runs and their beginnings.
-use Rattle.std.proofs.Common.{◌≡◌, ℕ, ◌<◌, ◌≤◌, ◌⊎◌, inl, inr, Bool, true, false, ◌||◌, if◌then◌else◌, List, [], ◌∷◌, ◌++◌, length, Option, Some, None, is_some, IfSome, IsSomeAnd, refl, sym, ap, ◌∙◌, subst, arith}
+use Rattle.std.proofs.Common.{◌≡◌, ℕ, ◌<◌, ◌≤◌, ◌⊎◌, inl, inr, Bool, true, false, ◌||◌, if◌then◌else◌, List, [], ◌∷◌, ◌++◌, length, Option, Some, None, is_some, IfSome, IsSomeAnd, Result, refl, sym, ap, ◌∙◌, subst, arith}
 use Rattle.std.proofs.lemmas.List.{append-nil, append_cancel_left}
 use Rattle.sched_time.specs.declared.numbers.Tick.{Tick}
+use Rattle.sched_effect.specs.Runs.{ran_by}
 use Rattle.sched_effect.specs.declared.ran.Ran.{Ran}
 use Rattle.sched_task_law.specs.Kind.{Kind, falls_back}
 use Rattle.sched_task_law.specs.Past.{Past, is_under_way, waits_for}
@@ -9,8 +10,10 @@ use Rattle.sched_task_law.specs.Poll.{Happened, stays, cannot_begin, runs_on, ca
 use Rattle.sched_task_law.specs.Law.{HasOneMore}
 use Rattle.sched_run_machine.specs.declared.runner.Polled.{Polled}
 use Rattle.sched_run_machine.specs.declared.runner.Polled.TheVariants.{CannotBegin, Pending, CannotRun, Finished}
+use Rattle.sched_task_law.specs.Lists.{last_element}
+use Rattle.sched_task_law.proofs.Lists.{last_element-push}
 use Rattle.sched_task_law.proofs.Law.{under_way_then, finished_then}
-use Rattle.sched_run_machine.specs.Runner.{Runs, begun_with, polls_run, leaves_run, told_by, Polls}
+use Rattle.sched_run_machine.specs.Runner.{Runs, begun_with, polls_run, leaves_run, given_by, told_by, Polls}
 
 -- whether runs finish
 abbrev pub finishes : List Ran → Bool
@@ -97,3 +100,15 @@ module _ {I F : Type 0} (item_code : I → ℕ) (fault_code : F → ℕ) (r s : 
   idle_by Pending polls none = absurd cc
   idle_by CannotRun polls none = absurd cc
   idle_by (Finished run) polls none = absurd cc
+
+-- the run that a poll ended is the last one
+pub last_told : {I F : Type 0} (item_code : I → ℕ) (fault_code : F → ℕ) (before runs : List Ran) (polled : Polled I F)
+    (run : Result I F) → given_by polled ≡ Some run → runs ≡ before ++ told_by item_code fault_code polled →
+    last_element runs ≡ Some (ran_by item_code fault_code run)
+last_told ic fc before runs CannotBegin run gave grown = absurd cc
+last_told ic fc before runs Pending run gave grown = absurd cc
+last_told ic fc before runs CannotRun run gave grown = absurd cc
+last_told {I} {F} ic fc before runs (Finished given) run gave grown =
+    let same : given ≡ run = cc in
+    ap last_element (grown ∙ ap (λ (run : Result I F). before ++ ran_by ic fc run ∷ []) same)
+    ∙ last_element-push before (ran_by ic fc run)

@@ -1,4 +1,4 @@
--- What a poll of a retry does keeps its law, whatever happens in it.
+-- What a poll of a retry or a repeat does keeps its law, whatever happens in it.
 use Rattle.std.proofs.Common.{◌≡◌, ◌+◌, Bool, true, false, if◌then◌else◌, None, is_some, refl, sym, ap, ◌∙◌, subst, arith}
 use Rattle.sched_time.specs.declared.numbers.Tick.{Tick}
 use Rattle.sched_ticket_draws.specs.Grants.{Grants, Lawful}
@@ -15,7 +15,7 @@ denied_stops : (v : Past) → v.denied ≡ true → is_stopped v ≡ false → �
 denied_stops v is not = let bad = rw is at not in cc
 
 module _ {D : Type 0} (grants : Grants D) (lawful : Lawful grants) where
-  -- a retry after a poll: it keeps its law, and the poll was one
+  -- what is left by a poll keeps its law, and the poll was one
   pub record Settled (kind : Kind) (v : Retrying D) (t : Tick) (ready : Bool) (u : Retrying D) : Type 0 where
     pub law : RetryLaw grants kind u
     pub poll : RetryPoll grants kind v t ready u
@@ -23,61 +23,65 @@ module _ {D : Type 0} (grants : Grants D) (lawful : Lawful grants) where
   same_granted : (p q : D) → q ≡ p → grants.granted q ≡ grants.granted p
   same_granted p q same = ap (λ (d : D). grants.granted d) same
 
-  granted_after : (kind : Kind) (v : Retrying D) (t : Tick) (h : Happened) (q : D) → draws kind ≡ true →
-      grants.granted v.drawing ≡ v.had + v.past.granted → DrawsIn grants h t.now v.drawing q →
+  granted_after : (kind : Kind) (v : Retrying D) (t : Tick) (h : Happened) (q : D) →
+      grants.granted v.drawing ≡ v.had + v.past.granted → DrawsIn grants (draws kind) h t.now v.drawing q →
       grants.granted q ≡ v.had + (after kind v.past t h).granted
-  granted_after kind v t stays q drawn was draws = same_granted v.drawing q draws ∙ was
-  granted_after kind v t cannot_begin q drawn was draws = same_granted v.drawing q draws ∙ was
-  granted_after kind v t runs_on q drawn was draws = same_granted v.drawing q draws ∙ was
-  granted_after kind v t cannot_run q drawn was draws = same_granted v.drawing q draws ∙ was
-  granted_after kind v t (ends r) q drawn was draws = same_granted v.drawing q draws ∙ was
-  granted_after kind v t (breaks r fault) q drawn was draws = same_granted v.drawing q draws ∙ was
-  granted_after kind v t (stops_done r) q drawn was draws = same_granted v.drawing q draws ∙ was
-  granted_after kind v t (stops_denied r) q drawn was draws = lawful.counts v.drawing t.now false q draws ∙ was
-  granted_after kind v t (recurs r) q drawn was draws =
-      let one = lawful.counts v.drawing t.now true q draws in
-      rw drawn (rw (one, was) (omega arith))
-  granted_after kind v t asks q drawn was draws = same_granted v.drawing q draws ∙ was
-  granted_after kind v t cannot_ask q drawn was draws = same_granted v.drawing q draws ∙ was
-  granted_after kind v t falls q drawn was draws = same_granted v.drawing q draws ∙ was
+  granted_after kind v t stays q was drew = same_granted v.drawing q drew ∙ was
+  granted_after kind v t cannot_begin q was drew = same_granted v.drawing q drew ∙ was
+  granted_after kind v t runs_on q was drew = same_granted v.drawing q drew ∙ was
+  granted_after kind v t cannot_run q was drew = same_granted v.drawing q drew ∙ was
+  granted_after kind v t (ends r) q was drew = same_granted v.drawing q drew ∙ was
+  granted_after kind v t (breaks r fault) q was drew = same_granted v.drawing q drew ∙ was
+  granted_after kind v t (stops_done r) q was drew = same_granted v.drawing q drew ∙ was
+  granted_after kind v t (stops_denied r) q was drew = lawful.counts v.drawing t.now false q drew ∙ was
+  granted_after kind v t (recurs r) q was drew =
+      by_test (draws kind)
+      (λ drawn.
+      let one = lawful.counts v.drawing t.now true q (rw drawn at drew) in
+      rw drawn (rw (one, was) (omega arith)))
+      (λ free. rw free (same_granted v.drawing q (rw free at drew) ∙ was))
+  granted_after kind v t asks q was drew = same_granted v.drawing q drew ∙ was
+  granted_after kind v t cannot_ask q was drew = same_granted v.drawing q drew ∙ was
+  granted_after kind v t falls q was drew = same_granted v.drawing q drew ∙ was
 
   same_refused : (denied : Bool) (p q : D) → (denied ≡ true → grants.refused p) → q ≡ p → denied ≡ true → grants.refused q
   same_refused denied p q was same is = subst grants.refused (sym same) (was is)
 
   denied_after : (kind : Kind) (v : Retrying D) (t : Tick) (h : Happened) (q : D) → (v.past.denied ≡ true → grants.refused v.drawing) →
-      May kind v.past t h → DrawsIn grants h t.now v.drawing q → (after kind v.past t h).denied ≡ true → grants.refused q
-  denied_after kind v t stays q was may draws = same_refused v.past.denied v.drawing q was draws
-  denied_after kind v t cannot_begin q was may draws = same_refused v.past.denied v.drawing q was draws
-  denied_after kind v t runs_on q was may draws = same_refused v.past.denied v.drawing q was draws
-  denied_after kind v t cannot_run q was may draws = same_refused v.past.denied v.drawing q was draws
-  denied_after kind v t (ends r) q was may draws = same_refused v.past.denied v.drawing q was draws
-  denied_after kind v t (breaks r fault) q was may draws = same_refused v.past.denied v.drawing q was draws
-  denied_after kind v t (stops_done r) q was may draws = same_refused v.past.denied v.drawing q was draws
-  denied_after kind v t (stops_denied r) q was may draws = λ yes. lawful.denies v.drawing t.now q draws
-  denied_after kind v t (recurs r) q was may draws = λ is. absurd (denied_stops v.past is may.0.can.unstopped)
-  denied_after kind v t asks q was may draws = same_refused v.past.denied v.drawing q was draws
-  denied_after kind v t cannot_ask q was may draws = same_refused v.past.denied v.drawing q was draws
-  denied_after kind v t falls q was may draws = same_refused v.past.denied v.drawing q was draws
+      May kind v.past t h → DrawsIn grants (draws kind) h t.now v.drawing q → (after kind v.past t h).denied ≡ true → grants.refused q
+  denied_after kind v t stays q was may drew = same_refused v.past.denied v.drawing q was drew
+  denied_after kind v t cannot_begin q was may drew = same_refused v.past.denied v.drawing q was drew
+  denied_after kind v t runs_on q was may drew = same_refused v.past.denied v.drawing q was drew
+  denied_after kind v t cannot_run q was may drew = same_refused v.past.denied v.drawing q was drew
+  denied_after kind v t (ends r) q was may drew = same_refused v.past.denied v.drawing q was drew
+  denied_after kind v t (breaks r fault) q was may drew = same_refused v.past.denied v.drawing q was drew
+  denied_after kind v t (stops_done r) q was may drew = same_refused v.past.denied v.drawing q was drew
+  denied_after kind v t (stops_denied r) q was may drew = λ yes. lawful.denies v.drawing t.now q drew
+  denied_after kind v t (recurs r) q was may drew = λ is. absurd (denied_stops v.past is may.0.can.unstopped)
+  denied_after kind v t asks q was may drew = same_refused v.past.denied v.drawing q was drew
+  denied_after kind v t cannot_ask q was may drew = same_refused v.past.denied v.drawing q was drew
+  denied_after kind v t falls q was may drew = same_refused v.past.denied v.drawing q was drew
 
   same_name : (p q : D) → q ≡ p → grants.name q ≡ grants.name p
   same_name p q same = ap (λ (d : D). grants.name d) same
 
   -- every poll draws on the same budget
-  named_after : (t : Tick) (h : Happened) (p q : D) → DrawsIn grants h t.now p q → grants.name q ≡ grants.name p
-  named_after t stays p q draws = same_name p q draws
-  named_after t cannot_begin p q draws = same_name p q draws
-  named_after t runs_on p q draws = same_name p q draws
-  named_after t cannot_run p q draws = same_name p q draws
-  named_after t (ends r) p q draws = same_name p q draws
-  named_after t (breaks r fault) p q draws = same_name p q draws
-  named_after t (stops_done r) p q draws = same_name p q draws
-  named_after t (stops_denied r) p q draws = lawful.keeps p t.now false q draws
-  named_after t (recurs r) p q draws = lawful.keeps p t.now true q draws
-  named_after t asks p q draws = same_name p q draws
-  named_after t cannot_ask p q draws = same_name p q draws
-  named_after t falls p q draws = same_name p q draws
+  named_after : (kind : Kind) (t : Tick) (h : Happened) (p q : D) → DrawsIn grants (draws kind) h t.now p q → grants.name q ≡ grants.name p
+  named_after kind t stays p q drew = same_name p q drew
+  named_after kind t cannot_begin p q drew = same_name p q drew
+  named_after kind t runs_on p q drew = same_name p q drew
+  named_after kind t cannot_run p q drew = same_name p q drew
+  named_after kind t (ends r) p q drew = same_name p q drew
+  named_after kind t (breaks r fault) p q drew = same_name p q drew
+  named_after kind t (stops_done r) p q drew = same_name p q drew
+  named_after kind t (stops_denied r) p q drew = lawful.keeps p t.now false q drew
+  named_after kind t (recurs r) p q drew =
+      by_test (draws kind) (λ drawn. lawful.keeps p t.now true q (rw drawn at drew)) (λ free. same_name p q (rw free at drew))
+  named_after kind t asks p q drew = same_name p q drew
+  named_after kind t cannot_ask p q drew = same_name p q drew
+  named_after kind t falls p q drew = same_name p q drew
 
-  -- the retry after a poll in which this happened
+  -- the task after a poll in which this happened
   abbrev pub next : Kind → Retrying D → Tick → Happened → D → Retrying D
   next kind v t h q = record {
     past = after kind v.past t h;
@@ -86,21 +90,21 @@ module _ {D : Type 0} (grants : Grants D) (lawful : Lawful grants) where
     untaken = is_some (after kind v.past t h).over;
   }
 
-  pub settles : (kind : Kind) (v : Retrying D) (t : Tick) (h : Happened) (q : D) → draws kind ≡ true → RetryLaw grants kind v →
-      v.past.over ≡ None → May kind v.past t h → DrawsIn grants h t.now v.drawing q → grants.stands q →
+  pub settles : (kind : Kind) (v : Retrying D) (t : Tick) (h : Happened) (q : D) → RetryLaw grants kind v →
+      v.past.over ≡ None → May kind v.past t h → DrawsIn grants (draws kind) h t.now v.drawing q → grants.stands q →
       Settled kind v t (is_some (after kind v.past t h).over) (next kind v t h q)
-  settles kind v t h q drawn law unended may draws holds = record {
+  settles kind v t h q law unended may drew holds = record {
     law = record {
       law = law_after kind v.past t h law.law may;
-      granted = granted_after kind v t h q drawn law.granted draws;
-      denied = denied_after kind v t h q law.denied may draws;
+      granted = granted_after kind v t h q law.granted drew;
+      denied = denied_after kind v t h q law.denied may drew;
       stands = holds;
       untaken = λ yes. yes;
     };
     poll = record {
       poll = record { happened = h; may = may; leaves = refl; ready_is = refl };
-      drawing = draws;
-      budget = named_after t h v.drawing q draws;
+      drawing = drew;
+      budget = named_after kind t h v.drawing q drew;
       had = refl;
       untaken = rw unended refl;
     };
@@ -117,7 +121,7 @@ module _ {D : Type 0} (grants : Grants D) (lawful : Lawful grants) where
       by_test (is_some v.past.over) (λ over. rw over refl)
       (λ isnt. rw isnt (untaken_false kind v law (none_of v.past.over isnt) ∙ sym (is ∙ isnt)))
 
-  -- a retry that is over, or waits for a later moment, stays as it is
+  -- one that is over, or waits for a later moment, stays as it is
   pub rests : (kind : Kind) (v : Retrying D) (t : Tick) (ready : Bool) → ready ≡ is_some v.past.over → RetryLaw grants kind v →
       May kind v.past t stays → RetryPoll grants kind v t ready v
   rests kind v t ready is law may = record {

@@ -1,3 +1,4 @@
+pub mod Aims
 pub mod Retrying
 pub mod Next
 pub mod Drives
@@ -5,3 +6,4 @@ pub mod Machine
 pub mod Deadline
 pub mod Until
 pub mod Runner
+pub mod Of

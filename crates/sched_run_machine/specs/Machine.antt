@@ -1,20 +1,21 @@
--- What contracts see of a machine, and which retries it may stand for.
+-- What contracts see of a machine, and which retries or repeats it may stand for.
 use Rattle.std.specs.Prelude.{◌≡◌, ℕ, Bool, true, false, not, ◌&&◌, if◌then◌else◌, List, length, min, Option, Some, None, is_some, refl}
+use Rattle.std.specs.Bool.{MatchBool}
 use Rattle.std.specs.Coded.{Coded, code_by, coded×, coded_ℕ, coded_bool, coded_option}
 use Rattle.sched_time.specs.declared.numbers.Tick.{Tick}
 use Rattle.sched_plan.specs.Schedule.{Schedule}
 use Rattle.sched_driver.specs.Driven.{Driven}
 use Rattle.sched_ticket_draws.specs.Grants.{Grants}
+use Rattle.sched_effect.specs.Runs.{code_of}
 use Rattle.sched_effect.specs.declared.ran.Ran.{Ran}
-use Rattle.sched_effect.specs.declared.ran.Ran.TheVariants.{Won, Lost}
 use Rattle.sched_task.specs.declared.endings.How.{How}
 use Rattle.sched_task.specs.declared.endings.How.TheVariants as how
 use Rattle.sched_task.specs.declared.endings.RunFault.TheVariants.{NoMemory}
-use Rattle.sched_task_law.specs.Kind.{a_retry}
+use Rattle.sched_task_law.specs.Kind.{Kind, keeps, draws, calls, final}
 use Rattle.sched_task_law.specs.Past.{nothing_yet, is_under_way}
 use Rattle.sched_task_law.specs.Poll.{stays, CanRun, May}
 use Rattle.sched_task_law.specs.Codes.{coded_how}
-use Rattle.sched_run_machine.specs.Retrying.{Retrying, RetryLaw}
+use Rattle.sched_run_machine.specs.Retrying.{Retrying, RetryLaw, Drawn}
 use Rattle.sched_run_machine.specs.Deadline.{is_past}
 use Rattle.sched_run_machine.specs.Drives.{Stepped, Refused}
 use Rattle.sched_run_machine.specs.Next.{HostPoll}
@@ -58,14 +59,6 @@ abbrev pub WaitsInTime : Option ℕ → Next → Type 0
 WaitsInTime deadline (Wait start) = is_past deadline start ≡ false
 WaitsInTime deadline _ = Unit {0}
 
--- how a run that is told may end a machine: a success does, and a failure does not as one, nor as cancelled
-abbrev pub EndsAs : Ran → Option How → Type 0
-EndsAs (Won code) over = over ≡ Some how.Won
-EndsAs (Lost code) (Some how.Won) = ⊥
-EndsAs (Lost code) (Some how.Failed) = ⊥
-EndsAs (Lost code) (Some how.Cancelled) = ⊥
-EndsAs (Lost code) _ = Unit {0}
-
 -- one to whose run, or to the beginning of it, memory is refused
 abbrev pub breaks_off : {R D : Type 0} → Bool → Machine R D → Machine R D
 breaks_off begun m = record m { under_way = begun; over = Some (how.Broken NoMemory) }
@@ -75,7 +68,7 @@ abbrev pub cancelled : {R D : Type 0} → Machine R D → Machine R D
 cancelled m = record m { over = if is_some m.over then m.over else Some how.Cancelled }
 
 module _ {D : Type 0} (grants : Grants D) where
-  -- a machine that has not begun, and the retry that it stands for
+  -- a machine that has not begun, and what it stands for
   abbrev pub begins : {R : Type 0} → R → D → Machine R D
   begins driver drawing = record {
     driver = driver;
@@ -90,11 +83,11 @@ module _ {D : Type 0} (grants : Grants D) where
   unbegun plan drawing =
       record { past = nothing_yet plan; drawing = drawing; had = grants.granted drawing; untaken = false }
 
-module _ {R D : Type 0} (stands : R → Driven → Type 0) (keeps : Bool) (grants : Grants D) where
-  -- The machine is that of this retry, which keeps its law: its driver may stand for the retry's journal, and a run is
+module _ {R D : Type 0} (stands : R → Driven → Type 0) (kind : Kind) (grants : Grants D) where
+  -- The machine is that of this task, which keeps its law: its driver may stand for the task's journal, and a run is
   -- under way in both or in neither.
   pub record StandsFor (m : Machine R D) (v : Retrying D) : Type 0 where
-    pub law : RetryLaw grants (a_retry keeps) v
+    pub law : RetryLaw grants kind v
     pub driver : stands m.driver v.past.driver
     pub under_way : m.under_way ≡ is_under_way v.past.runs v.past.begun
     pub over : m.over ≡ v.past.over
@@ -102,33 +95,38 @@ module _ {R D : Type 0} (stands : R → Driven → Type 0) (keeps : Bool) (grant
     pub had : m.had ≡ v.had
     pub told : m.told ≡ min (length v.past.runs) 18446744073709551615
 
-  -- what a look before a poll tells of each retry that it may stand for: it stays as it is, or a run can be polled
+  -- what a look before a poll tells of each task that it may stand for: it stays as it is, or a run can be polled
   abbrev pub Looks : Machine R D → Tick → Bool → Type 0
-  Looks m t true = (v : Retrying D) → StandsFor m v → May (a_retry keeps) v.past t stays
+  Looks m t true = (v : Retrying D) → StandsFor m v → May kind v.past t stays
   Looks m t false = (v : Retrying D) → StandsFor m v → CanRun v.past t
 
-module _ {R D : Type 0} (stands : R → Driven → Type 0) (keeps : Bool) (goes_by : R → Schedule → Type 0)
+module _ {R D : Type 0} (stands : R → Driven → Type 0) (kind : Kind) (goes_by : R → Schedule → Type 0)
     (grants : Grants D) where
-  -- By each schedule that its driver may go by there is a retry that the machine may stand for.
+  -- By each schedule that its driver may go by there is a task that the machine may stand for.
   abbrev pub IsMachine : Machine R D → Type 0
   IsMachine m = (s : Schedule) → goes_by m.driver s →
-      (v : Retrying D) × (v.past.driver.plan ≡ s) × StandsFor stands keeps grants m v
+      (v : Retrying D) × (v.past.driver.plan ≡ s) × StandsFor stands kind grants m v
 
-  -- The machine after a poll goes by no other schedules than before. Of each retry that the machine may stand for, by a
+  -- The machine after a poll goes by no other schedules than before. Of each task that the machine may stand for, by a
   -- schedule that it may go by after the poll, it was one poll, in which the runs that finished are those told; and it
-  -- may stand for the retry after it.
+  -- may stand for the task after it.
   pub record Polls (m : Machine R D) (t : Tick) (told : List Ran) (n : Machine R D) : Type 0 where
     pub narrows : (s : Schedule) → goes_by n.driver s → goes_by m.driver s
-    pub leads : (v : Retrying D) → StandsFor stands keeps grants m v → goes_by n.driver v.past.driver.plan →
-        (u : Retrying D) × HostPoll grants (a_retry keeps) v t told u × StandsFor stands keeps grants n u
+    pub leads : (v : Retrying D) → StandsFor stands kind grants m v → goes_by n.driver v.past.driver.plan →
+        (u : Retrying D) × HostPoll grants kind v t told u × StandsFor stands kind grants n u
 
-  -- What the end of a run comes to: the driver r and what draws, p, become s and q. It draws where the schedule goes on,
-  -- and nowhere else.
+  -- What the step comes to that a run of this code calls for: the driver r and what draws, p, become s and q. It draws
+  -- where the schedule goes on, if a ticket is needed, and nowhere else.
+  abbrev pub Stops : R → D → Tick → ℕ → Option How → R → D → Type 0
+  Stops r p t code None s q =
+      Stepped stands (keeps kind) goes_by r t code false s × Drawn grants (draws kind) t.now p q
+  Stops r p t code (Some how.ScheduleDone) s q = Stepped stands (keeps kind) goes_by r t code true s × (q ≡ p)
+  Stops r p t code (Some how.BudgetRefused) s q =
+      (draws kind ≡ true) × Stepped stands (keeps kind) goes_by r t code false s × grants.drew p t.now false q
+  Stops r p t code (Some (how.Broken fault)) s q = Refused stands (keeps kind) r t fault × (s ≡ r) × (q ≡ p)
+  Stops r p t code _ s q = ⊥
+
+  -- what the end of a run comes to: where it calls for no step, it ends the task
   abbrev pub Ends : R → D → Tick → Ran → Option How → R → D → Type 0
-  Ends r p t (Won code) over s q = (over ≡ Some how.Won) × (s ≡ r) × (q ≡ p)
-  Ends r p t (Lost code) None s q = Stepped stands keeps goes_by r t code false s × grants.drew p t.now true q
-  Ends r p t (Lost code) (Some how.ScheduleDone) s q = Stepped stands keeps goes_by r t code true s × (q ≡ p)
-  Ends r p t (Lost code) (Some how.BudgetRefused) s q =
-      Stepped stands keeps goes_by r t code false s × grants.drew p t.now false q
-  Ends r p t (Lost code) (Some (how.Broken fault)) s q = Refused stands keeps r t fault × (s ≡ r) × (q ≡ p)
-  Ends r p t (Lost code) _ s q = ⊥
+  Ends r p t ran over s q =
+      MatchBool (calls kind ran) (Stops r p t (code_of ran) over s q) ((over ≡ Some (final kind)) × (s ≡ r) × (q ≡ p))

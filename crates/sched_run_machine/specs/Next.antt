@@ -1,4 +1,4 @@
--- What a host is to do for a retry, and one call on it.
+-- What a host is to do for a retry or a repeat, and one call on it.
 use Rattle.std.specs.Prelude.{◌≡◌, ℕ, Bool, true, false, not, ◌&&◌, if◌then◌else◌}
 use Rattle.std.specs.Prelude.{List, ◌++◌, Option, Some, None, is_some}
 use Rattle.sched_time.specs.declared.numbers.Tick.{Tick}
@@ -12,7 +12,7 @@ use Rattle.sched_run_machine.specs.Retrying.{Retrying, RetryPoll}
 use Rattle.sched_run_machine.specs.declared.next.Next.{Next}
 use Rattle.sched_run_machine.specs.declared.next.Next.TheVariants.{Poll, Run, Wait, Over}
 
--- a report is heard where a run is under way and the retry is not over
+-- a report is heard where a run is under way and the task is not over
 abbrev pub hears : Past → Bool
 hears v = not (is_some v.over) && is_under_way v.runs v.begun
 
@@ -43,7 +43,7 @@ Finds over running Run = (over ≡ None) × (running ≡ true)
 Finds over running Poll = (over ≡ None) × (running ≡ false)
 Finds over running (Wait start) = (over ≡ None) × (running ≡ false)
 
--- One poll of a retry, in which the runs that finish are those that the host told.
+-- One poll, in which the runs that finish are those that the host told.
 module _ {D : Type 0} (grants : Grants D) (kind : Kind) where
   pub record HostPoll (v : Retrying D) (t : Tick) (told : List Ran) (u : Retrying D) : Type 0 where
     pub poll : RetryPoll grants kind v t (is_some u.past.over) u

@@ -1,11 +1,15 @@
 -- What an effect and the beginnings of its runs are after a poll.
-use Rattle.std.specs.Prelude.{◌≡◌, ℕ, Bool, true, false, if◌then◌else◌, List, [], ◌∷◌, ◌++◌, refl}
+use Rattle.std.specs.Prelude.{◌≡◌, ℕ, Bool, true, false, if◌then◌else◌, List, [], ◌∷◌, ◌++◌, Option, Some, None, Result, refl}
 use Rattle.std.specs.Coded.{Coded, code_by, coded×, coded_ℕ, coded_list}
 use Rattle.sched_time.specs.declared.numbers.Tick.{Tick}
 use Rattle.sched_effect.specs.Runs.{ran_by}
 use Rattle.sched_effect.specs.declared.ran.Ran.{Ran}
+use Rattle.sched_task.specs.declared.endings.How.{How}
+use Rattle.sched_task.specs.declared.endings.How.TheVariants.{Broken}
+use Rattle.sched_task.specs.declared.endings.RunFault.TheVariants.{NoMemory}
 use Rattle.sched_task_law.specs.Past.{is_under_way}
 use Rattle.sched_task_law.specs.Codes.{coded_ran}
+use Rattle.sched_run_machine.specs.Aims.{EndsAs}
 use Rattle.sched_run_machine.specs.declared.runner.Polled.{Polled}
 use Rattle.sched_run_machine.specs.declared.runner.Polled.TheVariants.{CannotBegin, Pending, CannotRun, Finished}
 
@@ -34,11 +38,22 @@ leaves_run Pending = true
 leaves_run CannotRun = true
 leaves_run _ = false
 
+-- what the run gave that a poll ended, if there is one
+abbrev pub given_by : {I F : Type 0} → Polled I F → Option (Result I F)
+given_by (Finished run) = Some run
+given_by _ = None
+
 module _ {I F : Type 0} (item_code : I → ℕ) (fault_code : F → ℕ) where
   -- the runs that a poll ended
   abbrev pub told_by : Polled I F → List Ran
   told_by (Finished run) = ran_by item_code fault_code run ∷ []
   told_by _ = []
+
+  -- how a repeat or a retry is over after a poll of its run
+  abbrev pub IsOver : Bool → Polled I F → Option How → Type 0
+  IsOver repeats Pending over = over ≡ None
+  IsOver repeats (Finished run) over = EndsAs repeats (ran_by item_code fault_code run) over
+  IsOver repeats polled over = over ≡ Some (Broken NoMemory)
 
   -- what a poll of the run under way leaves, by its answer
   abbrev pub Polls : Runs → Tick → Polled I F → Runs → Type 0

@@ -1,17 +1,21 @@
-//! One machine of a retry: it is told that a run began and how it ended, asks its driver, draws, and says what is next.
+//! One machine of a retry and of a repeat: it is told that a run began and how it ended, asks its driver, draws where it
+//! needs a ticket, and says what is next.
 //!
 //! It keeps no list of runs. Where its driver keeps no journal either, it takes as much memory after any number of runs
 //! as before the first; what is true of it is then true of each list of runs and each journal that it may stand for.
 #![tactic(auto)]
 
+mod aims;
+mod attempts;
 mod drives;
 mod machine;
 mod next;
 mod runner;
 mod until;
 
+pub use aims::{Aims, Repeats, Retries};
 pub use drives::Drives;
-pub use machine::Machine;
+pub use machine::{Machine, RepeatMachine};
 pub use next::{Next, is_later};
 pub use runner::{Polled, Runner, ready_where};
 pub use until::Until;

@@ -1,35 +1,45 @@
-//! The machine of a retry.
+//! The machine of a retry or of a repeat.
 ghost use Rattle.std.specs.Prelude.{◌≡◌, ◌+◌, [], ◌∷◌, true, false, None};
 ghost use Rattle.sched_plan.specs.Schedule.{Schedule};
 ghost use Rattle.sched_run_machine.specs.Retrying.{Retrying, gives_up};
-ghost use Rattle.sched_run_machine.specs.Machine.{begins, unbegun, is_told, breaks_off, cancelled, StandsFor, Looks, IsMachine, Polls, WaitsInTime, Ends, EndsAs};
+ghost use Rattle.sched_run_machine.specs.Machine.{begins, unbegun, is_told, breaks_off, cancelled, StandsFor, Looks, IsMachine, Polls, WaitsInTime, Ends};
+ghost use Rattle.sched_run_machine.specs.Aims.{EndsAs};
+ghost use Rattle.sched_task_law.specs.Kind.{a_retry, a_repeat, repeats};
+ghost use Rattle.sched_ticket_draws.specs.Freely.{free_grants};
 ghost use Rattle.sched_task_law.specs.Past.{waits_for};
 ghost use Rattle.sched_run_machine.specs.Next.{next_of, Finds};
 
+use crate::aims::{Aims, Repeats, Retries};
 use crate::drives::Drives;
 use crate::next::{Next, is_later};
 use sched_effect::Ran;
 use sched_task::{How, RunFault};
-use sched_ticket_draws::Draws;
+use sched_ticket_draws::{Draws, Unlimited};
 use sched_time::{Moment, Tick};
 use std::alloc::Global;
-use std::marker::Model;
+use std::marker::{Model, PhantomData};
 
-/// What makes a call that is run until it succeeds, again after each failure as its driver's schedule says, with a
-/// ticket for each retry. It says when to run the call and when to wait, and is told how each run went.
+/// What makes a call that is run again and again, as its driver's schedule says: a retry until it succeeds, with a ticket
+/// for each run after a failure, or a repeat until it fails, without tickets. It says when to run the call and when to
+/// wait, and is told how each run went.
 ///
-/// Contracts speak of each retry that it may stand for: each that the calls made on it so far can have led to.
+/// Contracts speak of each retry, or each repeat, that it may stand for: each that the calls made on it so far can have
+/// led to.
 #[derive(Drop)]
-pub struct Machine<R: Drives, D: Draws> {
+pub struct Machine<R: Drives, D: Draws, A: Aims = Retries> {
     driver: R,
     under_way: bool,
     over: Option<How>,
     drawing: D,
     had: u64,
     told: u64,
+    aim: PhantomData<A>,
 }
 
-impl<R: Drives, D: Draws> Model for Machine<R, D> {
+/// The machine of a repeat.
+pub type RepeatMachine<R> = Machine<R, Unlimited, Repeats>;
+
+impl<R: Drives, D: Draws, A: Aims> Model for Machine<R, D, A> {
     ghost use Rattle.sched_run_machine.specs.Machine.{Machine as Made, coded_machine, IsMachine};
 
     ghost Value = { Made R D };
@@ -45,7 +55,7 @@ impl<R: Drives, D: Draws> Model for Machine<R, D> {
       told = m.told;
     } };
 
-    ghost invariant = { λ m. IsMachine R.stands R.keeps R.goes_by D.grants record {
+    ghost invariant = { λ m. IsMachine R.stands (A.kind R.keeps) R.goes_by D.grants record {
       driver = m.driver;
       under_way = m.under_way;
       over = m.over;
@@ -55,13 +65,37 @@ impl<R: Drives, D: Draws> Model for Machine<R, D> {
     } };
 }
 
-impl<R: Drives, D: Draws> Machine<R, D> {
+impl<R: Drives, D: Draws> Machine<R, D, Retries> {
     /// The machine of a retry that has not begun, and that draws its tickets by this value. It takes no memory.
     pub fn new(driver: R, drawing: D) -> Machine<R, D>
         requires fresh { R.fresh driver }
         ensures begins { result ≡ begins D.grants driver drawing }
         ensures stands { (s : Schedule) → R.goes_by driver s →
-            StandsFor R.stands R.keeps D.grants result (unbegun D.grants s drawing) }
+            StandsFor R.stands (a_retry R.keeps) D.grants result (unbegun D.grants s drawing) }
+    {
+        Machine::unbegun(driver, drawing)
+    }
+}
+
+impl<R: Drives> Machine<R, Unlimited, Repeats> {
+    /// The machine of a repeat that has not begun. It takes no memory.
+    pub fn repeating(driver: R) -> RepeatMachine<R>
+        requires fresh { R.fresh driver }
+        ensures begins { result ≡ begins free_grants driver 0 }
+        ensures stands { (s : Schedule) → R.goes_by driver s →
+            StandsFor R.stands (a_repeat R.keeps) free_grants result (unbegun free_grants s 0) }
+    {
+        Machine::unbegun(driver, Unlimited::new())
+    }
+}
+
+impl<R: Drives, D: Draws, A: Aims> Machine<R, D, A> {
+    // A machine that has not begun.
+    fn unbegun(driver: R, drawing: D) -> Machine<R, D, A>
+        requires fresh { R.fresh driver }
+        ensures begins { result ≡ begins D.grants driver drawing }
+        ensures stands { (s : Schedule) → R.goes_by driver s →
+            StandsFor R.stands (A.kind R.keeps) D.grants result (unbegun D.grants s drawing) }
     {
         let had = drawing.granted();
         Machine {
@@ -71,12 +105,13 @@ impl<R: Drives, D: Draws> Machine<R, D> {
             drawing,
             had,
             told: 0,
+            aim: PhantomData,
         }
     }
 
-    /// Begins a run at the tick, where none is under way, the retry is not over and waits for no later moment.
+    /// Begins a run at the tick, where none is under way, it is not over and waits for no later moment.
     pub fn poll(&mut self, tick: &Tick)
-        ensures polls { Polls R.stands R.keeps R.goes_by D.grants self.old tick.entry.now [] self.new }
+        ensures polls { Polls R.stands (A.kind R.keeps) R.goes_by D.grants self.old tick.entry.now [] self.new }
         ensures unbroken { self.new.over ≡ self.old.over }
         ensures deadline { R.ends self.new.driver ≡ R.ends self.old.driver }
     {
@@ -88,23 +123,23 @@ impl<R: Drives, D: Draws> Machine<R, D> {
 
     /// Begins a run at the tick, where none is under way.
     pub fn begin(&mut self, _tick: &Tick)
-        requires { Looks R.stands R.keeps D.grants self.old _tick.now false }
-        ensures polls { Polls R.stands R.keeps R.goes_by D.grants self.old _tick.entry.now [] self.new }
+        requires { Looks R.stands (A.kind R.keeps) D.grants self.old _tick.now false }
+        ensures polls { Polls R.stands (A.kind R.keeps) R.goes_by D.grants self.old _tick.entry.now [] self.new }
         ensures begins { self.new ≡ record self.old { under_way = true } }
     {
         self.under_way = true;
     }
 
-    /// Ends the run under way as it went, and answers whether there was one: of a retry that is over, or has no run
+    /// Ends the run under way as it went, and answers whether there was one: of a machine that is over, or has no run
     /// under way, nothing changes.
     ///
-    /// A success ends the retry. A failure steps the schedule; where that goes on, a ticket is drawn, and with one the
-    /// retry waits for the start planned. A refused step ends it as `Broken`.
+    /// A success ends a retry, and a failure a repeat. Another run steps the schedule; where that goes on, a retry draws a
+    /// ticket, and with one it waits for the start planned, as a repeat does. A refused step ends either as `Broken`.
     pub fn report(&mut self, alloc: Global, tick: &Tick, ran: Ran) -> bool
         ensures heard { result ≡ is_told self.old }
         ensures told { result ≡ true →
-            Polls R.stands R.keeps R.goes_by D.grants self.old tick.entry.now (ran ∷ []) self.new }
-        ensures ends { result ≡ true → EndsAs ran self.new.over }
+            Polls R.stands (A.kind R.keeps) R.goes_by D.grants self.old tick.entry.now (ran ∷ []) self.new }
+        ensures ends { result ≡ true → EndsAs (repeats (A.kind R.keeps)) ran self.new.over }
         ensures deadline { R.ends self.new.driver ≡ R.ends self.old.driver }
         ensures unchanged { result ≡ false → self.new ≡ self.old }
     {
@@ -120,25 +155,25 @@ impl<R: Drives, D: Draws> Machine<R, D> {
 
     /// Ends the run under way as it went, or one that began at the tick, as `report` does.
     pub fn finish(&mut self, alloc: Global, tick: &Tick, ran: Ran)
-        requires { Looks R.stands R.keeps D.grants self.old tick.now false }
-        ensures polls { Polls R.stands R.keeps R.goes_by D.grants self.old tick.entry.now (ran ∷ []) self.new }
-        ensures ends { EndsAs ran self.new.over }
+        requires { Looks R.stands (A.kind R.keeps) D.grants self.old tick.now false }
+        ensures polls { Polls R.stands (A.kind R.keeps) R.goes_by D.grants self.old tick.entry.now (ran ∷ []) self.new }
+        ensures ends { EndsAs (repeats (A.kind R.keeps)) ran self.new.over }
         ensures idle { self.new.under_way ≡ false }
         ensures deadline { R.ends self.new.driver ≡ R.ends self.old.driver }
     {
         let driver = &mut self.driver;
         let drawing = &mut self.drawing;
-        self.over = end_run(alloc, driver, drawing, tick, ran);
+        self.over = end_run::<R, D, A>(alloc, driver, drawing, tick, ran);
         self.under_way = false;
         self.told = self.told.saturating_add(1);
     }
 
-    /// Ends the retry as `Broken(NoMemory)`: memory is refused to the run under way or to one that begins at the tick,
+    /// Ends it as `Broken(NoMemory)`: memory is refused to the run under way or to one that begins at the tick,
     /// or, where no run has begun, to its beginning.
     pub fn break_off(&mut self, _tick: &Tick, begun: bool)
-        requires looks { Looks R.stands R.keeps D.grants self.old _tick.now false }
+        requires looks { Looks R.stands (A.kind R.keeps) D.grants self.old _tick.now false }
         requires begun { self.old.under_way ≡ true → begun ≡ true }
-        ensures polls { Polls R.stands R.keeps R.goes_by D.grants self.old _tick.entry.now [] self.new }
+        ensures polls { Polls R.stands (A.kind R.keeps) R.goes_by D.grants self.old _tick.entry.now [] self.new }
         ensures breaks_off { self.new ≡ breaks_off begun self.old }
     {
         self.under_way = begun;
@@ -147,7 +182,7 @@ impl<R: Drives, D: Draws> Machine<R, D> {
 
     /// Whether a poll leaves it as it is: it is over, or waits for a later moment.
     pub fn stays(&self, tick: &Tick) -> bool
-        ensures looks { Looks R.stands R.keeps D.grants self.now tick.entry.now result }
+        ensures looks { Looks R.stands (A.kind R.keeps) D.grants self.now tick.entry.now result }
         ensures unended { result ≡ false → self.now.over ≡ None }
     {
         if self.over.is_some() {
@@ -158,7 +193,7 @@ impl<R: Drives, D: Draws> Machine<R, D> {
 
     /// The moment that it waits for, or `None` where it waits for none.
     pub fn due(&self) -> Option<Moment>
-        ensures { (v : Retrying D) → StandsFor R.stands R.keeps D.grants self.now v → result ≡ waits_for v.past }
+        ensures { (v : Retrying D) → StandsFor R.stands (A.kind R.keeps) D.grants self.now v → result ≡ waits_for v.past }
     {
         self.next().start()
     }
@@ -167,7 +202,7 @@ impl<R: Drives, D: Draws> Machine<R, D> {
     pub fn next(&self) -> Next
         ensures finds { Finds self.now.over self.now.under_way result }
         ensures in_time { WaitsInTime (R.ends self.now.driver) result }
-        ensures next { (v : Retrying D) → StandsFor R.stands R.keeps D.grants self.now v → result ≡ next_of v.past }
+        ensures next { (v : Retrying D) → StandsFor R.stands (A.kind R.keeps) D.grants self.now v → result ≡ next_of v.past }
     {
         if let Some(how) = self.over {
             return Next::Over(how);
@@ -188,11 +223,11 @@ impl<R: Drives, D: Draws> Machine<R, D> {
         self.over
     }
 
-    /// Ends a retry that is not over as `Cancelled`; one that is over stays as it is.
+    /// Ends a machine that is not over as `Cancelled`; one that is over stays as it is.
     pub fn cancel(&mut self)
         ensures cancelled { self.new ≡ cancelled self.old }
-        ensures stands { (v : Retrying D) → StandsFor R.stands R.keeps D.grants self.old v →
-            StandsFor R.stands R.keeps D.grants self.new (gives_up v) }
+        ensures stands { (v : Retrying D) → StandsFor R.stands (A.kind R.keeps) D.grants self.old v →
+            StandsFor R.stands (A.kind R.keeps) D.grants self.new (gives_up v) }
     {
         if self.over.is_some() {
             return;
@@ -200,11 +235,11 @@ impl<R: Drives, D: Draws> Machine<R, D> {
         self.over = Some(How::Cancelled);
     }
 
-    /// How many tickets it was granted, without those of earlier retries. There is always a retry that it stands for, by
+    /// How many tickets it was granted, without those of earlier retries. There is always a task that it stands for, by
     /// each schedule that its driver may go by.
     pub fn granted(&self) -> u64
-        ensures stands { IsMachine R.stands R.keeps R.goes_by D.grants self.now }
-        ensures granted { (v : Retrying D) → StandsFor R.stands R.keeps D.grants self.now v → result ≡ v.past.granted }
+        ensures stands { IsMachine R.stands (A.kind R.keeps) R.goes_by D.grants self.now }
+        ensures granted { (v : Retrying D) → StandsFor R.stands (A.kind R.keeps) D.grants self.now v → result ≡ v.past.granted }
         ensures tickets { self.now.had + result ≡ D.grants.granted self.now.drawing }
     {
         self.drawing.granted() - self.had
@@ -251,14 +286,15 @@ impl<R: Drives, D: Draws> Machine<R, D> {
             drawing,
             had: _,
             told: _,
+            aim: _,
         } = self;
         (driver, drawing)
     }
 }
 
-// Ends a run as it went: a failure steps the schedule, and draws a ticket where that goes on. Answers how this ends the
-// retry, or `None` where it goes on.
-fn end_run<R: Drives, D: Draws>(
+// Ends a run as it went: one that calls for it steps the schedule, and draws a ticket where that goes on and one is
+// needed. Answers how this ends the machine, or `None` where it goes on.
+fn end_run<R: Drives, D: Draws, A: Aims>(
     alloc: Global,
     driver: &mut R,
     drawing: &mut D,
@@ -269,21 +305,22 @@ fn end_run<R: Drives, D: Draws>(
     ensures stands { D.grants.stands drawing.new }
     ensures narrows { (s : Schedule) → R.goes_by driver.new s → R.goes_by driver.old s }
     ensures deadline { R.ends driver.new ≡ R.ends driver.old }
-    ensures ends { Ends R.stands R.keeps R.goes_by D.grants
+    ensures ends { Ends R.stands (A.kind R.keeps) R.goes_by D.grants
         driver.old drawing.old tick.entry.now ran result driver.new drawing.new }
 {
-    match ran {
-        Ran::Won(_) => Some(How::Won),
-        Ran::Lost(code) => match driver.step(alloc, tick, code) {
-            Err(cause) => Some(How::Broken(cause)),
-            Ok(None) => Some(How::ScheduleDone),
-            Ok(Some(_)) => {
-                if drawing.draw(tick.now) {
-                    None
-                } else {
-                    Some(How::BudgetRefused)
-                }
+    let code = match A::called(ran) {
+        Ok(code) => code,
+        Err(how) => return Some(how),
+    };
+    match driver.step(alloc, tick, code) {
+        Err(cause) => Some(How::Broken(cause)),
+        Ok(None) => Some(How::ScheduleDone),
+        Ok(Some(_)) => {
+            if !A::draws() || drawing.draw(tick.now) {
+                None
+            } else {
+                Some(How::BudgetRefused)
             }
-        },
+        }
     }
 }

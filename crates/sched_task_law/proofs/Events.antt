@@ -8,7 +8,7 @@ use Rattle.sched_plan.specs.declared.history.Event.{Event}
 use Rattle.sched_driver.specs.Driven.{Driven}
 use Rattle.sched_task.specs.declared.endings.How.{How}
 use Rattle.sched_task.specs.declared.endings.How.TheVariants.{Won, ScheduleDone, BudgetRefused, Failed, Cancelled, Broken}
-use Rattle.sched_task_law.specs.Kind.{a_retry, retry}
+use Rattle.sched_task_law.specs.Kind.{Kind, retry, falls_back}
 use Rattle.sched_task_law.specs.Past.{Past, decision_on, schedule_is_done, recurrences, bit}
 use Rattle.sched_task_law.specs.Law.{Law, Ended, is_stop, is_refused}
 use Rattle.sched_task_law.proofs.Lists.{by_test}
@@ -69,12 +69,12 @@ events_law v law =
     let events = events_of v.driver law.went_on in
     omega (arith, stops, count, events)
 
--- a retry is denied where its budget refused it
-pub denied_is : (kept : Bool) (v : Past) (over : Option How) → Ended (a_retry kept) v over → v.denied ≡ is_refused over
-denied_is kept v None ended = (or_false v.denied (schedule_is_done v.driver) (ended refl)).0
-denied_is kept v (Some Won) ended = (or_false v.denied (schedule_is_done v.driver) ended.1).0
-denied_is kept v (Some ScheduleDone) ended = ended.1
-denied_is kept v (Some BudgetRefused) ended = ended
-denied_is kept v (Some Failed) ended = absurd (let bad = ended.0 in cc)
-denied_is kept v (Some Cancelled) ended = (or_false v.denied (schedule_is_done v.driver) (ended refl)).0
-denied_is kept v (Some (Broken fault)) ended = (or_false v.denied (schedule_is_done v.driver) (ended.0 refl)).0
+-- a task that asks no fallback is denied where its budget refused it
+pub denied_is : (kind : Kind) → falls_back kind ≡ false → (v : Past) (over : Option How) → Ended kind v over → v.denied ≡ is_refused over
+denied_is kind alone v None ended = (or_false v.denied (schedule_is_done v.driver) (ended alone)).0
+denied_is kind alone v (Some Won) ended = (or_false v.denied (schedule_is_done v.driver) ended.1).0
+denied_is kind alone v (Some ScheduleDone) ended = ended.1
+denied_is kind alone v (Some BudgetRefused) ended = ended
+denied_is kind alone v (Some Failed) ended = (or_false v.denied (schedule_is_done v.driver) ended.1).0
+denied_is kind alone v (Some Cancelled) ended = (or_false v.denied (schedule_is_done v.driver) (ended alone)).0
+denied_is kind alone v (Some (Broken fault)) ended = (or_false v.denied (schedule_is_done v.driver) (ended.0 alone)).0

@@ -2,9 +2,8 @@
 use Rattle.std.specs.Prelude.{◌≡◌, ℕ, ◌+◌, Bool, true, false, min, length}
 use Rattle.sched_ticket.specs.View.{joined_view}
 use Rattle.sched_ticket.specs.Whole.{IsWhole}
-use Rattle.sched_ticket_quota.specs.View as quota
+use Rattle.sched_ticket_quota.specs.Calls as quota
 use Rattle.sched_ticket_quota.specs.Whole as quota_whole
-use Rattle.sched_ticket_quota.specs.Calls as quota_calls
 use Rattle.sched_ticket_draws.specs.Budgets.{OfBudget, IsPart}
 use Rattle.sched_ticket_draws.specs.Quotas.{OfQuota}
 use Rattle.sched_ticket_draws.specs.Quotas as quota_draws
@@ -17,12 +16,6 @@ SameBudget s v P = (t : OfBudget) × (v ≡ Budget t) × (t.budget ≡ s.budget)
 
 abbrev pub SameQuota : OfQuota → Drawing → (OfQuota → Type 0) → Type 0
 SameQuota s v P = (t : OfQuota) × (v ≡ Quota t) × (t.quota ≡ s.quota) × P t
-
--- a request is counted, where there is a quota
-abbrev pub Deposits : ℕ → Drawing → Drawing → Type 0
-Deposits now (Quota s) v = SameQuota s v
-    (λ t. quota_calls.Deposited s.quota now s.pass.has t.pass.has × (t.pass.has.tickets ≡ s.pass.has.tickets))
-Deposits now d v = v ≡ d
 
 -- both are passes of budgets, or of quotas, or draw on nothing
 abbrev pub are_like : Drawing → Drawing → Bool
@@ -40,7 +33,7 @@ OfOne d e = Unit {0}
 -- one pass has what both had
 abbrev pub Joined : Drawing → Drawing → Drawing → Type 0
 Joined (Budget s) (Budget t) v = SameBudget s v (λ x. x.pass.has ≡ joined_view s.pass.has t.pass.has)
-Joined (Quota s) (Quota t) v = SameQuota s v (λ x. x.pass.has ≡ quota.joined_view s.pass.has t.pass.has)
+Joined (Quota s) (Quota t) v = SameQuota s v (λ x. quota.Joined s.pass t.pass x.pass)
 Joined (Unlimited n) (Unlimited m) v = v ≡ Unlimited (min (n + m) 18446744073709551615)
 Joined d e v = ⊥
 

@@ -1,5 +1,5 @@
 -- What contracts see of what draws on a quota, and a draw of it.
-use Rattle.std.specs.Prelude.{◌≡◌, ℕ, ◌<◌, ◌⊎◌, Bool, true, false, length, refl}
+use Rattle.std.specs.Prelude.{◌≡◌, ℕ, ◌<◌, Bool, true, false, Some, length, refl}
 use Rattle.std.proofs.Common.{inl, inr, arith, ap, subst, sym}
 use Rattle.sched_ticket.specs.Parts.{all_parts}
 use Rattle.sched_ticket_quota.specs.Held.{Name, Held, IsOf}
@@ -14,10 +14,13 @@ pub record OfQuota : Type 0 where
   pub pass : Held
   pub quota : Name
 
--- a draw at a moment: the pass gained a ticket of the moment's window or of a later one, or it was refused for a reason
+-- a draw at a moment: the pass gained a ticket of the moment's window or of a later one, which it may hand back, or it was
+-- refused for a reason
 abbrev pub QuotaDrew : OfQuota → ℕ → Bool → OfQuota → Type 0
-QuotaDrew d now true e = (e.quota ≡ d.quota) × (t : ℕ) × Drew d.quota now d.pass.has t e.pass.has
-QuotaDrew d now false e = (e.quota ≡ d.quota) × (why : Refusal) × DrawRefused d.quota now d.pass.has why e.pass.has
+QuotaDrew d now true e = (e.quota ≡ d.quota)
+    × (t : ℕ) × Drew d.quota now d.pass.has t e.pass.has × (e.pass.latest ≡ Some t)
+QuotaDrew d now false e = (e.quota ≡ d.quota)
+    × (why : Refusal) × DrawRefused d.quota now d.pass.has why e.pass.has × (e.pass.latest ≡ d.pass.latest)
 
 -- a pass has less than all parts of its quota, and comes back as it was
 abbrev pub IsPart : OfQuota → OfQuota → Type 0

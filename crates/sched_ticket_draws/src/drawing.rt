@@ -1,6 +1,6 @@
 //! What a retry draws by that is chosen while the program runs: one type for a budget, a quota and nothing.
 ghost use Rattle.std.specs.Prelude.{◌≡◌, true, IfOk, IfErr};
-ghost use Rattle.sched_ticket_draws.specs.Passes.{Deposits, are_like, OfOne, Joined, IsTotal, NoTotal};
+ghost use Rattle.sched_ticket_draws.specs.Passes.{are_like, OfOne, Joined, IsTotal, NoTotal};
 
 use crate::draws::Draws;
 use crate::on_budget::OnBudget;
@@ -23,17 +23,6 @@ pub enum Drawing {
 }
 
 impl Drawing {
-    /// Counts a request, where it draws on a quota; nothing else counts any.
-    pub fn deposit(&mut self, now: Moment)
-        ensures { Deposits now self.old self.new }
-    {
-        match self {
-            Drawing::Budget(_) => {}
-            Drawing::Quota(pass) => pass.deposit(now),
-            Drawing::Unlimited(_) => {}
-        }
-    }
-
     /// Whether both are passes of budgets, or of quotas, or draw on nothing.
     pub fn is_like(&self, other: &Drawing) -> bool
         ensures { result ≡ are_like self.now other.now }

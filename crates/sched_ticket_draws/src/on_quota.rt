@@ -1,16 +1,18 @@
 //! Draws on a quota.
-ghost use Rattle.std.specs.Prelude.{◌≡◌, ◌/◌, ◌<◌, ◌∷◌, length, IfOk, IfErr, OnOk};
-ghost use Rattle.sched_ticket_quota.specs.View.{first_view, part_of, without_part, joined_view};
+ghost use Rattle.std.specs.Prelude.{◌≡◌, ◌/◌, ◌<◌, ◌≤◌, ◌+◌, ◌∷◌, length, Some, None, IfOk, IfErr, OnOk, OnErr};
+ghost use Rattle.sched_ticket_quota.specs.Windows.{word_of};
+ghost use Rattle.sched_ticket_quota.specs.View.{first_of_kind, part_of, without_part, with_change};
 ghost use Rattle.sched_ticket_quota.specs.Steps.{IsSound};
 ghost use Rattle.sched_ticket_quota.specs.Held.{IsOf, AreTerms};
 ghost use Rattle.sched_ticket_quota.specs.Whole.{IsWhole};
-ghost use Rattle.sched_ticket_quota.specs.Calls.{RefusesTerms, Deposited, Drew, DrawRefused, Told};
+ghost use Rattle.sched_ticket_quota.specs.Calls.{RefusesTerms, Deposited, DepositedOf, Drew, DrawRefused, Told};
+ghost use Rattle.sched_ticket_quota.specs.Calls.{RefusesChange, Hands, NotHanded, Joined};
 ghost use Rattle.sched_ticket_draws.specs.Splits.{QuotaSplitFails};
 ghost use Rattle.sched_ticket_draws.specs.Quotas.{IsPart};
 
 use crate::draws::Draws;
 use crate::refers::RefersTo;
-use sched_ticket_quota::{Pass, Quota, QuotaFault, Refusal, Terms, Usage};
+use sched_ticket_quota::{NotBack, Pass, Quota, QuotaFault, Refusal, Terms, Usage, WeightTooLarge};
 use sched_time::Moment;
 use std::alloc::Global;
 use std::marker::Model;
@@ -49,8 +51,23 @@ impl<Q: RefersTo<Quota>> OnQuota<Q> {
         ensures quota { self.new.quota ≡ self.old.quota }
         ensures counted { Deposited self.old.quota now self.old.pass.has self.new.pass.has }
         ensures tickets { self.new.pass.has.tickets ≡ self.old.pass.has.tickets }
+        ensures latest { self.new.pass.latest ≡ self.old.pass.latest }
     {
         self.pass.deposit(self.quota.target(), now);
+    }
+
+    /// Counts so many requests at once at the moment `now`, as `Pass::deposit_of` does. `WeightTooLarge` where they are more
+    /// than the pass has parts.
+    pub fn deposit_of(&mut self, now: Moment, requests: u64) -> Result<(), WeightTooLarge>
+        ensures quota { self.new.quota ≡ self.old.quota }
+        ensures counted { OnOk result
+            (DepositedOf self.old.quota now requests self.old.pass.has self.new.pass.has) }
+        ensures light { OnOk result (requests ≤ self.old.pass.has.weight) }
+        ensures err { IfErr result (λ _. (self.old.pass.has.weight < requests) × (self.new ≡ self.old)) }
+        ensures tickets { self.new.pass.has.tickets ≡ self.old.pass.has.tickets }
+        ensures latest { self.new.pass.latest ≡ self.old.pass.latest }
+    {
+        self.pass.deposit_of(self.quota.target(), now, requests)
     }
 
     /// A ticket of the window of `now`, or of the latest one where that is later. `WindowOut` where so many were given
@@ -61,9 +78,36 @@ impl<Q: RefersTo<Quota>> OnQuota<Q> {
         ensures ok { IfOk result (λ t. Drew self.old.quota now self.old.pass.has t self.new.pass.has) }
         ensures err { IfErr result (λ why. DrawRefused self.old.quota now self.old.pass.has why self.new.pass.has) }
         ensures gained { IfOk result (λ t. self.new.pass.has.tickets ≡ t ∷ self.old.pass.has.tickets) }
+        ensures latest { IfOk result (λ t. self.new.pass.latest ≡ Some t) }
         ensures kept { IfErr result (λ _. self.new.pass.has.tickets ≡ self.old.pass.has.tickets) }
+        ensures still { OnErr result (self.new.pass.latest ≡ self.old.pass.latest) }
     {
         self.pass.draw(self.quota.target(), now)
+    }
+
+    /// Hands the latest ticket back that was drawn with this pass, or with one joined into it since, as `Pass::hand_back`
+    /// does. One less is granted then.
+    pub fn hand_back(&mut self) -> Result<(), NotBack>
+        ensures quota { self.new.quota ≡ self.old.quota }
+        ensures ok { OnOk result (Hands self.old.pass self.new.pass) }
+        ensures granted { OnOk result
+            (length self.old.pass.has.tickets ≡ length self.new.pass.has.tickets + 1) }
+        ensures err { IfErr result (λ why. NotHanded self.old.pass why self.new.pass) }
+    {
+        self.pass.hand_back(self.quota.target())
+    }
+
+    /// Sets the reserve and the share of the quota, as `Pass::set_terms` does: each draw goes by them from now on, with any
+    /// pass. The period stays. Terms that no quota is made with are refused, and nothing changes.
+    pub fn set_terms(&mut self, reserve: u64, share: u64) -> Result<(), QuotaFault>
+        ensures quota { self.new.quota ≡ self.old.quota }
+        ensures ok { OnOk result ((reserve ≤ 4294967296) × (share ≤ 1000000)) }
+        ensures changed { OnOk result
+            (self.new.pass.has ≡ with_change self.old.pass.has (word_of reserve share)) }
+        ensures latest { self.new.pass.latest ≡ self.old.pass.latest }
+        ensures err { IfErr result (λ e. RefusesChange reserve share e × (self.new ≡ self.old)) }
+    {
+        self.pass.set_terms(self.quota.target(), reserve, share)
     }
 
     /// What was asked of the window of `now`, or of the latest one where that is later, what it has given and what it
@@ -71,6 +115,7 @@ impl<Q: RefersTo<Quota>> OnQuota<Q> {
     pub fn seen(&mut self, now: Moment) -> Usage
         ensures quota { self.new.quota ≡ self.old.quota }
         ensures told { Told self.old.quota now self.old.pass.has self.new.pass.has result }
+        ensures latest { self.new.pass.latest ≡ self.old.pass.latest }
     {
         self.pass.seen(self.quota.target(), now)
     }
@@ -80,8 +125,10 @@ impl<Q: RefersTo<Quota>> OnQuota<Q> {
     pub fn split(&mut self) -> Result<OnQuota<Q>, QuotaFault>
         ensures quota { self.new.quota ≡ self.old.quota }
         ensures ok { IfOk result (λ d. (d.quota ≡ self.old.quota) × (d.pass.has ≡ part_of self.old.pass.has)) }
+        ensures none { IfOk result (λ d. d.pass.latest ≡ None) }
         ensures kept { OnOk result
             ((1 < self.old.pass.has.weight) × (self.new.pass.has ≡ without_part self.old.pass.has)) }
+        ensures latest { self.new.pass.latest ≡ self.old.pass.latest }
         ensures err { IfErr result (QuotaSplitFails self.old.pass.has) }
         ensures unchanged { IfErr result (λ _. self.new ≡ self.old) }
     {
@@ -92,11 +139,11 @@ impl<Q: RefersTo<Quota>> OnQuota<Q> {
         Ok(OnQuota { pass, quota })
     }
 
-    /// One value with what both have.
+    /// One value with what both have. It may hand back the latest ticket of the other, where that may, or else its own.
     pub fn join(self, other: OnQuota<Q>) -> OnQuota<Q>
         requires { other.quota ≡ self.quota }
         ensures quota { result.quota ≡ self.quota }
-        ensures joined { result.pass.has ≡ joined_view self.pass.has other.pass.has }
+        ensures joined { Joined self.pass other.pass result.pass }
         ensures sound { IsSound result.pass.has }
     {
         let OnQuota { pass, quota } = self;
@@ -130,18 +177,26 @@ impl<Q: RefersTo<Quota>> OnQuota<Q> {
 }
 
 impl OnQuota<Arc<Quota>> {
-    /// What draws on a new quota of these terms. The window of `now` is open, and windows are counted from it on.
+    /// What draws on a new quota of these terms, that carries or does not. The window of `now` is open, and windows are
+    /// counted from it on.
     pub fn of_terms(
         alloc: Global,
         now: Moment,
         terms: Terms,
+        carries: bool,
     ) -> Result<OnQuota<Arc<Quota>>, QuotaFault>
-        ensures ok { IfOk result (λ d. (d.quota.terms ≡ terms) × (d.pass.has ≡ first_view terms)) }
-        ensures start { IfOk result (λ d. d.quota.start ≡ now / terms.period) }
+        ensures ok { IfOk result (λ d. (d.quota.terms ≡ terms) × (d.pass.has ≡ first_of_kind carries terms)) }
+        ensures latest { IfOk result (λ d. d.pass.latest ≡ None) }
+        ensures start { IfOk result (λ d. (d.quota.start ≡ now / terms.period) × (d.quota.carries ≡ carries)) }
         ensures terms { OnOk result (AreTerms terms) }
         ensures err { IfErr result (RefusesTerms terms) }
     {
-        let (quota, pass) = Quota::new(alloc, now, terms)?;
+        let made = if carries {
+            Quota::carrying(alloc, now, terms)
+        } else {
+            Quota::new(alloc, now, terms)
+        };
+        let (quota, pass) = made?;
         match Arc::new(alloc, quota) {
             Ok(quota) => Ok(OnQuota { pass, quota }),
             Err(_) => Err(QuotaFault::NoMemory),

@@ -5,7 +5,7 @@ use Rattle.std.proofs.lemmas.Nat.{le-div}
 use mathlib.Core.Logic.{dite}
 use native.Mathlib.Decide.{dec_le}
 use Rattle.atomic_table.specs.Table.{State}
-use Rattle.sched_ticket_quota.specs.Windows.{window_of, first_of, terms_of, window_at, end_of}
+use Rattle.sched_ticket_quota.specs.Windows.{window_of, first_of, terms_of, window_at, end_of, late_numbers}
 use Rattle.sched_ticket_quota.specs.View.{numbers}
 use Rattle.sched_ticket_quota.specs.Rule.{tickets_in, requests_in, in_force, begins, IsKept, words_of}
 use Rattle.sched_ticket_quota.specs.Held.{Name}
@@ -13,7 +13,7 @@ use Rattle.sched_ticket_quota.specs.Calls.{Turned, Counted}
 use Rattle.sched_ticket_quota.specs.Clocks.{OpensItsOwn, DrawsNoEarlier, CountsNoEarlier, WindowsEnd, EndsWithinAPeriod, over, AreMost, ClocksAreBounded}
 use Rattle.sched_ticket_quota.specs.declared.view.Terms.{Terms}
 use Rattle.sched_ticket_quota.specs.declared.view.View.{View}
-use Rattle.sched_ticket_quota.proofs.Numbers.{window_at-mono, below-mono, allow-most}
+use Rattle.sched_ticket_quota.proofs.Numbers.{window_at-mono, below-mono, allow-most, few-carried, drawn-late}
 use Rattle.sched_ticket_quota.proofs.Whole.{windows_kept}
 
 -- a pass that comes to a window opened none, or this one
@@ -67,10 +67,22 @@ opens_its_own b now v w called = elim called [
   ]
 ]
 
+turned-kind : (b : Name) (now : ℕ) (v u : View) → Turned b now v u → u.carries ≡ v.carries
+turned-kind b now v u turned = elim turned [
+  | inl there ↦ ap (λ (x : View). x.carries) there.1
+  | inr comes ↦ elim comes [
+    | inl meets ↦ ap (λ (x : View). x.carries) meets.3
+    | inr opens ↦ ap (λ (x : View). x.carries) opens.5
+  ]
+]
+
 pub draws_no_earlier : DrawsNoEarlier
-draws_no_earlier b now v t w drew =
+draws_no_earlier b now v t w kind drew =
     let won = drew.2 in
-    omega (arith, turned-reaches b now v drew.0 drew.1, won.tries.later, won.ticket)
+    let u : View = won.tried in
+    let same : u.carries ≡ b.carries = ap (λ (x : View). x.carries) won.tries.same ∙ turned-kind b now v drew.0 drew.1 ∙ kind in
+    let few = few-carried u.carries (terms_of u.terms u.current) u.seen u.past u.found in
+    omega (arith, turned-reaches b now v drew.0 drew.1, won.tries.later, drawn-late b.carries t (window_of u.seen) (omega (arith, few, ap late_numbers same, won.ticket)))
 
 pub counts_no_earlier : CountsNoEarlier
 counts_no_earlier b now n v w deposited =
@@ -160,12 +172,12 @@ module _ (k : Terms) (s : State ℕ View) (kept : IsKept k s) (most : Terms) (gr
       let n : ℕ = requests_in s.views w in
       omega (
         arith,
-        windows_kept k (words_of s kept.window kept.latest) s.views kept.orderly w (most.reserve + (most.share * n) / 1000)
+        windows_kept k (words_of s kept.window kept.latest kept.carries) s.views kept.orderly w (most.reserve + (most.share * n) / 1000)
             (allow-most k (in_force k s.views) most.reserve most.share n (λ x some-force. greatest (terms_of k x) (x, some-force, refl))),
       )
 
   -- so many windows have no more than their reserves and shares
-  each-reserve : (w c : ℕ) → 1000 * over (tickets_in s.views) w c ≤ c * (1000 * most.reserve) + most.share * over (requests_in s.views) w c
+  pub each-reserve : (w c : ℕ) → 1000 * over (tickets_in s.views) w c ≤ c * (1000 * most.reserve) + most.share * over (requests_in s.views) w c
   each-reserve w zero = omega arith
   each-reserve w (suc c) = omega (arith, each-reserve w c, window-most (w + c))
 

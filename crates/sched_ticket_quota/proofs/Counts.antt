@@ -1,17 +1,17 @@
 -- What the rule says of the words, and of all views together.
-use Rattle.std.proofs.Common.{◌≡◌, ℕ, ◌+◌, ◌-◌, ◌<◌, ◌≤◌, min, List, set, cond, ap, subst, arith, lt_of_not-le, lt-ltb, le-ltb}
+use Rattle.std.proofs.Common.{◌≡◌, ℕ, Bool, ◌+◌, ◌-◌, ◌<◌, ◌≤◌, min, List, set, cond, sym, ap, subst, arith, lt_of_not-le, lt-ltb, le-ltb}
 use mathlib.Core.Logic.{dite}
 use mathlib.Core.Option.{some}
 use native.Mathlib.Decide.{dec_le}
 use lib.ListN.{get_elem?}
 use Rattle.sched_ticket.specs.Lists.{total, below, is}
 use Rattle.sched_ticket.proofs.Sums.{total-set, total-one, term_le, total-le, total-plus, below-one, below-is, once_below-le, from, below-from, none_from}
-use Rattle.sched_ticket_quota.specs.Windows.{window_of, first_of, within, count_in}
-use Rattle.sched_ticket_quota.specs.Rule.{ticket_weight, request_weight, tickets_in, returned_in, requests_in, weights, may_count, openings, begins, IsDealt, IsCounted, IsSeen, IsFound, Words, IsOrderly}
+use Rattle.sched_ticket_quota.specs.Windows.{window_of, first_of, own_numbers, late_numbers, within, count_in}
+use Rattle.sched_ticket_quota.specs.Rule.{ticket_weight, request_weight, dealt_in, requests_in, weights, may_count, openings, begins, IsDealt, IsCounted, IsSeen, IsFound, Words, IsOrderly}
 use Rattle.sched_ticket_quota.specs.Steps.{IsNoLater, IsLater, IsSound}
 use Rattle.sched_ticket_quota.specs.declared.view.Terms.{Terms}
 use Rattle.sched_ticket_quota.specs.declared.view.View.{View}
-use Rattle.sched_ticket_quota.proofs.Numbers.{below-within}
+use Rattle.sched_ticket_quota.proofs.Numbers.{below-within, both-numbers}
 
 pub may_count-yes : (v : View) → v.told < 12884901888000000000 → may_count v ≡ v.weight
 may_count-yes v h = ap (λ b. cond b v.weight 0) (lt-ltb v.told 12884901888000000000 h)
@@ -69,22 +69,26 @@ module _ (asked latest : ℕ) (views : List View) (c : IsCounted asked latest vi
       let full : 4294967296 ≤ requests_in views (w - 1) = omega arith in
       omega arith)
 
-module _ (drawn window : ℕ) (views : List View) (d : IsDealt drawn window views) where
+-- the tickets of a window and those handed back
+pub all-dealt : (views : List View) (w : ℕ) → total (ticket_weight (within (first_of w) 4294967296)) views ≡ dealt_in views w
+all-dealt views w = total-plus (λ (v : View). count_in w v.tickets) (λ (v : View). count_in w v.returned) views
+
+module _ (c : Bool) (drawn window : ℕ) (views : List View) (d : IsDealt c drawn window views) where
   -- as many tickets were given in the latest window as its word says
-  pub found_at : IsFound (λ w. tickets_in views w + returned_in views w) drawn
+  pub found_at : IsFound c (dealt_in views) drawn
   found_at w low high =
       let a : ℕ = first_of w in
       let h : ℕ → ℕ = within a 4294967296 in
       let from = d.from in
       let to = d.to in
-      let begun : 0 < window → first_of window < drawn = d.begun in
+      let begun : 0 < window → first_of window < drawn + late_numbers c = d.begun in
+      let numbers = both-numbers c in
       let same : window ≡ w = dite (dec_le 1 window) (λ some-window. let s = begun some-window in omega arith) (λ none. omega arith) in
       let start : first_of window ≡ a = ap first_of same in
       let up : below h drawn ≤ below h (first_of window) + total (ticket_weight h) views = d.all h in
       let here : below h drawn ≡ min (drawn - a) 4294967296 = below-within a 4294967296 drawn in
       let before : below h (first_of window) ≡ min (first_of window - a) 4294967296 = below-within a 4294967296 (first_of window) in
-      let both : total (ticket_weight h) views ≡ tickets_in views w + returned_in views w = total-plus (λ (v : View). count_in w v.tickets) (λ (v : View). count_in w v.returned) views in
-      omega arith
+      omega (arith, all-dealt views w)
 
   -- the next ticket comes after all tickets of each pass
   pub is_later : (by : ℕ) (v : View) (t : ℕ) → get_elem? views by ≡ some v → drawn ≤ t → t < 17496587910722355200 → IsLater v t
@@ -97,17 +101,22 @@ module _ (k : Terms) (x : Words) (views : List View) (o : IsOrderly k x views) w
   asked_le = omega (arith, o.counted.small)
 
   pub drawn_le : x.drawn ≤ 17496587910722355200
-  drawn_le = omega (arith, o.dealt.to, o.behind, asked_le)
+  drawn_le = omega (arith, o.dealt.to, o.behind, asked_le, both-numbers x.carries)
 
   module _ (by : ℕ) (v : View) (at : get_elem? views by ≡ some v) where
+    -- what a pass would find now was dealt
+    pub found_now : 0 < v.weight → IsFound v.carries (dealt_in views) x.drawn
+    found_now live = subst (λ (c : Bool). IsFound c (dealt_in views) x.drawn) (sym ((o.each by v at).kind live)) (found_at x.carries x.drawn x.window views o.dealt)
+
     -- what a pass has found is of no window past the latest
-    pub no_later : IsNoLater v.found x.asked
-    no_later =
+    pub no_later : 0 < v.weight → IsNoLater v.carries v.found x.asked
+    no_later live =
+        let kind = ap own_numbers ((o.each by v at).kind live) in
         let f = (o.each by v at).found in
         let to = o.dealt.to in
         let behind = o.behind in
         let low : x.window ≤ window_of x.asked = omega arith in
-        omega arith
+        omega (arith, kind)
 
     pub is_sound : IsSound v
     is_sound = record {

@@ -1,5 +1,5 @@
 -- The calls on a quota, and how many tickets they drew.
-use Rattle.std.proofs.Common.{◌≡◌, ℕ, zero, suc, ◌+◌, ◌-◌, ◌*◌, ◌/◌, ◌<◌, ◌≤◌, List, [], ◌∷◌, ◌++◌, length, cond, ltb, inl, inr, refl, ap, ◌∙◌, sym, subst, arith, lt-ltb, le-ltb, lt_of_not-le}
+use Rattle.std.proofs.Common.{◌≡◌, ℕ, Bool, zero, suc, ◌+◌, ◌-◌, ◌*◌, ◌/◌, ◌<◌, ◌≤◌, List, [], ◌∷◌, ◌++◌, length, cond, ltb, inl, inr, refl, ap, ◌∙◌, sym, subst, arith, lt-ltb, le-ltb, lt_of_not-le}
 use Rattle.std.proofs.lemmas.List.{length-append}
 use mathlib.Core.Logic.{dite}
 use mathlib.Core.Option.{some}
@@ -7,22 +7,24 @@ use native.Mathlib.Decide.{ℕ_discrete, dec_le}
 use lib.ListN.{get_elem?}
 use Rattle.sched_ticket.specs.Lists.{total, Each, is, times}
 use Rattle.sched_ticket.proofs.Sums.{total-append, total-plus, Each-map, is-same, is-other, below-from, term_le, none_from, from}
-use Rattle.sched_ticket_quota.specs.Windows.{window_of, first_of, window_at, within, count_in}
-use Rattle.sched_ticket_quota.specs.Rule.{ticket_weight, tickets_in, returned_in, requests_in, openings, begins, drawn_of}
+use Rattle.sched_ticket_quota.specs.Windows.{first_of, window_at, drawn_at, count_drawn, before}
+use Rattle.sched_ticket_quota.specs.Rule.{ticket_weight, requests_in, openings, begins, drawn_of}
+use Rattle.sched_ticket_quota.specs.Carried.{carried_from, drawn_in, handed_back_in}
 use Rattle.sched_ticket_quota.specs.Held.{Name}
 use Rattle.sched_ticket_quota.specs.Calls.{Turned}
 use Rattle.sched_ticket_quota.specs.Clocks.{Called, over}
 use Rattle.sched_ticket_quota.specs.Histories.{Call, call_of, IsCalling, Made, begins_first, has_called, is_calling, sets_terms, hands_back, keeps_ticket, gives_part, begins_as_part, takes_in, is_taken_in, AreMade, drawn_from, opened_after, CallsAreBounded}
 use Rattle.sched_ticket_quota.specs.declared.view.Terms.{Terms}
 use Rattle.sched_ticket_quota.specs.declared.view.View.{View}
-use Rattle.sched_ticket_quota.proofs.Numbers.{window_at-mono, within-yes, below-mono}
+use Rattle.sched_ticket_quota.proofs.Numbers.{window_at-mono, below-mono, drawn-early}
+use Rattle.sched_ticket_quota.proofs.Carried.{runs-drawn, carried-kept}
 use Rattle.sched_ticket_quota.proofs.Clocks.{OpensOwn, opens-then, opens_its_own, draws_no_earlier, windows-apart, over-split, scaled, bounded-by}
 
 -- ---- what one call did
 
 -- the tickets that it drew, and the windows that it opened
 abbrev DrewSome : Name → ℕ → View → View → Type 0
-DrewSome b now v w = (ts : List ℕ) × (w.tickets ≡ ts ++ v.tickets) × Each (λ t. window_at b.terms b.start now ≤ window_of t) ts
+DrewSome b now v w = (ts : List ℕ) × (w.tickets ≡ ts ++ v.tickets) × Each (λ t. window_at b.terms b.start now ≤ drawn_at b.carries t) ts
 
 abbrev OpenedSome : Name → ℕ → View → View → Type 0
 OpenedSome b now v w = (os : List ℕ) × (w.opened ≡ os ++ v.opened) × Each (λ o. o ≡ first_of (window_at b.terms b.start now)) os
@@ -36,8 +38,8 @@ turned-tickets b now v u turned = elim turned [
   ]
 ]
 
-called-drew : (b : Name) (now : ℕ) (v w : View) → Called b now v w → DrewSome b now v w
-called-drew b now v w called = elim called [
+called-drew : (b : Name) (now : ℕ) (v w : View) → v.carries ≡ b.carries → Called b now v w → DrewSome b now v w
+called-drew b now v w kind called = elim called [
   | inl deposited ↦ (
     [],
     elim (deposited.1.2) [
@@ -51,7 +53,7 @@ called-drew b now v w called = elim called [
         let won = drew.1.2 in
         let t : ℕ = drew.0 in
         let before : won.tried.tickets ≡ v.tickets = ap (λ (x : View). x.tickets) won.tries.same ∙ turned-tickets b now v drew.1.0 drew.1.1 in
-        (t ∷ [], ap (λ (x : View). x.tickets) won.gained ∙ ap (λ xs. t ∷ xs) before, (draws_no_earlier b now v t w drew.1, tt))
+        (t ∷ [], ap (λ (x : View). x.tickets) won.gained ∙ ap (λ xs. t ∷ xs) before, (draws_no_earlier b now v t w kind drew.1, tt))
     | inr rest ↦ elim rest [
       | inl refused ↦ ([], ap (λ (x : View). x.tickets) refused.1.2.tries.same ∙ turned-tickets b now v refused.1.0 refused.1.1, tt)
       | inr told ↦ ([], ap (λ (x : View). x.tickets) told.1.tries.same ∙ turned-tickets b now v told.1.turned told.1.turns, tt)
@@ -129,12 +131,12 @@ over-total : {A : Type 0} (g : ℕ → A → ℕ) (l : List A) (w c : ℕ) → o
 over-total g l w zero = sym (total-none l)
 over-total g l w (suc c) = omega (arith, over-total g l w c, total-plus (λ v. over (λ x. g x v) w c) (g (w + c)) l)
 
--- a number is of one of the windows
-over-within : (t w c : ℕ) → w ≤ window_of t → window_of t < w + c → 1 ≤ over (λ x. within (first_of x) 4294967296 t) w c
-over-within t w zero low high = absurd (omega arith)
-over-within t w (suc c) low high = dite (ℕ_discrete (window_of t) (w + c))
-    (λ here. omega (arith, within-yes (first_of (w + c)) 4294967296 t (omega arith) (omega arith)))
-    (λ not. omega (arith, over-within t w c low (omega (arith, high, not))))
+-- a window is one of those that it lies among
+over-one : (n w c : ℕ) → w ≤ n → n < w + c → 1 ≤ over (λ x. is x n) w c
+over-one n w zero low high = absurd (omega arith)
+over-one n w (suc c) low high = dite (ℕ_discrete n (w + c))
+    (λ here. omega (arith, is-same (w + c) n here))
+    (λ not. omega (arith, over-one n w c low (omega (arith, high, not))))
 
 -- and the first number of at most one
 over-none : (o w c : ℕ) → o < first_of w → over (λ x. is (first_of x) o) w c ≡ 0
@@ -172,16 +174,16 @@ Each-all P (x ∷ xs) all = (all 0 x refl, Each-all P xs (λ i v at. all (suc i)
 -- ---- tickets
 
 module _ (b : Name) (since count : ℕ) where
-  -- how many of these windows a number is of
+  -- how many of these windows a ticket was drawn in
   abbrev stands : ℕ → ℕ
-  stands t = over (λ x. within (first_of x) 4294967296 t) (window_at b.terms b.start since) count
+  stands t = over (λ x. is x (drawn_at b.carries t)) (window_at b.terms b.start since) count
 
   abbrev IsEarly : ℕ → Type 0
-  IsEarly t = window_of t < window_at b.terms b.start since + count
+  IsEarly t = drawn_at b.carries t < window_at b.terms b.start since + count
 
-  each-stands : (ts : List ℕ) → Each (λ t. window_at b.terms b.start since ≤ window_of t) ts → Each IsEarly ts → length ts ≤ total stands ts
+  each-stands : (ts : List ℕ) → Each (λ t. window_at b.terms b.start since ≤ drawn_at b.carries t) ts → Each IsEarly ts → length ts ≤ total stands ts
   each-stands [] late early = omega arith
-  each-stands (t ∷ ts) late early = omega (arith, over-within t (window_at b.terms b.start since) count late.0 early.0, each-stands ts late.1 early.1)
+  each-stands (t ∷ ts) late early = omega (arith, over-one (drawn_at b.carries t) (window_at b.terms b.start since) count late.0 early.0, each-stands ts late.1 early.1)
 
   one-drew : (now : ℕ) (v w : View) (calls : List Call) → DrewSome b now v w → Each IsEarly w.tickets
       → w.returned ≡ v.returned → (Each IsEarly v.tickets → drawn_from since calls ≤ total stands v.tickets + total stands v.returned)
@@ -197,7 +199,7 @@ module _ (b : Name) (since count : ℕ) where
       dite (dec_le since now)
       (λ later.
       let up : window_at b.terms b.start since ≤ window_at b.terms b.start now = window_at-mono b.terms b.start since now later in
-      let late : Each (λ t. window_at b.terms b.start since ≤ window_of t) ts = Each-map (λ t. window_at b.terms b.start now ≤ window_of t) (λ t. window_at b.terms b.start since ≤ window_of t) (λ t at. omega (arith, up, at)) ts drew.2 in
+      let late : Each (λ t. window_at b.terms b.start since ≤ drawn_at b.carries t) ts = Each-map (λ t. window_at b.terms b.start now ≤ drawn_at b.carries t) (λ t. window_at b.terms b.start since ≤ drawn_at b.carries t) (λ t at. omega (arith, up, at)) ts drew.2 in
       let here : cond (ltb now since) 0 n ≡ n = ap (λ x. cond x 0 n) (le-ltb now since later) in
       omega (arith, here, size, each-stands ts late (Each-front IsEarly ts v.tickets both), all, rest, back))
       (λ not.
@@ -206,9 +208,9 @@ module _ (b : Name) (since count : ℕ) where
 
   all-drew : (calls : List Call) (v : View) → Made b calls v → Each IsEarly v.tickets → Each IsEarly v.returned → drawn_from since calls ≤ total stands v.tickets + total stands v.returned
   all-drew calls v begins_first early back = omega arith
-  all-drew calls v (has_called now u _ before did made) early back =
+  all-drew calls v (has_called now u _ earlier kind did made) early back =
       let same : v.returned ≡ u.returned = called-returned b now u v did in
-      one-drew now u v before (called-drew b now u v did) early same (λ e. all-drew before u made e (subst (Each IsEarly) same back))
+      one-drew now u v earlier (called-drew b now u v kind did) early same (λ e. all-drew earlier u made e (subst (Each IsEarly) same back))
   all-drew calls v (is_calling now u _ before does made) early back =
       let same : v.returned ≡ u.returned = calling-returned b now u v does in
       one-drew now u v before (calling-drew b now u v does) early same (λ e. all-drew before u made e (subst (Each IsEarly) same back))
@@ -237,15 +239,15 @@ module _ (b : Name) (since count : ℕ) where
   all-drew calls v is_taken_in early back = omega arith
 
   all-views : (calls : List (List Call)) (views : List View) → AreMade b calls views → Each (λ (v : View). Each IsEarly v.tickets × Each IsEarly v.returned) views →
-      total (drawn_from since) calls ≤ total (λ (v : View). over (λ x. count_in x v.tickets) (window_at b.terms b.start since) count) views + total (λ (v : View). over (λ x. count_in x v.returned) (window_at b.terms b.start since) count) views
+      total (drawn_from since) calls ≤ total (λ (v : View). over (λ x. count_drawn b.carries x v.tickets) (window_at b.terms b.start since) count) views + total (λ (v : View). over (λ x. count_drawn b.carries x v.returned) (window_at b.terms b.start since) count) views
   all-views [] [] made early = omega arith
   all-views [] (v ∷ vs) made early = absurd made
   all-views (cs ∷ css) [] made early = absurd made
   all-views (cs ∷ css) (v ∷ vs) made early = omega (
     arith,
     all-drew cs v made.0 early.0.0 early.0.1,
-    over-total (λ x t. within (first_of x) 4294967296 t) v.tickets (window_at b.terms b.start since) count,
-    over-total (λ x t. within (first_of x) 4294967296 t) v.returned (window_at b.terms b.start since) count,
+    over-total (λ x t. is x (drawn_at b.carries t)) v.tickets (window_at b.terms b.start since) count,
+    over-total (λ x t. is x (drawn_at b.carries t)) v.returned (window_at b.terms b.start since) count,
     all-views css vs made.1 early.1,
   )
 
@@ -282,7 +284,7 @@ module _ (b : Name) (to e : ℕ) where
 
   all-opened : (calls : List Call) (v : View) → Made b calls v → total opens v.opened ≤ opened_after to calls
   all-opened calls v begins_first = omega arith
-  all-opened calls v (has_called now u _ before did made) = one-opened now u v before (opened-some b now u v (opens_its_own b now u v did)) (all-opened before u made)
+  all-opened calls v (has_called now u _ before _ did made) = one-opened now u v before (opened-some b now u v (opens_its_own b now u v did)) (all-opened before u made)
   all-opened calls v (is_calling now u _ before does made) = one-opened now u v before (opened-some b now u v (calling-opens b now u v does)) (all-opened before u made)
   all-opened calls v (sets_terms u _ _ made) = all-opened calls u made
   all-opened calls v (hands_back u _ _ did made) = omega (arith, all-opened calls u made, ap (λ (x : View). total opens x.opened) did.same)
@@ -318,7 +320,7 @@ over-begins views t (suc e) =
     omega (arith, over-begins views t e, ap (requests_in views) at)
 
 pub calls_are_bounded : CallsAreBounded
-calls_are_bounded b s terms kept most greatest calls made since to count le last =
+calls_are_bounded b s terms kept kind most greatest calls made since to count le last =
     let k : Terms = b.terms in
     let some-period : 0 < k.period = omega (arith, terms.period) in
     let apart : ℕ = (to - since) / k.period in
@@ -329,14 +331,17 @@ calls_are_bounded b s terms kept most greatest calls made since to count le last
     let A : ℕ = total (opened_after to) calls in
     let B : ℕ = over R w count / 4294967296 in
     let d : ℕ = drawn_of s in
-    let early : Each (λ (v : View). Each (λ t. window_of t < w + count) v.tickets × Each (λ t. window_of t < w + count) v.returned) s.views =
-    Each-all (λ (v : View). Each (λ t. window_of t < w + count) v.tickets × Each (λ t. window_of t < w + count) v.returned) s.views (λ i v at.
+    let IsIn : ℕ → Type 0 = λ t. drawn_at b.carries t < w + count in
+    let early : Each (λ (v : View). Each IsIn v.tickets × Each IsIn v.returned) s.views =
+    Each-all (λ (v : View). Each IsIn v.tickets × Each IsIn v.returned) s.views (λ i v at.
     let none : ticket_weight (from d) v ≡ 0 = omega (arith, term_le (ticket_weight (from d)) s.views i v at, kept.orderly.dealt.once (from d), below-from d d (omega arith)) in
-    let below-it : (ts : List ℕ) → total (from d) ts ≡ 0 → Each (λ t. window_of t < w + count) ts =
-    λ ts none. Each-map (λ t. t < d) (λ t. window_of t < w + count) (λ t small. omega (arith, small, last)) ts (none_from d ts none) in
+    let below-it : (ts : List ℕ) → total (from d) ts ≡ 0 → Each IsIn ts =
+    λ ts none. Each-map (λ t. t < d) IsIn (λ t small. drawn-early b.carries t (w + count) (omega (arith, small, last))) ts (none_from d ts none) in
     (below-it v.tickets (omega (arith, none)), below-it v.returned (omega (arith, none)))) in
-    let drawn : total (drawn_from since) calls ≤ over (tickets_in s.views) w count + over (returned_in s.views) w count =
-    omega (arith, all-views b since count calls s.views made early, over-total (λ x (v : View). count_in x v.tickets) s.views w count, over-total (λ x (v : View). count_in x v.returned) s.views w count) in
+    let drawn : total (drawn_from since) calls ≤ over (drawn_in b.carries s.views) w count + over (handed_back_in b.carries s.views) w count =
+    omega (arith, all-views b since count calls s.views made early, over-total (λ x (v : View). count_drawn b.carries x v.tickets) s.views w count, over-total (λ x (v : View). count_drawn b.carries x v.returned) s.views w count) in
+    let before-it : 1000 * before b.carries (carried_from b.carries s.views) w ≤ most.share * before b.carries R w =
+    subst (λ (c : Bool). 1000 * before c (carried_from c s.views) w ≤ most.share * before c R w) kind (carried-kept k s kept most greatest w) in
     let begun : (e : ℕ) → till + 1 + e ≤ w + count → over (begins s.views) (till + 1) e ≤ A + B =
     λ e inside. omega (
       arith,
@@ -345,7 +350,15 @@ calls_are_bounded b s terms kept most greatest calls made since to count le last
       over-total (λ x (v : View). times (first_of x) v.opened) s.views (till + 1) e,
       over-inner R w count till e low (omega arith),
     ) in
-    let bound = scaled (over (tickets_in s.views) w count) (apart + 2 + (A + B)) most.reserve (most.share * over R w count)
-    (bounded-by k s kept most greatest w till apart count (A + B) low (windows-apart k b.start since to some-period le) begun) in
+    let D : ℕ = over (drawn_in b.carries s.views) w count in
+    let H : ℕ = over (handed_back_in b.carries s.views) w count in
+    let shares : ℕ = most.share * (before b.carries R w + over R w count) in
+    let bound : D ≤ (apart + 2 + (A + B)) * most.reserve + shares / 1000 = scaled D (apart + 2 + (A + B)) most.reserve shares
+    (omega (
+      arith,
+      runs-drawn b.carries s.views w count,
+      before-it,
+      bounded-by k s kept most greatest w till apart count (A + B) low (windows-apart k b.start since to some-period le) begun,
+    )) in
     let same : apart + 2 + (A + B) ≡ apart + 2 + A + B = omega arith in
-    subst (λ x. total (drawn_from since) calls ≤ over (returned_in s.views) w count + x * most.reserve + (most.share * over R w count) / 1000) same (omega (arith, drawn, bound))
+    subst (λ x. total (drawn_from since) calls ≤ H + x * most.reserve + shares / 1000) same (omega (arith, drawn, bound))

@@ -1,12 +1,29 @@
 -- What a pass keeps, after a draw and after a join.
-use Rattle.std.proofs.Common.{◌≡◌, ℕ, ◌+◌, ◌-◌, ◌<◌, max, List, ◌∷◌, ◌++◌, length, Option, None, Some, IfSome, ap, ◌∙◌, arith, length-append}
-use Rattle.sched_ticket_quota.specs.Windows.{window_at}
-use Rattle.sched_ticket_quota.specs.View.{joined_view}
+use Rattle.std.proofs.Common.{◌≡◌, ℕ, Bool, ◌+◌, ◌-◌, ◌<◌, max, List, ◌∷◌, ◌++◌, length, Option, None, Some, IfSome, ap, ◌∙◌, arith, length-append}
+use Rattle.sched_ticket_quota.specs.Windows.{window_at, terms_of, floor_of, carried_to}
+use Rattle.sched_ticket_quota.specs.View.{carried_by, joined_view}
 use Rattle.sched_ticket_quota.specs.Steps.{Sat, IsSound}
 use Rattle.sched_ticket_quota.specs.Held.{IsKnown}
 use Rattle.sched_ticket_quota.specs.Calls.{Won}
 use Rattle.sched_ticket_quota.specs.declared.view.Terms.{Terms}
 use Rattle.sched_ticket_quota.specs.declared.view.View.{View}
+
+-- what is carried to a window, by the words that a pass has read
+pub carried_known : (v : View) (c : Bool) (k : Terms) (x q p d : ℕ) → v.carries ≡ c → v.terms ≡ k → v.current ≡ x → v.seen ≡ q → v.past ≡ p → v.found ≡ d → carried_by v ≡ carried_to c (terms_of k x) q p d
+carried_known v c k x q p d kind terms current seen past found =
+    ap (λ (z : Bool). carried_to z (terms_of v.terms v.current) v.seen v.past v.found) kind
+    ∙ ap (λ (z : Terms). carried_to c (terms_of z v.current) v.seen v.past v.found) terms
+    ∙ ap (λ (z : ℕ). carried_to c (terms_of k z) v.seen v.past v.found) current
+    ∙ ap (λ (z : ℕ). carried_to c (terms_of k x) z v.past v.found) seen
+    ∙ ap (λ (z : ℕ). carried_to c (terms_of k x) q z v.found) past
+    ∙ ap (λ (z : ℕ). carried_to c (terms_of k x) q p z) found
+
+-- and where the numbers of the window end
+pub floor_known : (v : View) (c : Bool) (k : Terms) (x q : ℕ) → v.carries ≡ c → v.current ≡ x → v.seen ≡ q → floor_of v.carries (terms_of k v.current) v.seen v.back ≡ floor_of c (terms_of k x) q v.back
+floor_known v c k x q kind current seen =
+    ap (λ (z : Bool). floor_of z (terms_of k v.current) v.seen v.back) kind
+    ∙ ap (λ (z : ℕ). floor_of c (terms_of k z) v.seen v.back) current
+    ∙ ap (λ (z : ℕ). floor_of c (terms_of k x) z v.back) seen
 
 -- a pass that has won a ticket may hand it back
 pub won_known : (k : Terms) (m n : Sat) (t g w told from until : ℕ) (latest : Option ℕ) → IsKnown m g w told from until latest → n.1 ≡ m.1 → Won k m.0 t n.0 → IsKnown n (g + 1) w told from until (Some t)

@@ -1,5 +1,5 @@
 -- Each step keeps the rule.
-use Rattle.std.proofs.Common.{◌≡◌, ◌≢◌, ℕ, ◌+◌, ◌-◌, ◌%◌, ◌^◌, ◌<◌, ◌≤◌, ◌==◌, max, List, [], ◌∷◌, length, set, slice_index, sym, refl, ap, ◌∙◌, subst, arith, ⊎_elim, lt_of_not-le, length-set}
+use Rattle.std.proofs.Common.{◌≡◌, ◌≢◌, ℕ, Bool, true, ◌+◌, ◌-◌, ◌*◌, ◌/◌, ◌%◌, ◌^◌, ◌<◌, ◌≤◌, ◌==◌, max, cond, ne_eqb, List, length, set, slice_index, sym, refl, ap, ◌∙◌, subst, arith, ⊎_elim, lt_of_not-le, length-set}
 use Rattle.std.proofs.Math.Nat.{mod-eq_of_lt}
 use Rattle.std.proofs.lemmas.List.{get_or-set_same, get_or-set_other}
 use mathlib.Core.Logic.{dite}
@@ -9,28 +9,28 @@ use prog.Atomic.{either}
 use lib.ListN.{get_elem?}
 use Rattle.atomic_table.specs.Table.{Step, keeps, Allows}
 use Rattle.atomic_table.proofs.Lists.{at_set, exchanged}
-use Rattle.sched_ticket.specs.Lists.{total, below, Each, times, is}
-use Rattle.sched_ticket.proofs.Sums.{total-append, total-set, term_le, Each-append, below_more, below-from, from, none_from, is-same}
-use Rattle.sched_ticket_quota.specs.Windows.{window_of, first_of, terms_of, allowed, back_in, floor_of, within, count_in}
+use Rattle.sched_ticket.specs.Lists.{total, below, times, is}
+use Rattle.sched_ticket.proofs.Sums.{total-append, total-set, term_le, below_more, is-same}
+use Rattle.sched_ticket_quota.specs.Windows.{window_of, first_of, terms_of, AllowNoMore, ShareNoMore, allowed, own_numbers, late_numbers, back_in, floor_of, left_of, carried_to, within, count_in}
 use Rattle.sched_ticket_quota.specs.View.{numbers, with_reading, with_glance, with_change, with_opening, with_requests, with_found, with_ticket, with_loss, next_ticket}
-use Rattle.sched_ticket_quota.specs.View.{with_recall, with_asking, with_setback, latest_in, without_latest, with_return}
-use Rattle.sched_ticket_quota.specs.Rule.{ticket_weight, request_weight, tickets_in, returned_in, requests_in, weights, may_count, openings, in_force, begins, IsAllowed, IsDealt, IsCounted, IsSeen, IsFound, Words, Fits, IsOrderly, IsKept}
+use Rattle.sched_ticket_quota.specs.View.{with_recall, with_review, with_note, with_asking, carried_by}
+use Rattle.sched_ticket_quota.specs.Rule.{ticket_weight, request_weight, tickets_in, returned_in, dealt_in, late_in, requests_in, weights, may_count, openings, in_force, begins, IsDealt, AreLate, IsGiven, IsCounted, IsSeen, IsNoted, IsFound, Words, Fits, IsOrderly, IsKept}
 use Rattle.sched_ticket_quota.specs.Whole.{IsWhole}
-use Rattle.sched_ticket_quota.specs.Steps.{Sat, reads, glances, changes, opens, counts, finds, wins, recalls, asks, returns, lapses, learns}
+use Rattle.sched_ticket_quota.specs.Steps.{Sat, reads, glances, changes, opens, counts, finds, wins, recalls, reviews, notes, asks, learns}
 use Rattle.sched_ticket_quota.specs.declared.view.Terms.{Terms}
 use Rattle.sched_ticket_quota.specs.declared.view.View.{View}
-use Rattle.sched_ticket_quota.proofs.Numbers.{allowed-mono, allows-on, below-mono, below-numbers, within-yes, within-low, within-high, back_in-le}
-use Rattle.sched_ticket_quota.proofs.Counts.{may_count-yes, may_count-no, all_may_count, total-same, total-more, seen_at, begun_at, found_at, is_later, asked_le, drawn_le, no_later, is_sound}
+use Rattle.sched_ticket_quota.proofs.Numbers.{allowed-mono, share-mono, allow-less, share-less, both-numbers, late-carries, few-carried, carried-late, carried-first, below-mono, below-within, below-numbers, within-yes, within-low, within-high, within-other, back_in-le}
+use Rattle.sched_ticket_quota.proofs.Counts.{may_count-yes, may_count-no, all_may_count, total-same, total-more, seen_at, begun_at, all-dealt, found_at, found_now, is_later, asked_le, drawn_le, no_later, is_sound}
 use Rattle.sched_ticket_quota.proofs.Whole.{is_whole}
 
 -- the draws fit where a view with the same tickets, out and handed back, takes another's place
-dealt-same : (d window : ℕ) (views : List View) (j : ℕ) (v w : View) → get_elem? views j ≡ some v → ((h : ℕ → ℕ) → ticket_weight h w ≡ ticket_weight h v) → IsDealt d window views → IsDealt d window (set views j w)
-dealt-same d window views j v w at same o =
+pub dealt-same : (c : Bool) (d window : ℕ) (views : List View) (j : ℕ) (v w : View) → get_elem? views j ≡ some v → ((h : ℕ → ℕ) → ticket_weight h w ≡ ticket_weight h v) → IsDealt c d window views → IsDealt c d window (set views j w)
+dealt-same c d window views j v w at same o =
     let sums : (h : ℕ → ℕ) → total (ticket_weight h) (set views j w) ≡ total (ticket_weight h) views = λ h. total-same (ticket_weight h) views j v w at (same h) in
     record { once = λ h. omega (arith, sums h, o.once h); all = λ h. omega (arith, sums h, o.all h); from = o.from; to = o.to; begun = o.begun }
 
 -- the requests fit where a view with the same requests takes another's place
-counted-same : (q latest : ℕ) (views : List View) (j : ℕ) (v w : View) → get_elem? views j ≡ some v → w.requests ≡ v.requests → may_count w ≡ may_count v → w.opened ≡ v.opened
+pub counted-same : (q latest : ℕ) (views : List View) (j : ℕ) (v w : View) → get_elem? views j ≡ some v → w.requests ≡ v.requests → may_count w ≡ may_count v → w.opened ≡ v.opened
     → IsCounted q latest views → IsCounted q latest (set views j w)
 counted-same q latest views j v w at same may opened o =
     let sums : (h : ℕ → ℕ) → total (request_weight h) (set views j w) ≡ total (request_weight h) views = λ h. total-same (request_weight h) views j v w at (ap (total h) same) in
@@ -39,23 +39,50 @@ counted-same q latest views j v w at same may opened o =
     record { once = λ h. omega (arith, sums h, o.once h); all = λ h. omega (arith, sums h, o.all h); from = o.from; opened = λ some-window. omega (arith, o.opened some-window); small = omega (arith, o.small) }
 
 -- the words with these numbers
-abbrev pub words_at : ℕ → ℕ → ℕ → ℕ → ℕ → ℕ → Words
-words_at d window q latest c r = record { drawn = d; window = window; asked = q; latest = latest; current = c; back = r }
+abbrev pub words_at : ℕ → ℕ → ℕ → ℕ → ℕ → ℕ → ℕ → Bool → Words
+words_at d window q latest c r p kind = record { drawn = d; window = window; asked = q; latest = latest; current = c; back = r; past = p; carries = kind }
 
 -- these views have no less of anything than those
 pub record Grows (k : Terms) (views views' : List View) : Type 0 where
-  pub dealt : (w : ℕ) → tickets_in views w + returned_in views w ≤ tickets_in views' w + returned_in views' w
+  pub dealt : (w : ℕ) → dealt_in views w ≤ dealt_in views' w
   pub returned : (w : ℕ) → returned_in views w ≤ returned_in views' w
   pub requests : (w : ℕ) → requests_in views w ≤ requests_in views' w
   pub starts : (w : ℕ) → begins views w ≤ begins views' w
   pub force : (x : ℕ) → in_force k views x ≤ in_force k views' x
 
 module _ (k : Terms) where
+  -- as many requests stay noted
+  pub noted-on : (views views' : List View) (p : ℕ) → Grows k views views' → IsNoted views p → IsNoted views' p
+  noted-on views views' p g noted = record {
+    counted = omega (arith, noted.counted, g.requests (window_of p - 1));
+    begun = λ later. omega (arith, noted.begun later, g.starts (window_of p - 1));
+  }
+
+  -- what windows give stays within their terms while none is dealt
+  pub given-on : (c : Bool) (d : ℕ) (views views' : List View) → Grows k views views' → ((h : ℕ → ℕ) → total (ticket_weight h) views' ≡ total (ticket_weight h) views)
+      → IsGiven k c d views → IsGiven k c d views'
+  given-on c d views views' g sums given =
+      let less : (w n : ℕ) → AllowNoMore k (in_force k views') (requests_in views' w) n → AllowNoMore k (in_force k views) (requests_in views w) n =
+      λ w n. allow-less k (in_force k views) (in_force k views') (requests_in views w) (requests_in views' w) n (g.requests w) g.force in
+      let fewer : (w n : ℕ) → ShareNoMore k (in_force k views') (requests_in views' w) n → ShareNoMore k (in_force k views) (requests_in views w) n =
+      λ w n. share-less k (in_force k views) (in_force k views') (requests_in views w) (requests_in views' w) n (g.requests w) g.force in
+      let dealt : (w : ℕ) → dealt_in views' w ≡ dealt_in views w = λ w. omega (arith, all-dealt views w, all-dealt views' w, sums (within (first_of w) 4294967296)) in
+      let late : (w : ℕ) → late_in c views' w ≡ late_in c views w = λ w. sums (within (first_of w + own_numbers c) (late_numbers c)) in record {
+        windows = λ w n most. omega (arith, dealt w, given.windows w n (less w n most), g.returned w);
+        shares = λ w n most. omega (arith, late w, given.shares w n (fewer w n most));
+        windows_yet = λ w n near most. omega (arith, dealt w, given.windows_yet w n near (less w n most), g.returned w);
+        shares_yet = λ w n near most. omega (arith, late w, given.shares_yet w n near (fewer w n most));
+        begun = λ w near some-window. omega (arith, given.begun w near some-window, g.starts w);
+      }
+
+  -- where one view has the same tickets as another, in whose place it is
+  pub given-same : (c : Bool) (d : ℕ) (views : List View) (j : ℕ) (v w : View) → get_elem? views j ≡ some v → ((h : ℕ → ℕ) → ticket_weight h w ≡ ticket_weight h v)
+      → Grows k views (set views j w) → IsGiven k c d views → IsGiven k c d (set views j w)
+  given-same c d views j v w at same g = given-on c d views (set views j w) g (λ h. total-same (ticket_weight h) views j v w at (same h))
+
   -- a view fits while numbers grow
-  pub Fits-on : (x x' : Words) (views views' : List View) (u : View) → Fits k x views u → x.drawn ≤ x'.drawn → x.asked ≤ x'.asked → x.back ≤ x'.back → Grows k views views' → Fits k x' views' u
-  Fits-on x x' views views' u f more-d more-q more-r g = record {
-    allows = allows-on k views views' u.tickets g.requests g.returned g.force f.allows;
-    allowed_back = allows-on k views views' u.returned g.requests g.returned g.force f.allowed_back;
+  pub Fits-on : (x x' : Words) (views views' : List View) (u : View) → Fits k x views u → x'.carries ≡ x.carries → x.drawn ≤ x'.drawn → x.asked ≤ x'.asked → x.back ≤ x'.back → x.past ≤ x'.past → Grows k views views' → Fits k x' views' u
+  Fits-on x x' views views' u f same more-d more-q more-r more-p g = record {
     seen = omega (arith, f.seen);
     counted = omega (arith, f.counted, g.requests (window_of u.seen));
     begun = λ some-window. omega (arith, f.begun some-window, g.starts (window_of u.seen));
@@ -63,13 +90,16 @@ module _ (k : Terms) where
     given = λ w low high. omega (arith, f.given w low high, g.dealt w);
     back = omega (arith, f.back);
     came_back = omega (arith, f.came_back, g.returned (window_of u.back));
+    past = noted-on views views' u.past g f.past;
+    noted = omega (arith, f.noted, more-p);
     live = f.live;
+    kind = λ live. f.kind live ∙ sym same;
     force = λ live. omega (arith, f.force live, g.force u.current);
     spent = f.spent;
   }
 
   -- a view that has no less takes another's place
-  grows : (views : List View) (j : ℕ) (v w : View) → get_elem? views j ≡ some v
+  pub grows : (views : List View) (j : ℕ) (v w : View) → get_elem? views j ≡ some v
       → ((n : ℕ) → count_in n v.tickets + count_in n v.returned ≤ count_in n w.tickets + count_in n w.returned) → ((n : ℕ) → count_in n v.returned ≤ count_in n w.returned) → ((n : ℕ) → count_in n v.requests ≤ count_in n w.requests)
       → ((n : ℕ) → times n v.opened ≤ times n w.opened) → ((n : ℕ) → times n v.changes ≤ times n w.changes) → Grows k views (set views j w)
   grows views j v w at more-t more-b more-r more-o more-c =
@@ -82,14 +112,16 @@ module _ (k : Terms) where
       }
 
   -- one view and the words change
-  moved : (x x' : Words) (views : List View) (j : ℕ) (v w : View) → IsOrderly k x views → get_elem? views j ≡ some v → w.weight ≡ v.weight
-      → IsDealt x'.drawn x'.window (set views j w) → IsCounted x'.asked x'.latest (set views j w) → x.drawn ≤ x'.drawn → x.asked ≤ x'.asked → first_of x'.window ≤ x'.asked → x.back ≤ x'.back
+  pub moved : (x x' : Words) (views : List View) (j : ℕ) (v w : View) → IsOrderly k x views → get_elem? views j ≡ some v → w.weight ≡ v.weight → x'.carries ≡ x.carries
+      → IsDealt x'.carries x'.drawn x'.window (set views j w) → IsGiven k x'.carries x'.drawn (set views j w) → x.past ≤ x'.past → IsNoted (set views j w) x'.past → IsCounted x'.asked x'.latest (set views j w) → x.drawn ≤ x'.drawn → x.asked ≤ x'.asked → first_of x'.window ≤ x'.asked → x.back ≤ x'.back
       → Grows k views (set views j w) → 0 < in_force k (set views j w) x'.current → IsSeen (returned_in (set views j w)) x'.back → x'.back ≤ 17496587910722355200
       → ((n : ℕ) → 0 < n → 0 < tickets_in (set views j w) n → 0 < begins (set views j w) n)
       → (Fits k x' (set views j w) v → Fits k x' (set views j w) w) → IsOrderly k x' (set views j w)
-  moved x x' views j v w o at weight dealt counted more-d more-q behind more-b g force came_back few_back entered fits = record {
+  moved x x' views j v w o at weight kind dealt given more-p noted counted more-d more-q behind more-b g force came_back few_back entered fits = record {
     known = o.known;
     dealt = dealt;
+    given = given;
+    noted = noted;
     counted = counted;
     behind = behind;
     entered = entered;
@@ -98,40 +130,46 @@ module _ (k : Terms) where
     few_back = few_back;
     parts = total-same (λ (u : View). u.weight) views j v w at weight ∙ o.parts;
     each = λ by u there. ⊎_elim
-        (λ (t : (by ≡ j) × (w ≡ u)). subst (Fits k x' (set views j w)) t.1 (fits (Fits-on x x' views (set views j w) v (o.each j v at) more-d more-q more-b g)))
-        (λ (t : (by ≢ j) × (get_elem? views by ≡ some u)). Fits-on x x' views (set views j w) u (o.each by u t.1) more-d more-q more-b g)
+        (λ (t : (by ≡ j) × (w ≡ u)). subst (Fits k x' (set views j w)) t.1 (fits (Fits-on x x' views (set views j w) v (o.each j v at) kind more-d more-q more-b more-p g)))
+        (λ (t : (by ≢ j) × (get_elem? views by ≡ some u)). Fits-on x x' views (set views j w) u (o.each by u t.1) kind more-d more-q more-b more-p g)
         (at_set views j by w u there);
   }
 
   -- no window has a first ticket where one view with as many takes another's place
-  entered-same : (x : Words) (views : List View) (j : ℕ) (v w : View) → IsOrderly k x views → get_elem? views j ≡ some v → w.tickets ≡ v.tickets
+  pub entered-same : (x : Words) (views : List View) (j : ℕ) (v w : View) → IsOrderly k x views → get_elem? views j ≡ some v → w.tickets ≡ v.tickets
       → Grows k views (set views j w) → (n : ℕ) → 0 < n → 0 < tickets_in (set views j w) n → 0 < begins (set views j w) n
   entered-same x views j v w o at same g n some-window given =
       let kept : tickets_in (set views j w) n ≡ tickets_in views n = total-same (λ (u : View). count_in n u.tickets) views j v w at (ap (count_in n) same) in
       omega (arith, o.entered n some-window (omega (arith, kept, given)), g.starts n)
 
   -- a step is allowed if it is at any words
-  allows : (n id : ℕ) (m : Sat) (i : ℕ) (f : ℕ → ℕ) (then : ℕ → Sat → Type 0)
-      → ((window latest : ℕ) (ws : List ℕ) (views : List View) → length ws ≡ 32 → IsOrderly k (words_at (slice_index ws 8) window (slice_index ws 24) latest (slice_index ws 25) (slice_index ws 9)) views → get_elem? views id ≡ some m.0
+  pub allows : (n id : ℕ) (m : Sat) (i : ℕ) (f : ℕ → ℕ) (then : ℕ → Sat → Type 0)
+      → ((window latest : ℕ) (kind : Bool) (ws : List ℕ) (views : List View) → length ws ≡ 32 → IsOrderly k (words_at (slice_index ws 8) window (slice_index ws 24) latest (slice_index ws 25) (slice_index ws 9) (slice_index ws 26) kind) views → get_elem? views id ≡ some m.0
       → (w : View) × ((homes : List (Option ℕ)) → IsKept k (record { words = set ws i (f (slice_index ws i)); homes = homes; views = set views id w })) × then (slice_index ws i) (w, m.1))
       → Allows (IsKept k) n id m i f then
   allows n id m i f then go s kept wide at fits =
-      let there = go kept.window kept.latest s.words s.views kept.long kept.orderly at in
+      let there = go kept.window kept.latest kept.carries s.words s.views kept.long kept.orderly at in
       (there.0, keeps, tt, there.1 s.homes, there.2)
 
-  module _ (ws : List ℕ) (views : List View) (homes : List (Option ℕ)) (window latest : ℕ) (long : length ws ≡ 32) where
+  module _ (ws : List ℕ) (views : List View) (homes : List (Option ℕ)) (window latest : ℕ) (kind : Bool) (long : length ws ≡ 32) where
     -- the rule, where one word has become n
-    kept-at : (i n d q c r : ℕ) → d ≡ slice_index (set ws i n) 8 → q ≡ slice_index (set ws i n) 24 → c ≡ slice_index (set ws i n) 25 → r ≡ slice_index (set ws i n) 9
-        → IsOrderly k (words_at d window q latest c r) views → IsKept k (record { words = set ws i n; homes = homes; views = views })
-    kept-at i n d q c r d-is q-is c-is r-is o = record {
-      window = window;
-      latest = latest;
-      long = length-set ws i n ∙ long;
-      orderly = subst (λ (y : ℕ). IsOrderly k (words_at y window (slice_index (set ws i n) 24) latest (slice_index (set ws i n) 25) (slice_index (set ws i n) 9)) views) d-is
-          (subst (λ (y : ℕ). IsOrderly k (words_at d window y latest (slice_index (set ws i n) 25) (slice_index (set ws i n) 9)) views) q-is
-          (subst (λ (y : ℕ). IsOrderly k (words_at d window q latest y (slice_index (set ws i n) 9)) views) c-is
-          (subst (λ (y : ℕ). IsOrderly k (words_at d window q latest c y) views) r-is o)));
-    }
+    kept-at : (i n d q c r p : ℕ) → d ≡ slice_index (set ws i n) 8 → q ≡ slice_index (set ws i n) 24 → c ≡ slice_index (set ws i n) 25 → r ≡ slice_index (set ws i n) 9 → p ≡ slice_index (set ws i n) 26
+        → IsOrderly k (words_at d window q latest c r p kind) views → IsKept k (record { words = set ws i n; homes = homes; views = views })
+    kept-at i n d q c r p d-is q-is c-is r-is p-is o =
+        let e : ℕ = slice_index (set ws i n) 24 in
+        let f : ℕ = slice_index (set ws i n) 25 in
+        let g : ℕ = slice_index (set ws i n) 9 in
+        let h : ℕ = slice_index (set ws i n) 26 in record {
+          window = window;
+          latest = latest;
+          carries = kind;
+          long = length-set ws i n ∙ long;
+          orderly = subst (λ (y : ℕ). IsOrderly k (words_at y window e latest f g h kind) views) d-is
+              (subst (λ (y : ℕ). IsOrderly k (words_at d window y latest f g h kind) views) q-is
+              (subst (λ (y : ℕ). IsOrderly k (words_at d window q latest y g h kind) views) c-is
+              (subst (λ (y : ℕ). IsOrderly k (words_at d window q latest c y h kind) views) r-is
+              (subst (λ (y : ℕ). IsOrderly k (words_at d window q latest c r y kind) views) p-is o))));
+        }
 
     here-is : (i n : ℕ) → i < 32 → n ≡ slice_index (set ws i n) i
     here-is i n small = sym (get_or-set_same ws i n 0 (omega (arith, long, small)))
@@ -139,34 +177,36 @@ module _ (k : Terms) where
     there-is : (i j n : ℕ) → j ≢ i → slice_index ws j ≡ slice_index (set ws i n) j
     there-is i j n apart = sym (get_or-set_other ws i j n 0 apart)
 
-    -- the rule, where the draws have become d, the requests q, the terms c, or those that came back r
-    kept-draws : (d : ℕ) → IsOrderly k (words_at d window (slice_index ws 24) latest (slice_index ws 25) (slice_index ws 9)) views → IsKept k (record { words = set ws 8 d; homes = homes; views = views })
-    kept-draws d o = kept-at 8 d d (slice_index ws 24) (slice_index ws 25) (slice_index ws 9) (here-is 8 d (omega arith)) (there-is 8 24 d (λ e. omega arith)) (there-is 8 25 d (λ e. omega arith)) (there-is 8 9 d (λ e. omega arith)) o
+    -- the rule, where the draws have become d, the requests q, the terms c, those that came back r, or the requests of the window
+    -- before p
+    kept-draws : (d : ℕ) → IsOrderly k (words_at d window (slice_index ws 24) latest (slice_index ws 25) (slice_index ws 9) (slice_index ws 26) kind) views → IsKept k (record { words = set ws 8 d; homes = homes; views = views })
+    kept-draws d o = kept-at 8 d d (slice_index ws 24) (slice_index ws 25) (slice_index ws 9) (slice_index ws 26) (here-is 8 d (omega arith)) (there-is 8 24 d (λ e. omega arith)) (there-is 8 25 d (λ e. omega arith)) (there-is 8 9 d (λ e. omega arith)) (there-is 8 26 d (λ e. omega arith)) o
 
-    kept-requests : (q : ℕ) → IsOrderly k (words_at (slice_index ws 8) window q latest (slice_index ws 25) (slice_index ws 9)) views → IsKept k (record { words = set ws 24 q; homes = homes; views = views })
-    kept-requests q o = kept-at 24 q (slice_index ws 8) q (slice_index ws 25) (slice_index ws 9) (there-is 24 8 q (λ e. omega arith)) (here-is 24 q (omega arith)) (there-is 24 25 q (λ e. omega arith)) (there-is 24 9 q (λ e. omega arith)) o
+    kept-requests : (q : ℕ) → IsOrderly k (words_at (slice_index ws 8) window q latest (slice_index ws 25) (slice_index ws 9) (slice_index ws 26) kind) views → IsKept k (record { words = set ws 24 q; homes = homes; views = views })
+    kept-requests q o = kept-at 24 q (slice_index ws 8) q (slice_index ws 25) (slice_index ws 9) (slice_index ws 26) (there-is 24 8 q (λ e. omega arith)) (here-is 24 q (omega arith)) (there-is 24 25 q (λ e. omega arith)) (there-is 24 9 q (λ e. omega arith)) (there-is 24 26 q (λ e. omega arith)) o
 
-    kept-terms : (c : ℕ) → IsOrderly k (words_at (slice_index ws 8) window (slice_index ws 24) latest c (slice_index ws 9)) views → IsKept k (record { words = set ws 25 c; homes = homes; views = views })
-    kept-terms c o = kept-at 25 c (slice_index ws 8) (slice_index ws 24) c (slice_index ws 9) (there-is 25 8 c (λ e. omega arith)) (there-is 25 24 c (λ e. omega arith)) (here-is 25 c (omega arith)) (there-is 25 9 c (λ e. omega arith)) o
+    kept-terms : (c : ℕ) → IsOrderly k (words_at (slice_index ws 8) window (slice_index ws 24) latest c (slice_index ws 9) (slice_index ws 26) kind) views → IsKept k (record { words = set ws 25 c; homes = homes; views = views })
+    kept-terms c o = kept-at 25 c (slice_index ws 8) (slice_index ws 24) c (slice_index ws 9) (slice_index ws 26) (there-is 25 8 c (λ e. omega arith)) (there-is 25 24 c (λ e. omega arith)) (here-is 25 c (omega arith)) (there-is 25 9 c (λ e. omega arith)) (there-is 25 26 c (λ e. omega arith)) o
 
-    kept-back : (r : ℕ) → IsOrderly k (words_at (slice_index ws 8) window (slice_index ws 24) latest (slice_index ws 25) r) views → IsKept k (record { words = set ws 9 r; homes = homes; views = views })
-    kept-back r o = kept-at 9 r (slice_index ws 8) (slice_index ws 24) (slice_index ws 25) r (there-is 9 8 r (λ e. omega arith)) (there-is 9 24 r (λ e. omega arith)) (there-is 9 25 r (λ e. omega arith)) (here-is 9 r (omega arith)) o
+    pub kept-back : (r : ℕ) → IsOrderly k (words_at (slice_index ws 8) window (slice_index ws 24) latest (slice_index ws 25) r (slice_index ws 26) kind) views → IsKept k (record { words = set ws 9 r; homes = homes; views = views })
+    kept-back r o = kept-at 9 r (slice_index ws 8) (slice_index ws 24) (slice_index ws 25) r (slice_index ws 26) (there-is 9 8 r (λ e. omega arith)) (there-is 9 24 r (λ e. omega arith)) (there-is 9 25 r (λ e. omega arith)) (here-is 9 r (omega arith)) (there-is 9 26 r (λ e. omega arith)) o
+
+    kept-past : (p : ℕ) → IsOrderly k (words_at (slice_index ws 8) window (slice_index ws 24) latest (slice_index ws 25) (slice_index ws 9) p kind) views → IsKept k (record { words = set ws 26 p; homes = homes; views = views })
+    kept-past p o = kept-at 26 p (slice_index ws 8) (slice_index ws 24) (slice_index ws 25) (slice_index ws 9) p (there-is 26 8 p (λ e. omega arith)) (there-is 26 24 p (λ e. omega arith)) (there-is 26 25 p (λ e. omega arith)) (there-is 26 9 p (λ e. omega arith)) (here-is 26 p (omega arith)) o
 
   -- a pass has learnt the words, and all else is as it was
-  told : (x : Words) (views : List View) (id : ℕ) (v : View) (current seen found back readings glances recalls looks losses : ℕ)
+  pub told : (x : Words) (views : List View) (id : ℕ) (v : View) (current seen found back past readings glances recalls reviews looks losses : ℕ)
       → IsOrderly k x views → get_elem? views id ≡ some v → (0 < v.weight → 0 < in_force k views current)
-      → seen ≤ x.asked → IsSeen (requests_in views) seen → (0 < window_of seen → 0 < begins views (window_of seen)) → found ≤ x.drawn → IsFound (λ w. tickets_in views w + returned_in views w) found
-      → back ≤ x.back → IsSeen (returned_in views) back
-      → IsOrderly k x (set views id (record v { current = current; seen = seen; found = found; back = back; readings = readings; glances = glances; recalls = recalls; looks = looks; losses = losses }))
-  told x views id v current seen found back readings glances recalls looks losses o at force seen_le is_seen begun found_le is_found back_le is_back =
-      let w : View = record v { current = current; seen = seen; found = found; back = back; readings = readings; glances = glances; recalls = recalls; looks = looks; losses = losses } in
+      → seen ≤ x.asked → IsSeen (requests_in views) seen → (0 < window_of seen → 0 < begins views (window_of seen)) → found ≤ x.drawn → IsFound v.carries (dealt_in views) found
+      → back ≤ x.back → IsSeen (returned_in views) back → IsNoted views past
+      → IsOrderly k x (set views id (record v { current = current; seen = seen; found = found; back = back; past = past; readings = readings; glances = glances; recalls = recalls; reviews = reviews; looks = looks; losses = losses }))
+  told x views id v current seen found back past readings glances recalls reviews looks losses o at force seen_le is_seen begun found_le is_found back_le is_back is_noted =
+      let w : View = record v { current = current; seen = seen; found = found; back = back; past = past; readings = readings; glances = glances; recalls = recalls; reviews = reviews; looks = looks; losses = losses } in
       let g = grows views id v w at (λ n. omega arith) (λ n. omega arith) (λ n. omega arith) (λ n. omega arith) (λ n. omega arith) in
-      moved x x views id v w o at refl
-      (dealt-same x.drawn x.window views id v w at (λ h. refl) o.dealt) (counted-same x.asked x.latest views id v w at refl refl refl o.counted)
+      moved x x views id v w o at refl refl
+      (dealt-same x.carries x.drawn x.window views id v w at (λ h. refl) o.dealt) (given-same x.carries x.drawn views id v w at (λ h. refl) g o.given) (omega arith) (noted-on views (set views id w) x.past g o.noted) (counted-same x.asked x.latest views id v w at refl refl refl o.counted)
       (omega arith) (omega arith) o.behind (omega arith) g (omega (arith, o.force, g.force x.current)) (omega (arith, o.came_back, g.returned (window_of x.back))) o.few_back (entered-same x views id v w o at refl g)
       (λ f. record {
-        allows = f.allows;
-        allowed_back = f.allowed_back;
         seen = seen_le;
         counted = omega (arith, is_seen, g.requests (window_of seen));
         begun = λ some-window. omega (arith, begun some-window, g.starts (window_of seen));
@@ -174,52 +214,53 @@ module _ (k : Terms) where
         given = λ n low high. omega (arith, is_found n low high, g.dealt n);
         back = back_le;
         came_back = omega (arith, is_back, g.returned (window_of back));
+        past = noted-on views (set views id w) past g is_noted;
+        noted = f.noted;
         live = f.live;
+        kind = f.kind;
         force = λ live. omega (arith, force live, g.force current);
         spent = f.spent;
       })
 
-  pub reads_ok : (n id : ℕ) (m : Sat) (st : Step ℕ) → Allows (IsKept k) n id m 24 (λ x. x) (reads st m)
-  reads_ok n id m st = allows n id m 24 (λ x. x) (reads st m) (λ window latest ws views long o at.
+  pub reads_ok : (n id : ℕ) (m : Sat) (st : Step ℕ) → 0 < m.0.weight → Allows (IsKept k) n id m 24 (λ x. x) (reads st m)
+  reads_ok n id m st live = allows n id m 24 (λ x. x) (reads st m) (λ window latest kind ws views long o at.
       let v : View = m.0 in
       let q : ℕ = slice_index ws 24 in
-      let x : Words = words_at (slice_index ws 8) window q latest (slice_index ws 25) (slice_index ws 9) in
+      let x : Words = words_at (slice_index ws 8) window q latest (slice_index ws 25) (slice_index ws 9) (slice_index ws 26) kind in
       let f = o.each id v at in (
         with_reading v q,
-        (λ homes. kept-requests ws (set views id (with_reading v q)) homes window latest long q
-            (told x views id v v.current q v.found v.back (v.readings + 1) v.glances v.recalls v.looks v.losses o at f.force (omega arith) (seen_at q latest views o.counted) (begun_at q latest views o.counted) f.found f.given f.back f.came_back)),
-        ((f.seen, asked_le k x views o), no_later k x views o id v at, refl),
+        (λ homes. kept-requests ws (set views id (with_reading v q)) homes window latest kind long q
+            (told x views id v v.current q v.found v.back v.past (v.readings + 1) v.glances v.recalls v.reviews v.looks v.losses o at f.force (omega arith) (seen_at q latest views o.counted) (begun_at q latest views o.counted) f.found f.given f.back f.came_back f.past)),
+        ((f.seen, asked_le k x views o), no_later k x views o id v at live, refl),
       ))
 
   pub glances_ok : (n id : ℕ) (m : Sat) (st : Step ℕ) → Allows (IsKept k) n id m 25 (λ x. x) (glances st m)
-  glances_ok n id m st = allows n id m 25 (λ x. x) (glances st m) (λ window latest ws views long o at.
+  glances_ok n id m st = allows n id m 25 (λ x. x) (glances st m) (λ window latest kind ws views long o at.
       let v : View = m.0 in
       let c : ℕ = slice_index ws 25 in
-      let x : Words = words_at (slice_index ws 8) window (slice_index ws 24) latest c (slice_index ws 9) in
+      let x : Words = words_at (slice_index ws 8) window (slice_index ws 24) latest c (slice_index ws 9) (slice_index ws 26) kind in
       let f = o.each id v at in (
         with_glance v c,
-        (λ homes. kept-terms ws (set views id (with_glance v c)) homes window latest long c
-            (told x views id v c v.seen v.found v.back v.readings (v.glances + 1) v.recalls v.looks v.losses o at (λ live. o.force) f.seen f.counted f.begun f.found f.given f.back f.came_back)),
+        (λ homes. kept-terms ws (set views id (with_glance v c)) homes window latest kind long c
+            (told x views id v c v.seen v.found v.back v.past v.readings (v.glances + 1) v.recalls v.reviews v.looks v.losses o at (λ live. o.force) f.seen f.counted f.begun f.found f.given f.back f.came_back f.past)),
         refl,
       ))
 
   pub changes_ok : (n id : ℕ) (m : Sat) (st : Step ℕ) (c : ℕ) → 0 < m.0.weight → Allows (IsKept k) n id m 25 (λ x. c) (λ x n. changes st m c n)
-  changes_ok n id m st c live = allows n id m 25 (λ x. c) (λ x n. changes st m c n) (λ window latest ws views long o at.
+  changes_ok n id m st c live = allows n id m 25 (λ x. c) (λ x n. changes st m c n) (λ window latest kind ws views long o at.
       let v : View = m.0 in
-      let x : Words = words_at (slice_index ws 8) window (slice_index ws 24) latest (slice_index ws 25) (slice_index ws 9) in
-      let x' : Words = words_at (slice_index ws 8) window (slice_index ws 24) latest c (slice_index ws 9) in
+      let x : Words = words_at (slice_index ws 8) window (slice_index ws 24) latest (slice_index ws 25) (slice_index ws 9) (slice_index ws 26) kind in
+      let x' : Words = words_at (slice_index ws 8) window (slice_index ws 24) latest c (slice_index ws 9) (slice_index ws 26) kind in
       let w : View = with_change v c in
       let g = grows views id v w at (λ n. omega arith) (λ n. omega arith) (λ n. omega arith) (λ n. omega arith) (λ n. omega arith) in
       let one : is c c ≡ 1 = is-same c c refl in
       let set-now : 0 < in_force k (set views id w) c = omega (arith, total-set (λ (u : View). times c u.changes) views id v w at) in (
         w,
-        (λ homes. kept-terms ws (set views id w) homes window latest long c
-            (moved x x' views id v w o at refl
-            (dealt-same x.drawn window views id v w at (λ h. refl) o.dealt) (counted-same x.asked latest views id v w at refl refl refl o.counted)
+        (λ homes. kept-terms ws (set views id w) homes window latest kind long c
+            (moved x x' views id v w o at refl refl
+            (dealt-same x.carries x.drawn window views id v w at (λ h. refl) o.dealt) (given-same x.carries x.drawn views id v w at (λ h. refl) g o.given) (omega arith) (noted-on views (set views id w) x.past g o.noted) (counted-same x.asked latest views id v w at refl refl refl o.counted)
             (omega arith) (omega arith) o.behind (omega arith) g set-now (omega (arith, o.came_back, g.returned (window_of x.back))) o.few_back (entered-same x views id v w o at refl g)
             (λ f. record {
-              allows = f.allows;
-              allowed_back = f.allowed_back;
               seen = f.seen;
               counted = f.counted;
               begun = f.begun;
@@ -227,34 +268,37 @@ module _ (k : Terms) where
               given = f.given;
               back = f.back;
               came_back = f.came_back;
+              past = f.past;
+              noted = f.noted;
               live = f.live;
+              kind = f.kind;
               force = λ _. set-now;
               spent = λ none. absurd (omega arith);
             }))),
         refl,
       ))
 
-  pub finds_ok : (n id : ℕ) (m : Sat) (st : Step ℕ) → Allows (IsKept k) n id m 8 (λ x. x) (finds st m)
-  finds_ok n id m st = allows n id m 8 (λ x. x) (finds st m) (λ window latest ws views long o at.
+  pub finds_ok : (n id : ℕ) (m : Sat) (st : Step ℕ) → 0 < m.0.weight → Allows (IsKept k) n id m 8 (λ x. x) (finds st m)
+  finds_ok n id m st live = allows n id m 8 (λ x. x) (finds st m) (λ window latest kind ws views long o at.
       let v : View = m.0 in
       let d : ℕ = slice_index ws 8 in
-      let x : Words = words_at d window (slice_index ws 24) latest (slice_index ws 25) (slice_index ws 9) in
+      let x : Words = words_at d window (slice_index ws 24) latest (slice_index ws 25) (slice_index ws 9) (slice_index ws 26) kind in
       let f = o.each id v at in (
         with_found v d,
-        (λ homes. kept-draws ws (set views id (with_found v d)) homes window latest long d
-            (told x views id v v.current v.seen d v.back v.readings v.glances v.recalls (v.looks + 1) 0 o at f.force f.seen f.counted f.begun (omega arith) (found_at d window views o.dealt) f.back f.came_back)),
+        (λ homes. kept-draws ws (set views id (with_found v d)) homes window latest kind long d
+            (told x views id v v.current v.seen d v.back v.past v.readings v.glances v.recalls v.reviews (v.looks + 1) 0 o at f.force f.seen f.counted f.begun (omega arith) (found_now k x views o id v at live) f.back f.came_back f.past)),
         (f.found, refl),
       ))
 
   pub learns_ok : (n id : ℕ) (m : Sat) (st : Step ℕ) → Allows (IsKept k) n id m 8 (λ x. x) (learns st m)
-  learns_ok n id m st = allows n id m 8 (λ x. x) (learns st m) (λ window latest ws views long o at.
+  learns_ok n id m st = allows n id m 8 (λ x. x) (learns st m) (λ window latest kind ws views long o at.
       let v : View = m.0 in
       let d : ℕ = slice_index ws 8 in
-      let x : Words = words_at d window (slice_index ws 24) latest (slice_index ws 25) (slice_index ws 9) in
+      let x : Words = words_at d window (slice_index ws 24) latest (slice_index ws 25) (slice_index ws 9) (slice_index ws 26) kind in
       let f = o.each id v at in (
         v,
-        (λ homes. kept-draws ws (set views id v) homes window latest long d
-            (told x views id v v.current v.seen v.found v.back v.readings v.glances v.recalls v.looks v.losses o at f.force f.seen f.counted f.begun f.found f.given f.back f.came_back)),
+        (λ homes. kept-draws ws (set views id v) homes window latest kind long d
+            (told x views id v v.current v.seen v.found v.back v.past v.readings v.glances v.recalls v.reviews v.looks v.losses o at f.force f.seen f.counted f.begun f.found f.given f.back f.came_back f.past)),
         (
           refl,
           is_sound k x views o id v at,
@@ -273,12 +317,10 @@ module _ (k : Terms) where
       let x' : Words = record x { asked = q'; latest = latest' } in
       let g = grows views id v w at (λ n. omega arith) (λ n. omega arith) (λ n. omega arith) (λ n. omega arith) (λ n. omega arith) in
       let behind = o.behind in
-      moved x x' views id v w o at refl
-      (dealt-same x.drawn x.window views id v w at (λ h. refl) o.dealt) counted
+      moved x x' views id v w o at refl refl
+      (dealt-same x.carries x.drawn x.window views id v w at (λ h. refl) o.dealt) (given-same x.carries x.drawn views id v w at (λ h. refl) g o.given) (omega arith) (noted-on views (set views id w) x.past g o.noted) counted
       (omega arith) up (omega arith) (omega arith) g (omega (arith, o.force, g.force x.current)) (omega (arith, o.came_back, g.returned (window_of x.back))) o.few_back (entered-same x views id v w o at refl g)
       (λ f. record {
-        allows = f.allows;
-        allowed_back = f.allowed_back;
         seen = omega arith;
         counted = omega (arith, is_seen, g.requests (window_of q'));
         begun = begun_at q' latest' (set views id w) counted;
@@ -286,19 +328,22 @@ module _ (k : Terms) where
         given = f.given;
         back = f.back;
         came_back = f.came_back;
+        past = f.past;
+        noted = f.noted;
         live = f.live;
+        kind = f.kind;
         force = f.force;
         spent = λ none. absurd (omega arith);
       })
 
   pub opens_ok : (n id : ℕ) (m : Sat) (st : Step ℕ) (next : ℕ) → 0 < m.0.weight → st.first ≡ first_of next → next ≤ 2999999999
       → Allows (IsKept k) n id m 24 (λ x. max x st.first) (opens st m)
-  opens_ok n id m st next live is_first known = allows n id m 24 (λ x. max x st.first) (opens st m) (λ window latest ws views long o at.
+  opens_ok n id m st next live is_first known = allows n id m 24 (λ x. max x st.first) (opens st m) (λ window latest kind ws views long o at.
       let v : View = m.0 in
       let a : ℕ = st.first in
       let q : ℕ = slice_index ws 24 in
       let q' : ℕ = max q a in
-      let x : Words = words_at (slice_index ws 8) window q latest (slice_index ws 25) (slice_index ws 9) in
+      let x : Words = words_at (slice_index ws 8) window q latest (slice_index ws 25) (slice_index ws 9) (slice_index ws 26) kind in
       let w : View = with_opening v a q' in
       let f = o.each id v at in
       let c = o.counted in
@@ -307,7 +352,7 @@ module _ (k : Terms) where
       let few : total may_count views ≤ weights views = all_may_count views in
       let parts = o.parts in
       let kept : (latest' : ℕ) → IsCounted q' latest' (set views id w) → IsSeen (requests_in views) q' → (homes : List (Option ℕ)) → IsKept k (record { words = set ws 24 q'; homes = homes; views = set views id w }) =
-      λ latest' counted is_seen homes. kept-requests ws (set views id w) homes window latest' long q'
+      λ latest' counted is_seen homes. kept-requests ws (set views id w) homes window latest' kind long q'
       (opens-to x views id v a q' latest' o at (omega arith) counted is_seen live) in (
         w,
         dite (dec_le a q)
@@ -339,12 +384,12 @@ module _ (k : Terms) where
 
   pub counts_ok : (n id : ℕ) (m : Sat) (st : Step ℕ) → st.first ≤ m.0.weight → 0 < m.0.weight → m.0.told < 12884901888000000000
       → Allows (IsKept k) n id m 24 (λ x. (x + st.first) % 2 ^ 64) (counts st m)
-  counts_ok n id m st few live may = allows n id m 24 (λ x. (x + st.first) % 2 ^ 64) (counts st m) (λ window latest ws views long o at.
+  counts_ok n id m st few live may = allows n id m 24 (λ x. (x + st.first) % 2 ^ 64) (counts st m) (λ window latest kind ws views long o at.
       let v : View = m.0 in
       let c : ℕ = st.first in
       let q : ℕ = slice_index ws 24 in
-      let x : Words = words_at (slice_index ws 8) window q latest (slice_index ws 25) (slice_index ws 9) in
-      let x' : Words = words_at (slice_index ws 8) window (q + c) latest (slice_index ws 25) (slice_index ws 9) in
+      let x : Words = words_at (slice_index ws 8) window q latest (slice_index ws 25) (slice_index ws 9) (slice_index ws 26) kind in
+      let x' : Words = words_at (slice_index ws 8) window (q + c) latest (slice_index ws 25) (slice_index ws 9) (slice_index ws 26) kind in
       let w : View = with_requests v q c in
       let f = o.each id v at in
       let o' = o.counted in
@@ -367,12 +412,10 @@ module _ (k : Terms) where
       let behind = o.behind in
       let g = grows views id v w at (λ n. omega arith) (λ n. omega arith) (λ n. omega (arith, total-append (within (first_of n) 4294967296) (numbers q c) v.requests)) (λ n. omega arith) (λ n. omega arith) in
       let orderly : IsOrderly k x' (set views id w) =
-      moved x x' views id v w o at refl
-      (dealt-same x.drawn window views id v w at (λ h. refl) o.dealt) counted
+      moved x x' views id v w o at refl refl
+      (dealt-same x.carries x.drawn window views id v w at (λ h. refl) o.dealt) (given-same x.carries x.drawn views id v w at (λ h. refl) g o.given) (omega arith) (noted-on views (set views id w) x.past g o.noted) counted
       (omega arith) (omega arith) (omega arith) (omega arith) g (omega (arith, o.force, g.force x.current)) (omega (arith, o.came_back, g.returned (window_of x.back))) o.few_back (entered-same x views id v w o at refl g)
       (λ f. record {
-        allows = f.allows;
-        allowed_back = f.allowed_back;
         seen = omega arith;
         counted = seen_at (q + c) latest (set views id w) counted;
         begun = begun_at (q + c) latest (set views id w) counted;
@@ -380,243 +423,360 @@ module _ (k : Terms) where
         given = f.given;
         back = f.back;
         came_back = f.came_back;
+        past = f.past;
+        noted = f.noted;
         live = f.live;
+        kind = f.kind;
         force = f.force;
         spent = λ none. absurd (omega arith);
       }) in (
         w,
         (λ homes. subst (λ (y : ℕ). IsKept k (record { words = set ws 24 y; homes = homes; views = set views id w })) (sym word)
-            (kept-requests ws (set views id w) homes window latest long (q + c) orderly)),
+            (kept-requests ws (set views id w) homes window latest kind long (q + c) orderly)),
         (f.seen, room, refl),
       ))
 
-  -- a pass has won its next ticket
-  wins-to : (x : Words) (views : List View) (id : ℕ) (v : View)
-      → IsOrderly k x views → get_elem? views id ≡ some v → 0 < v.weight → x.drawn ≡ v.found → next_ticket v < floor_of (terms_of k v.current) v.seen v.back
-      → IsOrderly k (record x { drawn = next_ticket v + 1; window = window_of v.seen }) (set views id (with_ticket v (next_ticket v)))
-  wins-to x views id v o at live here room =
-      let t : ℕ = next_ticket v in
+  -- a ticket more
+  dealt-one : (views : List View) (id : ℕ) (v : View) (t : ℕ) → get_elem? views id ≡ some v → (h : ℕ → ℕ) → total (ticket_weight h) (set views id (with_ticket v t)) ≡ total (ticket_weight h) views + h t
+  dealt-one views id v t at h = omega (arith, total-set (ticket_weight h) views id v (with_ticket v t) at)
+
+  grows-one : (views : List View) (id : ℕ) (v : View) (t : ℕ) → get_elem? views id ≡ some v → Grows k views (set views id (with_ticket v t))
+  grows-one views id v t at = grows views id v (with_ticket v t) at (λ n. omega arith) (λ n. omega arith) (λ n. omega arith) (λ n. omega arith) (λ n. omega arith)
+
+  -- the words are in order after it
+  deals-to : (x : Words) (views : List View) (id : ℕ) (v : View) (t m : ℕ) → IsOrderly k x views → get_elem? views id ≡ some v → 0 < v.weight → v.found ≡ x.drawn
+      → t ≡ max x.drawn (first_of (window_of v.seen) - m) → first_of (window_of v.seen) ≤ t + late_numbers x.carries → t < first_of (window_of v.seen) + own_numbers x.carries
+      → IsGiven k x.carries (t + 1) (set views id (with_ticket v t)) → (0 < window_of t → 0 < begins views (window_of t))
+      → IsOrderly k (record x { drawn = t + 1; window = window_of v.seen }) (set views id (with_ticket v t))
+  deals-to x views id v t m o at live here is-next low high given begun-it =
       let w : View = with_ticket v t in
+      let c : Bool = x.carries in
       let n : ℕ = window_of v.seen in
       let a : ℕ = first_of n in
       let d : ℕ = x.drawn in
       let x' : Words = record x { drawn = t + 1; window = n } in
-      let j : Terms = terms_of k v.current in
+      let numbers = both-numbers c in
       let f = o.each id v at in
-      let g = grows views id v w at (λ n. omega arith) (λ n. omega arith) (λ n. omega arith) (λ n. omega arith) (λ n. omega arith) in
-      let sums : (h : ℕ → ℕ) → total (ticket_weight h) (set views id w) ≡ total (ticket_weight h) views + h t = λ h. omega (arith, total-set (ticket_weight h) views id v w at) in
-      let from = o.dealt.from in
+      let g = grows-one views id v t at in
+      let sums = dealt-one views id v t at in
       let to = o.dealt.to in
-      let begun : 0 < x.window → first_of x.window < d = o.dealt.begun in
-      let dealt : IsDealt (t + 1) n (set views id w) = record {
+      let begun : 0 < x.window → first_of x.window < d + late_numbers c = o.dealt.begun in
+      let dealt : IsDealt c (t + 1) n (set views id w) = record {
         once = λ h. omega (arith, sums h, o.dealt.once h, below-mono h d t (omega arith), below_more h t);
-        all = λ h. dite (dec_le d a)
+        all = λ h. dite (dec_le a t)
+            (λ own. dite (dec_le d a)
             (λ first. let is_first : t ≡ a = omega arith in omega (arith, sums h, below_more h t, ap (below h) is_first))
             (λ not.
             let past : a < d = lt_of_not-le not in
             let is_next : t ≡ d = omega arith in
             let same : x.window ≡ n = dite (dec_le 1 x.window) (λ some-window. let s = begun some-window in omega arith) (λ none. omega arith) in
-            omega (arith, sums h, o.dealt.all h, below_more h t, ap (below h) is_next, ap (λ (y : ℕ). below h (first_of y)) same));
+            omega (arith, sums h, o.dealt.all h, below_more h t, ap (below h) is_next, ap (λ (y : ℕ). below h (first_of y)) same)))
+            (λ not. omega (arith, below-mono h (t + 1) a (omega (arith, lt_of_not-le not))));
         from = omega arith;
         to = omega arith;
         begun = λ _. omega arith;
       } in
       let seen = f.seen in
-      let is_in : window_of t ≡ n = omega arith in
-      let enough : allowed j (v.seen % 4294967296) ≤ allowed j (requests_in (set views id w) n) = allowed-mono j (v.seen % 4294967296) (requests_in (set views id w) n) (omega (arith, f.counted, g.requests n)) in
-      let came : back_in v.back n ≤ returned_in views n = back_in-le v.back n (returned_in views) f.came_back in
-      let low : t < first_of n + allowed j (requests_in (set views id w) n) + returned_in (set views id w) n = omega (arith, g.returned n) in
-      moved x x' views id v w o at refl
-      dealt (counted-same x.asked x.latest views id v w at refl refl refl o.counted)
+      moved x x' views id v w o at refl refl
+      dealt given (omega arith) (noted-on views (set views id w) x.past g o.noted) (counted-same x.asked x.latest views id v w at refl refl refl o.counted)
       (omega arith) (omega arith) (omega arith) (omega arith) g (omega (arith, o.force, g.force x.current)) (omega (arith, o.came_back, g.returned (window_of x.back))) o.few_back
-      (λ y some-window given. dite (ℕ_discrete y n)
-      (λ here. subst (λ (z : ℕ). 0 < begins (set views id w) z) (sym here) (omega (arith, f.begun (omega arith), g.starts n)))
+      (λ y some-window given. dite (ℕ_discrete y (window_of t))
+      (λ same. subst (λ (z : ℕ). 0 < begins (set views id w) z) (sym same) (omega (arith, begun-it (omega arith), g.starts (window_of t))))
       (λ other.
       let sum : tickets_in (set views id w) y + count_in y v.tickets ≡ tickets_in views y + count_in y w.tickets = total-set (λ (u : View). count_in y u.tickets) views id v w at in
-      let none : within (first_of y) 4294967296 t ≡ 0 = dite (dec_le y n)
-      (λ less. let low : y < n = lt_of_not-le (λ more. other (omega arith)) in within-high (first_of y) 4294967296 t (omega arith))
-      (λ more. let high : n < y = lt_of_not-le more in within-low (first_of y) 4294967296 t (omega arith)) in
-      omega (arith, o.entered y some-window (omega arith), g.starts y)))
+      omega (arith, within-other y t other, o.entered y some-window (omega (arith, sum, given, within-other y t other)), g.starts y)))
       (λ f'. record {
-        allows = ((v.current, f'.force live, subst (λ (y : ℕ). t < first_of y + allowed j (requests_in (set views id w) y) + returned_in (set views id w) y) (sym is_in) low), f'.allows);
-        allowed_back = f'.allowed_back;
         seen = f'.seen;
         counted = f'.counted;
         begun = f'.begun;
         found = omega arith;
-        given = found_at (t + 1) n (set views id w) dealt;
+        given = subst (λ (z : Bool). IsFound z (dealt_in (set views id w)) (t + 1)) (sym (f.kind live)) (found_at c (t + 1) n (set views id w) dealt);
         back = f'.back;
         came_back = f'.came_back;
+        past = f'.past;
+        noted = f'.noted;
         live = f'.live;
+        kind = f'.kind;
         force = f'.force;
         spent = λ none. absurd (omega arith);
       })
 
-  pub wins_ok : (n id : ℕ) (m : Sat) (st : Step ℕ) → 0 < m.0.weight → (st.first ≤ 17496587910722355200 → st.first ≡ m.0.found) → st.second ≡ next_ticket m.0 + 1 → next_ticket m.0 < floor_of (terms_of k m.0.current) m.0.seen m.0.back
+  -- a window may give one of its own numbers where its terms allow it
+  given-own : (x : Words) (views : List View) (id : ℕ) (v : View) (t : ℕ) → IsOrderly k x views → get_elem? views id ≡ some v → 0 < v.weight
+      → x.drawn ≤ t → first_of (window_of v.seen) ≤ t → t < floor_of x.carries (terms_of k v.current) v.seen v.back
+      → IsGiven k x.carries (t + 1) (set views id (with_ticket v t))
+  given-own x views id v t o at live late-enough own room =
+      let c : Bool = x.carries in
+      let n : ℕ = window_of v.seen in
+      let a : ℕ = first_of n in
+      let j : Terms = terms_of k v.current in
+      let views' : List View = set views id (with_ticket v t) in
+      let numbers = both-numbers c in
+      let f = o.each id v at in
+      let g = grows-one views id v t at in
+      let sums = dealt-one views id v t at in
+      let high : t < a + own_numbers c = omega arith in
+      let less : (w m : ℕ) → AllowNoMore k (in_force k views') (requests_in views' w) m → AllowNoMore k (in_force k views) (requests_in views w) m =
+      λ w m. allow-less k (in_force k views) (in_force k views') (requests_in views w) (requests_in views' w) m (g.requests w) g.force in
+      let fewer : (w m : ℕ) → ShareNoMore k (in_force k views') (requests_in views' w) m → ShareNoMore k (in_force k views) (requests_in views w) m =
+      λ w m. share-less k (in_force k views) (in_force k views') (requests_in views w) (requests_in views' w) m (g.requests w) g.force in
+      let here : (m : ℕ) → AllowNoMore k (in_force k views') (requests_in views' n) m → dealt_in views' n ≤ m + returned_in views' n = λ m most.
+      let h : ℕ → ℕ = within a 4294967296 in
+      let few : total (ticket_weight h) views' ≤ below h (t + 1) = omega (arith, sums h, o.dealt.once h, below-mono h x.drawn t late-enough, below_more h t) in
+      let enough : allowed j (v.seen % 4294967296) ≤ allowed j (requests_in views' n) = allowed-mono j (v.seen % 4294967296) (requests_in views' n) (omega (arith, f.counted, g.requests n)) in
+      let came : back_in v.back n ≤ returned_in views n = back_in-le v.back n (returned_in views) f.came_back in
+      omega (arith, few, below-within a 4294967296 (t + 1), all-dealt views' n, enough, came, g.returned n, most v.current (omega (arith, f.force live, g.force v.current))) in
+      let none-late : (w : ℕ) → within (first_of w + own_numbers c) (late_numbers c) t ≡ 0 = λ w. dite (dec_le n w)
+      (λ up. within-low (first_of w + own_numbers c) (late_numbers c) t (omega arith))
+      (λ not. within-high (first_of w + own_numbers c) (late_numbers c) t (omega (arith, lt_of_not-le not))) in
+      let not-late : (w : ℕ) → AreLate c (t + 1) w → ⊥ = λ w near. dite (dec_le n w)
+      (λ up. absurd (omega (arith, near.0)))
+      (λ not. absurd (omega (arith, near.1, lt_of_not-le not))) in record {
+        windows = λ w m most. dite (ℕ_discrete w n)
+            (λ same. subst (λ (y : ℕ). AllowNoMore k (in_force k views') (requests_in views' y) m → dealt_in views' y ≤ m + returned_in views' y) (sym same) (here m) most)
+            (λ other. omega (arith, all-dealt views' w, all-dealt views w, sums (within (first_of w) 4294967296), within-other w t (λ (e : w ≡ window_of t). other (omega (arith, e))), o.given.windows w m (less w m most), g.returned w));
+        shares = λ w m most. omega (arith, sums (within (first_of w + own_numbers c) (late_numbers c)), none-late w, o.given.shares w m (fewer w m most));
+        windows_yet = λ w m near most. absurd (not-late w near);
+        shares_yet = λ w m near most. absurd (not-late w near);
+        begun = λ w near some-window. absurd (not-late w near);
+      }
+
+  -- and one of the share of the window before, where what that leaves is within its terms
+  given-late : (x : Words) (views : List View) (id : ℕ) (v : View) (t u : ℕ) → IsOrderly k x views → get_elem? views id ≡ some v → x.carries ≡ true
+      → x.drawn ≤ t → first_of (u + 1) ≤ t + 2147483648 → t < first_of (u + 1)
+      → ((m : ℕ) → AllowNoMore k (in_force k views) (requests_in views u) m → dealt_in views u + (first_of (u + 1) - t) ≤ m + returned_in views u)
+      → ((m : ℕ) → ShareNoMore k (in_force k views) (requests_in views u) m → late_in x.carries views u + (first_of (u + 1) - t) ≤ m)
+      → (0 < u → 0 < begins views u) → IsGiven k x.carries (t + 1) (set views id (with_ticket v t))
+  given-late x views id v t u o at carries late-enough low high yet share-yet begun =
+      let c : Bool = x.carries in
+      let views' : List View = set views id (with_ticket v t) in
+      let own : own_numbers c ≡ 2147483648 = ap own_numbers carries in
+      let late : late_numbers c ≡ 2147483648 = ap late_numbers carries in
+      let g = grows-one views id v t at in
+      let sums = dealt-one views id v t at in
+      let less : (w m : ℕ) → AllowNoMore k (in_force k views') (requests_in views' w) m → AllowNoMore k (in_force k views) (requests_in views w) m =
+      λ w m. allow-less k (in_force k views) (in_force k views') (requests_in views w) (requests_in views' w) m (g.requests w) g.force in
+      let fewer : (w m : ℕ) → ShareNoMore k (in_force k views') (requests_in views' w) m → ShareNoMore k (in_force k views) (requests_in views w) m =
+      λ w m. share-less k (in_force k views) (in_force k views') (requests_in views w) (requests_in views' w) m (g.requests w) g.force in
+      let here : window_of t ≡ u = omega arith in
+      let is-it : (w : ℕ) → AreLate c (t + 1) w → w ≡ u = λ w near. omega (arith, near.0, near.1, own) in
+      let dealt : (w : ℕ) → dealt_in views' w ≡ dealt_in views w + within (first_of w) 4294967296 t = λ w. omega (arith, all-dealt views' w, all-dealt views w, sums (within (first_of w) 4294967296)) in
+      let lates : (w : ℕ) → late_in c views' w ≡ late_in c views w + within (first_of w + own_numbers c) (late_numbers c) t = λ w. sums (within (first_of w + own_numbers c) (late_numbers c)) in
+      let one : within (first_of u) 4294967296 t ≡ 1 = within-yes (first_of u) 4294967296 t (omega arith) (omega arith) in
+      let one-late : within (first_of u + own_numbers c) (late_numbers c) t ≡ 1 = within-yes (first_of u + own_numbers c) (late_numbers c) t (omega (arith, own)) (omega (arith, own, late)) in
+      let none-late : (w : ℕ) → w ≢ u → within (first_of w + own_numbers c) (late_numbers c) t ≡ 0 = λ w other. dite (dec_le u w)
+      (λ up. within-low (first_of w + own_numbers c) (late_numbers c) t (omega (arith, up, other)))
+      (λ not. within-high (first_of w + own_numbers c) (late_numbers c) t (omega (arith, lt_of_not-le not, own, late))) in
+      let windows-here : (m : ℕ) → AllowNoMore k (in_force k views') (requests_in views' u) m → dealt_in views' u + (first_of (u + 1) - (t + 1)) ≤ m + returned_in views' u =
+      λ m most. omega (arith, dealt u, one, yet m (less u m most), g.returned u) in
+      let shares-here : (m : ℕ) → ShareNoMore k (in_force k views') (requests_in views' u) m → late_in c views' u + (first_of (u + 1) - (t + 1)) ≤ m =
+      λ m most. omega (arith, lates u, one-late, share-yet m (fewer u m most)) in record {
+        windows = λ w m most. dite (ℕ_discrete w u)
+            (λ same. subst (λ (y : ℕ). AllowNoMore k (in_force k views') (requests_in views' y) m → dealt_in views' y ≤ m + returned_in views' y) (sym same) (λ most-here. omega (arith, windows-here m most-here)) most)
+            (λ other. omega (arith, dealt w, within-other w t (λ (e : w ≡ window_of t). other (omega (arith, e, here))), o.given.windows w m (less w m most), g.returned w));
+        shares = λ w m most. dite (ℕ_discrete w u)
+            (λ same. subst (λ (y : ℕ). ShareNoMore k (in_force k views') (requests_in views' y) m → late_in c views' y ≤ m) (sym same) (λ most-here. omega (arith, shares-here m most-here)) most)
+            (λ other. omega (arith, lates w, none-late w other, o.given.shares w m (fewer w m most)));
+        windows_yet = λ w m near most. subst (λ (y : ℕ). AllowNoMore k (in_force k views') (requests_in views' y) m → dealt_in views' y + (first_of (y + 1) - (t + 1)) ≤ m + returned_in views' y) (sym (is-it w near)) (windows-here m) most;
+        shares_yet = λ w m near most. subst (λ (y : ℕ). ShareNoMore k (in_force k views') (requests_in views' y) m → late_in c views' y + (first_of (y + 1) - (t + 1)) ≤ m) (sym (is-it w near)) (shares-here m) most;
+        begun = λ w near some-window. subst (λ (y : ℕ). 0 < y → 0 < begins views' y) (sym (is-it w near)) (λ some-here. omega (arith, begun some-here, g.starts u)) some-window;
+      }
+
+  -- where draws have come to those carried to a window, the next one of these is within the terms of the one before
+  given-next : (x : Words) (views : List View) (id : ℕ) (v : View) (u : ℕ) → IsOrderly k x views → get_elem? views id ≡ some v → x.carries ≡ true
+      → first_of (u + 1) - x.drawn < 2147483648 → x.drawn < first_of (u + 1) → IsGiven k x.carries (x.drawn + 1) (set views id (with_ticket v x.drawn)) × (0 < u → 0 < begins views u)
+  given-next x views id v u o at carries near low =
+      let own : own_numbers x.carries ≡ 2147483648 = ap own_numbers carries in
+      let late : AreLate x.carries x.drawn u = (omega (arith, own, near), omega (arith, low)) in (
+        given-late x views id v x.drawn u o at carries (omega arith) (omega (arith, near)) low (λ m. o.given.windows_yet u m late) (λ m. o.given.shares_yet u m late) (o.given.begun u late),
+        o.given.begun u late,
+      )
+
+  -- where they have not, the first one is
+  given-first : (x : Words) (views : List View) (id : ℕ) (v : View) (u m : ℕ) → IsOrderly k x views → get_elem? views id ≡ some v → 0 < v.weight → x.carries ≡ true
+      → 2147483648 ≤ first_of (u + 1) - x.drawn → 0 < m → m ≡ left_of (terms_of k v.current) (back_in v.past (u + 1)) (x.drawn - first_of u)
+      → IsGiven k x.carries (first_of (u + 1) - m + 1) (set views id (with_ticket v (first_of (u + 1) - m))) × (0 < u → 0 < begins views u)
+  given-first x views id v u m o at live carries far some-left is =
+      let c : Bool = x.carries in
+      let own : own_numbers c ≡ 2147483648 = ap own_numbers carries in
+      let late : late_numbers c ≡ 2147483648 = ap late_numbers carries in
+      let a : ℕ = first_of (u + 1) in
+      let q : ℕ = back_in v.past (u + 1) in
+      let R : ℕ = requests_in views u in
+      let s : ℕ = v.current % 1048576 in
+      let j : Terms = terms_of k v.current in
+      let f = o.each id v at in
+      let before-it : u + 1 - 1 ≡ u = omega arith in
+      let noted : q ≤ R = omega (arith, back_in-le v.past (u + 1) (λ w. requests_in views (w - 1)) f.past.counted, ap (requests_in views) before-it) in
+      let begun : 0 < u → 0 < begins views u = λ some-window. dite (ℕ_discrete (window_of v.past) (u + 1))
+      (λ same. subst (λ (y : ℕ). 0 < begins views y) (omega (arith, same)) (f.past.begun (omega (arith, same, some-window))))
+      (λ other.
+      let none : q ≡ 0 = ap (λ b. cond b (v.past % 4294967296) 0) (ne_eqb (window_of v.past) (u + 1) other) in
+      absurd (omega (arith, is, some-left, ap (λ (y : ℕ). (s * y) / 1000) none))) in
+      let h : ℕ → ℕ = within (first_of u) 4294967296 in
+      let l : ℕ → ℕ = within (first_of u + own_numbers c) (late_numbers c) in
+      let dealt : dealt_in views u ≤ x.drawn - first_of u = omega (arith, all-dealt views u, o.dealt.once h, below-within (first_of u) 4294967296 x.drawn) in
+      let none-late : late_in c views u ≡ 0 = omega (arith, o.dealt.once l, below-within (first_of u + own_numbers c) (late_numbers c) x.drawn, own, far) in
+      let force = f.force live in (
+        given-late x views id v (a - m) u o at carries (omega (arith, is, far)) (omega (arith, is)) (omega (arith, some-left))
+            (λ n most. omega (arith, dealt, is, some-left, allowed-mono j q R noted, most v.current force))
+            (λ n most. omega (arith, none-late, is, share-mono s q R noted, most v.current force)) begun,
+        begun,
+      )
+
+  -- the next ticket is of the latest window, or is carried to it
+  wins-to : (x : Words) (views : List View) (id : ℕ) (v : View)
+      → IsOrderly k x views → get_elem? views id ≡ some v → 0 < v.weight → x.drawn ≡ v.found → next_ticket v < floor_of v.carries (terms_of k v.current) v.seen v.back
+      → IsOrderly k (record x { drawn = next_ticket v + 1; window = window_of v.seen }) (set views id (with_ticket v (next_ticket v)))
+  wins-to x views id v o at live here room =
+      let t : ℕ = next_ticket v in
+      let n : ℕ = window_of v.seen in
+      let a : ℕ = first_of n in
+      let d : ℕ = x.drawn in
+      let f = o.each id v at in
+      let kind : v.carries ≡ x.carries = f.kind live in
+      let m : ℕ = carried_by v in
+      let few : m ≤ late_numbers x.carries = omega (arith, few-carried v.carries (terms_of v.terms v.current) v.seen v.past v.found, ap late_numbers kind) in
+      let is-next : t ≡ max d (a - m) = omega (arith, here) in
+      let same-room : floor_of v.carries (terms_of k v.current) v.seen v.back ≡ floor_of x.carries (terms_of k v.current) v.seen v.back = ap (λ (z : Bool). floor_of z (terms_of k v.current) v.seen v.back) kind in
+      let low-room : t < floor_of x.carries (terms_of k v.current) v.seen v.back = omega (arith, room, same-room) in
+      dite (dec_le a t)
+      (λ own. deals-to x views id v t m o at live (sym here) is-next (omega (arith, own)) (omega (arith, low-room))
+      (given-own x views id v t o at live (omega (arith, is-next)) own low-room)
+      (λ some-window. subst (λ (y : ℕ). 0 < begins views y) (omega (arith, own, low-room, both-numbers x.carries)) (f.begun (omega (arith, own, low-room, both-numbers x.carries, some-window)))))
+      (λ not.
+      let less : t < a = lt_of_not-le not in
+      let carries : x.carries ≡ true = late-carries x.carries (omega (arith, few, is-next, less)) in
+      let u : ℕ = n - 1 in
+      let up : n ≡ u + 1 = omega (arith, less) in
+      let top : a ≡ first_of (u + 1) = ap first_of up in
+      let by : m ≡ carried_to true (terms_of k v.current) v.seen v.past d =
+      ap (λ (z : Bool). carried_to z (terms_of v.terms v.current) v.seen v.past v.found) (kind ∙ carries)
+      ∙ ap (λ (z : Terms). carried_to true (terms_of z v.current) v.seen v.past v.found) (f.live live)
+      ∙ ap (carried_to true (terms_of k v.current) v.seen v.past) (sym here) in
+      let given : IsGiven k x.carries (t + 1) (set views id (with_ticket v t)) × (0 < u → 0 < begins views u) = dite (dec_le 2147483648 (a - d))
+      (λ far.
+      let is : m ≡ left_of (terms_of k v.current) (back_in v.past n) (d - first_of u) = by ∙ carried-first (terms_of k v.current) v.seen v.past d far in
+      let first : t ≡ first_of (u + 1) - m = omega (arith, is-next, is, far, top) in
+      subst (λ (y : ℕ). IsGiven k x.carries (y + 1) (set views id (with_ticket v y)) × (0 < u → 0 < begins views u)) (sym first)
+      (given-first x views id v u m o at live carries (omega (arith, far, top)) (omega (arith, is-next, less)) (is ∙ ap (λ (y : ℕ). left_of (terms_of k v.current) (back_in v.past y) (d - first_of u)) up)))
+      (λ close.
+      let near : a - d < 2147483648 = lt_of_not-le close in
+      let is : m ≡ a - d = by ∙ carried-late (terms_of k v.current) v.seen v.past d near in
+      let next : t ≡ d = omega (arith, is-next, is, less) in
+      subst (λ (y : ℕ). IsGiven k x.carries (y + 1) (set views id (with_ticket v y)) × (0 < u → 0 < begins views u)) (sym next)
+      (given-next x views id v u o at carries (omega (arith, near, top)) (omega (arith, next, less, top)))) in
+      let late : late_numbers x.carries ≡ 2147483648 = ap late_numbers carries in
+      let of-it : window_of t ≡ u = omega (arith, is-next, few, late, less, up) in
+      deals-to x views id v t m o at live (sym here) is-next (omega (arith, is-next, few)) (omega (arith, less, both-numbers x.carries)) given.0
+      (λ some-window. subst (λ (y : ℕ). 0 < begins views y) (sym of-it) (given.1 (omega (arith, of-it, some-window)))))
+
+  pub wins_ok : (n id : ℕ) (m : Sat) (st : Step ℕ) → 0 < m.0.weight → (st.first ≤ 17496587910722355200 → st.first ≡ m.0.found) → st.second ≡ next_ticket m.0 + 1 → next_ticket m.0 < floor_of m.0.carries (terms_of k m.0.current) m.0.seen m.0.back
       → Allows (IsKept k) n id m 8 (λ x. either (x == st.first) st.second x) (wins st m)
-  wins_ok n id m st live first second room = allows n id m 8 (λ x. either (x == st.first) st.second x) (wins st m) (λ window latest ws views long o at.
+  wins_ok n id m st live first second room = allows n id m 8 (λ x. either (x == st.first) st.second x) (wins st m) (λ window latest kind ws views long o at.
       let v : View = m.0 in
       let t : ℕ = next_ticket v in
       let d : ℕ = slice_index ws 8 in
-      let x : Words = words_at d window (slice_index ws 24) latest (slice_index ws 25) (slice_index ws 9) in
+      let x : Words = words_at d window (slice_index ws 24) latest (slice_index ws 25) (slice_index ws 9) (slice_index ws 26) kind in
       let f = o.each id v at in
       let F : ℕ → Type 0 = λ y. (w : View) × ((homes : List (Option ℕ)) → IsKept k (record { words = set ws 8 y; homes = homes; views = set views id w })) × wins st m d (w, m.1) in
       exchanged d st.first st.second F
       (λ hit. (
         with_ticket v t,
         (λ homes. subst (λ (y : ℕ). IsKept k (record { words = set ws 8 y; homes = homes; views = set views id (with_ticket v t) })) (sym second)
-            (kept-draws ws (set views id (with_ticket v t)) homes (window_of v.seen) latest long (t + 1) (wins-to x views id v o at live (hit ∙ first (omega (arith, hit, drawn_le k x views o))) room))),
-        ((λ _. (is_later d window views o.dealt id v t at (omega arith) (omega (arith, asked_le k x views o, f.seen)), refl)), λ miss. absurd (miss hit)),
+            (kept-draws ws (set views id (with_ticket v t)) homes (window_of v.seen) latest kind long (t + 1) (wins-to x views id v o at live (hit ∙ first (omega (arith, hit, drawn_le k x views o))) room))),
+        ((λ _. (is_later kind d window views o.dealt id v t at (omega (arith, hit ∙ first (omega (arith, hit, drawn_le k x views o)))) (omega (arith, asked_le k x views o, f.seen, both-numbers v.carries)), refl)), λ miss. absurd (miss hit)),
       ))
       (λ miss. dite (dec_le d v.found)
       (λ known. (
         v,
-        (λ homes. kept-draws ws (set views id v) homes window latest long d
-            (told x views id v v.current v.seen v.found v.back v.readings v.glances v.recalls v.looks v.losses o at f.force f.seen f.counted f.begun f.found f.given f.back f.came_back)),
+        (λ homes. kept-draws ws (set views id v) homes window latest kind long d
+            (told x views id v v.current v.seen v.found v.back v.past v.readings v.glances v.recalls v.reviews v.looks v.losses o at f.force f.seen f.counted f.begun f.found f.given f.back f.came_back f.past)),
         ((λ hit. absurd (miss hit)), λ _. (f.found, (λ past. absurd (omega (arith, past, known))), λ _. refl)),
       ))
       (λ not. (
         with_loss v d,
-        (λ homes. kept-draws ws (set views id (with_loss v d)) homes window latest long d
-            (told x views id v v.current v.seen d v.back v.readings v.glances v.recalls v.looks (v.losses + 1) o at f.force f.seen f.counted f.begun (omega arith) (found_at d window views o.dealt) f.back f.came_back)),
+        (λ homes. kept-draws ws (set views id (with_loss v d)) homes window latest kind long d
+            (told x views id v v.current v.seen d v.back v.past v.readings v.glances v.recalls v.reviews v.looks (v.losses + 1) o at f.force f.seen f.counted f.begun (omega arith) (found_now k x views o id v at live) f.back f.came_back f.past)),
         ((λ hit. absurd (miss hit)), λ _. (f.found, (λ _. refl), λ same. absurd (omega (arith, same, lt_of_not-le not)))),
       ))))
 
   pub recalls_ok : (n id : ℕ) (m : Sat) (st : Step ℕ) → Allows (IsKept k) n id m 9 (λ x. x) (recalls st m)
-  recalls_ok n id m st = allows n id m 9 (λ x. x) (recalls st m) (λ window latest ws views long o at.
+  recalls_ok n id m st = allows n id m 9 (λ x. x) (recalls st m) (λ window latest kind ws views long o at.
       let v : View = m.0 in
       let r : ℕ = slice_index ws 9 in
-      let x : Words = words_at (slice_index ws 8) window (slice_index ws 24) latest (slice_index ws 25) r in
+      let x : Words = words_at (slice_index ws 8) window (slice_index ws 24) latest (slice_index ws 25) r (slice_index ws 26) kind in
       let f = o.each id v at in (
         with_recall v r,
-        (λ homes. kept-back ws (set views id (with_recall v r)) homes window latest long r
-            (told x views id v v.current v.seen v.found r v.readings v.glances (v.recalls + 1) v.looks v.losses o at f.force f.seen f.counted f.begun f.found f.given (omega arith) o.came_back)),
+        (λ homes. kept-back ws (set views id (with_recall v r)) homes window latest kind long r
+            (told x views id v v.current v.seen v.found r v.past v.readings v.glances (v.recalls + 1) v.reviews v.looks v.losses o at f.force f.seen f.counted f.begun f.found f.given (omega arith) o.came_back f.past)),
         (f.back, refl),
+      ))
+
+  pub reviews_ok : (n id : ℕ) (m : Sat) (st : Step ℕ) → Allows (IsKept k) n id m 26 (λ x. x) (reviews st m)
+  reviews_ok n id m st = allows n id m 26 (λ x. x) (reviews st m) (λ window latest kind ws views long o at.
+      let v : View = m.0 in
+      let p : ℕ = slice_index ws 26 in
+      let x : Words = words_at (slice_index ws 8) window (slice_index ws 24) latest (slice_index ws 25) (slice_index ws 9) p kind in
+      let f = o.each id v at in (
+        with_review v p,
+        (λ homes. kept-past ws (set views id (with_review v p)) homes window latest kind long p
+            (told x views id v v.current v.seen v.found v.back p v.readings v.glances v.recalls (v.reviews + 1) v.looks v.losses o at f.force f.seen f.counted f.begun f.found f.given f.back f.came_back o.noted)),
+        (f.noted, refl),
+      ))
+
+  -- the requests that a pass has seen are noted for the window after theirs
+  pub notes_ok : (n id : ℕ) (m : Sat) (st : Step ℕ) (w : ℕ) → window_of m.0.seen + 1 ≡ w → st.first ≡ first_of w + m.0.seen % 4294967296
+      → Allows (IsKept k) n id m 26 (λ x. max x st.first) (notes st m)
+  notes_ok n id m st w next noted = allows n id m 26 (λ x. max x st.first) (notes st m) (λ window latest kind ws views long o at.
+      let v : View = m.0 in
+      let p : ℕ = slice_index ws 26 in
+      let p' : ℕ = max p st.first in
+      let x : Words = words_at (slice_index ws 8) window (slice_index ws 24) latest (slice_index ws 25) (slice_index ws 9) p kind in
+      let x' : Words = record x { past = p' } in
+      let u : View = with_note v st.first in
+      let f = o.each id v at in
+      let g = grows views id v u at (λ n. omega arith) (λ n. omega arith) (λ n. omega arith) (λ n. omega arith) (λ n. omega arith) in
+      let here : window_of st.first ≡ w = omega (arith, noted) in
+      let of-it : window_of st.first - 1 ≡ window_of v.seen = omega (arith, here, next) in
+      let is-noted : IsNoted views st.first = record {
+        counted = omega (arith, noted, here, f.counted, ap (requests_in views) of-it);
+        begun = λ later. subst (λ (y : ℕ). 0 < begins views y) (sym of-it) (f.begun (omega (arith, of-it, later)));
+      } in
+      let still : IsNoted views p' = dite (dec_le st.first p)
+      (λ more. let same : p ≡ p' = omega (arith, more) in subst (IsNoted views) same o.noted)
+      (λ not. let same : st.first ≡ p' = omega (arith, lt_of_not-le not) in subst (IsNoted views) same is-noted) in (
+        u,
+        (λ homes. kept-past ws (set views id u) homes window latest kind long p'
+            (moved x x' views id v u o at refl refl
+            (dealt-same kind x.drawn window views id v u at (λ h. refl) o.dealt) (given-same kind x.drawn views id v u at (λ h. refl) g o.given) (omega arith) (noted-on views (set views id u) p' g still) (counted-same x.asked latest views id v u at refl refl refl o.counted)
+            (omega arith) (omega arith) o.behind (omega arith) g (omega (arith, o.force, g.force x.current)) (omega (arith, o.came_back, g.returned (window_of x.back))) o.few_back (entered-same x views id v u o at refl g)
+            (λ f. record {
+              seen = f.seen;
+              counted = f.counted;
+              begun = f.begun;
+              found = f.found;
+              given = f.given;
+              back = f.back;
+              came_back = f.came_back;
+              past = f.past;
+              noted = omega arith;
+              live = f.live;
+              kind = f.kind;
+              force = f.force;
+              spent = f.spent;
+            }))),
+        refl,
       ))
 
   pub asks_ok : (n id : ℕ) (m : Sat) (st : Step ℕ) → Allows (IsKept k) n id m 9 (λ x. x) (asks st m)
-  asks_ok n id m st = allows n id m 9 (λ x. x) (asks st m) (λ window latest ws views long o at.
+  asks_ok n id m st = allows n id m 9 (λ x. x) (asks st m) (λ window latest kind ws views long o at.
       let v : View = m.0 in
       let r : ℕ = slice_index ws 9 in
-      let x : Words = words_at (slice_index ws 8) window (slice_index ws 24) latest (slice_index ws 25) r in
+      let x : Words = words_at (slice_index ws 8) window (slice_index ws 24) latest (slice_index ws 25) r (slice_index ws 26) kind in
       let f = o.each id v at in (
         with_asking v r,
-        (λ homes. kept-back ws (set views id (with_asking v r)) homes window latest long r
-            (told x views id v v.current v.seen v.found r v.readings v.glances (v.recalls + 1) v.looks 0 o at f.force f.seen f.counted f.begun f.found f.given (omega arith) o.came_back)),
+        (λ homes. kept-back ws (set views id (with_asking v r)) homes window latest kind long r
+            (told x views id v v.current v.seen v.found r v.past v.readings v.glances (v.recalls + 1) v.reviews v.looks 0 o at f.force f.seen f.counted f.begun f.found f.given (omega arith) o.came_back f.past)),
         (f.back, refl),
       ))
-
-  -- the tickets of a pass are the latest and the others
-  latest-sum : (h : ℕ → ℕ) (ts : List ℕ) → total h (without_latest ts) + total h (latest_in ts) ≡ total h ts
-  latest-sum h [] = refl
-  latest-sum h (t ∷ ts) = omega arith
-
-  latest-each : (P : ℕ → Type 0) (ts : List ℕ) → Each P ts → Each P (without_latest ts) × Each P (latest_in ts)
-  latest-each P [] all = (tt, tt)
-  latest-each P (t ∷ ts) all = (all.1, (all.0, tt))
-
-  latest-spent : (ts : List ℕ) → ts ≡ [] → (without_latest ts ≡ []) × (latest_in ts ≡ [])
-  latest-spent ts none = (ap without_latest none, ap latest_in none)
-
-  -- a pass has handed its latest ticket back, and their word is r'
-  returns-to : (x : Words) (views : List View) (id : ℕ) (v : View) (r' : ℕ) → IsOrderly k x views → get_elem? views id ≡ some v → 0 < v.weight
-      → x.back ≤ r' → r' ≤ 17496587910722355200 → (Grows k views (set views id (with_return v r')) → IsSeen (returned_in (set views id (with_return v r'))) r')
-      → IsOrderly k (record x { back = r' }) (set views id (with_return v r'))
-  returns-to x views id v r' o at live more few is_seen =
-      let w : View = with_return v r' in
-      let x' : Words = record x { back = r' } in
-      let sum : (h : ℕ → ℕ) → ticket_weight h w ≡ ticket_weight h v = λ h. omega (arith, latest-sum h v.tickets, total-append h (latest_in v.tickets) v.returned) in
-      let g = grows views id v w at (λ n. omega (arith, sum (within (first_of n) 4294967296)))
-      (λ n. omega (arith, total-append (within (first_of n) 4294967296) (latest_in v.tickets) v.returned)) (λ n. omega arith) (λ n. omega arith) (λ n. omega arith) in
-      moved x x' views id v w o at refl
-      (dealt-same x.drawn x.window views id v w at sum o.dealt) (counted-same x.asked x.latest views id v w at refl refl refl o.counted)
-      (omega arith) (omega arith) o.behind more g (omega (arith, o.force, g.force x.current)) (is_seen g) few
-      (λ n some-window given.
-      let less : tickets_in (set views id w) n ≤ tickets_in views n = omega (arith, total-set (λ (u : View). count_in n u.tickets) views id v w at, latest-sum (within (first_of n) 4294967296) v.tickets) in
-      omega (arith, o.entered n some-window (omega arith), g.starts n))
-      (λ f. record {
-        allows = (latest-each (IsAllowed k (set views id w)) v.tickets f.allows).0;
-        allowed_back = Each-append (IsAllowed k (set views id w)) (latest_in v.tickets) v.returned (latest-each (IsAllowed k (set views id w)) v.tickets f.allows).1 f.allowed_back;
-        seen = f.seen;
-        counted = f.counted;
-        begun = f.begun;
-        found = f.found;
-        given = f.given;
-        back = omega arith;
-        came_back = is_seen g;
-        live = f.live;
-        force = f.force;
-        spent = λ none. absurd (omega arith);
-      })
-
-  pub lapses_ok : (n id : ℕ) (m : Sat) (st : Step ℕ) → 0 < m.0.weight → Allows (IsKept k) n id m 9 (λ x. x) (lapses st m)
-  lapses_ok n id m st live = allows n id m 9 (λ x. x) (lapses st m) (λ window latest ws views long o at.
-      let v : View = m.0 in
-      let r : ℕ = slice_index ws 9 in
-      let x : Words = words_at (slice_index ws 8) window (slice_index ws 24) latest (slice_index ws 25) r in
-      let f = o.each id v at in (
-        with_return v r,
-        (λ homes. kept-back ws (set views id (with_return v r)) homes window latest long r
-            (returns-to x views id v r o at live (omega arith) o.few_back (λ g. omega (arith, o.came_back, g.returned (window_of r))))),
-        (f.back, refl),
-      ))
-
-  -- a ticket is below the word of the draws
-  ticket-below : (x : Words) (views : List View) (id : ℕ) (v : View) (t : ℕ) (ts : List ℕ) → IsOrderly k x views → get_elem? views id ≡ some v → v.tickets ≡ t ∷ ts → t < x.drawn
-  ticket-below x views id v t ts o at had =
-      let none : ticket_weight (from x.drawn) v ≡ 0 = omega (arith, term_le (ticket_weight (from x.drawn)) views id v at, o.dealt.once (from x.drawn), below-from x.drawn x.drawn (omega arith)) in
-      (none_from x.drawn (t ∷ ts) (omega (arith, none, ap (total (from x.drawn)) had))).0
-
-  pub returns_ok : (n id : ℕ) (m : Sat) (st : Step ℕ) (t : ℕ) (ts : List ℕ) → 0 < m.0.weight → m.0.tickets ≡ t ∷ ts → st.first ≡ m.0.back → window_of st.first ≤ window_of t → st.second ≡ max st.first (first_of (window_of t)) + 1
-      → Allows (IsKept k) n id m 9 (λ x. either (x == st.first) st.second x) (returns st m)
-  returns_ok n id m st t ts live had first no-later second = allows n id m 9 (λ x. either (x == st.first) st.second x) (returns st m) (λ window latest ws views long o at.
-      let v : View = m.0 in
-      let r : ℕ = slice_index ws 9 in
-      let r' : ℕ = st.second in
-      let a : ℕ = first_of (window_of t) in
-      let x : Words = words_at (slice_index ws 8) window (slice_index ws 24) latest (slice_index ws 25) r in
-      let f = o.each id v at in
-      let F : ℕ → Type 0 = λ y. (w : View) × ((homes : List (Option ℕ)) → IsKept k (record { words = set ws 9 y; homes = homes; views = set views id w })) × returns st m r (w, m.1) in
-      let below-it : t < x.drawn = ticket-below x views id v t ts o at had in
-      let most = drawn_le k x views o in
-      exchanged r st.first st.second F
-      (λ hit. (
-        with_return v r',
-        (λ homes. kept-back ws (set views id (with_return v r')) homes window latest long r'
-            (returns-to x views id v r' o at live (omega (arith, hit, second)) (omega (arith, hit, second, no-later))
-            (λ g.
-            let w : View = with_return v r' in
-            let inside : within a 4294967296 t ≡ 1 = within-yes a 4294967296 t (omega arith) (omega arith) in
-            let one : count_in (window_of t) (latest_in v.tickets) ≡ 1 = omega (arith, ap (λ (l : List ℕ). count_in (window_of t) (latest_in l)) had, inside) in
-            let more : returned_in (set views id w) (window_of t) ≡ returned_in views (window_of t) + 1 =
-            omega (arith, total-set (λ (u : View). count_in (window_of t) u.returned) views id v w at, total-append (within a 4294967296) (latest_in v.tickets) v.returned, one) in
-            dite (ℕ_discrete (window_of r') (window_of t))
-            (λ same.
-            let low : r' ≤ a + returned_in (set views id w) (window_of t) = dite (dec_le a r)
-            (λ there.
-            let here : window_of r ≡ window_of t = omega (arith, hit, no-later) in
-            let was : r ≤ a + returned_in views (window_of t) = subst (λ (y : ℕ). r ≤ first_of y + returned_in views y) here o.came_back in
-            omega (arith, hit, second, was, more))
-            (λ not. omega (arith, hit, second, lt_of_not-le not, more)) in
-            subst (λ (y : ℕ). r' ≤ first_of y + returned_in (set views id w) y) (sym same) low)
-            (λ other.
-            let up : r' ≤ a + 4294967296 = omega (arith, hit, second, no-later) in
-            let next : r' ≡ a + 4294967296 = dite (dec_le (a + 4294967296) r')
-            (λ le. omega (arith, le, up))
-            (λ not. absurd (other (omega (arith, lt_of_not-le not, hit, second)))) in
-            omega (arith, next))))),
-        ((λ _. refl), λ miss. absurd (miss hit)),
-      ))
-      (λ miss. dite (dec_le r v.back)
-      (λ known. (
-        v,
-        (λ homes. kept-back ws (set views id v) homes window latest long r
-            (told x views id v v.current v.seen v.found v.back v.readings v.glances v.recalls v.looks v.losses o at f.force f.seen f.counted f.begun f.found f.given f.back f.came_back)),
-        ((λ hit. absurd (miss hit)), λ _. (f.back, (λ past. absurd (omega (arith, past, known))), λ _. refl)),
-      ))
-      (λ not. (
-        with_setback v r,
-        (λ homes. kept-back ws (set views id (with_setback v r)) homes window latest long r
-            (told x views id v v.current v.seen v.found r v.readings v.glances v.recalls v.looks (v.losses + 1) o at f.force f.seen f.counted f.begun f.found f.given (omega arith) o.came_back)),
-        ((λ hit. absurd (miss hit)), λ _. (f.back, (λ _. refl), λ same. absurd (omega (arith, same, lt_of_not-le not)))),
-      ))))

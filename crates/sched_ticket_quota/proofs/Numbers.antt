@@ -1,16 +1,15 @@
 -- Numbers within windows, and what a window may give.
-use Rattle.std.proofs.Common.{◌≡◌, ℕ, zero, suc, ◌+◌, ◌-◌, ◌*◌, ◌/◌, ◌%◌, ◌<◌, ◌≤◌, min, List, [], ◌∷◌, cond, eq-eqb, ne_eqb, sym, ap, ◌∙◌, subst, arith, lt_of_not-le}
+use Rattle.std.proofs.Common.{◌≡◌, ◌≢◌, ℕ, zero, suc, ◌+◌, ◌-◌, ◌*◌, ◌/◌, ◌%◌, ◌<◌, ◌≤◌, min, Bool, true, false, cond, lt-ltb, le-ltb, eq-eqb, ne_eqb, refl, sym, ap, ◌∙◌, subst, arith, lt_of_not-le}
 use Rattle.std.proofs.Math.Nat.{div-mul-le_self, mul-le-mul_left, mul-le-mul_right, div-zero}
 use Rattle.std.proofs.lemmas.Nat.{le-div}
 use mathlib.Core.Logic.{dite}
 use native.Mathlib.Decide.{ℕ_discrete, dec_le}
-use Rattle.sched_ticket.specs.Lists.{total, below, Each, is}
-use Rattle.sched_ticket.proofs.Sums.{once_below-yes, once_below-no, Each-map, is-other}
-use Rattle.sched_ticket_quota.specs.Windows.{window_of, first_of, window_at, word_of, terms_of, back_in, AllowNoMore, allowed, within, count_in}
+use Rattle.sched_ticket.specs.Lists.{total, below, is}
+use Rattle.sched_ticket.proofs.Sums.{once_below-yes, once_below-no, is-other}
+use Rattle.sched_ticket_quota.specs.Windows.{window_of, first_of, window_at, word_of, terms_of, back_in, AllowNoMore, ShareNoMore, allowed, own_numbers, late_numbers, left_of, carried_to, drawn_at, within}
 use Rattle.sched_ticket_quota.specs.View.{numbers}
-use Rattle.sched_ticket_quota.specs.Rule.{requests_in, returned_in, in_force, IsSeen, IsAllowed}
+use Rattle.sched_ticket_quota.specs.Rule.{IsSeen}
 use Rattle.sched_ticket_quota.specs.declared.view.Terms.{Terms}
-use Rattle.sched_ticket_quota.specs.declared.view.View.{View}
 
 pub within-yes : (a n x : ℕ) → a ≤ x → x < a + n → within a n x ≡ 1
 within-yes a n x from to = omega (arith, once_below-yes x (a + n) to, once_below-no x a from)
@@ -20,6 +19,12 @@ within-low a n x low = omega (arith, once_below-yes x (a + n) (omega arith), onc
 
 pub within-high : (a n x : ℕ) → a + n ≤ x → within a n x ≡ 0
 within-high a n x high = omega (arith, once_below-no x (a + n) high)
+
+-- a number of another window
+pub within-other : (w t : ℕ) → w ≢ window_of t → within (first_of w) 4294967296 t ≡ 0
+within-other w t other = dite (dec_le w (window_of t))
+    (λ low. within-high (first_of w) 4294967296 t (omega (arith, low, other)))
+    (λ not. within-low (first_of w) 4294967296 t (omega (arith, lt_of_not-le not)))
 
 -- how many of the numbers below d are within
 pub below-within : (a n d : ℕ) → below (within a n) d ≡ min (d - a) n
@@ -41,13 +46,15 @@ pub below-numbers : (h : ℕ → ℕ) (q n : ℕ) → below h (q + n) ≡ below 
 below-numbers h q zero = let none : q + 0 ≡ q = omega arith in omega (arith, ap (below h) none)
 below-numbers h q (suc n) = let next : q + suc n ≡ suc (q + n) = omega arith in omega (arith, ap (below h) next, below-numbers h q n)
 
--- more requests allow no fewer tickets
+-- more requests have no smaller share, and allow no fewer tickets
+pub share-mono : (share n m : ℕ) → n ≤ m → (share * n) / 1000 ≤ (share * m) / 1000
+share-mono share n m le =
+    let up : share * n ≤ share * m = mul-le-mul_left share le in
+    let down : (share * n) / 1000 * 1000 ≤ share * n = div-mul-le_self (share * n) 1000 in
+    le-div ((share * n) / 1000) (share * m) 1000 (omega arith) (omega arith)
+
 pub allowed-mono : (k : Terms) (n m : ℕ) → n ≤ m → allowed k n ≤ allowed k m
-allowed-mono k n m le =
-    let up : k.share * n ≤ k.share * m = mul-le-mul_left k.share le in
-    let down : (k.share * n) / 1000 * 1000 ≤ k.share * n = div-mul-le_self (k.share * n) 1000 in
-    let less : (k.share * n) / 1000 ≤ (k.share * m) / 1000 = le-div ((k.share * n) / 1000) (k.share * m) 1000 (omega arith) (omega arith) in
-    omega arith
+allowed-mono k n m le = omega (arith, share-mono k.share n m le)
 
 -- a moment no later is in no later window
 pub window_at-mono : (k : Terms) (start n m : ℕ) → n ≤ m → window_at k start n ≤ window_at k start m
@@ -93,29 +100,49 @@ allow-most k force reserve share n most x some-force =
     let shares : ((x % 1048576) * n) / 1000 ≤ (share * n) / 1000 = le-div (((x % 1048576) * n) / 1000) (share * n) 1000 (omega arith) (omega arith) in
     omega (arith, m.0)
 
-module _ (k : Terms) where
-  -- tickets stay allowed while requests are counted and terms are set
-  pub allows-on : (views views' : List View) (xs : List ℕ) → ((w : ℕ) → requests_in views w ≤ requests_in views' w) → ((w : ℕ) → returned_in views w ≤ returned_in views' w) → ((x : ℕ) → in_force k views x ≤ in_force k views' x)
-      → Each (IsAllowed k views) xs → Each (IsAllowed k views') xs
-  allows-on views views' xs more back force all = Each-map (IsAllowed k views) (IsAllowed k views')
-      (λ t a. (a.0, omega (arith, a.1, force a.0), omega (arith, a.2, back (window_of t), allowed-mono (terms_of k a.0) (requests_in views (window_of t)) (requests_in views' (window_of t)) (more (window_of t))))) xs all
+-- bounds stay bounds where fewer requests were counted, and fewer terms were in force
+pub allow-less : (k : Terms) (force force' : ℕ → ℕ) (r r' n : ℕ) → r ≤ r' → ((x : ℕ) → force x ≤ force' x) → AllowNoMore k force' r' n → AllowNoMore k force r n
+allow-less k force force' r r' n less fewer most x some-force = omega (arith, most x (omega (arith, some-force, fewer x)), allowed-mono (terms_of k x) r r' less)
 
-  -- of the tickets of a window none is past what the terms in force allow for its requests, and those handed back
-  pub count_in-allowed : (views : List View) (w n : ℕ) (xs : List ℕ) → AllowNoMore k (in_force k views) (requests_in views w) n → Each (IsAllowed k views) xs → count_in w xs ≤ total (within (first_of w) (n + returned_in views w)) xs
-  count_in-allowed views w n [] most all = omega arith
-  count_in-allowed views w n (t ∷ ts) most all =
-      let rest = count_in-allowed views w n ts most all.1 in
-      let a : ℕ = first_of w in
-      let r : ℕ = returned_in views w in
-      let here : within a 4294967296 t ≤ within a (n + r) t = dite (dec_le a t)
-      (λ from. dite (dec_le (a + 4294967296) t)
-      (λ high. omega (arith, within-high a 4294967296 t high))
-      (λ not.
-      let to : t < a + 4294967296 = lt_of_not-le not in
-      let same : window_of t ≡ w = omega arith in
-      let by = all.0 in
-      let low : t < first_of w + allowed (terms_of k by.0) (requests_in views w) + r =
-      subst (λ (y : ℕ). t < first_of y + allowed (terms_of k by.0) (requests_in views y) + returned_in views y) same by.2 in
-      omega (arith, within-yes a 4294967296 t from to, within-yes a (n + r) t from (omega (arith, low, most by.0 by.1)))))
-      (λ not. omega (arith, within-low a 4294967296 t (lt_of_not-le not))) in
-      omega arith
+pub share-less : (k : Terms) (force force' : ℕ → ℕ) (r r' n : ℕ) → r ≤ r' → ((x : ℕ) → force x ≤ force' x) → ShareNoMore k force' r' n → ShareNoMore k force r n
+share-less k force force' r r' n less fewer most x some-force = omega (arith, most x (omega (arith, some-force, fewer x)), share-mono (x % 1048576) r r' less)
+
+-- a window's own numbers and those carried to the next are all that it has
+pub both-numbers : (c : Bool) → own_numbers c + late_numbers c ≡ 4294967296
+both-numbers true = refl
+both-numbers false = refl
+
+-- a ticket is drawn in no window before one whose numbers, or those of tickets carried to it, it has come to
+pub drawn-late : (c : Bool) (t n : ℕ) → first_of n ≤ t + late_numbers c → n ≤ drawn_at c t
+drawn-late true t n late = omega (arith, late)
+drawn-late false t n late = omega (arith, late)
+
+pub drawn-early : (c : Bool) (t n : ℕ) → t + late_numbers c < first_of n → drawn_at c t < n
+drawn-early true t n early = omega (arith, early)
+drawn-early false t n early = omega (arith, early)
+
+-- a quota that has numbers for those carries
+pub late-carries : (c : Bool) → 0 < late_numbers c → c ≡ true
+late-carries true some = refl
+late-carries false some = absurd (omega (arith, some))
+
+-- none has more of a share than the greatest
+pub share-most : (k : Terms) (force : ℕ → ℕ) (share n : ℕ) → ((x : ℕ) → 0 < force x → x % 1048576 ≤ share) → ShareNoMore k force n ((share * n) / 1000)
+share-most k force share n most x some-force =
+    let up : (x % 1048576) * n ≤ share * n = mul-le-mul_right n (most x some-force) in
+    let down : ((x % 1048576) * n) / 1000 * 1000 ≤ (x % 1048576) * n = div-mul-le_self ((x % 1048576) * n) 1000 in
+    le-div (((x % 1048576) * n) / 1000) (share * n) 1000 (omega arith) (omega arith)
+
+-- what is carried where draws have come to it, and where they have not
+pub carried-late : (k : Terms) (q past d : ℕ) → first_of (window_of q) - d < 2147483648 → carried_to true k q past d ≡ first_of (window_of q) - d
+carried-late k q past d near = ap (λ b. cond b (first_of (window_of q) - d) (left_of k (back_in past (window_of q)) (d - first_of (window_of q - 1)))) (lt-ltb (first_of (window_of q) - d) 2147483648 near)
+
+pub carried-first : (k : Terms) (q past d : ℕ) → 2147483648 ≤ first_of (window_of q) - d → carried_to true k q past d ≡ left_of k (back_in past (window_of q)) (d - first_of (window_of q - 1))
+carried-first k q past d far = ap (λ b. cond b (first_of (window_of q) - d) (left_of k (back_in past (window_of q)) (d - first_of (window_of q - 1)))) (le-ltb (first_of (window_of q) - d) 2147483648 far)
+
+-- no more than there are numbers for
+pub few-carried : (c : Bool) (k : Terms) (q past d : ℕ) → carried_to c k q past d ≤ late_numbers c
+few-carried false k q past d = omega arith
+few-carried true k q past d = dite (dec_le 2147483648 (first_of (window_of q) - d))
+    (λ far. omega (arith, carried-first k q past d far))
+    (λ not. let near : first_of (window_of q) - d < 2147483648 = lt_of_not-le not in omega (arith, carried-late k q past d near, near))

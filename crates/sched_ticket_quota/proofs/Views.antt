@@ -21,7 +21,7 @@ pub requests_stand_once : RequestsStandOnce
 requests_stand_once k s kept x = omega (arith, kept.orderly.counted.once (is x), below-is x (asked_of s), once_below-le x (asked_of s))
 
 pub windows_are_kept : WindowsAreKept
-windows_are_kept k s kept w n most = windows_kept k (words_of s kept.window kept.latest) s.views kept.orderly w n
+windows_are_kept k s kept w n most = windows_kept k (words_of s kept.window kept.latest kept.carries) s.views kept.orderly w n
     (λ x some-force. omega (arith, most (terms_of k x) (x, some-force, refl)))
 
 no_changes : (x : ℕ) (views : List View) → ((by : ℕ) (v : View) → get_elem? views by ≡ some v → v.changes ≡ []) → total (λ (v : View). times x v.changes) views ≡ 0
@@ -32,7 +32,7 @@ pub unchanged_are_kept : UnchangedAreKept
 unchanged_are_kept k s kept none w =
     omega (
       arith,
-      windows_kept k (words_of s kept.window kept.latest) s.views kept.orderly w (allowed k (requests_in s.views w))
+      windows_kept k (words_of s kept.window kept.latest kept.carries) s.views kept.orderly w (allowed k (requests_in s.views w))
           (λ x some-force. omega (arith, only-word k x (requests_in s.views w) kept.orderly.known (omega (arith, some-force, no_changes x s.views none)))),
     )
 
@@ -43,7 +43,7 @@ terms_were_in_force k s kept = (
 )
 
 pub windows_are_small : WindowsAreSmall
-windows_are_small k s kept w = windows_small k (words_of s kept.window kept.latest) s.views kept.orderly w
+windows_are_small k s kept w = windows_small k (words_of s kept.window kept.latest kept.carries) s.views kept.orderly w
 
 pub latest_is_counted : LatestIsCounted
 latest_is_counted k s kept = let at = seen_at (asked_of s) kept.latest s.views kept.orderly.counted in omega arith
@@ -59,7 +59,7 @@ refusals_are_just k s kept by v at full =
 pub sight_is_true : SightIsTrue
 sight_is_true k s kept by v at =
     let f = kept.orderly.each by v at in
-    let counted = f.counted in (f.seen, f.found, omega arith, λ w. back_in-le v.back w (returned_in s.views) f.came_back)
+    let counted = f.counted in (f.seen, f.found, omega arith, λ w. back_in-le v.back w (returned_in s.views) f.came_back, f.noted, f.past.counted)
 
 pub windows_were_opened : WindowsWereOpened
 windows_were_opened k s kept =
@@ -81,7 +81,7 @@ spent_has_nothing k s kept by v at none = let f = kept.orderly.each by v at in (
 
 pub words_stay_small : WordsStaySmall
 words_stay_small k s kept = (
-  asked_le k (words_of s kept.window kept.latest) s.views kept.orderly,
-  drawn_le k (words_of s kept.window kept.latest) s.views kept.orderly,
+  asked_le k (words_of s kept.window kept.latest kept.carries) s.views kept.orderly,
+  drawn_le k (words_of s kept.window kept.latest kept.carries) s.views kept.orderly,
   kept.orderly.few_back,
 )

@@ -1,33 +1,28 @@
 -- What a pass has that has all parts is what all passes have.
-use Rattle.std.proofs.Common.{◌≡◌, ℕ, ◌+◌, ◌≤◌, List, sym, ap, ◌∙◌, arith}
+use Rattle.std.proofs.Common.{◌≡◌, ℕ, ◌≤◌, List, sym, ap, ◌∙◌, arith}
 use mathlib.Core.Option.{some}
 use lib.ListN.{get_elem?}
 use Rattle.sched_ticket.specs.Lists.{total, times}
 use Rattle.sched_ticket.specs.Parts.{all_parts}
-use Rattle.sched_ticket.proofs.Sums.{total-le, total-plus, alone}
+use Rattle.sched_ticket.proofs.Sums.{alone}
 use Rattle.sched_ticket_quota.specs.Windows.{first_of, terms_of, AllowNoMore, allowed, within, count_in}
-use Rattle.sched_ticket_quota.specs.Rule.{ticket_weight, tickets_in, returned_in, requests_in, weights, in_force, Words, IsOrderly}
+use Rattle.sched_ticket_quota.specs.Rule.{tickets_in, requests_in, weights, in_force, Words, IsOrderly}
 use Rattle.sched_ticket_quota.specs.Whole.{had_force, IsWhole}
 use Rattle.sched_ticket_quota.specs.declared.view.Terms.{Terms}
 use Rattle.sched_ticket_quota.specs.declared.view.View.{View}
-use Rattle.sched_ticket_quota.proofs.Numbers.{below-within, count_in-allowed, only-word}
+use Rattle.sched_ticket_quota.proofs.Numbers.{below-within, only-word}
+use Rattle.sched_ticket_quota.proofs.Counts.{all-dealt}
 
 module _ (k : Terms) (x : Words) (views : List View) (o : IsOrderly k x views) where
   -- in each window the tickets are no more than the terms in force allow for its requests
   pub windows_kept : (w n : ℕ) → AllowNoMore k (in_force k views) (requests_in views w) n → tickets_in views w ≤ n
-  windows_kept w n most =
-      let h : ℕ → ℕ = within (first_of w) (n + returned_in views w) in
-      let dealt : View → ℕ = λ (v : View). count_in w v.tickets + count_in w v.returned in
-      let both : total dealt views ≡ tickets_in views w + returned_in views w = total-plus (λ (v : View). count_in w v.tickets) (λ (v : View). count_in w v.returned) views in
-      let each : total dealt views ≤ total (ticket_weight h) views = total-le dealt (ticket_weight h) views
-      (λ i u at. omega (arith, count_in-allowed k views w n u.tickets most (o.each i u at).allows, count_in-allowed k views w n u.returned most (o.each i u at).allowed_back)) in
-      omega (arith, o.dealt.once h, below-within (first_of w) (n + returned_in views w) x.drawn)
+  windows_kept w n most = omega (arith, o.given.windows w n most)
 
   -- nor than a window has numbers
   pub windows_small : (w : ℕ) → tickets_in views w ≤ 4294967296
   windows_small w =
       let h : ℕ → ℕ = within (first_of w) 4294967296 in
-      omega (arith, total-le (λ (v : View). count_in w v.tickets) (ticket_weight h) views (λ i u at. omega arith), o.dealt.once h, below-within (first_of w) 4294967296 x.drawn)
+      omega (arith, all-dealt views w, o.dealt.once h, below-within (first_of w) 4294967296 x.drawn)
 
   -- what all passes have is what the pass has that has all parts
   module _ (id : ℕ) (v : View) (at : get_elem? views id ≡ some v) (all : v.weight ≡ all_parts) where

@@ -3,7 +3,7 @@
 use Rattle.std.specs.Prelude.{◌≡◌, ℕ, ◌+◌, ◌-◌, ◌*◌, ◌/◌, ◌<◌, ◌≤◌, ◌⊎◌, List, ◌∷◌, ◌++◌}
 use Rattle.atomic_table.specs.Table.{State}
 use Rattle.sched_ticket.specs.Lists.{below}
-use Rattle.sched_ticket_quota.specs.Windows.{window_of, first_of, window_at, end_of}
+use Rattle.sched_ticket_quota.specs.Windows.{window_of, first_of, window_at, end_of, drawn_at}
 use Rattle.sched_ticket_quota.specs.View.{numbers}
 use Rattle.sched_ticket_quota.specs.Rule.{tickets_in, requests_in, begins, WereInForce, IsKept}
 use Rattle.sched_ticket_quota.specs.Held.{Name, AreTerms}
@@ -25,10 +25,10 @@ abbrev pub OpensItsOwn : Type 0
 OpensItsOwn = (b : Name) (now : ℕ) (v w : View) → Called b now v w →
     (w.opened ≡ v.opened) ⊎ (w.opened ≡ first_of (window_at b.terms b.start now) ∷ v.opened)
 
--- a ticket is of no window before that of its draw's moment
+-- a ticket is drawn in no window before that of its draw's moment, and of a quota that does not carry it is of none
 abbrev pub DrawsNoEarlier : Type 0
-DrawsNoEarlier = (b : Name) (now : ℕ) (v : View) (t : ℕ) (w : View) → Drew b now v t w →
-    window_at b.terms b.start now ≤ window_of t
+DrawsNoEarlier = (b : Name) (now : ℕ) (v : View) (t : ℕ) (w : View) → v.carries ≡ b.carries → Drew b now v t w →
+    window_at b.terms b.start now ≤ drawn_at b.carries t
 
 -- nor is a request of one before that of its deposit's moment
 abbrev pub CountsNoEarlier : Type 0

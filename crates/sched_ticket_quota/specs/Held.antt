@@ -1,26 +1,29 @@
 -- What contracts see of a quota and of a pass, and what every pass keeps.
-use Rattle.std.specs.Prelude.{◌≡◌, ℕ, ◌-◌, ◌<◌, ◌≤◌, List, [], ◌∷◌, length, Option, IfSome}
+use Rattle.std.specs.Prelude.{◌≡◌, ℕ, Bool, ◌-◌, ◌<◌, ◌≤◌, List, [], ◌∷◌, length, Option, IfSome}
 use Rattle.atomic_table.specs.Seated.{TableId}
 use Rattle.sched_ticket_quota.specs.Windows.{window_of, window_at}
 use Rattle.sched_ticket_quota.specs.Steps.{Sat}
 use Rattle.sched_ticket_quota.specs.declared.view.Terms.{Terms}
 use Rattle.sched_ticket_quota.specs.declared.view.View.{View}
 
--- which quota it is, and what it was made with: `start` is the window that it was made in, counted from moment 0
+-- which quota it is, and what it was made with: `start` is the window that it was made in, counted from moment 0, and
+-- `carries` whether a window may draw what the one before left of its share
 pub record Name : Type 0 where
   pub table : TableId
   pub terms : Terms
   pub start : ℕ
+  pub carries : Bool
 
--- which quota a pass is of, and what it has of it
+-- which quota a pass is of, what it has of it, and the ticket that it may hand back
 pub record Held : Type 0 where
   pub table : TableId
   pub start : ℕ
   pub has : View
+  pub latest : Option ℕ
 
 -- the pass is of this quota
 abbrev pub IsOf : Name → Held → Type 0
-IsOf b p = (p.table ≡ b.table) × (p.has.terms ≡ b.terms) × (p.start ≡ b.start)
+IsOf b p = (p.table ≡ b.table) × (p.has.terms ≡ b.terms) × (p.start ≡ b.start) × (p.has.carries ≡ b.carries)
 
 -- terms that a quota can be made with
 pub record AreTerms (k : Terms) : Type 0 where

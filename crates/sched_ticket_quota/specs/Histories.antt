@@ -3,9 +3,10 @@
 use Rattle.std.specs.Prelude.{◌≡◌, ℕ, ◌+◌, ◌-◌, ◌*◌, ◌/◌, ◌≤◌, ◌⊎◌, List, [], ◌∷◌, ◌++◌, length, if◌then◌else◌, nat_lt}
 use Rattle.atomic_table.specs.Table.{State}
 use Rattle.sched_ticket.specs.Lists.{total}
-use Rattle.sched_ticket_quota.specs.Windows.{first_of, window_at}
-use Rattle.sched_ticket_quota.specs.View.{with_change, first_view, blank_view, without_part, part_of, joined_view}
-use Rattle.sched_ticket_quota.specs.Rule.{requests_in, returned_in, drawn_of, IsKept}
+use Rattle.sched_ticket_quota.specs.Windows.{first_of, window_at, late_numbers, before}
+use Rattle.sched_ticket_quota.specs.View.{with_change, first_of_kind, blank_view, without_part, part_of, joined_view}
+use Rattle.sched_ticket_quota.specs.Rule.{requests_in, drawn_of, IsKept}
+use Rattle.sched_ticket_quota.specs.Carried.{handed_back_in}
 use Rattle.sched_ticket_quota.specs.Held.{Name, AreTerms}
 use Rattle.sched_ticket_quota.specs.Calls.{Turned, HandedBack}
 use Rattle.sched_ticket_quota.specs.Clocks.{Called, AreMost, over}
@@ -35,9 +36,12 @@ IsCalling b now v w = (u : View) × ((u ≡ v) ⊎ Turned b now v u)
       seen = w.seen;
       found = w.found;
       back = w.back;
+      past = w.past;
+      noted = w.noted;
       readings = w.readings;
       glances = w.glances;
       recalls = w.recalls;
+      reviews = w.reviews;
       looks = w.looks;
       losses = w.losses;
     })
@@ -46,8 +50,8 @@ IsCalling b now v w = (u : View) × ((u ≡ v) ⊎ Turned b now v u)
 -- its view. It began as the quota's first, or was split from one; one that was joined into another is blank. It may have
 -- set terms, and handed tickets back.
 pub data Made (b : Name) : List Call → View → Type 0 where
-  begins_first : Made b [] (first_view b.terms)
-  has_called : (now : ℕ) (v w : View) (calls : List Call) → Called b now v w
+  begins_first : Made b [] (first_of_kind b.carries b.terms)
+  has_called : (now : ℕ) (v w : View) (calls : List Call) → v.carries ≡ b.carries → Called b now v w
       → Made b calls v → Made b (call_of now v w ∷ calls) w
   is_calling : (now : ℕ) (v w : View) (calls : List Call) → IsCalling b now v w
       → Made b calls v → Made b (call_of now v w ∷ calls) w
@@ -78,14 +82,15 @@ opened_after to calls = total (λ (c : Call). if nat_lt to c.moment then c.opene
 -- Of all calls of all passes those from a moment on drew at most two reserves, one for each whole period until another
 -- moment, one for each window that a call opened whose moment is after that, one for each 4294967296 requests, the
 -- share of the requests, and as many as were handed back: of those counted, and handed back, from the first moment's window
--- on, in so many windows that the last ticket is of one of them. Reserve and share are the greatest that were in force.
+-- on, in so many windows that the last ticket was drawn in one of them. Of a quota that carries, it is the share of the
+-- requests of the window before as well. Reserve and share are the greatest that were in force.
 abbrev pub CallsAreBounded : Type 0
-CallsAreBounded = (b : Name) (s : State ℕ View) → AreTerms b.terms → IsKept b.terms s →
+CallsAreBounded = (b : Name) (s : State ℕ View) → AreTerms b.terms → (kept : IsKept b.terms s) → kept.carries ≡ b.carries →
     (most : Terms) → AreMost b.terms s.views most →
     (calls : List (List Call)) → AreMade b calls s.views → (since to count : ℕ) → since ≤ to →
-    drawn_of s ≤ first_of (window_at b.terms b.start since + count) →
+    drawn_of s + late_numbers b.carries ≤ first_of (window_at b.terms b.start since + count) →
     let requests = over (requests_in s.views) (window_at b.terms b.start since) count in
     total (drawn_from since) calls
-    ≤ over (returned_in s.views) (window_at b.terms b.start since) count
+    ≤ over (handed_back_in b.carries s.views) (window_at b.terms b.start since) count
     + ((to - since) / b.terms.period + 2 + total (opened_after to) calls + requests / 4294967296) * most.reserve
-    + (most.share * requests) / 1000
+    + (most.share * (before b.carries (requests_in s.views) (window_at b.terms b.start since) + requests)) / 1000

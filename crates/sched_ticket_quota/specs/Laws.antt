@@ -1,11 +1,11 @@
 -- What the rule says in the words of whoever uses a quota. Each law is the contract of a function of the module `laws`.
-use Rattle.std.specs.Prelude.{◌≡◌, ℕ, ◌+◌, ◌*◌, ◌/◌, ◌<◌, ◌≤◌, ◌%◌, []}
+use Rattle.std.specs.Prelude.{◌≡◌, ℕ, ◌+◌, ◌-◌, ◌*◌, ◌/◌, ◌<◌, ◌≤◌, ◌%◌, []}
 use mathlib.Core.Option.{some}
 use lib.ListN.{get_elem?}
 use Rattle.atomic_table.specs.Table.{State}
 use Rattle.sched_ticket.specs.Lists.{total, times}
 use Rattle.sched_ticket_quota.specs.Windows.{window_of, first_of, terms_of, room_of, back_in}
-use Rattle.sched_ticket_quota.specs.Rule.{tickets_in, returned_in, requests_in, weights, openings, WereInForce, drawn_of, asked_of, current_of, back_of, IsKept}
+use Rattle.sched_ticket_quota.specs.Rule.{tickets_in, returned_in, requests_in, weights, openings, WereInForce, drawn_of, asked_of, current_of, back_of, past_of, IsKept}
 use Rattle.sched_ticket_quota.specs.Calls.{HasNoRoom}
 use Rattle.sched_ticket_quota.specs.declared.view.Terms.{Terms}
 use Rattle.sched_ticket_quota.specs.declared.view.View.{View}
@@ -57,14 +57,16 @@ LatestIsCounted = Always (λ k s kept. asked_of s % 4294967296 ≤ requests_in s
 -- the requests and for those handed back, as it read all three
 abbrev pub RefusalsAreJust : Type 0
 RefusalsAreJust = OfEachPass (λ k s by v. HasNoRoom k v →
-    room_of (terms_of k v.current) v.seen v.back
+    room_of v.carries (terms_of k v.current) v.seen v.back
     ≤ tickets_in s.views (window_of v.seen) + returned_in s.views (window_of v.seen))
 
--- what a pass has seen and found was there: no request and no ticket that was counted is lost
+-- what a pass has seen and found was there, and what it has noted still is: no request and no ticket that was counted is lost
 abbrev pub SightIsTrue : Type 0
 SightIsTrue = OfEachPass (λ k s by v. (v.seen ≤ asked_of s) × (v.found ≤ drawn_of s)
     × (v.seen % 4294967296 ≤ requests_in s.views (window_of v.seen))
-    × ((w : ℕ) → back_in v.back w ≤ returned_in s.views w))
+    × ((w : ℕ) → back_in v.back w ≤ returned_in s.views w)
+    × (v.noted ≤ past_of s)
+    × (v.past ≤ first_of (window_of v.past) + requests_in s.views (window_of v.past - 1)))
 
 -- the latest window is the first, one that a pass opened, or follows a full one
 abbrev pub WindowsWereOpened : Type 0

@@ -7,4 +7,5 @@ pub mod Held
 pub mod Calls
 pub mod Laws
 pub mod Clocks
+pub mod Carried
 pub mod Histories

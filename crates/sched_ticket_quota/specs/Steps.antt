@@ -1,12 +1,12 @@
 -- What each kind of atomic step tells the pass that makes it: of the seat before, the number found and the seat after.
-use Rattle.std.specs.Prelude.{◌≡◌, ◌≢◌, ℕ, ◌+◌, ◌<◌, ◌≤◌, length, max}
+use Rattle.std.specs.Prelude.{◌≡◌, ◌≢◌, ℕ, Bool, ◌+◌, ◌<◌, ◌≤◌, length, max}
 use Rattle.atomic_table.specs.Table.{Me, Step}
 use Rattle.sched_ticket.specs.Lists.{Each, times}
 use Rattle.sched_ticket.specs.Parts.{all_parts}
-use Rattle.sched_ticket_quota.specs.Windows.{window_of, first_of}
+use Rattle.sched_ticket_quota.specs.Windows.{window_of, first_of, own_numbers}
 use Rattle.sched_ticket_quota.specs.Whole.{IsWhole}
 use Rattle.sched_ticket_quota.specs.View.{with_reading, with_glance, with_change, with_opening, with_requests, with_found, with_ticket, with_loss, next_ticket}
-use Rattle.sched_ticket_quota.specs.View.{with_recall, with_asking, with_setback, with_return}
+use Rattle.sched_ticket_quota.specs.View.{with_recall, with_review, with_note, with_asking, with_setback, with_return}
 use Rattle.sched_ticket_quota.specs.declared.view.View.{View}
 
 -- a seat's view, and the slots that it holds, of which a quota has none
@@ -21,15 +21,15 @@ abbrev pub Sees : Sat → Sat → View → Type 0
 Sees m n v = n ≡ (v, m.1)
 
 -- the draws that a pass has found are of no window past that of these requests
-abbrev pub IsNoLater : ℕ → ℕ → Type 0
-IsNoLater found q = found ≤ first_of (window_of q) + 4294967296
+abbrev pub IsNoLater : Bool → ℕ → ℕ → Type 0
+IsNoLater c found q = found ≤ first_of (window_of q) + own_numbers c
 
 -- the requests never fall, and stay 2^32 below the end of their word
 abbrev pub Rises : View → ℕ → Type 0
 Rises v q = (v.seen ≤ q) × (q ≤ 17496587906427387904)
 
 abbrev pub reads : Then
-reads s m q n = Rises m.0 q × IsNoLater m.0.found q × Sees m n (with_reading m.0 q)
+reads s m q n = Rises m.0 q × IsNoLater m.0.carries m.0.found q × Sees m n (with_reading m.0 q)
 
 abbrev pub opens : Then
 opens s m q n = Rises m.0 q × Sees m n (with_opening m.0 s.first (max q s.first))
@@ -64,6 +64,14 @@ wins s m d n =
 -- the number of tickets that were handed back never falls
 abbrev pub recalls : Then
 recalls s m r n = (m.0.back ≤ r) × Sees m n (with_recall m.0 r)
+
+-- how many requests the window before had is read: never less than the pass noted
+abbrev pub reviews : Then
+reviews s m p n = (m.0.noted ≤ p) × Sees m n (with_review m.0 p)
+
+-- it is noted for the window that is opened next
+abbrev pub notes : Then
+notes s m p n = Sees m n (with_note m.0 s.first)
 
 -- such a look to hand a ticket back begins that, which has lost no race yet
 abbrev pub asks : Then

@@ -1,7 +1,7 @@
 -- Views of a quota, and how one step changes a view.
-use Rattle.std.specs.Prelude.{ℕ, zero, suc, ◌+◌, ◌-◌, List, [], ◌∷◌, ◌++◌, max}
+use Rattle.std.specs.Prelude.{ℕ, Bool, zero, suc, false, ◌+◌, ◌-◌, ◌%◌, List, [], ◌∷◌, ◌++◌, max, if◌then◌else◌, ◌&&◌, ◌==◌}
 use Rattle.sched_ticket.specs.Parts.{all_parts, part}
-use Rattle.sched_ticket_quota.specs.Windows.{word_of, first_of, window_of}
+use Rattle.sched_ticket_quota.specs.Windows.{word_of, terms_of, first_of, window_of, carried_to}
 use Rattle.sched_ticket_quota.specs.declared.view.Terms.{Terms}
 use Rattle.sched_ticket_quota.specs.declared.view.View.{View}
 
@@ -9,6 +9,7 @@ use Rattle.sched_ticket_quota.specs.declared.view.View.{View}
 abbrev pub fresh_view : Terms → ℕ → ℕ → ℕ → ℕ → ℕ → ℕ → View
 fresh_view k current seen told found back weight = record {
   terms = k;
+  carries = false;
   tickets = [];
   requests = [];
   returned = [];
@@ -19,10 +20,13 @@ fresh_view k current seen told found back weight = record {
   told = told;
   found = found;
   back = back;
+  past = 0;
+  noted = 0;
   weight = weight;
   readings = 0;
   glances = 0;
   recalls = 0;
+  reviews = 0;
   looks = 0;
   losses = 0;
 }
@@ -30,6 +34,10 @@ fresh_view k current seen told found back weight = record {
 -- the first pass of a quota has all parts
 abbrev pub first_view : Terms → View
 first_view k = fresh_view k (word_of k.reserve k.share) 0 0 0 0 all_parts
+
+-- that of a quota that carries or does not
+abbrev pub first_of_kind : Bool → Terms → View
+first_of_kind c k = record (first_view k) { carries = c }
 
 -- what is left of a pass that was joined into another
 abbrev pub blank_view : View
@@ -46,6 +54,16 @@ with_glance v x = record v { current = x; glances = v.glances + 1 }
 -- a pass that has set the terms, to this word
 abbrev pub with_change : View → ℕ → View
 with_change v x = record v { changes = x ∷ v.changes; current = x }
+
+-- what a pass notes before it opens this window: of a quota that carries, where it has seen the requests of the one before, how
+-- many they are
+abbrev pub note_for : ℕ → View → ℕ
+note_for at v =
+    if v.carries && (window_of v.seen + 1 == at) then first_of at + v.seen % 4294967296 else v.noted
+
+-- and the pass that has noted it
+abbrev pub with_note : View → ℕ → View
+with_note v p = record v { noted = p }
 
 -- a pass that has opened the window of this first number, and has seen q requests then
 abbrev pub with_opening : View → ℕ → ℕ → View
@@ -75,6 +93,10 @@ with_loss v d = record v { found = d; losses = v.losses + 1 }
 abbrev pub with_recall : View → ℕ → View
 with_recall v r = record v { back = r; recalls = v.recalls + 1 }
 
+-- a pass that has read how many requests the window before had
+abbrev pub with_review : View → ℕ → View
+with_review v p = record v { past = p; reviews = v.reviews + 1 }
+
 -- a pass that has read it to hand one back, and has lost no race since
 abbrev pub with_asking : View → ℕ → View
 with_asking v r = record v { back = r; recalls = v.recalls + 1; losses = 0 }
@@ -97,9 +119,13 @@ abbrev pub with_return : View → ℕ → View
 with_return v r =
     record v { tickets = without_latest v.tickets; returned = latest_in v.tickets ++ v.returned; back = r }
 
--- the ticket that a draw is to win: the next of the latest window that the pass has seen
+-- how many tickets a pass may draw of what was carried to the latest window that it has seen
+abbrev pub carried_by : View → ℕ
+carried_by v = carried_to v.carries (terms_of v.terms v.current) v.seen v.past v.found
+
+-- the ticket that a draw is to win: the next of that window, and first of those carried to it
 abbrev pub next_ticket : View → ℕ
-next_ticket v = max v.found (first_of (window_of v.seen))
+next_ticket v = max v.found (first_of (window_of v.seen) - carried_by v)
 
 -- a pass that has given a part of itself away
 abbrev pub without_part : View → View
@@ -107,12 +133,17 @@ without_part v = record v { weight = v.weight - part v.weight }
 
 -- the pass that is split from another
 abbrev pub part_of : View → View
-part_of v = fresh_view v.terms v.current v.seen v.told v.found v.back (part v.weight)
+part_of v = record (fresh_view v.terms v.current v.seen v.told v.found v.back (part v.weight)) {
+  carries = v.carries;
+  past = v.past;
+  noted = v.noted;
+}
 
 -- two passes joined: what both have
 abbrev pub joined_view : View → View → View
 joined_view v w = record {
   terms = v.terms;
+  carries = v.carries;
   tickets = v.tickets ++ w.tickets;
   requests = v.requests ++ w.requests;
   returned = v.returned ++ w.returned;
@@ -123,10 +154,13 @@ joined_view v w = record {
   told = max v.told w.told;
   found = v.found;
   back = v.back;
+  past = v.past;
+  noted = v.noted;
   weight = v.weight + w.weight;
   readings = v.readings + w.readings;
   glances = v.glances + w.glances;
   recalls = v.recalls + w.recalls;
+  reviews = v.reviews + w.reviews;
   looks = v.looks + w.looks;
   losses = v.losses;
 }

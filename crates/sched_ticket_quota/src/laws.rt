@@ -7,6 +7,7 @@ ghost use Rattle.sched_ticket_quota.specs.Laws.{PartsAreKept, SpentHasNothing, W
 ghost use Rattle.sched_ticket_quota.specs.Clocks.{OpensItsOwn, DrawsNoEarlier, CountsNoEarlier, WindowsEnd};
 ghost use Rattle.sched_ticket_quota.specs.Clocks.{EndsWithinAPeriod, ClocksAreBounded};
 ghost use Rattle.sched_ticket_quota.specs.Histories.{CallsAreBounded};
+ghost use Rattle.sched_ticket_quota.specs.Carried.{SharesAreKept, RunsAreKept};
 
 /// No ticket is given twice, and no request is counted twice.
 pub fn numbers_stand_once()
@@ -38,7 +39,8 @@ pub fn windows_were_opened()
     ensures { WindowsWereOpened }
 {}
 
-/// A call opens no window, or that of its own moment alone, and draws and counts in no earlier one.
+/// A call opens no window, or that of its own moment alone, and draws and counts in no earlier one. Of a quota that does not
+/// carry, its ticket is of no earlier one.
 pub fn calls_go_by_their_moments()
     ensures opens { OpensItsOwn }
     ensures draws { DrawsNoEarlier }
@@ -51,9 +53,16 @@ pub fn clocks_are_bounded()
     ensures { ClocksAreBounded }
 {}
 
+/// Over any run of windows the tickets drawn there are at most a reserve for each, and the share of the requests of these; of
+/// a quota that carries also of the one before the first, since each window leaves the next no more than its own share.
+pub fn runs_are_kept()
+    ensures runs { RunsAreKept }
+    ensures shares { SharesAreKept }
+{}
+
 /// Of all calls of all threads, ended or under way, those from a moment on drew at most two reserves, one more for each
 /// period until another moment, one for each window that a call opened whose moment is after that, the share of the
-/// requests, and as many as were handed back.
+/// requests, of a quota that carries those of the window before too, and as many as were handed back.
 pub fn calls_are_bounded()
     ensures { CallsAreBounded }
 {}

@@ -1,5 +1,6 @@
 //! A retry quota that refills with traffic: in each window of time the tickets given never pass a reserve plus a share
-//! of the requests counted in it, for any number of threads.
+//! of the requests counted in it, for any number of threads. Of a quota that carries, a window may draw, once, what the
+//! one before left of its share.
 //!
 //! A `Quota` is a table of two words under one rule: the tickets drawn and the requests counted, each numbered within
 //! its window. A `Pass` is the right to step on them: a thread counts requests and draws tickets with its pass for as

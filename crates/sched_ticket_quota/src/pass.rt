@@ -1,25 +1,27 @@
 //! The pass: the right to count requests and to draw tickets of a quota, and what was drawn with it.
 ghost use Rattle.std.specs.Prelude.{◌≡◌, ℕ, ◌+◌, ◌-◌, ◌*◌, ◌/◌, ◌<◌, ◌≤◌, ◌%◌, ◌⊎◌, List, [], ◌∷◌, length, min, max, true, false};
-ghost use Rattle.std.specs.Prelude.{IfOk, IfErr, OnOk};
+ghost use Rattle.std.specs.Prelude.{IfOk, IfErr, OnOk, OnErr, None, Some};
 ghost use Rattle.sched_ticket_quota.specs.Windows.{window_of, first_of, window_at, end_of};
 ghost use Rattle.sched_ticket_quota.specs.Windows.{word_of, terms_of, allowed, room_of, back_in, floor_of};
+ghost use Rattle.sched_ticket_quota.specs.Windows.{own_numbers, left_of, carried_to};
 ghost use Rattle.sched_ticket_quota.specs.View.{fresh_view, with_reading, with_change, with_opening, with_ticket};
-ghost use Rattle.sched_ticket_quota.specs.View.{next_ticket};
+ghost use Rattle.sched_ticket_quota.specs.View.{next_ticket, carried_by, note_for, with_note};
 ghost use Rattle.sched_ticket_quota.specs.View.{without_part, part_of, joined_view};
 ghost use Rattle.sched_ticket_quota.specs.Steps.{IsLater, IsSound, IsNoLater};
 ghost use Rattle.sched_ticket_quota.specs.Held.{IsOf};
 ghost use Rattle.sched_ticket_quota.specs.Whole.{IsWhole};
 ghost use Rattle.sched_ticket_quota.specs.Calls.{Meets, Opens, Turned, Counted, DepositedOf, Deposited, Tried};
-ghost use Rattle.sched_ticket_quota.specs.Calls.{Drew, DrawRefused, Won, WonNone, Told, RefusesChange};
-ghost use Rattle.sched_ticket_quota.specs.Calls.{HandedBack, KeptTicket, NotHanded};
+ghost use Rattle.sched_ticket_quota.specs.Calls.{Drew, DrawRefused, Won, WonNone, Told, RefusesChange, HasReviewed};
+ghost use Rattle.sched_ticket_quota.specs.Calls.{HandedBack, KeptTicket, Hands, NotHanded, Joined};
 
 use crate::fault::{NotBack, QuotaFault, Refusal, WeightTooLarge};
 use crate::quota::{
-    DRAWS, LAST_WINDOW, MAX_RESERVE, MAX_SHARE, NUMBERS, Quota, REQUESTS, RETURNS, SHARES, TERMS,
-    word_of,
+    DRAWS, HALF, LAST_WINDOW, MAX_RESERVE, MAX_SHARE, NUMBERS, PAST, Quota, REQUESTS, RETURNS,
+    SHARES, TERMS, word_of,
 };
 use crate::rule::{
-    Ask, Change, Count, Find, Glance, Lapse, Learn, Merge, Open, Part, Read, Recall, Return, Win,
+    Ask, Change, Count, Find, Glance, Lapse, Learn, Merge, Note, Open, Part, Read, Recall, Return,
+    Review, Win,
 };
 use crate::view::View;
 use sched_ticket::parts::{ALL_PARTS, given};
@@ -42,7 +44,8 @@ pub struct Usage {
     pub given: u64,
     /// The tickets that it may yet give for the requests counted.
     pub left: u64,
-    /// When the next window begins. If that is further off than a period, a call whose clock was ahead opened this one.
+    /// When the next window begins. If that is further off than a period, a call whose clock was ahead opened this one, or
+    /// the 4294967296 requests of the window before were all counted, and those past them did.
     pub next: Moment,
 }
 
@@ -69,7 +72,7 @@ impl Model for Pass {
 
     ghost Value = { Held };
 
-    ghost view = { λ p. record { table = p.seat.table_id; start = p.start; has = p.seat.me.0 } };
+    ghost view = { λ p. record { table = p.seat.table_id; start = p.start; has = p.seat.me.0; latest = p.latest } };
 
     ghost invariant = { λ p. IsKnown p.seat.me p.granted p.weight p.told p.start p.until p.latest };
 }
@@ -77,9 +80,11 @@ impl Model for Pass {
 impl Pass {
     pub(crate) fn of_seat(seat: Seat, weight: u64, told: u64, start: u64) -> Pass
         requires bare { seat.me.1 ≡ [] }
-        requires new { let v = seat.me.0 in v ≡ fresh_view v.terms v.current v.seen told v.found v.back weight }
+        requires new { let v = seat.me.0 in v ≡ record (fresh_view v.terms v.current v.seen told v.found v.back weight)
+            { carries = v.carries; past = v.past; noted = v.noted } }
         requires live { (0 < weight) × (weight ≤ 4611686018427387904) }
-        ensures { (result.table ≡ seat.table_id) × (result.start ≡ start) × (result.has ≡ seat.me.0) }
+        ensures of { (result.table ≡ seat.table_id) × (result.start ≡ start) × (result.has ≡ seat.me.0) }
+        ensures latest { result.latest ≡ None }
     {
         Pass {
             seat,
@@ -106,6 +111,7 @@ impl Pass {
         ensures of { IsOf quota.now self.new }
         ensures counted { Deposited quota.now now self.old.has self.new.has }
         ensures tickets { self.new.has.tickets ≡ self.old.has.tickets }
+        ensures latest { self.new.latest ≡ self.old.latest }
     {
         self.turn(quota, now);
         self.count(quota, 1);
@@ -126,6 +132,7 @@ impl Pass {
         ensures light { OnOk result (weight ≤ self.old.has.weight) }
         ensures err { IfErr result (λ _. (self.old.has.weight < weight) × (self.new ≡ self.old)) }
         ensures tickets { self.new.has.tickets ≡ self.old.has.tickets }
+        ensures latest { self.new.latest ≡ self.old.latest }
     {
         if weight > self.weight {
             return Err(WeightTooLarge);
@@ -142,6 +149,7 @@ impl Pass {
         ensures of { IsOf quota.now self.new }
         ensures counted { Counted weight self.old.has self.new.has }
         ensures tickets { self.new.has.tickets ≡ self.old.has.tickets }
+        ensures latest { self.new.latest ≡ self.old.latest }
     {
         if self.told < (LAST_WINDOW + 1) * NUMBERS {
             let request = quota
@@ -152,16 +160,19 @@ impl Pass {
         }
     }
 
-    /// A ticket of the window of `now`, or of the latest one where that is later. `WindowOut` where so many were given
-    /// there as the terms in force allow for its requests, with the moment at which the next window begins, and
-    /// `RacesLost` where other draws came first 64 times in this call. A pass that was refused may draw again.
+    /// A ticket of the window of `now`, or of the latest one where that is later; of a quota that carries first one that the
+    /// window before left of its share. `WindowOut` where none is left of those and so many were given of the window's own as
+    /// the terms in force allow for its requests, with the moment at which the next window begins, and `RacesLost` where
+    /// other draws came first 64 times in this call. A pass that was refused may draw again.
     pub fn draw(&mut self, quota: &Quota, now: Moment) -> Result<u64, Refusal>
         requires { IsOf quota.now self.old }
         ensures of { IsOf quota.now self.new }
         ensures ok { IfOk result (λ t. Drew quota.now now self.old.has t self.new.has) }
         ensures err { IfErr result (λ why. DrawRefused quota.now now self.old.has why self.new.has) }
         ensures gained { IfOk result (λ t. self.new.has.tickets ≡ t ∷ self.old.has.tickets) }
+        ensures latest { IfOk result (λ t. self.new.latest ≡ Some t) }
         ensures kept { IfErr result (λ _. self.new.has.tickets ≡ self.old.has.tickets) }
+        ensures still { OnErr result (self.new.latest ≡ self.old.latest) }
     {
         self.turn(quota, now);
         let ticket = win(quota, &mut self.seat)?;
@@ -170,15 +181,15 @@ impl Pass {
         Ok(ticket)
     }
 
-    /// Hands back the latest ticket that this pass has drawn, as of a retry that is cancelled while it waits, so that any
-    /// pass may draw one more in its window. Where that window is over the ticket is given up, and no other is drawn for
-    /// it. `NoTicket` where it drew none since the last one that it handed back, and `RacesLost` where other tickets came
-    /// back first 64 times in this call; the tickets stay then.
+    /// Hands back the latest ticket that was drawn with this pass, or with one joined into it since, as of a retry that is
+    /// cancelled while it waits, so that any pass may draw one more in its window. Where that window is over the ticket is
+    /// given up, and no other is drawn for it. `NoTicket` where none was drawn since one was handed back, and `RacesLost`
+    /// where other tickets came back first 64 times in this call; the tickets stay then.
     pub fn hand_back(&mut self, quota: &Quota) -> Result<(), NotBack>
         requires { IsOf quota.now self.old }
         ensures of { IsOf quota.now self.new }
-        ensures ok { OnOk result (HandedBack self.old.has self.new.has) }
-        ensures err { IfErr result (λ why. NotHanded self.old.has why self.new.has) }
+        ensures ok { OnOk result (Hands self.old self.new) }
+        ensures err { IfErr result (λ why. NotHanded self.old why self.new) }
     {
         let Some(ticket) = self.latest else {
             return Err(NotBack::NoTicket);
@@ -198,6 +209,7 @@ impl Pass {
         ensures of { IsOf quota.now self.new }
         ensures ok { OnOk result ((reserve ≤ 4294967296) × (share ≤ 1000000)) }
         ensures changed { OnOk result (self.new.has ≡ with_change self.old.has (word_of reserve share)) }
+        ensures latest { self.new.latest ≡ self.old.latest }
         ensures err { IfErr result (λ e. RefusesChange reserve share e × (self.new ≡ self.old)) }
     {
         if reserve > MAX_RESERVE {
@@ -219,8 +231,9 @@ impl Pass {
     pub fn split(&mut self, quota: &Quota) -> Result<Pass, QuotaFault>
         requires { IsOf quota.now self.old }
         ensures of { IsOf quota.now self.new }
-        ensures ok { IfOk result (λ p. IsOf quota.now p × (p.has ≡ part_of self.old.has)) }
+        ensures ok { IfOk result (λ p. IsOf quota.now p × (p.has ≡ part_of self.old.has) × (p.latest ≡ None)) }
         ensures kept { OnOk result ((1 < self.old.has.weight) × (self.new.has ≡ without_part self.old.has)) }
+        ensures latest { self.new.latest ≡ self.old.latest }
         ensures err { IfErr result
             (λ e. (e ≡ QuotaFault.TooManyPasses) × (self.old.has.weight ≡ 1) × (self.new ≡ self.old)) }
     {
@@ -233,12 +246,28 @@ impl Pass {
         Ok(Pass::of_seat(seat, parts, self.told, self.start))
     }
 
-    /// One pass with what both have.
-    pub fn join(mut self, other: Pass, quota: &Quota) -> Pass
+    /// One pass with what both have. It may hand back the latest ticket of the other, where that may, or else its own.
+    pub fn join(self, other: Pass, quota: &Quota) -> Pass
+        requires this { IsOf quota.now self }
+        requires that { IsOf quota.now other }
+        ensures of { IsOf quota.now result }
+        ensures joined { Joined self other result }
+        ensures sound { IsSound result.has }
+    {
+        if other.latest.is_some() {
+            other.with(self, quota)
+        } else {
+            self.with(other, quota)
+        }
+    }
+
+    /// One pass with what both have, of which it may hand back its own latest ticket.
+    fn with(mut self, other: Pass, quota: &Quota) -> Pass
         requires this { IsOf quota.now self }
         requires that { IsOf quota.now other }
         ensures of { IsOf quota.now result }
         ensures joined { result.has ≡ joined_view self.has other.has }
+        ensures latest { result.latest ≡ self.latest }
         ensures sound { IsSound result.has }
     {
         let Pass {
@@ -271,12 +300,14 @@ impl Pass {
         Ok(self.granted)
     }
 
-    /// What was asked of the window of `now`, or of the latest one where that is later, what it has given and what it
-    /// has left by the terms in force, each as of one moment in this call, and when the next window begins.
+    /// What was asked of the window of `now`, or of the latest one where that is later, what it has given of its own and what
+    /// it has left by the terms in force, also of what was carried to it, each as of one moment in this call, and when the
+    /// next window begins.
     pub fn seen(&mut self, quota: &Quota, now: Moment) -> Usage
         requires { IsOf quota.now self.old }
         ensures of { IsOf quota.now self.new }
         ensures told { Told quota.now now self.old.has self.new.has result }
+        ensures latest { self.new.latest ≡ self.old.latest }
     {
         self.turn(quota, now);
         let back = quota.table.shared.load::<Recall>(&mut self.seat, RETURNS);
@@ -284,13 +315,15 @@ impl Pass {
         let requests = quota.table.shared.load::<Read>(&mut self.seat, REQUESTS);
         let terms = quota.table.shared.load::<Glance>(&mut self.seat, TERMS);
         let asked = requests % NUMBERS;
-        let dealt = drawn.max(requests - asked) - (requests - asked);
+        let base = requests - asked;
+        let carried = carried(quota, &mut self.seat, terms, requests, drawn);
+        let next = drawn.max(base - carried);
         let room = room(quota, terms, requests, back);
         Usage {
             window: requests / NUMBERS,
             asked,
-            given: dealt.saturating_sub(back_in(back, requests / NUMBERS)),
-            left: room.saturating_sub(dealt),
+            given: (next.max(base) - base).saturating_sub(back_in(back, requests / NUMBERS)),
+            left: (base + room).saturating_sub(next),
             next: end_of(quota, requests / NUMBERS),
         }
     }
@@ -302,6 +335,7 @@ impl Pass {
         ensures turned { Turned quota.now now self.old.has self.new.has }
         ensures tickets { self.new.has.tickets ≡ self.old.has.tickets }
         ensures weight { self.new.has.weight ≡ self.old.has.weight }
+        ensures latest { self.new.latest ≡ self.old.latest }
         ensures live { 0 < self.new.has.weight }
     {
         if now.get() < self.until {
@@ -315,9 +349,11 @@ impl Pass {
     }
 }
 
-/// Comes to this window, and answers the latest one.
+/// Comes to this window, and answers the latest one. Who opens it notes before how many requests the one before had, where
+/// that is the latest: those that are counted until it is open are not noted.
 fn reach(quota: &Quota, seat: &mut Seat, window: u64) -> u64
-    requires of { (seat.old.table_id ≡ quota.now.table) × (seat.old.me.0.terms ≡ quota.now.terms) }
+    requires of { (seat.old.table_id ≡ quota.now.table) × (seat.old.me.0.terms ≡ quota.now.terms)
+        × (seat.old.me.0.carries ≡ quota.now.carries) }
     requires live { 0 < seat.old.me.0.weight }
     requires known { window ≤ 2999999999 }
     ensures seat { (seat.new.table_id ≡ seat.old.table_id) × (seat.new.me.1 ≡ seat.old.me.1) }
@@ -328,11 +364,27 @@ fn reach(quota: &Quota, seat: &mut Seat, window: u64) -> u64
     if window <= requests / NUMBERS {
         return requests / NUMBERS;
     }
+    note(quota, seat, window, requests);
     let found = quota
         .table
         .shared
         .fetch_max::<Open>(seat, REQUESTS, window * NUMBERS);
     found.max(window * NUMBERS) / NUMBERS
+}
+
+/// Where the quota carries and these are the requests of the window before this one, notes for all how many they are.
+fn note(quota: &Quota, seat: &mut Seat, window: u64, requests: u64)
+    requires of { seat.old.table_id ≡ quota.now.table }
+    requires live { 0 < seat.old.me.0.weight }
+    requires seen { (seat.old.me.0.seen ≡ requests) × (seat.old.me.0.carries ≡ quota.now.carries) }
+    requires known { window ≤ 2999999999 }
+    ensures seat { (seat.new.table_id ≡ seat.old.table_id) × (seat.new.me.1 ≡ seat.old.me.1) }
+    ensures noted { seat.new.me.0 ≡ with_note seat.old.me.0 (note_for window seat.old.me.0) }
+{
+    if quota.carries && requests / NUMBERS + 1 == window {
+        let noted = window * NUMBERS + requests % NUMBERS;
+        quota.table.shared.fetch_max::<Note>(seat, PAST, noted);
+    }
 }
 
 /// When this window ends.
@@ -356,7 +408,7 @@ fn capped(millis: u64) -> Moment
     moment
 }
 
-/// How many tickets of a window were handed back there.
+/// What a word counts of a window: tickets that were handed back there, or requests of the window before.
 fn back_in(back: u64, window: u64) -> u64
     ensures { result ≡ back_in back window }
 {
@@ -375,11 +427,57 @@ fn allowed(_quota: &Quota, terms: u64, asked: u64) -> u64
     (terms / SHARES + terms % SHARES * asked / 1000).min(NUMBERS)
 }
 
-/// How many numbers the latest window may deal, by the words of the terms, the requests and those handed back.
-fn room(quota: &Quota, terms: u64, requests: u64, back: u64) -> u64
-    ensures { result ≡ room_of (terms_of quota.now.terms terms) requests back }
+/// How many numbers of a window are of tickets that are drawn there.
+fn own_numbers(quota: &Quota) -> u64
+    ensures { result ≡ own_numbers quota.now.carries }
 {
-    (allowed(quota, terms, requests % NUMBERS) + back_in(back, requests / NUMBERS)).min(NUMBERS)
+    if quota.carries { HALF } else { NUMBERS }
+}
+
+/// How many numbers of its own the latest window may deal, by the words of the terms, the requests and those handed
+/// back.
+fn room(quota: &Quota, terms: u64, requests: u64, back: u64) -> u64
+    ensures { result ≡ room_of quota.now.carries (terms_of quota.now.terms terms) requests back }
+{
+    (allowed(quota, terms, requests % NUMBERS) + back_in(back, requests / NUMBERS)).min(own_numbers(
+        quota,
+    ))
+}
+
+/// What a window of so many requests that has dealt so many tickets leaves of its share, by the terms of this word.
+fn left(quota: &Quota, terms: u64, asked: u64, dealt: u64) -> u64
+    requires { asked < 4294967296 }
+    ensures { result ≡ left_of (terms_of quota.now.terms terms) asked dealt }
+{
+    (terms % SHARES * asked / 1000)
+        .min(allowed(quota, terms, asked).saturating_sub(dealt))
+        .min(HALF)
+}
+
+/// How many tickets the latest window may draw of the share of the one before. How many requests that had is read only
+/// where draws have not come to the latest.
+fn carried(quota: &Quota, seat: &mut Seat, terms: u64, requests: u64, drawn: u64) -> u64
+    requires of { seat.old.table_id ≡ quota.now.table }
+    ensures seat { (seat.new.table_id ≡ seat.old.table_id) × (seat.new.me.1 ≡ seat.old.me.1) }
+    ensures same { let v = seat.old.me.0 in let u = seat.new.me.0 in
+        (u ≡ record v { past = u.past; reviews = u.reviews }) × (v.reviews ≤ u.reviews) }
+    ensures reviewed { quota.now.carries ≡ true → 2147483648 ≤ first_of (window_of requests) - drawn →
+        seat.old.me.0.reviews < seat.new.me.0.reviews }
+    ensures carried { result ≡
+        carried_to quota.now.carries (terms_of quota.now.terms terms) requests seat.new.me.0.past drawn }
+    ensures within { result ≤ first_of (window_of requests) }
+{
+    if !quota.carries {
+        return 0;
+    }
+    let base = requests - requests % NUMBERS;
+    let before = base.saturating_sub(drawn);
+    if before < HALF {
+        return before;
+    }
+    let past = quota.table.shared.load::<Review>(seat, PAST);
+    let asked = back_in(past, requests / NUMBERS);
+    left(quota, terms, asked, drawn.saturating_sub(base - NUMBERS))
 }
 
 /// Whether this number is past those that the latest window may deal. How many tickets were handed back is read only where
@@ -391,21 +489,22 @@ fn is_out(quota: &Quota, seat: &mut Seat, terms: u64, requests: u64, ticket: u64
     ensures same { let v = seat.old.me.0 in let u = seat.new.me.0 in
         (u ≡ record v { back = u.back; recalls = u.recalls }) × (v.back ≤ u.back) × (v.recalls ≤ u.recalls) }
     ensures out { result ≡ true → (seat.old.me.0.recalls < seat.new.me.0.recalls)
-        × (floor_of (terms_of quota.now.terms terms) requests seat.new.me.0.back ≤ ticket) }
+        × (floor_of quota.now.carries (terms_of quota.now.terms terms) requests seat.new.me.0.back ≤ ticket) }
     ensures room { result ≡ false →
-        ticket < floor_of (terms_of quota.now.terms terms) requests seat.new.me.0.back }
+        ticket < floor_of quota.now.carries (terms_of quota.now.terms terms) requests seat.new.me.0.back }
 {
     let base = requests - requests % NUMBERS;
-    if ticket < base + allowed(quota, terms, requests % NUMBERS) {
+    if ticket < base + allowed(quota, terms, requests % NUMBERS).min(own_numbers(quota)) {
         return false;
     }
     let back = quota.table.shared.load::<Recall>(seat, RETURNS);
     ticket >= base + room(quota, terms, requests, back)
 }
 
-/// Draws the next ticket of the latest window, if there is room for it.
+/// Draws the next ticket of those carried to the latest window, or else of its own, if there is room for it.
 fn win(quota: &Quota, seat: &mut Seat) -> Result<u64, Refusal>
-    requires of { (seat.old.table_id ≡ quota.now.table) × (seat.old.me.0.terms ≡ quota.now.terms) }
+    requires of { (seat.old.table_id ≡ quota.now.table) × (seat.old.me.0.terms ≡ quota.now.terms)
+        × (seat.old.me.0.carries ≡ quota.now.carries) }
     requires live { 0 < seat.old.me.0.weight }
     ensures seat { (seat.new.table_id ≡ seat.old.table_id) × (seat.new.me.1 ≡ seat.old.me.1) }
     ensures ok { IfOk result (λ t. Won quota.now.terms seat.old.me.0 t seat.new.me.0) }
@@ -415,7 +514,8 @@ fn win(quota: &Quota, seat: &mut Seat) -> Result<u64, Refusal>
     for _ in 0..MAX_TRIES {
         let requests = quota.table.shared.load::<Read>(seat, REQUESTS);
         let terms = quota.table.shared.load::<Glance>(seat, TERMS);
-        let ticket = drawn.max(requests - requests % NUMBERS);
+        let carried = carried(quota, seat, terms, requests, drawn);
+        let ticket = drawn.max(requests - requests % NUMBERS - carried);
         if is_out(quota, seat, terms, requests, ticket) {
             return Err(Refusal::WindowOut(end_of(quota, requests / NUMBERS)));
         }

@@ -1,7 +1,7 @@
 //! The quota: making it, and closing it with the pass that has all parts.
-ghost use Rattle.std.specs.Prelude.{◌≡◌, ◌/◌, ◌<◌, ◌≤◌, length, IfOk, IfErr, OnOk};
+ghost use Rattle.std.specs.Prelude.{◌≡◌, ◌/◌, ◌<◌, ◌≤◌, length, true, false, IfOk, IfErr, OnOk, None};
 ghost use Rattle.sched_ticket_quota.specs.Windows.{word_of};
-ghost use Rattle.sched_ticket_quota.specs.View.{first_view};
+ghost use Rattle.sched_ticket_quota.specs.View.{first_view, first_of_kind};
 ghost use Rattle.sched_ticket_quota.specs.Held.{AreTerms, IsOf};
 ghost use Rattle.sched_ticket_quota.specs.Calls.{RefusesTerms};
 ghost use Rattle.sched_ticket_quota.specs.Whole.{IsWhole};
@@ -9,7 +9,7 @@ ghost use Rattle.sched_ticket_quota.specs.Whole.{IsWhole};
 use crate::fault::{PassesOut, QuotaFault};
 use crate::pass::Pass;
 use crate::rule::Rule;
-use crate::view::{Terms, View};
+use crate::view::{Kind, Terms, View};
 use atomic_table::Table;
 use sched_ticket::parts::ALL_PARTS;
 use sched_time::Moment;
@@ -31,6 +31,10 @@ pub const LAST_WINDOW: u64 = 2999999999;
 /// The numbers of a window.
 pub(crate) const NUMBERS: u64 = 4294967296;
 
+/// Of a quota that carries, half of a window's numbers are of tickets that it draws itself, and as many of those of its share
+/// that the next one draws.
+pub(crate) const HALF: u64 = 2147483648;
+
 /// Shares that one word tells apart: 1,000,000 is the greatest.
 pub(crate) const SHARES: u64 = 1048576;
 
@@ -46,14 +50,19 @@ pub(crate) const RETURNS: usize = 9;
 /// Which word has the terms, beside the requests, which each draw reads too.
 pub(crate) const TERMS: usize = 25;
 
+/// Which word tells how many requests the window before had, for a quota that carries.
+pub(crate) const PAST: usize = 26;
+
 /// What any number of threads draw tickets from, each with a pass of its own.
 /// Contracts see it as its name: which quota it is, and what it was made with.
 #[derive(Drop)]
 pub struct Quota {
-    pub(crate) table: Table<u8, View, Terms, Rule, Global>,
+    pub(crate) table: Table<u8, View, Kind, Rule, Global>,
     pub(crate) terms: Terms,
     /// The window that it was made in, counted from moment 0.
     pub(crate) start: u64,
+    /// Whether a window may draw what the one before left of its share.
+    pub(crate) carries: bool,
 }
 
 impl Model for Quota {
@@ -61,16 +70,48 @@ impl Model for Quota {
 
     ghost Value = { Name };
 
-    ghost view = { λ b. record { table = b.table.shared.table_id; terms = b.terms; start = b.start } };
+    ghost view = { λ b.
+        record { table = b.table.shared.table_id; terms = b.terms; start = b.start; carries = b.carries } };
 
-    ghost invariant = { λ b. IsLaidOut b.table.shared.table_id b.table.shared.key b.terms b.start };
+    ghost invariant = { λ b. IsLaidOut b.table.shared.table_id b.table.shared.key.terms b.terms b.start };
 }
 
 impl Quota {
     /// A quota of these terms, and its first pass. The window of `now` is open, and windows are counted from it on.
     pub fn new(alloc: Global, now: Moment, terms: Terms) -> Result<(Quota, Pass), QuotaFault>
         ensures ok { IfOk result (λ r. (r.0.terms ≡ terms) × IsOf r.0 r.1 × (r.1.has ≡ first_view terms)) }
-        ensures start { IfOk result (λ r. r.0.start ≡ now / terms.period) }
+        ensures latest { IfOk result (λ r. r.1.latest ≡ None) }
+        ensures start { IfOk result (λ r. (r.0.start ≡ now / terms.period) × (r.0.carries ≡ false)) }
+        ensures terms { OnOk result (AreTerms terms) }
+        ensures err { IfErr result (RefusesTerms terms) }
+    {
+        Quota::of_kind(alloc, now, terms, false)
+    }
+
+    /// A quota that carries: in each window, what the one before left of its share may be drawn first, once. It gives at most
+    /// 2147483648 tickets of a window there, and as many in the next. Else it is a quota as `new` makes it.
+    pub fn carrying(alloc: Global, now: Moment, terms: Terms) -> Result<(Quota, Pass), QuotaFault>
+        ensures ok { IfOk result
+            (λ r. (r.0.terms ≡ terms) × IsOf r.0 r.1 × (r.1.has ≡ first_of_kind true terms)) }
+        ensures latest { IfOk result (λ r. r.1.latest ≡ None) }
+        ensures start { IfOk result (λ r. (r.0.start ≡ now / terms.period) × (r.0.carries ≡ true)) }
+        ensures terms { OnOk result (AreTerms terms) }
+        ensures err { IfErr result (RefusesTerms terms) }
+    {
+        Quota::of_kind(alloc, now, terms, true)
+    }
+
+    /// A quota that carries, or one that does not.
+    fn of_kind(
+        alloc: Global,
+        now: Moment,
+        terms: Terms,
+        carries: bool,
+    ) -> Result<(Quota, Pass), QuotaFault>
+        ensures ok { IfOk result
+            (λ r. (r.0.terms ≡ terms) × IsOf r.0 r.1 × (r.1.has ≡ first_of_kind carries terms)) }
+        ensures latest { IfOk result (λ r. r.1.latest ≡ None) }
+        ensures start { IfOk result (λ r. (r.0.start ≡ now / terms.period) × (r.0.carries ≡ carries)) }
         ensures terms { OnOk result (AreTerms terms) }
         ensures err { IfErr result (RefusesTerms terms) }
     {
@@ -86,12 +127,13 @@ impl Quota {
         let start = now.get() / terms.period.get();
         let mut words = [0; 32];
         words[TERMS] = word_of(terms.reserve, terms.share);
-        match Table::of_words(alloc, &words, &terms) {
+        match Table::of_words(alloc, &words, &Kind::of(&terms, carries)) {
             Ok((table, seat)) => {
                 let quota = Quota {
                     table,
                     terms,
                     start,
+                    carries,
                 };
                 Ok((quota, Pass::of_seat(seat, ALL_PARTS, 0, start)))
             }

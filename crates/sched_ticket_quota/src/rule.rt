@@ -5,9 +5,11 @@
 //! | `Read` | requests are read | has seen them |
 //! | `Glance` | the terms are read | has read them |
 //! | `Change` | the terms become others | has set them |
+//! | `Note` | the requests of the window before become as many as were seen, where they are less | learns nothing |
 //! | `Open` | requests become a window's first number, where they are less | has opened that window, and seen them |
 //! | `Count` | some more requests | gains their numbers |
 //! | `Find` | draws are read | has found them, and has lost no race since |
+//! | `Review` | the requests of the window before are read | has read them |
 //! | `Win` | draws become the one after its next ticket, where they are what it found | gains the ticket, or a loss where the draws are past what it found |
 //! | `Recall` | those handed back are read | has read them |
 //! | `Ask` | those handed back are read | has read them, and has lost no race since |
@@ -17,20 +19,20 @@
 //! | `Merge` | none changes | takes in another pass, which is spent |
 //! | `Learn` | none changes | learns that its tickets are distinct, and where it has all parts that it is the whole |
 ghost use Rattle.sched_ticket_quota.specs.Rule.{IsKept};
-ghost use Rattle.sched_ticket_quota.specs.View.{first_view, blank_view, without_part, part_of, joined_view};
+ghost use Rattle.sched_ticket_quota.specs.View.{first_of_kind, blank_view, without_part, part_of, joined_view};
 ghost use Rattle.sched_ticket_quota.specs.Steps.{reads, glances, changes, opens, counts, finds, wins, learns};
-ghost use Rattle.sched_ticket_quota.specs.Steps.{recalls, asks, returns, lapses};
+ghost use Rattle.sched_ticket_quota.specs.Steps.{notes, reviews, recalls, asks, returns, lapses};
 
-use crate::view::{Terms, View};
+use crate::view::{Kind, View};
 use atomic_table::{Join, Play, Split, TableRule};
 
 /// The rule of the table behind every quota.
 pub(crate) struct Rule;
 
-impl TableRule<u8, View, Terms> for Rule {
-    ghost holds = { IsKept };
+impl TableRule<u8, View, Kind> for Rule {
+    ghost holds = { λ key. IsKept key.terms };
 
-    ghost first = { first_view };
+    ghost first = { λ key. first_of_kind key.carries key.terms };
 }
 
 pub(crate) struct Read;
@@ -51,6 +53,12 @@ impl Play<u8, View> for Change {
     ghost then = { changes };
 }
 
+pub(crate) struct Note;
+
+impl Play<u8, View> for Note {
+    ghost then = { notes };
+}
+
 pub(crate) struct Open;
 
 impl Play<u8, View> for Open {
@@ -67,6 +75,12 @@ pub(crate) struct Find;
 
 impl Play<u8, View> for Find {
     ghost then = { finds };
+}
+
+pub(crate) struct Review;
+
+impl Play<u8, View> for Review {
+    ghost then = { reviews };
 }
 
 pub(crate) struct Win;

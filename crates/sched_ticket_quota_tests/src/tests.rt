@@ -7,6 +7,7 @@ use sched_time::{Millis, Moment};
 use std::process::Abort;
 use std::test::Fail;
 
+mod carries;
 mod changes;
 mod passes;
 mod refusals;

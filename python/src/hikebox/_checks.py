@@ -12,6 +12,8 @@ __all__ = ["factor_of", "interval", "ratio", "thousandths", "whole"]
 
 def whole(number: Any, what: str, least: int = 0, most: int = FAR) -> int:
     """A whole number within these bounds; `what` it is stands in the error."""
+    if type(number) is int and least <= number <= most:
+        return number
     if isinstance(number, bool) or not isinstance(number, int):
         raise TypeError(f"{what}: a whole number is wanted, not {number!r}")
     if not least <= number <= most:

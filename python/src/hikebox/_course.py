@@ -12,6 +12,7 @@ from math import ceil
 from typing import TYPE_CHECKING, Any, Callable, Generator, List, Mapping, Optional, Tuple, TypeVar, Union
 
 from ._deadline import Limit
+from ._drawing import Drawing
 from ._engine import LOST, NO_DEADLINE, NO_REPORT, OVER, RUN, WAIT
 from ._machine import Machine, lend_machine, take_machine_back
 from ._passes import NO_BUDGET, DrawnOn
@@ -67,6 +68,8 @@ class Course:
         "_asked",
         "_begun",
         "_machine",
+        "_holds_ticket",
+        "_drawing",
         "_drawn_on",
         "_generation",
         "_logs",
@@ -103,6 +106,10 @@ class Course:
         #: Whether the engine has begun the next attempt already.
         self._begun = False
         self._machine: Optional[Machine] = None
+        #: Whether it has a ticket for an attempt that has not begun.
+        self._holds_ticket = False
+        #: What draws where the engine's retry does not.
+        self._drawing: Optional[Drawing] = None
         #: What the engine's retry draws on.
         self._drawn_on: DrawnOn = NO_BUDGET
         self._generation = 0
@@ -167,6 +174,8 @@ class Course:
             state.outcome = outcome
             state.ending = Ending.WON
         self.over, self.answer = True, outcome
+        if settings.deposit_won is not None:
+            settings.deposit_won()
         for hook in settings.hooks_on_success:
             yield hook, state
 
@@ -216,13 +225,16 @@ class Course:
             return False
         if not self._asks_engine(outcome):
             return False
-        if settings.draw is None:
+        if settings.drawing is None:
             return True
-        ticket = yield _called, settings.draw
+        if self._drawing is None:
+            self._drawing = settings.drawing()
+        ticket = yield _called, self._drawing.draw
         if ticket is None:
             state.ending = Ending.BUDGET_REFUSED
             return False
         state.granted += 1
+        self._holds_ticket = True
         return True
 
     def _notes(self, outcome: Outcome) -> None:
@@ -241,6 +253,10 @@ class Course:
         for hook in self.settings.hooks_before_sleep:
             yield hook, self.state
         return 0.0 if switch.no_waits else delay
+
+    def uses_ticket(self) -> None:
+        """Somebody waits who does not say whether the next attempt began: its ticket counts as used."""
+        self._holds_ticket = False
 
     def _planned(self) -> float:
         """How many seconds the policy, and who asks for more, has the retry wait. What is past is not waited for."""
@@ -287,6 +303,7 @@ class Course:
         state = self.state
         state.upcoming_sleep = 0.0
         state.attempt_number += 1
+        self._holds_ticket = False
         seconds = self._seconds()
         if seconds * 1000 + HAIR < self._until:
             self._ahead += self._until / 1000 - seconds
@@ -348,13 +365,16 @@ class Course:
             return
         self._closed = True
         state = self.state
-        machine = self._machine
-        if machine is not None:
-            self._machine = None
-            try:
-                if self._generation == self._drawn_on.generation:
-                    self._drawn_on.end_retry(machine)
-            finally:
+        won = self.settings.returns_tickets and state.ending is Ending.WON and state.granted > 0
+        machine, drawing, hands_back = self._machine, self._drawing, self._holds_ticket or won
+        self._machine = self._drawing = None
+        try:
+            if drawing is not None:
+                drawing.end(hands_back)
+            if machine is not None and self._generation == self._drawn_on.generation:
+                self._drawn_on.end_retry(machine, hands_back)
+        finally:
+            if machine is not None:
                 take_machine_back(machine)
         if state.ending is None:
             state.ending = Ending.CANCELLED
@@ -374,7 +394,8 @@ class Course:
         settings, state = self.settings, self.state
         seconds = state.seconds_since_start or 0.0
         machine = self._machine or self._begin()
-        words = {lane: word_of(settings.random()) for lane in settings.lanes} if settings.lanes else None
+        lanes = settings.lanes
+        words = {lane: word_of(settings.random()) for lane in lanes} if lanes else None
         code = settings.code_for(outcome) if settings.reads_codes else 0
         what, detail, granted = machine.poll(self._origin + self._moment(seconds), LOST, code, words)
         if what == OVER:
@@ -382,8 +403,9 @@ class Course:
             return False
         self._begun = what == RUN
         self._until = detail - self._origin if what == WAIT else 0
-        if settings.draw is None:
+        if settings.drawing is None:
             state.granted = granted
+            self._holds_ticket = True
         return True
 
     def _begin(self) -> Machine:
@@ -393,11 +415,7 @@ class Course:
         drawn_on, plan, most = settings.drawn_on, settings.policy.plan, settings.most_millis
         self._origin = drawn_on.moment_of(self.state.start_time)
         deadline = NO_DEADLINE if most is None else min(FAR, self._origin + most)
-        policy = plan.lend()
-        try:
-            drawn_on.begin_retry(machine, policy, deadline)
-        finally:
-            plan.give_back(policy)
+        drawn_on.begin_retry(machine, plan, deadline)
         self._drawn_on, self._generation = drawn_on, drawn_on.generation
         self._machine = machine
         self._logs = logger.isEnabledFor(logging.DEBUG)

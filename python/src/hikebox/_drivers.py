@@ -80,6 +80,8 @@ def run(owner: BaseRetrying, fn: Callable[..., Any], args: Any, kwargs: Any) -> 
                     refuse_awaitable(repr(fn), result, settings.repeats)
                 if course is None:
                     owner.counts.add_success()
+                    if settings.deposit_won is not None:
+                        settings.deposit_won()
                     return result
                 settle(course.returned(result))
             wait = course.plain_wait()
@@ -126,6 +128,8 @@ async def run_async(owner: BaseRetrying, fn: Callable[..., Any], args: Any, kwar
                     raise TypeError(f"{fn!r} gave nothing that is awaited: {_plain(settings.repeats)} is for functions")
                 if course is None:
                     owner.counts.add_success()
+                    if settings.deposit_won is not None:
+                        settings.deposit_won()
                     return result
                 await settle_async(course.returned(result))
             awaitable = None  # which nobody needs while it waits

@@ -1,21 +1,24 @@
 """The calls of `hikebox.h`, by ctypes, and small classes that keep one handle each.
 
-Every handle is used by one thread at a time: the classes above this one hand a handle out to one user, and take it
-back. The library is loaded so that a call keeps the interpreter's lock, since no call waits and each is over in less
-than a microsecond or two.
+Every handle is used by one thread at a time. The library is loaded so that a call keeps the interpreter's lock, since no
+call waits and each is over in less than a microsecond or two: so threads may share a policy, whose calls change nothing.
+A pass is handed out to one user, and taken back, by the classes above this one.
 """
 
 from __future__ import annotations
 
 import ctypes
 import os
-from ctypes import POINTER, byref, c_char_p, c_size_t, c_uint8, c_uint32, c_uint64
-from typing import Any, Callable, Dict, List, NamedTuple, Optional, Tuple
+import struct
+from ctypes import POINTER, byref, c_bool, c_char_p, c_size_t, c_uint8, c_uint32, c_uint64
+from typing import Any, Callable, Dict, List, NamedTuple, Optional, Sequence, Tuple
 
 from ._structs import (
     Asking,
-    Decision,
+    Course,
+    Event,
     Handle,
+    Line,
     Next,
     Place,
     Range,
@@ -24,12 +27,11 @@ from ._structs import (
     Totals,
     Usage,
     Window,
-    Words,
 )
 from .errors import EngineError
 
 __all__ = [
-    "Driver",
+    "Decided",
     "Handle",
     "Pass",
     "PolicyHandle",
@@ -48,19 +50,20 @@ __all__ = [
 OK = 0
 NO_MEMORY = 4
 TOO_LARGE = 5
+NO_ROOM = 6
 NOT_JSON = 10
 NOT_A_POLICY = 11
 OUT_OF_RANGE = 12
 TOO_DEEP = 13
 TOO_MANY = 14
 BACKWARDS = 20
-JOURNAL_FULL = 21
 LIMIT_TOO_LARGE = 30
 FIXED = 31
 NO_TICKET = 32
 TOO_MANY_PASSES = 33
 PASSES_OUT = 34
 RACES_LOST = 38
+NOTHING_TO_HAND_BACK = 43
 
 #: The most tickets of a budget, and of a window of a quota.
 MOST_TICKETS = 2**32
@@ -74,6 +77,10 @@ MOST_NUMBER = 2**64 - 1
 
 #: The deadline of a retry that has none.
 NO_DEADLINE = 2**64 - 1
+#: The bound of a policy whose nodes give none.
+NO_BOUND = 2**64 - 1
+#: The most events of a course.
+MOST_STEPS = 4096
 
 NO_REPORT, WON, LOST = 0, 1, 2
 POLL, RUN, WAIT, OVER = 0, 1, 2, 3
@@ -89,18 +96,19 @@ SIGNATURES: Dict[str, Tuple[Any, ...]] = {
     "hikebox_policy_read": (c_char_p, c_size_t, _HANDLE, POINTER(Place)),
     "hikebox_policy_fault": (c_char_p, c_size_t, POINTER(c_uint8), c_size_t, POINTER(c_size_t)),
     "hikebox_policy_share": (_HANDLE, _HANDLE),
-    "hikebox_policy_size": (_HANDLE, _NUMBER, _NUMBER),
+    "hikebox_policy_node": (c_char_p, c_size_t, _NUMBER, c_size_t, _HANDLE, _HANDLE, _HANDLE),
+    "hikebox_policy_json": (_HANDLE, POINTER(c_uint8), c_size_t, POINTER(c_size_t)),
+    "hikebox_policy_size": (_HANDLE, _NUMBER, _NUMBER, _NUMBER),
+    "hikebox_policy_course": (_HANDLE, POINTER(Course), POINTER(Event), c_size_t, POINTER(Line), c_size_t, POINTER(c_size_t), POINTER(c_uint8), c_size_t, POINTER(c_size_t)),
     "hikebox_policy_free": (_HANDLE,),
-    "hikebox_driver_new": (_HANDLE, _HANDLE),
-    "hikebox_driver_next": (_HANDLE, c_uint64, _WORDS, c_uint64, POINTER(Decision)),
-    "hikebox_driver_last_text": (_HANDLE, POINTER(c_uint8), c_size_t, POINTER(c_size_t)),
-    "hikebox_driver_free": (_HANDLE,),
     "hikebox_budget_fixed": (c_uint64, _HANDLE),
     "hikebox_budget_rising": (c_uint64, _HANDLE),
-    "hikebox_quota_new": (c_uint64, c_uint64, c_uint64, c_uint64, _HANDLE),
+    "hikebox_quota_new": (c_uint64, c_uint64, c_uint64, c_uint64, c_bool, _HANDLE),
     "hikebox_pass_unlimited": (_HANDLE,),
     "hikebox_pass_draw": (_HANDLE, c_uint64, _NUMBER),
-    "hikebox_pass_deposit": (_HANDLE, c_uint64),
+    "hikebox_pass_deposit": (_HANDLE, c_uint64, c_uint64),
+    "hikebox_pass_hand_back": (_HANDLE,),
+    "hikebox_pass_set_terms": (_HANDLE, c_uint64, c_uint64),
     "hikebox_pass_split": (_HANDLE, _HANDLE),
     "hikebox_pass_join": (_HANDLE, _HANDLE),
     "hikebox_pass_raise": (_HANDLE, c_uint64, _NUMBER),
@@ -148,8 +156,11 @@ def unchecked(call: str) -> Any:
 
 
 library = _load()
+_policy_node = unchecked("hikebox_policy_node")
+_policy_free = unchecked("hikebox_policy_free")
 _pass_draw = unchecked("hikebox_pass_draw")
 _pass_deposit = unchecked("hikebox_pass_deposit")
+_pass_hand_back = unchecked("hikebox_pass_hand_back")
 #: The one call that takes long: it lets go of the interpreter's lock.
 _storm_play = ctypes.CDLL(library_path()).hikebox_storm_play
 _storm_play.argtypes = SIGNATURES["hikebox_storm_play"]
@@ -187,8 +198,8 @@ def _text(call: str, fill: Callable[[Any, int, Any], int]) -> bytes:
         length = c_size_t()
         status = fill(text, room, byref(length))
         if status == OK:
-            return bytes(text[: length.value])
-        if length.value <= room:
+            return ctypes.string_at(text, length.value)
+        if status != NO_ROOM:
             raise refused(call, status)
         room = length.value
 
@@ -204,15 +215,40 @@ def _refusal(status: int, text: bytes, place: Place) -> Refusal:
     return Refusal(status, "" if where == "top" else where, wanted)
 
 
-class PolicyHandle:
-    """A policy that the engine read."""
+class Decided(NamedTuple):
+    """What a policy does at an event of a course."""
 
-    __slots__ = ("handle", "at", "_free")
+    #: The moment of the event.
+    moment: int
+    #: The start that is planned, or None where the policy does not go on.
+    start: Optional[int]
+    #: Its output, as `zsched plan` prints it.
+    output: str
+
+
+#: An event of a course: its input, and its random words.
+Given = Tuple[int, int, int, int, int]
+_pack_event = struct.Struct("=Q4I").pack
+_unpack_lines = struct.Struct("=QQQ?7x").iter_unpack
+
+#: Arrays of so many numbers, and counts, for the calls with no check of types.
+_ARRAYS = tuple(c_uint64 * count for count in range(5))
+_COUNTS = tuple(c_size_t(count) for count in range(5))
+_NO_NUMBERS = _ARRAYS[1]()
+_ONE = c_uint64(1)
+
+#: The name of a node, and its length.
+Spelt = Tuple[bytes, c_size_t]
+
+
+class PolicyHandle:
+    """A policy that the engine has, or none yet. Threads may share it."""
+
+    __slots__ = ("handle", "at")
 
     def __init__(self) -> None:
-        self.handle = Handle()
-        self.at = byref(self.handle)
-        self._free = library.hikebox_policy_free
+        handle = self.handle = Handle()
+        self.at = byref(handle)
 
     def read(self, text: bytes) -> Optional[Refusal]:
         """Reads the text, or says why not."""
@@ -224,6 +260,18 @@ class PolicyHandle:
             return _refusal(status, text, place)
         raise refused("hikebox_policy_read", status)
 
+    def make(self, name: Spelt, numbers: Tuple[int, ...], first: PolicyHandle, second: PolicyHandle) -> bool:
+        """Makes the node of this name with these numbers over these policies, of which those that hold nothing are none:
+        False where it is refused. They are in two handles, also where they are the same policy."""
+        count = len(numbers)
+        given = _ARRAYS[count](*numbers) if count else _NO_NUMBERS
+        status = _policy_node(*name, given, _COUNTS[count], first.at, second.at, self.at)
+        if status == OK:
+            return True
+        if NOT_A_POLICY <= status <= TOO_MANY:
+            return False
+        raise refused("hikebox_policy_node", status)
+
     def share(self) -> PolicyHandle:
         """A second handle to the same policy, which is not copied."""
         other = PolicyHandle()
@@ -232,17 +280,50 @@ class PolicyHandle:
             raise refused("hikebox_policy_share", status)
         return other
 
-    def size(self) -> Tuple[int, int]:
-        """How many nodes the policy has, and how deep it is."""
-        nodes, depth = c_uint64(), c_uint64()
-        status = library.hikebox_policy_size(self.at, byref(nodes), byref(depth))
+    def size(self) -> Tuple[int, int, Optional[int]]:
+        """How many nodes the policy has, how deep it is, and at how many events it goes on at most, None where its nodes
+        give no such number."""
+        nodes, depth, most = c_uint64(), c_uint64(), c_uint64()
+        status = library.hikebox_policy_size(self.at, byref(nodes), byref(depth), byref(most))
         if status != OK:
             raise refused("hikebox_policy_size", status)
-        return nodes.value, depth.value
+        return nodes.value, depth.value, None if most.value == NO_BOUND else most.value
 
-    def __del__(self) -> None:
+    def json(self) -> str:
+        """The policy as JSON, without spaces."""
+        return _text("hikebox_policy_json", lambda *room: library.hikebox_policy_json(self.at, *room)).decode()
+
+    def course(self, steps: int, start: int, took: int, events: Sequence[Given]) -> List[Decided]:
+        """What the policy does at its first events, at most so many: up to the one at which it does not go on. The first
+        event is at the moment `start`, and each other one `took` after the start that was planned at the one before.
+        Events past those given are as the last of them."""
+        course = Course(steps, start, took)
+        given = (Event * len(events)).from_buffer_copy(b"".join([_pack_event(*event) for event in events]))
+        lines, count, length, room = (Line * steps)(), c_size_t(), c_size_t(), 32 * steps + 64
+        while True:
+            text = (c_uint8 * room)()
+            status = library.hikebox_policy_course(
+                self.at, byref(course), given, len(events), lines, steps, byref(count), text, room, byref(length)
+            )
+            if status == OK:
+                told = ctypes.string_at(lines, count.value * ctypes.sizeof(Line))
+                return _decided(told, ctypes.string_at(text, length.value).decode())
+            if status != NO_ROOM:
+                raise refused("hikebox_policy_course", status)
+            room = length.value
+
+    def __del__(self, free: Any = _policy_free) -> None:
         if self.handle.held:
-            self._free(self.at)
+            free(self.at)
+
+
+def _decided(lines: bytes, text: str) -> List[Decided]:
+    """The lines of a course, and the text of all outputs, one after another."""
+    told, begins = [], 0
+    for moment, start, ends, goes_on in _unpack_lines(lines):
+        told.append(Decided(moment, start if goes_on else None, text[begins:ends]))
+        begins = ends
+    return told
 
 
 def play_storm(policy: PolicyHandle, storm: Storm) -> Tuple[List[Tuple[int, ...]], Totals]:
@@ -255,38 +336,6 @@ def play_storm(policy: PolicyHandle, storm: Storm) -> Tuple[List[Tuple[int, ...]
     wide = ctypes.sizeof(Window) // ctypes.sizeof(c_uint64)
     numbers = (c_uint64 * (wide * count.value)).from_buffer(windows)[:]
     return [tuple(numbers[at : at + wide]) for at in range(0, len(numbers), wide)], totals
-
-
-class Driver:
-    """A policy that is stepped event by event."""
-
-    __slots__ = ("handle", "at", "_free", "_decision", "_words")
-
-    def __init__(self, policy: PolicyHandle) -> None:
-        self.handle = Handle()
-        self.at = byref(self.handle)
-        self._free = library.hikebox_driver_free
-        self._decision = Decision()
-        self._words = Words()
-        status = library.hikebox_driver_new(policy.at, self.at)
-        if status != OK:
-            raise refused("hikebox_driver_new", status)
-
-    def next(self, now: int, words: Tuple[int, int, int, int], code: int) -> Optional[int]:
-        """One more event: the start that is planned, or None where the policy does not go on."""
-        self._words[:] = list(words)
-        status = library.hikebox_driver_next(self.at, now, self._words, code, byref(self._decision))
-        if status != OK:
-            raise refused("hikebox_driver_next", status)
-        return self._decision.start if self._decision.goes_on else None
-
-    def last_text(self) -> str:
-        """The output of the last event, as `zsched plan` prints it."""
-        return _text("hikebox_driver_last_text", lambda *room: library.hikebox_driver_last_text(self.at, *room)).decode()
-
-    def __del__(self) -> None:
-        if self.handle.held:
-            self._free(self.at)
 
 
 class Pass:
@@ -308,9 +357,9 @@ class Pass:
         return cls._made("hikebox_budget_rising" if rising else "hikebox_budget_fixed", limit)
 
     @classmethod
-    def of_quota(cls, now: int, reserve: int, share: int, period: int) -> Pass:
+    def of_quota(cls, now: int, reserve: int, share: int, period: int, carries: bool = False) -> Pass:
         """The first pass of a new quota, whose windows are counted from the one of this moment."""
-        return cls._made("hikebox_quota_new", now, reserve, share, period)
+        return cls._made("hikebox_quota_new", now, reserve, share, period, carries)
 
     @classmethod
     def of_nothing(cls) -> Pass:
@@ -337,12 +386,28 @@ class Pass:
             return None
         raise refused("hikebox_pass_draw", status)
 
-    def deposit(self, now: int) -> None:
-        """Counts a request of a quota."""
+    def deposit(self, now: int, requests: c_uint64 = _ONE) -> None:
+        """Counts a request of a quota, or so many. The first pass alone counts any number; another one at least one."""
         self._now.value = now
-        status = _pass_deposit(self.at, self._now)
+        status = _pass_deposit(self.at, self._now, requests)
         if status != OK:
             raise refused("hikebox_pass_deposit", status)
+
+    def hand_back(self) -> bool:
+        """Hands the latest ticket of a quota back that was drawn with it: False where none was since one was handed
+        back."""
+        status = _pass_hand_back(self.at)
+        while status == RACES_LOST:  # to as many tickets that came back
+            status = _pass_hand_back(self.at)
+        if status == OK:
+            return True
+        if status == NOTHING_TO_HAND_BACK:
+            return False
+        raise refused("hikebox_pass_hand_back", status)
+
+    def set_terms(self, reserve: int, share: int) -> None:
+        """Sets the reserve and the share of a quota."""
+        self._does("set_terms", reserve, share)
 
     def seen(self, now: int) -> Tuple[int, int, int, int, int]:
         """Of a quota: the window, the requests counted in it, the tickets given, those that are left, and when the next

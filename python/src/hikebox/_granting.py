@@ -24,7 +24,7 @@ class Granting:
 
     @property
     def granted(self) -> int:
-        """How many tickets were drawn: exact once it is closed, and before that without those that retries still under
+        """How many tickets were drawn, and not handed back: exact once it is closed, and before that without those that retries still under
         way have drawn."""
         return self.passes.drawn()
 
@@ -79,11 +79,14 @@ class Granting:
         finally:
             self.passes.give_back(lent)
 
-    def end_retry(self, machine: Machine) -> None:
-        """Takes the pass of the machine's retry back, with its tickets."""
+    def end_retry(self, machine: Machine, hands_back: bool) -> None:
+        """Takes the pass of the machine's retry back, with its tickets; the latest one is handed back where that is so,
+        and where it is a quota's."""
         lent = self.passes.lend()
         try:
             machine.end(lent)
+            if hands_back:
+                lent.hand_back()
         finally:
             self.passes.give_back(lent)
 

@@ -2,11 +2,9 @@
 
 from __future__ import annotations
 
-from typing import Any, Dict, Iterator, List, Optional, Tuple
+from typing import Any, Dict, Iterator, List, Tuple
 
-from ._time import FAR
-
-__all__ = ["FOLDS", "FORMS", "NAMES", "most_goes", "parts_of", "reads_of", "walk"]
+__all__ = ["FOLDS", "FORMS", "NAMES", "parts_of", "reads_of", "walk"]
 
 #: The leaves that are spelt as a string alone.
 NAMES = ("forever", "elapsed", "identity")
@@ -89,21 +87,3 @@ def reads_of(tree: Any) -> Tuple[List[int], bool]:
         items = value if isinstance(value, list) else [value]
         nodes.extend(item for item in items if isinstance(item, dict) or item in NAMES)
     return sorted(lanes), codes
-
-
-def most_goes(tree: Any) -> Optional[int]:
-    """A number of events at which the policy goes on at most, whatever comes, where its nodes give one."""
-    name, own, plans = parts_of(tree)
-    if name == "recurs":
-        return int(own[0])
-    if name == "lone":
-        return 1
-    if not plans or name in ("renew", "renew_idle"):
-        return None
-    known = [most_goes(plan) for plan in plans]
-    counts = [count for count in known if count is not None]
-    if name in ("join", "follow"):
-        if len(counts) < len(known):
-            return None
-        return min(FAR, sum(counts)) if name == "follow" else max(counts)
-    return min(counts) if counts else None

@@ -74,8 +74,18 @@ class Passes:
             self._look_open()
             yield self._root
 
+    def hand_back(self) -> bool:
+        """Hands back the latest ticket of a pass that nobody uses now: False where none has one."""
+        with self._lock:
+            self._look_open()
+            taken = self._take_idle()
+            try:
+                return any(each.hand_back() for each in taken)
+            finally:
+                self._idle.extend(reversed(taken))
+
     def drawn(self) -> int:
-        """How many tickets were drawn, without those of retries that are under way."""
+        """How many tickets were drawn and not handed back, without those of retries that are under way."""
         with self._lock:
             if self.closed is not None:
                 return self.closed
@@ -140,8 +150,9 @@ class DrawnOn(Protocol):
     def begin_retry(self, machine: Machine, policy: PolicyHandle, deadline: int) -> None:
         """Begins a retry in this machine, with a pass of its own, and a moment past which it plans no attempt."""
 
-    def end_retry(self, machine: Machine) -> None:
-        """Takes the pass of the machine's retry back, with its tickets."""
+    def end_retry(self, machine: Machine, hands_back: bool) -> None:
+        """Takes the pass of the machine's retry back, with its tickets; the latest one is handed back where that is so,
+        and where it is a quota's."""
 
     def moment_of(self, clock: float) -> int:
         """The moment at which a retry begins that begins at so many seconds of its clock."""
@@ -157,7 +168,7 @@ class NoBudget:
     def begin_retry(self, machine: Machine, policy: PolicyHandle, deadline: int) -> None:
         machine.begin_unlimited(policy, deadline)
 
-    def end_retry(self, machine: Machine) -> None:
+    def end_retry(self, machine: Machine, hands_back: bool) -> None:
         machine.free()
 
     def moment_of(self, clock: float) -> int:

@@ -1,12 +1,13 @@
-"""A policy as the engine has it: its tree, its text, and handles that are lent to one user at a time."""
+"""A policy as the engine has it: its handle, its text, and what is read off that."""
 
 from __future__ import annotations
 
 import json
-from typing import Any, Callable, List, Optional, Tuple
+from ctypes import c_size_t
+from typing import Any, Callable, Dict, List, Optional, Tuple
 
 from . import _engine
-from ._nodes import reads_of
+from ._nodes import FORMS, NAMES, reads_of
 from .errors import Fault, PolicyError
 
 __all__ = ["Plan"]
@@ -19,60 +20,59 @@ _FAULTS = {
     _engine.TOO_MANY: Fault.TOO_MANY,
 }
 
-#: The most nodes of a policy, and how deep it may be.
-MOST_NODES = 256
-MOST_DEPTH = 32
+#: The names of the nodes that have numbers alone among their parameters; of the others the engine reads the JSON.
+_NAMES: Dict[str, _engine.Spelt] = {
+    name: (name.encode(), c_size_t(len(name))) for name in (*NAMES, *FORMS) if name not in ("gate", "gather")
+}
 
-#: The most handles of one policy that wait for their next use.
-_IDLE = 64
+#: Handles that hold nothing stand for no policy under a node.
+_NONE, _NONE_EITHER = _engine.PolicyHandle(), _engine.PolicyHandle()
 
 
-class Plan:
-    """What a policy is made of. Threads may share it."""
+class Plan(_engine.PolicyHandle):
+    """What a policy is made of. Threads may share it: it never changes, but what was read off it is kept."""
 
-    __slots__ = ("tree", "nodes", "depth", "_text", "_handles", "_reads")
-
-    def __init__(self, tree: Any, nodes: int, depth: int) -> None:
-        #: The value of `json.loads` that spells it.
-        self.tree = tree
-        #: How many nodes it has, and how deep it is.
-        self.nodes = nodes
-        self.depth = depth
-        self._text: Optional[str] = None
-        self._handles: List[_engine.PolicyHandle] = []
-        self._reads: Optional[Tuple[List[int], bool]] = None
+    _text: Optional[str] = None
+    _tree: Any = None
+    _reads: Optional[Tuple[List[int], bool]] = None
 
     @classmethod
     def of_text(cls, text: bytes) -> Plan:
         """The plan that this JSON text spells."""
-        handle = _read(text)
-        made = cls(json.loads(text), *handle.size())
-        made.give_back(handle)
+        made = cls()
+        refusal = made.read(text)
+        if refusal is not None:
+            raise PolicyError(_FAULTS[refusal.status], refusal.place, refusal.hint)
         return made
 
     @classmethod
-    def over(cls, name: str, own: Tuple[Any, ...], *parts: Plan) -> Plan:
-        """The plan of a node with these parameters, which its builder has looked at, over these plans. The engine reads
-        it when it is used, and here where it may be too large."""
-        items = [*own, *(part.tree for part in parts)]
-        tree = {name: items[0] if len(items) == 1 else items} if items else name
-        depth = 1 + max((part.depth for part in parts), default=0)
-        made = cls(tree, 1 + sum(part.nodes for part in parts), depth)
-        if made.nodes > MOST_NODES or depth > MOST_DEPTH:
-            made.is_used()
-        return made
-
-    def is_used(self) -> None:
-        """Has the engine read it, where it has not yet."""
-        if not self._handles:
-            self.give_back(self.lend())
+    def of_node(cls, name: str, own: Tuple[Any, ...], first: Optional[Plan], second: Optional[Plan]) -> Plan:
+        """The plan of a node with these parameters, which its builder has looked at, over these plans."""
+        if name in _NAMES:
+            made = cls()
+            other: Optional[_engine.PolicyHandle] = second
+            if second is first and second is not None:
+                other = second.share()
+            if made.make(_NAMES[name], own, first or _NONE, other or _NONE_EITHER):
+                return made
+        # it has words, or is refused, and the text tells where and why
+        items = [*map(_written, own), *(part.text for part in (first, second) if part is not None)]
+        text = items[0] if len(items) == 1 else f"[{','.join(items)}]"
+        return cls.of_text(f'{{"{name}":{text}}}'.encode())
 
     @property
     def text(self) -> str:
         """Its JSON, without spaces."""
         if self._text is None:
-            self._text = _written(self.tree)
+            self._text = self.json()
         return self._text
+
+    @property
+    def tree(self) -> Any:
+        """The value of `json.loads` that spells it."""
+        if self._tree is None:
+            self._tree = json.loads(self.text)
+        return self._tree
 
     @property
     def reads(self) -> Tuple[List[int], bool]:
@@ -81,30 +81,6 @@ class Plan:
             self._reads = reads_of(self.tree)
         return self._reads
 
-    def lend(self) -> _engine.PolicyHandle:
-        """A handle that nobody else uses until it is given back."""
-        try:
-            handle = self._handles.pop()
-        except IndexError:  # another thread took the last one just now, and has not put a share of it here yet
-            return _read(self.text.encode())
-        if not self._handles:
-            self._handles.append(handle.share())
-        return handle
 
-    def give_back(self, handle: _engine.PolicyHandle) -> None:
-        """Takes a handle back that was lent."""
-        if len(self._handles) < _IDLE:
-            self._handles.append(handle)
-
-
-#: The JSON of a value, without spaces.
-_written: Callable[[Any], str] = json.JSONEncoder(separators=(",", ":")).encode
-
-
-def _read(text: bytes) -> _engine.PolicyHandle:
-    """A handle to the policy of this text, or the error of a text that the engine refuses."""
-    handle = _engine.PolicyHandle()
-    refusal = handle.read(text)
-    if refusal is not None:
-        raise PolicyError(_FAULTS[refusal.status], refusal.place, refusal.hint)
-    return handle
+#: The JSON of a value.
+_written: Callable[[Any], str] = json.JSONEncoder().encode

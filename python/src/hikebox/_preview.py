@@ -4,16 +4,16 @@ from __future__ import annotations
 
 import ast
 from dataclasses import dataclass
-from typing import Any, Callable, Iterable, Iterator, Optional, Tuple
+from typing import Any, Callable, List, Optional
 
-from ._engine import Driver
+from ._checks import whole
+from ._engine import MOST_STEPS
 from ._plan import Plan
-from ._time import FAR
 
-__all__ = ["Step", "Words", "played", "word_of"]
+__all__ = ["Step", "played", "word_of"]
 
-#: The random words of one event, by their lanes.
-Words = Tuple[int, int, int, int]
+#: The random word in the middle.
+_MIDDLE = 1 << 31
 
 
 @dataclass(frozen=True)
@@ -47,23 +47,27 @@ class Step:
         return f"{self.at_ms}: {self.output} {goes}"
 
 
-def played(plan: Plan, start: int, took: int, inputs: Iterable[int], words: Callable[[], Words]) -> Iterator[Step]:
-    """The events of a plan on a clock of its own, one for each input, up to the one at which it is done.
-
-    The first is at the moment `start`, and each further one `took` milliseconds after its planned start.
-    """
-    handle = plan.lend()
-    try:
-        driver = Driver(handle)
-    finally:
-        plan.give_back(handle)
-    now = start
-    for code in inputs:
-        goes = driver.next(now, words(), code)
-        yield Step(now, ast.literal_eval(driver.last_text()), goes)
-        if goes is None:
-            return
-        now = min(FAR, goes + took)
+def played(
+    plan: Plan, steps: int, start: int, took: int, codes: List[int], random: Optional[Callable[[], float]]
+) -> List[Step]:
+    """At most so many first events of a plan, up to the one at which it is done, on a clock of its own: the first is at
+    the moment `start`, and each other one `took` milliseconds after its planned start. Their inputs are these codes, the
+    last one again and again; their words are picked by `random`, or in the middle."""
+    most = plan.size()[2]
+    count = whole(max(0, steps), "preview: steps", 0, MOST_STEPS)
+    if most is not None:
+        count = min(count, most + 1)
+    if count == 0:
+        return []
+    inputs = [whole(code, "preview: input") for code in codes[:count]] or [0]
+    if random is None:
+        events = [(code, _MIDDLE, _MIDDLE, _MIDDLE, _MIDDLE) for code in inputs]
+    else:
+        inputs += inputs[-1:] * (count - len(inputs))
+        events = [(code, word_of(random()), word_of(random()), word_of(random()), word_of(random())) for code in inputs]
+    return [
+        Step(moment, ast.literal_eval(output), goes) for moment, goes, output in plan.course(count, start, took, events)
+    ]
 
 
 def word_of(number: float) -> int:

@@ -36,8 +36,8 @@ class Requests:
         #: How many they are, of the last period.
         self.count = 0
 
-    def add(self, now: float) -> None:
-        """One more."""
+    def add(self, now: float, requests: int = 1) -> None:
+        """So many more."""
         with self._lock:
             number = int((now - self._anchor) * _SLICES // self._period)
             slices = self._slices
@@ -45,8 +45,8 @@ class Requests:
                 slices.append(_Slice(number, now))
                 while slices[0].began < now - self._period:
                     self.count -= slices.popleft().count
-            slices[-1].count += 1
-            self.count += 1
+            slices[-1].count += requests
+            self.count += requests
 
     def take(self, since: float) -> int:
         """Those of the slices that began since this moment, at which a window of the store began. None is given

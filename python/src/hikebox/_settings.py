@@ -6,14 +6,16 @@ import math
 import random as _random
 import time
 from dataclasses import dataclass, field, fields
-from typing import Any, Awaitable, Callable, List, Optional, Protocol, Sequence, Tuple, Type, Union
+from functools import cached_property, partial
+from typing import Any, Callable, Dict, List, Optional, Protocol, Sequence, Tuple, Type, Union
 
 from . import _kinds
 from ._deadline import Limit
+from ._drawing import ByCall, Drawing
 from ._passes import NO_BUDGET, DrawnOn
 from ._time import FAR, Duration, seconds
 from .budget import Budget
-from .errors import TryAgain
+from .errors import BudgetClosed, TryAgain
 from .policy import Policy
 from .quota import Quota
 from .state import Outcome, RetryState, code_of
@@ -34,7 +36,7 @@ class Tickets(Protocol):
     """What a retry can draw on beside a `Budget` or a `Quota`: one that is kept elsewhere, as by `hikebox.leased`.
 
     Where it has a `draw_async()`, coroutines await that in the place of `draw()`. Where it has a `deposit()`, that is
-    called once for each call, at its first attempt.
+    called once for each call, at its first attempt, or where its `counts_successes` is true at its success.
     """
 
     def draw(self) -> Optional[int]:
@@ -98,55 +100,64 @@ class Settings:
     #: What the engine's retry draws on by itself. Of a quota it wants moments of that clock, so this retry has to go by
     #: the same.
     drawn_on: DrawnOn = field(init=False)
-    #: What draws a ticket where the engine's retry does not, or None; and what counts a request, where the budget does.
-    draw: Optional[Callable[[], Union[Optional[int], Awaitable[Optional[int]]]]] = field(init=False)
+    #: What makes a retry's drawing where the engine's retry does not draw itself, or None.
+    drawing: Optional[Callable[[], Drawing]] = field(init=False)
+    #: What counts a request at the first attempt, and what counts it at the success, where the budget counts any.
     deposit: Optional[Callable[[], Any]] = field(init=False)
+    deposit_won: Optional[Callable[[], Any]] = field(init=False)
+    #: Whether a call that succeeds after retries hands its last ticket back.
+    returns_tickets: bool = field(init=False)
     #: Whether nothing is to be done before a first attempt but to count it, nor where it succeeds.
     is_quiet: bool = field(init=False)
     #: Whether nothing is to be called where an attempt fails, but the engine and what draws without a wait.
     is_plain: bool = field(init=False)
     #: The milliseconds of the deadline.
     most_millis: Optional[int] = field(init=False)
-    #: The lanes of the policy's jitters, and whether it reads codes.
-    lanes: List[int] = field(init=False)
-    reads_codes: bool = field(init=False)
 
     def __post_init__(self) -> None:
-        given = {"policy": Policy.of(self.policy), "longest": _longest_of(self.longest)}
-        for name, value in {**given, **self._derived()}.items():
-            object.__setattr__(self, name, value)
-        given_policy: Policy = given["policy"]  # type: ignore[assignment]
-        given_policy.plan.is_used()
-        object.__setattr__(self, "most_millis", None if self.deadline is None else seconds(self.deadline, "deadline"))
-        lanes, reads_codes = given_policy.plan.reads
-        object.__setattr__(self, "lanes", lanes)
-        object.__setattr__(self, "reads_codes", reads_codes)
+        # (the fields of a frozen object, each of which is set once)
+        self.__dict__.update(self._derived())
 
-    def _derived(self) -> Any:
+    @cached_property
+    def lanes(self) -> List[int]:
+        """The lanes of the policy's jitters."""
+        return self.policy.plan.reads[0]
+
+    @cached_property
+    def reads_codes(self) -> bool:
+        """Whether the policy reads codes."""
+        return self.policy.plan.reads[1]
+
+    def _derived(self) -> Dict[str, Any]:
         for name in ("on_result", "fallback"):
             _kinds.look_at_function(name, getattr(self, name), self.awaits)
         for name in ("code", "at_least", "wait", "clock", "random"):
             _kinds.look_at_function(name, getattr(self, name), awaits=False)
         sleeps, pause = _kinds.sleeps_of(self.sleep, self.stop, self.awaits)
         types, tests = _kinds.parts_of_on(self.on, self.awaits)
-        drawn_on, draw = _drawn_on(self.budget, self.clock, self.awaits)
+        drawn_on, drawing = _drawn_on(self.budget, self.clock, self.awaits)
         hooks = {f"hooks_{name}": _kinds.hooks_of(name, getattr(self, name), self.awaits) for name in _HOOKS}
-        deposit = getattr(self.budget, "deposit", None)
+        deposit, deposit_won = _deposits(self.budget)
         told = (self.on_result, *hooks["hooks_before"], *hooks["hooks_on_success"])
         return {
             **hooks,
+            "policy": Policy.of(self.policy),
+            "longest": _longest_of(self.longest),
+            "most_millis": None if self.deadline is None else seconds(self.deadline, "deadline"),
             "is_quiet": not self.repeats and all(each is None for each in told),
             "is_plain": all(each is None for each in (self.stop, self.fallback, self.at_least, self.wait))
             and not any(hooks.values())
-            and draw is None,
+            and drawing is None,
             "types": (*types, TryAgain),
             "tests": tests,
             "is_stopped": _kinds.stop_of(self.stop),
             "sleeps": sleeps,
             "pause": pause,
             "drawn_on": drawn_on,
-            "draw": draw,
+            "drawing": drawing,
             "deposit": deposit,
+            "deposit_won": deposit_won,
+            "returns_tickets": bool(getattr(self.budget, "returns_tickets", False)),
         }
 
     def limit_of(self, start: float) -> Optional[Limit]:
@@ -180,8 +191,8 @@ def _longest_of(longest: Any) -> float:
     return float(longest)
 
 
-def _drawn_on(budget: Any, clock: Any, awaits: bool) -> Tuple[DrawnOn, Optional[Callable[[], Any]]]:
-    """What the engine's retry draws on, and what draws where it does not."""
+def _drawn_on(budget: Any, clock: Any, awaits: bool) -> Tuple[DrawnOn, Optional[Callable[[], Drawing]]]:
+    """What the engine's retry draws on, and what makes the drawing of one that does not."""
     if budget is None:
         return NO_BUDGET, None
     draw = getattr(budget, "draw", None)
@@ -189,4 +200,22 @@ def _drawn_on(budget: Any, clock: Any, awaits: bool) -> Tuple[DrawnOn, Optional[
         raise TypeError(f"a Budget, a Quota, or something with draw(), is wanted, not {budget!r}")
     if isinstance(budget, Budget) or (isinstance(budget, Quota) and budget.clock == clock):
         return budget, None
-    return NO_BUDGET, (getattr(budget, "draw_async", draw) if awaits else draw)
+    if hasattr(budget, "retry_drawing"):
+        return NO_BUDGET, partial(budget.retry_drawing, awaits)
+    return NO_BUDGET, partial(ByCall, getattr(budget, "draw_async", draw) if awaits else draw)
+
+
+def _deposits(budget: Any) -> Tuple[Optional[Callable[[], Any]], Optional[Callable[[], Any]]]:
+    """What counts a request at its first attempt, and what counts it at its success."""
+    deposit = getattr(budget, "deposit", None)
+    if deposit is None or not getattr(budget, "counts_successes", False):
+        return deposit, None
+    return None, partial(_deposit_won, deposit)
+
+
+def _deposit_won(deposit: Callable[[], Any]) -> None:
+    """Counts a request that succeeded: whose result is there, also where the quota was closed meanwhile."""
+    try:
+        deposit()
+    except BudgetClosed:
+        pass

@@ -7,8 +7,10 @@ from typing import Any, List, Tuple
 
 __all__ = [
     "Asking",
-    "Decision",
+    "Course",
+    "Event",
     "Handle",
+    "Line",
     "Next",
     "Place",
     "Range",
@@ -31,27 +33,32 @@ class Place(Structure):
     _fields_ = [("line", c_uint64), ("column", c_uint64)]
 
 
-class Decision(Structure):
-    _fields_ = [("start", c_uint64), ("goes_on", c_bool)]
-
-
-class Next(Structure):
-    _fields_ = [
-        ("what", c_uint32),
-        ("how", c_uint32),
-        ("until", c_uint64),
-        ("granted", c_uint64),
-        ("runs", c_uint64),
-    ]
-
-
-class Usage(Structure):
-    _fields_ = [(name, c_uint64) for name in ("window", "asked", "given", "left", "next")]
-
-
 def _numbers(names: str) -> List[Tuple[str, Any]]:
     """Fields of these names, each a number."""
     return [(name, c_uint64) for name in names.split()]
+
+
+Words = c_uint32 * 4
+
+
+class Course(Structure):
+    _fields_ = _numbers("steps from took")
+
+
+class Event(Structure):
+    _fields_ = [("input", c_uint64), ("words", Words)]
+
+
+class Line(Structure):
+    _fields_ = [*_numbers("moment start text_to"), ("goes_on", c_bool)]
+
+
+class Next(Structure):
+    _fields_ = [("what", c_uint32), ("how", c_uint32), *_numbers("until granted runs left")]
+
+
+class Usage(Structure):
+    _fields_ = _numbers("window asked given left next")
 
 
 class Storm(Structure):
@@ -95,6 +102,3 @@ class Range(Structure):
     tickets: int
 
     _fields_ = _numbers("first tickets")
-
-
-Words = c_uint32 * 4

@@ -13,6 +13,9 @@ __all__ = ["FAR", "HAIR", "Duration", "Milliseconds", "milliseconds", "moment", 
 #: The longest duration, in milliseconds; also the last moment and the greatest number of a policy.
 FAR = 2**62 - 1
 
+#: The most whole seconds of a duration.
+_MOST_SECONDS = FAR // 1000
+
 #: So much of a millisecond is not taken for less than a whole one.
 HAIR = 1e-6
 
@@ -56,6 +59,8 @@ def seconds(duration: Duration, what: str = "") -> int:
     ...
     hikebox.errors.PolicyError: number out of range: spaced: 0.0004 s is less than a millisecond
     """
+    if type(duration) is int and 0 <= duration <= _MOST_SECONDS:
+        return duration * 1000
     place = f"{what}: " if what else ""
     if isinstance(duration, Milliseconds):
         count, is_less = int(duration), False

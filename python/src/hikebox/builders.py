@@ -31,7 +31,7 @@ __all__ = [
 
 def forever() -> Policy:
     """Goes on at once, for ever. Meet it with something that waits."""
-    return Policy.of_node("forever")
+    return Policy.of_node("forever", ())
 
 
 def recurs(times: int) -> Policy:
@@ -40,7 +40,7 @@ def recurs(times: int) -> Policy:
     >>> [str(step) for step in recurs(1).preview()]
     ['0: 0 next 0', '0: 1 done']
     """
-    return Policy.of_node("recurs", whole(times, "recurs"))
+    return Policy.of_node("recurs", (whole(times, "recurs"),))
 
 
 def once() -> Policy:
@@ -55,22 +55,22 @@ def stop() -> Policy:
 
 def spaced(delay: Duration) -> Policy:
     """Goes on this long after each event."""
-    return Policy.of_node("spaced", seconds(delay, "spaced"))
+    return Policy.of_node("spaced", (seconds(delay, "spaced"),))
 
 
 def fixed(every: Duration) -> Policy:
     """Goes on at the boundaries of intervals from the first event on; at once where it is more than one behind."""
-    return Policy.of_node("fixed", interval(every, "fixed"))
+    return Policy.of_node("fixed", (interval(every, "fixed"),))
 
 
 def windowed(every: Duration) -> Policy:
     """Goes on at the next boundary of intervals from the first event on."""
-    return Policy.of_node("windowed", interval(every, "windowed"))
+    return Policy.of_node("windowed", (interval(every, "windowed"),))
 
 
 def linear(base: Duration) -> Policy:
     """Waits the base, twice the base, three times the base and so on."""
-    return Policy.of_node("linear", seconds(base, "linear"))
+    return Policy.of_node("linear", (seconds(base, "linear"),))
 
 
 def exponential(base: Duration, factor: float = 2) -> Policy:
@@ -81,15 +81,15 @@ def exponential(base: Duration, factor: float = 2) -> Policy:
     """
     if isinstance(factor, float) and not factor.is_integer():
         milli = factor_of(factor, "exponential", 0.001)
-        return Policy.of_node("exponential_milli", seconds(base, "exponential"), milli)
+        return Policy.of_node("exponential_milli", (seconds(base, "exponential"), milli))
     times = int(factor) if isinstance(factor, float) else factor
-    return Policy.of_node("exponential", seconds(base, "exponential"), whole(times, "exponential: a factor", 1, 1000))
+    return Policy.of_node("exponential", (seconds(base, "exponential"), whole(times, "exponential: a factor", 1, 1000)))
 
 
 def exponential_milli(base: Duration, factor: int) -> Policy:
     """The same with a factor in thousandths, rounded down at each event."""
     milli = whole(factor, "exponential_milli: a factor", 1, 1_000_000)
-    return Policy.of_node("exponential_milli", seconds(base, "exponential_milli"), milli)
+    return Policy.of_node("exponential_milli", (seconds(base, "exponential_milli"), milli))
 
 
 def decorrelated(base: Duration, longest: Duration, factor: float = 3, *, lane: int = 0) -> Policy:
@@ -105,32 +105,32 @@ def decorrelated(base: Duration, longest: Duration, factor: float = 3, *, lane: 
     least, most = seconds(base, "decorrelated"), seconds(longest, "decorrelated")
     if least > most:
         raise PolicyError(Fault.OUT_OF_RANGE, hint=f"decorrelated({base!r}, {longest!r}): the range is empty")
-    return Policy.of_node("decorrelated", whole(lane, "decorrelated: a lane", 0, 3), least, milli, most)
+    return Policy.of_node("decorrelated", (whole(lane, "decorrelated: a lane", 0, 3), least, milli, most))
 
 
 def fibonacci(one: Duration) -> Policy:
     """Waits this long times 1, 1, 2, 3, 5 and so on."""
-    return Policy.of_node("fibonacci", seconds(one, "fibonacci"))
+    return Policy.of_node("fibonacci", (seconds(one, "fibonacci"),))
 
 
 def elapsed() -> Policy:
     """Goes on at once, and gives the time since the first event, in milliseconds."""
-    return Policy.of_node("elapsed")
+    return Policy.of_node("elapsed", ())
 
 
 def identity() -> Policy:
     """Goes on at once, and gives the code of the failure."""
-    return Policy.of_node("identity")
+    return Policy.of_node("identity", ())
 
 
 def unfold(start: int, times: int, plus: int) -> Policy:
     """Goes on at once, and gives `start`, and then each time the output before times `times` and `plus` more."""
-    return Policy.of_node("unfold", *(whole(number, "unfold") for number in (start, times, plus)))
+    return Policy.of_node("unfold", tuple([whole(number, "unfold") for number in (start, times, plus)]))
 
 
 def lone(delay: Duration) -> Policy:
     """Goes on once, after this delay. ZIO's `fromDuration`."""
-    return Policy.of_node("lone", seconds(delay, "lone"))
+    return Policy.of_node("lone", (seconds(delay, "lone"),))
 
 
 #: ZIO's name of `lone`.

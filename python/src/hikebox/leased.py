@@ -27,201 +27,22 @@ drawn once. What is left of a lease when its process ends is lost.
 
 from __future__ import annotations
 
-import logging
 import math
-import threading
-from typing import Any, Callable, List, Optional
+from typing import Callable, Optional
 
 from ._deprecated import deprecated, one_of
 from ._file_store import FileStore
-from ._forks import begins_anew_in_a_child
+from ._leases import Leases
 from ._redis_store import RedisStore
 from ._requests import Requests
 from ._stores import QuotaRange, QuotaStore, Range, Store, uptime
 from ._time import Duration, seconds, seconds_text
-from .budget import Budget
-from .errors import BudgetClosed, BudgetInUse, StoreError, TermsError
-from .quota import Usage, terms_of
+from .errors import TermsError
+from .quota import Terms, Usage, requests_of, terms_of
 
 __all__ = ["FileStore", "Leased", "LeasedQuota", "QuotaRange", "QuotaStore", "Range", "RedisStore", "Store"]
 
-logger = logging.getLogger("hikebox")
-
-#: How many leases in a row may be over before a ticket is drawn of them.
-_TRIES = 3
-
-
-class _Lease:
-    """A range, and the budget of the engine that draws from it."""
-
-    __slots__ = ("first", "until", "budget")
-
-    def __init__(self, granted: Range) -> None:
-        self.first = granted.first
-        self.until = granted.until
-        self.budget = Budget(granted.tickets)
-
-
-class _Leases:
-    """Tickets that all processes with the same store and name share. Threads may share it too."""
-
-    def __init__(
-        self, name: str, period: Optional[int], spare: int, again_after: float, clock: Callable[[], float]
-    ) -> None:
-        self.name = name
-        #: How many tickets this process may draw while the store can't be reached, in all or in each window.
-        self.spare = spare
-        self.again_after = again_after
-        self.clock = clock
-        #: The length of a window in milliseconds, or None.
-        self._period = period
-        self.begin_anew()
-        begins_anew_in_a_child(self)
-
-    @property
-    def per(self) -> Optional[float]:
-        """How many seconds a window is long, or None where there are none."""
-        return None if self._period is None else self._period / 1000
-
-    def begin_anew(self) -> None:
-        """Begins with no lease, as in a forked child."""
-        self._lock = threading.Lock()
-        self._lease: Optional[_Lease] = None
-        #: The budgets of past leases that are not closed yet, and how many tickets were drawn of the others.
-        self._past: List[Budget] = []
-        self._drawn = 0
-        #: From when on the store is asked again; None for never.
-        self._ask_at: Optional[float] = -math.inf
-        #: Whether the store could be reached when it was asked last, and whether it had lost its count.
-        self._reached = True
-        self._lost = False
-        self._spared: Optional[_Lease] = None
-
-    def _take(self) -> Range:
-        """A range from the store."""
-        raise NotImplementedError
-
-    def draw(self) -> Optional[int]:
-        """A ticket, by its number, or None where there is none: from the lease, or from a new one where it is used up.
-
-        The numbers begin at 0, in each window anew; those that are drawn while the store can't be reached are -1, -2
-        and so on.
-        """
-        lease = self._lease
-        if lease is not None:
-            ticket = self._from(lease)
-            if ticket is not None:
-                return ticket
-        with self._lock:
-            return self._drawn_anew(lease)
-
-    async def draw_async(self) -> Optional[int]:
-        """The same for a coroutine: it waits for the store on another thread."""
-        lease = self._lease
-        ticket = None if lease is None else self._from(lease)
-        if ticket is not None:
-            return ticket
-        if not self._lock.locked() and not self._may_ask():
-            return self.draw()
-        import asyncio
-
-        try:
-            loop = asyncio.get_running_loop()
-        except RuntimeError:  # a coroutine of another library
-            return self.draw()
-        return await loop.run_in_executor(None, self.draw)
-
-    @property
-    def granted(self) -> int:
-        """How many tickets this process drew."""
-        with self._lock:
-            held = [lease.budget for lease in (self._lease, self._spared) if lease is not None]
-            return self._drawn + sum(budget.granted for budget in (*self._past, *held))
-
-    def __reduce__(self) -> Any:
-        raise TypeError(f"each process makes its own {type(self).__name__}, of the same store and name")
-
-    def _from(self, lease: _Lease) -> Optional[int]:
-        """A ticket of this lease, where it may still be drawn from and has one."""
-        if lease.until is not None and self.clock() >= lease.until:
-            return None
-        try:
-            ticket = lease.budget.draw()
-        except BudgetClosed:
-            return None
-        return None if ticket is None else lease.first + ticket
-
-    def _may_ask(self) -> bool:
-        return self._ask_at is not None and self.clock() >= self._ask_at
-
-    def _drawn_anew(self, before: Optional[_Lease]) -> Optional[int]:
-        """A ticket of the present lease, if it is another than before, or of a new one, or one without the store."""
-        lease = self._lease
-        if lease is not None and lease is not before:
-            ticket = self._from(lease)
-            if ticket is not None:
-                return ticket
-        for _ in range(_TRIES):
-            lease = self._leased()
-            if lease is None:
-                return None if self._reached else self._from_spared()
-            ticket = self._from(lease)
-            if ticket is not None:
-                return ticket
-        self._ask_at = self.clock() + self.again_after
-        return None
-
-    def _leased(self) -> Optional[_Lease]:
-        """A new lease in the place of the present one, or None where the store is not asked, or grants none."""
-        if not self._may_ask():
-            return None
-        try:
-            granted = self._take()
-        except StoreError as error:
-            if self._reached:
-                logger.warning("%s: %s; it grants nothing until it can be reached", self.name, error)
-            self._reached = False
-            self._ask_at = self.clock() + self.again_after
-            return None
-        self._reached = True
-        if granted.lost and not self._lost:
-            logger.warning("%s: the store may have lost its count of this window, and grants nothing of it", self.name)
-        self._lost = granted.lost
-        if granted.tickets == 0:
-            self._ask_at = granted.until
-            return None
-        self._ask_at = -math.inf
-        if self._lease is not None:
-            self._past.append(self._lease.budget)
-        self._lease = _Lease(granted)
-        self._retire()
-        return self._lease
-
-    def _retire(self) -> None:
-        """Closes the budgets of past leases, and adds up what was drawn of them."""
-        in_use: List[Budget] = []
-        for budget in self._past:
-            try:
-                self._drawn += budget.close()
-            except BudgetInUse:  # a draw of another thread is under way
-                in_use.append(budget)
-        self._past = in_use
-
-    def _from_spared(self) -> Optional[int]:
-        """A ticket of those that are drawn without the store."""
-        if self.spare == 0:
-            return None
-        spared = self._spared
-        if spared is None or (spared.until is not None and self.clock() >= spared.until):
-            if spared is not None:
-                self._past.append(spared.budget)
-            until = None if self._period is None else self.clock() + self._period / 1000
-            spared = self._spared = _Lease(Range(0, self.spare, until))
-        ticket = self._from(spared)
-        return None if ticket is None else -1 - ticket
-
-
-class Leased(_Leases):
+class Leased(Leases):
     """A budget that all processes with the same store and name share. Threads may share it too.
 
     `limit`
@@ -270,14 +91,14 @@ class Leased(_Leases):
         return self.spare
 
     def _take(self) -> Range:
-        return self.store.take(self.name, self.lease, self.limit, self._period, self.clock)
+        return self.store.take(self.name, self.lease, self.limit, self.millis, self.clock)
 
     def __repr__(self) -> str:
-        per = "" if self._period is None else f", per={seconds_text(self._period)}"
+        per = "" if self.millis is None else f", per={seconds_text(self.millis)}"
         return f"Leased({self.store!r}, {self.name!r}, limit={self.limit}{per}, lease={self.lease})"
 
 
-class LeasedQuota(_Leases):
+class LeasedQuota(Leases):
     """A quota that all processes with the same store and name share. Threads may share it too.
 
     `reserve`, `share`, `per`
@@ -286,6 +107,9 @@ class LeasedQuota(_Leases):
     `lease`
         How many tickets are leased at a time, at most. A process that ends loses at most so many; a store is asked once
         for so many draws. A sixty-fourth of what the window allows where it is None, from 1 to 1000.
+    `counts_successes`, `returns_tickets`
+        As of a `Quota`. A ticket that comes back, so or of a retry that ends while it waits, is drawn again in this
+        process while its window lasts; the store is not told.
     `spare`
         How many tickets this process may draw in each window while the store can't be reached, beyond the quota.
     `again_after`
@@ -307,12 +131,18 @@ class LeasedQuota(_Leases):
         lease: Optional[int] = None,
         spare: int = 0,
         again_after: float = 1.0,
+        counts_successes: bool = False,
+        returns_tickets: bool = False,
         clock: Callable[[], float] = uptime,
     ) -> None:
-        self.terms = terms_of(reserve, share, per)
+        self.terms: Terms = terms_of(reserve, share, per)
         self.store = store
         self.lease = _checked_lease(lease)
+        self._counts_successes = counts_successes
+        self._returns_tickets = returns_tickets
         super().__init__(name, self.terms.period, spare, again_after, clock)
+
+    TAKES_BACK = True
 
     def begin_anew(self) -> None:
         super().begin_anew()
@@ -322,9 +152,35 @@ class LeasedQuota(_Leases):
         #: Whether the store had no ticket left when it was asked last.
         self._spent = False
 
-    def deposit(self) -> None:
-        """Counts a request. Calls that are retried under the quota do it by themselves. The store is not asked."""
-        self._requests.add(self.clock())
+    @property
+    def counts_successes(self) -> bool:
+        """Whether a call counts as a request where it succeeds, and not at its first attempt."""
+        return self._counts_successes
+
+    @property
+    def returns_tickets(self) -> bool:
+        """Whether a call that succeeds after retries hands the ticket of the last one back."""
+        return self._returns_tickets
+
+    def set_terms(self, reserve: Optional[int] = None, share: Optional[float] = None) -> None:
+        """Sets the reserve and the share that this process names to the store, from its next lease on; each process sets
+        its own. A window gives no more than the most generous that were named in it allow. It waits for a store that is
+        being asked."""
+        with self.lock:
+            self.terms = self.terms.changed(reserve, share)
+            self._spent = False
+            self.ask_at = -math.inf
+
+    def deposit(self, requests: int = 1) -> None:
+        """Counts a request, or so many at once. Calls that are retried under the quota count themselves. The store is not
+        asked."""
+        self._requests.add(self.clock(), requests_of(requests))
+
+    def hand_back(self) -> bool:
+        """Hands the ticket back that was drawn by hand latest, and not used: this process may draw it again while its
+        window lasts, and `granted` is one less. False where none was drawn by hand since one was handed back. Retries
+        under the quota do it by themselves."""
+        return self.hand_back_by_hand()
 
     def seen(self) -> Usage:
         """Tells the store the requests that were counted since it was asked last, and answers what it has of its
@@ -334,10 +190,10 @@ class LeasedQuota(_Leases):
         A process whose calls hardly ever fail may call it now and then, so that others draw on the share of its
         requests.
         """
-        with self._lock:
+        with self.lock:
             found = self._asked(0)
             self._spent = False
-            self._ask_at = -math.inf
+            self.ask_at = -math.inf
         given = found.first + found.tickets
         left = 0 if found.lost else max(0, self.terms.allowed(found.asked) - given)
         return Usage(found.window, found.asked, given, left, found.lost)
@@ -363,7 +219,8 @@ class LeasedQuota(_Leases):
 
     def __repr__(self) -> str:
         lease = "" if self.lease is None else f", lease={self.lease}"
-        return f"LeasedQuota({self.store!r}, {self.name!r}, {self.terms}{lease})"
+        options = "".join(f", {name}=True" for name in ("counts_successes", "returns_tickets") if getattr(self, name))
+        return f"LeasedQuota({self.store!r}, {self.name!r}, {self.terms}{lease}{options})"
 
 
 def _checked_lease(lease: Optional[int]) -> Optional[int]:

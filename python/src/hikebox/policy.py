@@ -4,13 +4,12 @@ from __future__ import annotations
 
 import json
 import os
-from itertools import chain, islice, repeat
 from typing import Any, Callable, Dict, Iterable, List, Optional, Tuple, Union
 
 from ._checks import interval, ratio, whole
-from ._nodes import FOLDS, most_goes
+from ._nodes import FOLDS
 from ._plan import Plan
-from ._preview import Step, Words, played, word_of
+from ._preview import Step, played
 from ._spelling import spelt
 from ._time import Duration, seconds
 from .errors import Fault, PolicyError
@@ -45,10 +44,14 @@ class Policy:
         policy._plan = plan
         return policy
 
-    @classmethod
-    def of_node(cls, name: str, *own: Any, over: Tuple[Policy, ...] = ()) -> Policy:
+    @staticmethod
+    def of_node(name: str, own: Tuple[Any, ...], first: Optional[Policy] = None, second: Optional[Policy] = None) -> Policy:
         """The policy of a node, with parameters that were looked at, over other policies: for builders."""
-        return cls._of_plan(Plan.over(name, own, *(each._plan for each in over)))
+        policy = object.__new__(Policy)
+        policy._plan = Plan.of_node(
+            name, own, None if first is None else first._plan, None if second is None else second._plan
+        )
+        return policy
 
     @classmethod
     def from_json(cls, text: Union[str, bytes]) -> Policy:
@@ -125,7 +128,7 @@ found {"fixed":0}
     @property
     def nodes(self) -> int:
         """How many nodes it has, at most 256."""
-        return self._plan.nodes
+        return self._plan.size()[0]
 
     @property
     def depth(self) -> int:
@@ -135,7 +138,7 @@ found {"fixed":0}
         >>> (recurs(5) & spaced(1).cap(2)).depth
         3
         """
-        return self._plan.depth
+        return self._plan.size()[1]
 
     @property
     def most_retries(self) -> Optional[int]:
@@ -145,7 +148,7 @@ found {"fixed":0}
         >>> (recurs(5) & spaced(1)).most_retries, spaced(1).up_to(60).most_retries
         (5, None)
         """
-        return most_goes(self._plan.tree)
+        return self._plan.size()[2]
 
     def __repr__(self) -> str:
         return spelt(self._plan.tree)
@@ -199,16 +202,8 @@ found {"fixed":0}
         >>> [step.next_ms for step in spaced(1).while_input(equal=202).preview(input=[202, 202, 200])]
         [1000, 2000, None]
         """
-        middle = (1 << 31,) * 4
-
-        def words() -> Words:
-            if random is None:
-                return middle
-            return (word_of(random()), word_of(random()), word_of(random()), word_of(random()))
-
         codes = [input] if isinstance(input, int) else list(input)
-        inputs = islice(chain(codes, repeat(codes[-1] if codes else 0)), max(0, steps))
-        return list(played(self._plan, seconds(start), seconds(took), inputs, words))
+        return played(self._plan, steps, seconds(start), seconds(took), codes, random)
 
     # Two policies
 
@@ -239,25 +234,25 @@ found {"fixed":0}
     def _with(self, name: str, other: object) -> Policy:
         if not isinstance(other, Policy):
             return NotImplemented
-        return Policy.of_node(name, over=(self, other))
+        return Policy.of_node(name, (), self, other)
 
     # One policy
 
     def cap(self, longest: Duration) -> Policy:
         """With no delay longer than this."""
-        return Policy.of_node("cap", seconds(longest, "cap"), over=(self,))
+        return Policy.of_node("cap", (seconds(longest, "cap"),), self)
 
     def add_delay(self, more: Duration) -> Policy:
         """With each delay longer by this. JSON's `add`."""
-        return Policy.of_node("add", seconds(more, "add_delay"), over=(self,))
+        return Policy.of_node("add", (seconds(more, "add_delay"),), self)
 
     def set_delay(self, delay: Duration) -> Policy:
         """With this in the place of each delay. JSON's `set`."""
-        return Policy.of_node("set", seconds(delay, "set_delay"), over=(self,))
+        return Policy.of_node("set", (seconds(delay, "set_delay"),), self)
 
     def add_output(self) -> Policy:
         """With each delay longer by the output, in milliseconds, where that is a number. JSON's `add_out`."""
-        return Policy.of_node("add_out", over=(self,))
+        return Policy.of_node("add_out", (), self)
 
     def jittered(self, least: float = 0.8, most: float = 1.2, *, lane: int = 0) -> Policy:
         """With each delay times a ratio from `least` up to `most`, which a random number picks. JSON's `jitter`.
@@ -274,11 +269,11 @@ found {"fixed":0}
         if ratios[0] == ratios[1] and least != most:
             hint = f"jittered({least}, {most}): the range is less than a thousandth"
             raise PolicyError(Fault.OUT_OF_RANGE, hint=hint)
-        return Policy.of_node("jitter", whole(lane, "jittered: a lane", 0, 3), *ratios, over=(self,))
+        return Policy.of_node("jitter", (whole(lane, "jittered: a lane", 0, 3), *ratios), self)
 
     def up_to(self, duration: Duration) -> Policy:
         """But done once this much time has passed since the first event. ZIO's `upTo`, JSON's `within`."""
-        return Policy.of_node("within", seconds(duration, "up_to"), over=(self,))
+        return Policy.of_node("within", (seconds(duration, "up_to"),), self)
 
     def ends_by(self, duration: Duration) -> Policy:
         """But done where the next call would start later than this after the first event, so that none does.
@@ -287,33 +282,33 @@ found {"fixed":0}
         >>> [step.next_ms for step in spaced(0.45).ends_by(1).preview()]
         [450, 900, None]
         """
-        return Policy.of_node("ends_by", seconds(duration, "ends_by"), over=(self,))
+        return Policy.of_node("ends_by", (seconds(duration, "ends_by"),), self)
 
     def renew(self, duration: Duration) -> Policy:
         """Begun anew at the first event at which this much time has passed since it last began."""
-        return Policy.of_node("renew", interval(duration, "renew"), over=(self,))
+        return Policy.of_node("renew", (interval(duration, "renew"),), self)
 
     def renew_idle(self, duration: Duration) -> Policy:
         """Begun anew at each event that comes this long or longer after the one before."""
-        return Policy.of_node("renew_idle", interval(duration, "renew_idle"), over=(self,))
+        return Policy.of_node("renew_idle", (interval(duration, "renew_idle"),), self)
 
     def gather(self, fold: str) -> Policy:
         """With the "sum", "count", "max" or "list" of the outputs at the earlier events as output."""
         if fold not in FOLDS:
             raise PolicyError(Fault.NOT_A_PLAN, hint=f"gather: one of {', '.join(FOLDS)} is wanted, not {fold!r}")
-        return Policy.of_node("gather", fold, over=(self,))
+        return Policy.of_node("gather", (fold,), self)
 
     def first(self) -> Policy:
         """With the first part of the output, where that is a pair."""
-        return Policy.of_node("first", over=(self,))
+        return Policy.of_node("first", (), self)
 
     def second(self) -> Policy:
         """With the second part of the output, where that is a pair."""
-        return Policy.of_node("second", over=(self,))
+        return Policy.of_node("second", (), self)
 
     def nothing(self) -> Policy:
         """With nothing as output."""
-        return Policy.of_node("nothing", over=(self,))
+        return Policy.of_node("nothing", (), self)
 
     def while_input(
         self, *, below: Optional[int] = None, at_least: Optional[int] = None, equal: Optional[int] = None
@@ -350,4 +345,4 @@ found {"fixed":0}
             raise TypeError("one of below, at_least and equal is wanted")
         ((test, number),) = given
         bound = whole(number, f"{'while' if want else 'until'}_{side}")
-        return Policy.of_node("gate", side, want, test, bound, over=(self,))
+        return Policy.of_node("gate", (side, want, test, bound), self)

@@ -4,10 +4,12 @@ from __future__ import annotations
 
 import math
 import time
+from ctypes import c_uint64
 from dataclasses import dataclass, field
 from functools import partial
 from typing import Callable, NamedTuple, Optional
 
+from ._drawing import ByPass, Drawing
 from ._engine import LEAST_PERIOD, MOST_SHARE, MOST_TICKETS, Pass
 from ._granting import Granting
 from ._leasing import quota_allows
@@ -15,7 +17,7 @@ from ._passes import Passes
 from ._time import Duration, moment, seconds, seconds_text
 from .errors import PolicyError, TermsError
 
-__all__ = ["Quota", "Terms", "Usage", "terms_of"]
+__all__ = ["Quota", "Terms", "Usage", "requests_of", "terms_of"]
 
 
 class Terms(NamedTuple):
@@ -36,6 +38,14 @@ class Terms(NamedTuple):
         """
         return quota_allows(self.reserve, self.share, asked)
 
+    def changed(self, reserve: Optional[int], share: Optional[float]) -> Terms:
+        """The same with another reserve and share, where these are not None."""
+        return Terms(
+            self.reserve if reserve is None else _reserve_of(reserve),
+            self.share if share is None else _share_of(share),
+            self.period,
+        )
+
     def __str__(self) -> str:
         share = repr(self.share // 1000 if self.share % 1000 == 0 else self.share / 1000)
         return f"{self.reserve}, {share}, per={seconds_text(self.period)}"
@@ -49,14 +59,16 @@ class Usage:
     window: int
     #: The requests that were counted in it.
     asked: int
-    #: The tickets that it has given out.
+    #: The tickets that it has given out: without those handed back, but of a `LeasedQuota` with them. Of a quota that
+    #: carries, its own alone.
     given: int
-    #: The tickets that it may yet give for the requests counted so far.
+    #: The tickets that it may yet give for the requests counted so far, and what is left of those carried to it.
     left: int
     #: Of a `LeasedQuota`: whether the store may have lost its count of the window, and so grants nothing of it.
     lost: bool = False
     #: When the next window begins, in seconds of the quota's clock. If that is further off than `per`, this window was
-    #: opened by a call whose clock was ahead. None of a `LeasedQuota`. It is left out where usages are compared.
+    #: opened by a call whose clock was ahead, or by the requests past the 4,294,967,296 of the window before. None of a
+    #: `LeasedQuota`. It is left out where usages are compared.
     next: Optional[float] = field(default=None, compare=False)
 
 
@@ -69,12 +81,23 @@ class Quota(Granting):
         The retries that each request adds to its window: 0.2 is one for every five requests. It is counted in
         thousandths.
     `per`
-        How long a window is: seconds, or a `timedelta`. Nothing is carried from a window to the next.
+        How long a window is: seconds, or a `timedelta`. Nothing is carried from a window to the next, but by `carries`.
+    `counts_successes`
+        A call counts as a request where it succeeds, and not at its first attempt: so a callee that is dead gives no
+        share, and dries the quota out down to its reserve. gRPC's throttling counts so.
+    `returns_tickets`
+        A call that succeeds after retries hands the ticket of the last one back, as AWS's SDKs do. A repetition hands
+        none back.
+    `carries`
+        Each window may draw, once, what the one before left of its share, but none of its reserve: for retries whose
+        attempts fail after a border. A window has at most 2**31 tickets of its own then, and leaves as many at most.
     `clock`
         What tells the seconds by which windows go, from what it tells when the quota is made: to be replaced in tests.
 
-    A retry draws a ticket where its attempt fails, and begins after its delay, maybe in a later window: more retries
-    can begin in a window than it granted. Each call that is retried counts as one request, at its first attempt:
+    A retry that ends while it waits, since it was cancelled or stopped, hands its ticket back: one more may be drawn in
+    the ticket's window then, and `granted` is one less. A retry draws a ticket where its attempt fails, and begins after
+    its delay, maybe in a later window: more retries can begin in a window than it granted. Each call that is retried
+    counts as one request, at its first attempt:
 
     >>> from hikebox import recurs, retry
     >>> quota = Quota(reserve=10, share=0.2, per=10)
@@ -89,63 +112,129 @@ class Quota(Granting):
     forked child has one of its own, with nothing counted. For one that processes share see `hikebox.leased`.
     """
 
-    __slots__ = ("_terms", "_clock")
+    __slots__ = ("_in_force", "_clock", "_counts_successes", "_returns_tickets", "_carries")
 
     def __init__(
-        self, reserve: int, share: float, per: Duration, *, clock: Callable[[], float] = time.monotonic
+        self,
+        reserve: int,
+        share: float,
+        per: Duration,
+        *,
+        counts_successes: bool = False,
+        returns_tickets: bool = False,
+        carries: bool = False,
+        clock: Callable[[], float] = time.monotonic,
     ) -> None:
-        self._terms = terms_of(reserve, share, per)
+        self._in_force = _InForce(terms_of(reserve, share, per))
+        self._counts_successes = counts_successes
+        self._returns_tickets = returns_tickets
+        self._carries = carries
         self._clock = clock
-        self.passes = Passes("quota", partial(_first_pass, clock, self._terms))
+        self.passes = Passes("quota", partial(_first_pass, clock, self._in_force, carries))
 
     @property
     def terms(self) -> Terms:
-        """What it was made with, in the engine's units: retries, thousandths and milliseconds."""
-        return self._terms
+        """Its terms as of now, in the engine's units: retries, thousandths and milliseconds."""
+        return self._in_force.terms
 
     @property
     def reserve(self) -> int:
         """The retries of each window that ask for no request."""
-        return self._terms.reserve
+        return self.terms.reserve
 
     @property
     def share(self) -> float:
         """The retries that each request adds to its window."""
-        return self._terms.share / 1000
+        return self.terms.share / 1000
 
     @property
     def per(self) -> float:
         """How many seconds a window is long."""
-        return self._terms.period / 1000
+        return self.terms.period / 1000
+
+    @property
+    def counts_successes(self) -> bool:
+        """Whether a call counts as a request where it succeeds, and not at its first attempt."""
+        return self._counts_successes
+
+    @property
+    def returns_tickets(self) -> bool:
+        """Whether a call that succeeds after retries hands the ticket of the last one back."""
+        return self._returns_tickets
+
+    @property
+    def carries(self) -> bool:
+        """Whether each window may draw, once, what the one before left of its share."""
+        return self._carries
 
     @property
     def clock(self) -> Callable[[], float]:
         """What tells the seconds by which windows go."""
         return self._clock
 
-    def deposit(self) -> None:
-        """Counts a request in the present window. Calls that are retried under the quota do it by themselves."""
+    def set_terms(self, reserve: Optional[int] = None, share: Optional[float] = None) -> None:
+        """Sets the reserve and the share, as where a service reads its configuration again: each draw goes by them from
+        now on, in the present window too. What is left out stays, and so do the windows and what they have given.
+
+        >>> quota = Quota(reserve=1, share=0, per=60)
+        >>> quota.draw() is not None, quota.draw() is not None
+        (True, False)
+        >>> quota.set_terms(reserve=2)
+        >>> quota.draw() is not None, quota.seen().left, quota
+        (True, 0, <Quota(2, 0, per=60)>)
+        """
+        with self.passes.root() as root:
+            terms = self.terms.changed(reserve, share)
+            root.set_terms(terms.reserve, terms.share)
+            self._in_force.terms = terms
+
+    def deposit(self, requests: int = 1) -> None:
+        """Counts a request in the present window, or so many at once, as for a dear one. Calls that are retried under the
+        quota count themselves."""
+        if requests != 1:
+            self._deposit_all(requests_of(requests))
+            return
         lent = self.passes.lend()
         try:
             lent.deposit(moment(self._clock()))
         finally:
             self.passes.give_back(lent)
 
+    def _deposit_all(self, requests: int) -> None:
+        """Counts so many requests, by the pass that counts any number."""
+        with self.passes.root() as root:
+            root.deposit(moment(self._clock()), c_uint64(requests))
+
     def draw(self) -> Optional[int]:
         """A ticket, or None where the present window has none left: a later one may, and so may this one after more
-        requests. Ticket n of a window, from 0, has the number `window * 2**32 + n`.
+        requests. Ticket n of a window, from 0, has the number `window * 2**32 + n`; those that are carried to a window,
+        which are drawn first, have the last numbers of the one before.
 
         >>> quota = Quota(reserve=1, share=0.5, per=60)
         >>> [quota.draw() is not None for _ in range(2)]
         [True, False]
-        >>> quota.deposit(), quota.deposit(), quota.draw() is not None
-        (None, None, True)
+        >>> quota.deposit(2)
+        >>> quota.draw() is not None
+        True
         """
         lent = self.passes.lend()
         try:
             return lent.draw(moment(self._clock()))
         finally:
             self.passes.give_back(lent)
+
+    def hand_back(self) -> bool:
+        """Hands the latest ticket back that was drawn, and not used: one more may be drawn in its window then, unless
+        it was carried from the one before, and `granted` is one less. False where none was drawn since one was handed
+        back. Retries under the quota do it by themselves.
+
+        >>> quota = Quota(reserve=1, share=0, per=60)
+        >>> quota.draw() is not None, quota.hand_back(), quota.hand_back()
+        (True, True, False)
+        >>> quota.draw() is not None, quota.granted
+        (True, 1)
+        """
+        return self.passes.hand_back()
 
     def seen(self) -> Usage:
         """What was asked of the present window, what it has given, what it has left, and when the next begins."""
@@ -157,15 +246,29 @@ class Quota(Granting):
         return Usage(window, asked, given, left, next=after / 1000)
 
     def expression(self) -> str:
-        return f"Quota({self._terms})"
+        options = ("counts_successes", "returns_tickets", "carries")
+        return f"Quota({self.terms}{''.join(f', {name}=True' for name in options if getattr(self, name))})"
 
     def moment_of(self, clock: float) -> int:
         """The moment at which a retry begins that begins at so many seconds of the quota's clock."""
         return moment(clock)
 
+    def retry_drawing(self, awaits: bool) -> Drawing:
+        """What draws for a retry that goes by another clock."""
+        return ByPass(self.passes, lambda: moment(self._clock()))
 
-def _first_pass(clock: Callable[[], float], terms: Terms) -> Pass:
-    return Pass.of_quota(moment(clock()), *terms)
+
+class _InForce:
+    """The terms by which a quota grants now."""
+
+    __slots__ = ("terms",)
+
+    def __init__(self, terms: Terms) -> None:
+        self.terms = terms
+
+
+def _first_pass(clock: Callable[[], float], in_force: _InForce, carries: bool) -> Pass:
+    return Pass.of_quota(moment(clock()), *in_force.terms, carries)
 
 
 def terms_of(reserve: int, share: float, per: Duration) -> Terms:
@@ -175,10 +278,27 @@ def terms_of(reserve: int, share: float, per: Duration) -> Terms:
     >>> terms_of(10, 0.25, timedelta(minutes=1))
     Terms(reserve=10, share=250, period=60000)
     """
+    return Terms(_reserve_of(reserve), _share_of(share), _period_of(per))
+
+
+def requests_of(requests: int) -> int:
+    """A number of requests that are counted at once, or a `TermsError`."""
+    if isinstance(requests, bool) or not isinstance(requests, int):
+        raise TypeError(f"a whole number of requests is wanted, not {requests!r}")
+    if not 0 <= requests <= MOST_TICKETS:
+        raise TermsError(f"from 0 to {MOST_TICKETS} requests are counted at once, not {requests}")
+    return requests
+
+
+def _reserve_of(reserve: int) -> int:
     if isinstance(reserve, bool) or not isinstance(reserve, int):
         raise TypeError(f"a whole number of retries is wanted as the reserve, not {reserve!r}")
     if not 0 <= reserve <= MOST_TICKETS:
         raise TermsError(f"a reserve is from 0 to {MOST_TICKETS} retries a window, not {reserve}")
+    return reserve
+
+
+def _share_of(share: float) -> int:
     if isinstance(share, bool) or not isinstance(share, (int, float)):
         raise TypeError(f"a number of retries a request is wanted as the share, not {share!r}")
     if not (math.isfinite(share) and 0 <= share <= MOST_SHARE / 1000):
@@ -186,7 +306,7 @@ def terms_of(reserve: int, share: float, per: Duration) -> Terms:
     thousandths = round(share * 1000)
     if share > 0 and thousandths == 0:
         raise TermsError(f"a share is counted in thousandths of a retry a request, and {share!r} is less than one")
-    return Terms(reserve, thousandths, _period_of(per))
+    return thousandths
 
 
 def _period_of(per: Duration) -> int:

@@ -274,6 +274,9 @@ _BROKEN = (Ending.NO_MEMORY, Ending.CLOCK_WENT_BACK)
 _NAMED = tuple(ending.name.lower() for ending in Ending if ending not in _BROKEN)
 
 
+_NO_ENDINGS: Dict[Ending, int] = dict.fromkeys(Ending, 0)
+
+
 class Counts:
     """The counts behind `Statistics`, shared by threads."""
 
@@ -289,7 +292,7 @@ class Counts:
         self._calls = 0
         self._attempts = 0
         self._idle_for = 0.0
-        self._endings: Dict[Ending, int] = dict.fromkeys(Ending, 0)
+        self._endings = _NO_ENDINGS.copy()
         begins_anew_in_a_child(self)
 
     def begin_anew(self) -> None:

@@ -165,7 +165,7 @@ def storm(
         Of the random numbers by which jitter is picked.
     `budget`
         What the retries draw on: nothing, so many tickets, or tickets by the terms of a `Budget` or a `Quota`, of which
-        none is drawn.
+        none is drawn. A request is counted as it comes, and no ticket comes back, whatever a quota's options are.
 
     Times are seconds, or a `timedelta`. What is out of range is a `StormError`.
 
@@ -198,11 +198,8 @@ def storm(
 
 def play(policy: Policy, parameters: Parameters) -> Storm:
     """Plays a storm whose parameters were checked."""
-    handle = policy.plan.lend()
-    try:
-        windows, totals = _engine.play_storm(handle, parameters.for_engine())
-    finally:
-        policy.plan.give_back(handle)
+    # (with a handle of its own, since other threads go on meanwhile)
+    windows, totals = _engine.play_storm(policy.plan.share(), parameters.for_engine())
     return Storm(policy, parameters, tuple(StormRow(*window) for window in windows), _totals(totals))
 
 

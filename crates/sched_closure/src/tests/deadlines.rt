@@ -1,15 +1,15 @@
-ghost use Rattle.std.specs.Prelude.{◌≡◌, ⊤, []};
+ghost use Rattle.std.specs.Prelude.{◌≡◌, ⊤, [], IfOk};
 ghost use Rattle.sched_driver_stepper.specs.Standing.{standing_after};
 ghost use Rattle.sched_run_machine.specs.Until.{FreshUntil};
 
-use super::{budget, moment, stepper};
+use super::{budget, moment, part, stepper};
 use crate::{CallEnding, RepeatCallEnding, repeat_call, retry_call};
 use sched_driver_stepper::Stepper;
-use sched_repeat::RepeatMachine;
 use sched_run_machine::{Machine, Until};
 use sched_task::{Clock, MidWords, VirtualClock};
+use sched_ticket::Budget;
 use sched_ticket_draws::{OnBudget, Unlimited};
-use sched_time::{Millis, Moment};
+use sched_time::{Millis, Moment, NoMemory};
 use std::alloc::Global;
 use std::process::Abort;
 
@@ -21,20 +21,32 @@ fn until(rt: &impl Abort, alloc: Global, recurs: u64, deadline: u64) -> Until<St
     Until::new(stepper(rt, alloc, recurs), Some(deadline))
 }
 
+// The same, fifty times at most, and a pass with no tickets.
+fn begun<'a>(
+    rt: &impl Abort,
+    alloc: Global,
+    deadline: Moment,
+    pass: &mut OnBudget<&'a Budget>,
+) -> Result<(Until<Stepper>, OnBudget<&'a Budget>), NoMemory>
+    ensures { IfOk result (λ made. FreshUntil (λ v. v ≡ standing_after v.plan []) made.0) }
+{
+    let part = part(pass)?;
+    let until = Until::new(stepper(rt, alloc, 50), Some(deadline));
+    Ok((until, part))
+}
+
 // Calls at 1000, 1100 and 1200; the next one would be at 1300.
 #[test]
 fn no_call_is_planned_past_the_deadline(rt: HostRuntime) {
     let alloc = rt.alloc();
     let (budget, pass) = budget(&rt, alloc, 10);
+    let mut pass = OnBudget::new(pass, &budget);
     let mut clock = VirtualClock::at(moment(&rt, 1000));
-    let stepper = stepper(&rt, alloc, 50);
     let deadline = clock.now().plus(Millis::from(250));
-    let until = Until::new(stepper, Some(deadline));
-    let mut retry = Machine::new(until, OnBudget::new(pass, &budget));
     let mut calls = 0u32;
-    let ending = retry_call(
+    let (ending, retry) = retry_call(
         &rt,
-        &mut retry,
+        &mut |_| begun(&rt, alloc, deadline, &mut pass),
         &mut clock,
         &mut MidWords,
         || -> Result<(), u32> {
@@ -42,6 +54,7 @@ fn no_call_is_planned_past_the_deadline(rt: HostRuntime) {
             Err(calls)
         },
     );
+    let retry = retry.expect(&rt, "the first call failed");
     assert!(rt; matches!(ending, CallEnding::ScheduleDone(3)));
     assert_eq!(rt; retry.granted(), 2);
     assert_eq!(rt; clock.now().get(), 1200);
@@ -59,15 +72,15 @@ fn no_call_is_planned_past_the_deadline(rt: HostRuntime) {
 #[test]
 fn a_call_at_the_deadline_is_in_time(rt: HostRuntime) {
     let alloc = rt.alloc();
-    let mut retry = Machine::new(until(&rt, alloc, 50, 1200), Unlimited::new());
     let mut clock = VirtualClock::at(moment(&rt, 1000));
-    let ending = retry_call(
+    let (ending, retry) = retry_call(
         &rt,
-        &mut retry,
+        &mut |_| Ok((until(&rt, alloc, 50, 1200), Unlimited::new())),
         &mut clock,
         &mut MidWords,
         || -> Result<(), u32> { Err(8) },
     );
+    let retry = retry.expect(&rt, "the first call failed");
     assert!(rt; matches!(ending, CallEnding::ScheduleDone(8)));
     assert_eq!(rt; retry.granted(), 2);
     assert_eq!(rt; clock.now().get(), 1200);
@@ -76,15 +89,15 @@ fn a_call_at_the_deadline_is_in_time(rt: HostRuntime) {
 #[test]
 fn and_one_a_millisecond_later_is_not(rt: HostRuntime) {
     let alloc = rt.alloc();
-    let mut retry = Machine::new(until(&rt, alloc, 50, 1199), Unlimited::new());
     let mut clock = VirtualClock::at(moment(&rt, 1000));
-    let ending = retry_call(
+    let (ending, retry) = retry_call(
         &rt,
-        &mut retry,
+        &mut |_| Ok((until(&rt, alloc, 50, 1199), Unlimited::new())),
         &mut clock,
         &mut MidWords,
         || -> Result<(), u32> { Err(8) },
     );
+    let retry = retry.expect(&rt, "the first call failed");
     assert!(rt; matches!(ending, CallEnding::ScheduleDone(8)));
     assert_eq!(rt; retry.granted(), 1);
     assert_eq!(rt; clock.now().get(), 1100);
@@ -94,15 +107,15 @@ fn and_one_a_millisecond_later_is_not(rt: HostRuntime) {
 #[test]
 fn a_plan_that_is_done_has_no_late_start(rt: HostRuntime) {
     let alloc = rt.alloc();
-    let mut retry = Machine::new(until(&rt, alloc, 1, 1250), Unlimited::new());
     let mut clock = VirtualClock::at(moment(&rt, 1000));
-    let ending = retry_call(
+    let (ending, retry) = retry_call(
         &rt,
-        &mut retry,
+        &mut |_| Ok((until(&rt, alloc, 1, 1250), Unlimited::new())),
         &mut clock,
         &mut MidWords,
         || -> Result<(), u32> { Err(8) },
     );
+    let retry = retry.expect(&rt, "the first call failed");
     assert!(rt; matches!(ending, CallEnding::ScheduleDone(8)));
     assert_eq!(rt; clock.now().get(), 1100);
     assert_eq!(rt; retry.driver().late_start().map(Moment::get), None);
@@ -113,15 +126,17 @@ fn a_plan_that_is_done_has_no_late_start(rt: HostRuntime) {
 fn one_call_is_made_where_the_deadline_is_past(rt: HostRuntime) {
     let alloc = rt.alloc();
     let (budget, pass) = budget(&rt, alloc, 10);
-    let mut retry = Machine::new(until(&rt, alloc, 50, 999), OnBudget::new(pass, &budget));
+    let mut pass = OnBudget::new(pass, &budget);
+    let deadline = moment(&rt, 999);
     let mut clock = VirtualClock::at(moment(&rt, 1000));
-    let ending = retry_call(
+    let (ending, retry) = retry_call(
         &rt,
-        &mut retry,
+        &mut |_| begun(&rt, alloc, deadline, &mut pass),
         &mut clock,
         &mut MidWords,
         || -> Result<(), u32> { Err(8) },
     );
+    let retry = retry.expect(&rt, "the first call failed");
     assert!(rt; matches!(ending, CallEnding::ScheduleDone(8)));
     assert_eq!(rt; retry.granted(), 0);
     assert_eq!(rt; clock.now().get(), 1000);
@@ -131,15 +146,15 @@ fn one_call_is_made_where_the_deadline_is_past(rt: HostRuntime) {
 #[test]
 fn no_deadline_ends_nothing(rt: HostRuntime) {
     let alloc = rt.alloc();
-    let mut retry = Machine::new(Until::new(stepper(&rt, alloc, 2), None), Unlimited::new());
     let mut clock = VirtualClock::at(moment(&rt, 1000));
-    let ending = retry_call(
+    let (ending, retry) = retry_call(
         &rt,
-        &mut retry,
+        &mut |_| Ok((Until::new(stepper(&rt, alloc, 2), None), Unlimited::new())),
         &mut clock,
         &mut MidWords,
         || -> Result<(), u32> { Err(8) },
     );
+    let retry = retry.expect(&rt, "the first call failed");
     assert!(rt; matches!(ending, CallEnding::ScheduleDone(8)));
     assert_eq!(rt; retry.granted(), 2);
     assert_eq!(rt; clock.now().get(), 1200);
@@ -151,7 +166,7 @@ fn no_deadline_ends_nothing(rt: HostRuntime) {
 #[test]
 fn no_call_of_a_repeat_is_planned_past_the_deadline(rt: HostRuntime) {
     let alloc = rt.alloc();
-    let mut repeat = RepeatMachine::new(until(&rt, alloc, 50, 1250));
+    let mut repeat = Machine::repeating(until(&rt, alloc, 50, 1250));
     let mut clock = VirtualClock::at(moment(&rt, 1000));
     let mut calls = 0u32;
     let ending = repeat_call(
@@ -195,14 +210,13 @@ impl Clock for Late {
 #[test]
 fn a_clock_that_wakes_late_begins_its_call(rt: HostRuntime) {
     let alloc = rt.alloc();
-    let mut retry = Machine::new(until(&rt, alloc, 50, 1250), Unlimited::new());
     let mut clock = Late {
         now: moment(&rt, 1000),
     };
     let mut calls = 0u32;
-    let ending = retry_call(
+    let (ending, retry) = retry_call(
         &rt,
-        &mut retry,
+        &mut |_| Ok((until(&rt, alloc, 50, 1250), Unlimited::new())),
         &mut clock,
         &mut MidWords,
         || -> Result<(), u32> {
@@ -210,6 +224,7 @@ fn a_clock_that_wakes_late_begins_its_call(rt: HostRuntime) {
             Err(calls)
         },
     );
+    let retry = retry.expect(&rt, "the first call failed");
     assert!(rt; matches!(ending, CallEnding::ScheduleDone(2)));
     assert_eq!(rt; clock.now().get(), 1300);
     assert_eq!(rt; retry.driver().late_start().map(Moment::get), Some(1400));

@@ -1,11 +1,11 @@
 use super::*;
 use crate::{RepeatCallEnding, repeat_call};
-use sched_repeat::RepeatMachine;
+use sched_run_machine::Machine;
 use sched_task::How;
 
 #[test]
 fn a_closure_is_called_again_after_each_success(rt: HostRuntime) {
-    let mut repeat = RepeatMachine::new(stepper(&rt, rt.alloc(), 3));
+    let mut repeat = Machine::repeating(stepper(&rt, rt.alloc(), 3));
     let mut clock = VirtualClock::at(moment(&rt, 1000));
     let mut calls = 0u32;
     let ending = repeat_call(
@@ -28,7 +28,7 @@ fn a_closure_is_called_again_after_each_success(rt: HostRuntime) {
 
 #[test]
 fn the_first_failure_ends_a_repeat(rt: HostRuntime) {
-    let mut repeat = RepeatMachine::new(stepper(&rt, rt.alloc(), 9));
+    let mut repeat = Machine::repeating(stepper(&rt, rt.alloc(), 9));
     let mut clock = VirtualClock::at(moment(&rt, 0));
     let mut calls = 0u32;
     let ending = repeat_call(&rt, &mut repeat, &mut clock, &mut MidWords, || {
@@ -62,7 +62,7 @@ fn a_schedule_is_given_each_answer(rt: HostRuntime) {
     let alloc = rt.alloc();
     let plan = while_accepted(alloc).expect(&rt, "the plan is built");
     let stepper = Stepper::new(alloc, plan).expect(&rt, "there is memory");
-    let mut repeat = RepeatMachine::new(stepper);
+    let mut repeat = Machine::repeating(stepper);
     let mut clock = VirtualClock::at(moment(&rt, 0));
     let mut left = 3u32;
     let ending = repeat_call(
@@ -82,7 +82,7 @@ fn a_schedule_is_given_each_answer(rt: HostRuntime) {
 // Each call takes 50 milliseconds, and the schedule's 100 count from its end.
 #[test]
 fn a_delay_of_a_repeat_begins_where_its_call_ends(rt: HostRuntime) {
-    let mut repeat = RepeatMachine::new(stepper(&rt, rt.alloc(), 2));
+    let mut repeat = Machine::repeating(stepper(&rt, rt.alloc(), 2));
     let now = Cell::new(moment(&rt, 0));
     let mut clock = Shared { moment: &now };
     let ending = repeat_call(
@@ -101,7 +101,7 @@ fn a_delay_of_a_repeat_begins_where_its_call_ends(rt: HostRuntime) {
 
 #[test]
 fn a_clock_that_goes_back_breaks_a_repeat(rt: HostRuntime) {
-    let mut repeat = RepeatMachine::new(stepper(&rt, rt.alloc(), 9));
+    let mut repeat = Machine::repeating(stepper(&rt, rt.alloc(), 9));
     let now = Cell::new(moment(&rt, 500));
     let mut clock = Shared { moment: &now };
     let mut calls = 0u32;
@@ -128,7 +128,7 @@ fn a_repeat_has_no_last_event(rt: HostRuntime) {
     let alloc = rt.alloc();
     let plan = Plan::spaced(1000).expect(&rt, "the plan is built");
     let stepper = Stepper::new(alloc, plan).expect(&rt, "there is memory");
-    let mut repeat = RepeatMachine::new(stepper);
+    let mut repeat = Machine::repeating(stepper);
     let mut clock = VirtualClock::at(moment(&rt, 0));
     let mut calls = 0u32;
     let ending = repeat_call(&rt, &mut repeat, &mut clock, &mut MidWords, || {
@@ -150,7 +150,7 @@ fn a_journal_of_a_repeat_has_an_end(rt: HostRuntime) {
     let alloc = rt.alloc();
     let plan = Plan::spaced(1000).expect(&rt, "the plan is built");
     let driver = Driver::new(alloc, plan).expect(&rt, "there is memory");
-    let mut repeat = RepeatMachine::new(driver);
+    let mut repeat = Machine::repeating(driver);
     let mut clock = VirtualClock::at(moment(&rt, 0));
     let ending = repeat_call(
         &rt,

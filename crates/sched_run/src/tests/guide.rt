@@ -70,7 +70,7 @@ fn repeat_a_call(rt: HostRuntime) {
     let mut clock = VirtualClock::at(moment(&rt, 0));
     let plan = while_accepted(alloc).expect(&rt, "the plan is built");
     let stepper = Stepper::new(alloc, plan).expect(&rt, "there is memory");
-    let mut repeat = RepeatMachine::new(stepper);
+    let mut repeat = Machine::repeating(stepper);
     let ending = repeat_call(
         &rt,
         &mut repeat,

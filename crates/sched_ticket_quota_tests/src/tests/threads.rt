@@ -294,3 +294,47 @@ fn eight_clocks(rt: HostRuntime) -> Result<(), Fail> {
     closes(&rt, quota, pass, all.len() as u64);
     Ok(())
 }
+
+// Whether the tickets are so many, and follow one another from the first on.
+fn follow(tickets: &[u64], from: u64, many: usize) -> bool {
+    for (place, ticket) in tickets.iter().enumerate() {
+        if *ticket != from.wrapping_add(place as u64) {
+            return false;
+        }
+    }
+    tickets.len() == many
+}
+
+// Eight threads draw all that a window has: 3 of the reserve, and from the second window on 10 of the share of 40 requests
+// that came in the one before after its draws.
+fn windows_carry<R: Threads + Sync>(
+    rt: &R,
+    alloc: Global,
+    quota: &Quota,
+    mut pass: Pass,
+) -> Result<(Pass, bool), AllocError>
+    requires { IsOf quota.now pass }
+    ensures { IfOk result (λ r. IsOf quota.now r.0) }
+{
+    let mut exact = true;
+    for window in 0..WINDOWS {
+        let now = at(window * 100);
+        let (joined, all) = drained(rt, alloc, quota, pass, now, (8, 0))?;
+        pass = deposit_times(quota, joined, now, 40);
+        exact &= if window == 0 {
+            follow(all.as_slice(), 0, 3)
+        } else {
+            follow(all.as_slice(), window * 4294967296 - 10, 13)
+        };
+    }
+    Ok((pass, exact))
+}
+
+#[test]
+fn eight_threads_carry(rt: HostRuntime) -> Result<(), Fail> {
+    let (quota, pass) = Quota::carrying(rt.alloc(), at(0), terms(3, 250, 100))?;
+    let (pass, exact) = windows_carry(&rt, rt.alloc(), &quota, pass)?;
+    assert!(rt; exact);
+    closes(&rt, quota, pass, 12990);
+    Ok(())
+}

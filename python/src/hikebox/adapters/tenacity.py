@@ -37,8 +37,8 @@ def stop_and_wait(policy: Union[Policy, str, bytes, Dict[str, Any]], **how: Any)
 
     `how` is what `hikebox.Retrying` takes: `budget`, `code`, `at_least`, `deadline`, `clock`, `random`. The policy is asked once
     for each attempt that tenacity finds failed, whichever of the two tenacity asks first. Other stops and waits may
-    be joined by tenacity's `|` and `+`. They hear of no call that succeeds at once, so where the budget is a quota,
-    `before_deposit` counts the requests.
+    be joined by tenacity's `|` and `+`. They hear of no call that succeeds, and of no wait that ends too early: where the
+    budget is a quota, `before_deposit` counts the requests, at their first attempts, and no ticket comes back.
     """
     shared = _Shared(Retrying(policy, **how))
     return _Stop(shared), _Wait(shared)
@@ -99,7 +99,9 @@ class _Shared:
         answer.attempt = state.attempt_number
         answer.goes_on = settle(course.judges(_outcome(state.outcome)))
         answer.delay = settle(course.delay()) if answer.goes_on else 0.0
-        if not answer.goes_on:
+        if answer.goes_on:
+            course.uses_ticket()
+        else:
             course.close()
         return answer
 

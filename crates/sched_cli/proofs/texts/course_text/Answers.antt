@@ -1,6 +1,6 @@
 use Rattle.std.proofs.Common.{Ok, Err, Some}
 use Rattle.sched_cli_plan.specs.Again.{rest_of}
-use Rattle.sched_cli_plan.specs.Course.{course_of}
+use Rattle.sched_plan_course.specs.Course.{course_of}
 use Rattle.sched_cli.proofs.Again.{plan_again}
 use Rattle.sched_cli.proofs.texts.course_text.Goals as goal
 

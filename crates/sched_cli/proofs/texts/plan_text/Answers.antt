@@ -1,6 +1,6 @@
 use Rattle.std.proofs.Common.{Ok, Err, Some}
 use Rattle.sched_cli_plan.specs.Again.{rest_of}
-use Rattle.sched_cli_plan.specs.Course.{steady}
+use Rattle.sched_plan_course.specs.Course.{steady}
 use Rattle.sched_cli.proofs.Again.{plan_again}
 use Rattle.sched_cli.proofs.texts.plan_text.Goals as goal
 

@@ -1,6 +1,6 @@
 use Rattle.std.proofs.Common.{ℕ, List, Err, subst}
 use Rattle.std.proofs.lemmas.Result.{err_from_is_err_and}
-use Rattle.sched_cli_plan.specs.Course.{course_of}
+use Rattle.sched_plan_course.specs.Course.{course_of}
 use Rattle.sched_cli_plan.specs.Printing.{ReadsPlan}
 use Rattle.sched_cli_plan.proofs.PrintFaults.{prints_fault}
 use Rattle.sched_cli_plan.proofs.printing.print_course.Goals as goal

@@ -1,5 +1,7 @@
 use Rattle.std.proofs.Common.{sym, ◌∙◌}
-use Rattle.sched_closure.proofs.Told.{through, repeat_follows}
+use Rattle.sched_ticket_draws.specs.Freely.{free_grants}
+use Rattle.sched_task_law.specs.Kind.{a_repeat}
+use Rattle.sched_closure.proofs.Told.{through, machine_follows}
 use Rattle.sched_closure.proofs.Ended.{ends_with}
 use Rattle.sched_closure.proofs.repeats.repeat_call.Goals as goal
 
@@ -11,11 +13,11 @@ returns-clause-turns g c =
       turns.1,
       λ v st by.
           let was = through g.K.Clock.tells g.K.Clock.waits _ g.I.Coded.coded g.F.Coded.coded _ _ _ _ _
-          (repeat_follows g.S.Drives.stands g.S.Drives.keeps g.S.Drives.goes_by) _ turns.0 _ turns.2 v st by tt in (
+          (machine_follows g.S.Drives.stands (a_repeat g.S.Drives.keeps) g.S.Drives.goes_by free_grants) _ turns.0 _ turns.2 v st by tt in (
             was.0,
             rw ending.ensures.gave was.1,
-            ends_with g.I.Coded.coded g.F.Coded.coded was.0.over was.0.runs _ _ _ ending.ensures.gave
-                (sym was.2.over ∙ sym c.over.ensures.over ∙ ending.ensures.over) was.3,
+            ends_with g.I.Coded.coded g.F.Coded.coded was.0.past.over was.0.past.runs _ _ _ ending.ensures.gave
+                (sym was.2.over ∙ sym c.over.ensures ∙ ending.ensures.over) was.3,
             was.2,
           ),
     )

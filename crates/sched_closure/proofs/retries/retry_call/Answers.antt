@@ -1,22 +1,26 @@
-use Rattle.std.proofs.Common.{Some, sym, ap, ◌∙◌}
-use Rattle.sched_closure.proofs.Told.{through, retry_follows}
-use Rattle.sched_closure.proofs.Ended.{ends_with}
+use Rattle.std.proofs.Common.{refl}
+use Rattle.std.proofs.lemmas.Fn.{called}
+use Rattle.sched_closure.proofs.Unbegun.{wins_once}
 use Rattle.sched_closure.proofs.retries.retry_call.Goals as goal
 
-pub returns-clause-turns : goal.returns-clause-turns
-returns-clause-turns g c =
-    let turns = c.call_on-outcome.ensures.turns in
-    let ending = c.retry_ending in
-    let last = ap Some (sym ending.ensures.gave) in (
-      turns.0,
-      turns.1,
-      λ v st by.
-          let was = through g.K.Clock.tells g.K.Clock.waits _ g.I.Coded.coded g.F.Coded.coded _ _ _ _ _
-          (retry_follows g.S.Drives.stands g.S.Drives.keeps g.S.Drives.goes_by g.D.Draws.grants) _ turns.0 _ turns.2 v st by tt in (
-            was.0,
-            rw ending.ensures.gave was.1,
-            ends_with g.I.Coded.coded g.F.Coded.coded was.0.past.over was.0.past.runs _ _ _ ending.ensures.gave
-                (sym was.2.over ∙ sym c.over.ensures ∙ ending.ensures.over) was.3,
-            was.2,
-          ),
-    )
+pub returns-in-Ok-clause-unbegun : goal.returns-in-Ok-clause-unbegun
+returns-in-Ok-clause-unbegun g c = (
+  c.call.new.self,
+  record {
+    moment = c.now-began.result;
+    told = c.now-began.ensures;
+    words = refl;
+    nothing = refl;
+    calls = called g.C.FnMut c.call.ensures c.in-Ok.is;
+    wins = λ plan drawing holds.
+        wins_once g.D.Draws.grants g.met.D.Draws.lawful g.S.Drives.keeps plan drawing holds c.now-began.result _;
+  },
+)
+
+pub returns-in-Err-clause-begun : goal.returns-in-Err-clause-begun
+returns-in-Err-clause-begun g c =
+    c.go_on.ensures.begun c.args.clock.now c.args.call c.now-began.ensures (called g.C.FnMut c.call.ensures c.in-Err.is)
+
+pub returns-in-Err-clause-unbegun : goal.returns-in-Err-clause-unbegun
+returns-in-Err-clause-unbegun g c =
+    c.go_on.ensures.unbegun c.args.clock.now c.args.call c.now-began.ensures (called g.C.FnMut c.call.ensures c.in-Err.is)

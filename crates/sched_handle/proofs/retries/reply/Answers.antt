@@ -1,9 +1,9 @@
-use Rattle.std.proofs.Common.{◌≡◌, ℕ, Bool, false, ◌||◌, nat_eq, length, min, is_some, refl, sym, ap, ◌∙◌, subst}
+use Rattle.std.proofs.Common.{◌≡◌, ℕ, Bool, false, ◌||◌, ◌-◌, nat_eq, length, min, is_some, option_map, sym, ap, ◌∙◌, subst}
 use Rattle.sched_run_machine.specs.declared.next.Next.{Next}
 use Rattle.sched_handle.specs.declared.replies.Reply.{Reply}
 use Rattle.sched_run_machine.specs.Retrying.{Retrying}
 use Rattle.sched_ticket_draws.specs.declared.drawing.Drawing.{Drawing}
-use Rattle.sched_handle.specs.Retries.{MayBe, reply_to, reply_of, plan_is_done}
+use Rattle.sched_handle.specs.Retries.{MayBe, reply_to, reply_of, plan_is_done, left_number, left_at}
 use Rattle.sched_driver.specs.Driven.{Driven, next_start_of}
 use Rattle.sched_driver_stepper.specs.Standing.{Standing}
 use Rattle.sched_task_law.specs.Past.{schedule_is_done}
@@ -14,12 +14,12 @@ use Rattle.sched_handle.proofs.Deadlines.{TellsEnding, goes_by, tells_ending, wa
 use Rattle.sched_handle.proofs.retries.reply.Goals as goal
 
 -- of equal parts the same is told
-same_reply : (r : Reply) (next next' : Next) (late late' : Bool) (granted granted' runs runs' : ℕ) →
-    r ≡ reply_to next late granted runs → next ≡ next' → late ≡ late' → granted ≡ granted' → runs ≡ runs' →
-    r ≡ reply_to next' late' granted' runs'
-same_reply r next next' late late' granted granted' runs runs' is n l g s =
-    let same : reply_to next late granted runs ≡ reply_to next' late' granted' runs' =
-    λ i. reply_to (n i) (l i) (g i) (s i) in
+same_reply : (r : Reply) (next next' : Next) (late late' : Bool) (granted granted' runs runs' left left' : ℕ) →
+    r ≡ reply_to next late granted runs left → next ≡ next' → late ≡ late' → granted ≡ granted' → runs ≡ runs' →
+    left ≡ left' → r ≡ reply_to next' late' granted' runs' left'
+same_reply r next next' late late' granted granted' runs runs' left left' is n l g s t =
+    let same : reply_to next late granted runs left ≡ reply_to next' late' granted' runs' left' =
+    λ i. reply_to (n i) (l i) (g i) (s i) (t i) in
     is ∙ same
 
 pub returns : goal.returns
@@ -34,18 +34,23 @@ returns c =
     schedule_is_done d ≡ (schedule_is_done (beneath deadline d) || is_some start) =
     subst (λ (v : Until Standing). (d : Driven) → StandsUntil IsStepped v d → schedule_is_done d ≡ (schedule_is_done (beneath v.deadline d) || is_some start))
     c.driver.ensures c.late_start-late.ensures.done in
-    let tells : (u : Retrying Drawing) → MayBe m u → c.reply_to.result ≡ reply_of deadline u.past =
-    λ u st. same_reply _ _ _ _ _ _ _ _ _ c.reply_to.ensures (c.next-next.ensures.next u st)
+    let now = c.args.now in
+    let left_is : c.left_of-left.result ≡ left_at deadline now =
+    c.left_of-left.ensures
+    ∙ ap left_number (c.left.ensures ∙ ap (λ (v : Until Standing). option_map (λ (end : ℕ). end - now) v.deadline) c.driver-2.ensures) in
+    let tells : (u : Retrying Drawing) → MayBe m u → c.reply_to.result ≡ reply_of deadline now u.past =
+    λ u st. same_reply _ _ _ _ _ _ _ _ _ _ _ c.reply_to.ensures (c.next-next.ensures.next u st)
     (c.is_some.ensures ∙ ap is_some (late_is u.past.driver st.driver))
-    (c.granted-granted.ensures.granted u st) (c.told-runs.ensures ∙ st.told) in
-    let ending : (u : Retrying Drawing) → MayBe m u → TellsEnding deadline u.past (reply_of deadline u.past).how =
-    λ u st. tells_ending false deadline u.past u.past.granted (min (length u.past.runs) 18446744073709551615) st.law.law
+    (c.granted-granted.ensures.granted u st) (c.told-runs.ensures ∙ st.told) left_is in
+    let ending : (u : Retrying Drawing) → MayBe m u → TellsEnding deadline u.past (reply_of deadline now u.past).how =
+    λ u st. tells_ending false deadline u.past u.past.granted (min (length u.past.runs) 18446744073709551615)
+    (left_at deadline now) st.law.law
     (done_is u.past.driver st.driver
     ∙ ap (λ b. plan_is_done deadline u.past || b) (ap is_some (late_is u.past.driver st.driver))) in
     record {
       stands = let was = c.granted-granted.ensures.stands (schedule_until m.driver m.driver.driver.plan) (goes_by m.driver) in (was.0, was.2);
       tells = tells;
-      in_time = rw c.reply_to.ensures (waits_in_time deadline c.next-next.result _ _ _ c.next-next.ensures.in_time);
+      in_time = rw c.reply_to.ensures (waits_in_time deadline c.next-next.result _ _ _ _ c.next-next.ensures.in_time);
       done = λ u st. (ending u st).0 ∙ ap (λ (r : Reply). nat_eq r.how 2) (sym (tells u st));
       late = λ u st. (ending u st).1 ∙ ap (λ (r : Reply). nat_eq r.how 8) (sym (tells u st));
     }

@@ -3,7 +3,8 @@ use mathlib.Core.Option.{none}
 use Rattle.atomic_table.specs.Table.{step}
 use Rattle.sched_ticket_quota.specs.Held.{Name}
 use Rattle.sched_ticket_quota.specs.declared.view.View.{View}
-use Rattle.sched_ticket_quota.proofs.Moves.{asks_ok, returns_ok, lapses_ok}
+use Rattle.sched_ticket_quota.proofs.Moves.{asks_ok}
+use Rattle.sched_ticket_quota.proofs.HandBacks.{returns_ok, lapses_ok}
 use Rattle.sched_ticket_quota.proofs.pass.give_back.Goals as goal
 
 pub load-back-requires : goal.load-back-requires

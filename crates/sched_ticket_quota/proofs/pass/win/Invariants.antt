@@ -9,9 +9,11 @@ invariant-loop l = record {
     seen = l.seat.me.0.seen;
     found = l.seat.me.0.found;
     back = l.seat.me.0.back;
+    past = l.seat.me.0.past;
     readings = l.seat.me.0.readings;
     glances = l.seat.me.0.glances;
     recalls = l.seat.me.0.recalls;
+    reviews = l.seat.me.0.reviews;
     looks = l.seat.me.0.looks;
     losses = l.seat.me.0.losses;
   };
@@ -23,4 +25,5 @@ invariant-loop l = record {
   read : l.fn.seat.me.0.readings + l.counter ≤ l.seat.me.0.readings;
   glanced : l.fn.seat.me.0.glances + l.counter ≤ l.seat.me.0.glances;
   recalled : l.fn.seat.me.0.recalls ≤ l.seat.me.0.recalls;
+  reviewed : l.fn.seat.me.0.reviews ≤ l.seat.me.0.reviews;
 }

@@ -1,9 +1,8 @@
-use Rattle.std.proofs.Common.{refl, ap, ◌∙◌}
-use Rattle.sched_task_law.specs.Kind.{a_retry}
+use Rattle.std.proofs.Common.{ap, ◌∙◌}
 use Rattle.sched_run_machine.specs.Next.{start_in}
 use Rattle.sched_run_machine.proofs.Waits.{waited}
 use Rattle.sched_closure.proofs.machines.MachineTurns.next.Goals as goal
 
 pub returns-clause-due : goal.returns-clause-due
 returns-clause-due g c = λ v st.
-    ap start_in (c.next.ensures.next v st) ∙ waited (a_retry g.S.Drives.keeps) v.past refl st.law.law
+    ap start_in (c.next.ensures.next v st) ∙ waited (g.A.Aims.kind g.S.Drives.keeps) v.past (g.met.A.Aims.alone g.S.Drives.keeps) st.law.law

@@ -13,7 +13,7 @@ pub invariant_of-self-in-Err : goal.invariant_of-self-in-Err
 invariant_of-self-in-Err g c = (rw (← c.target.ensures) c.draw.ensures.of, rw c.in-Err.ensures.kept c.self.invariant.1)
 
 pub returns-in-Ok-clause-drew : goal.returns-in-Ok-clause-drew
-returns-in-Ok-clause-drew g c = rw (← c.self.view_is, ← c.target.ensures) (refl, _, c.in-Ok.ensures.ok)
+returns-in-Ok-clause-drew g c = rw (← c.self.view_is, ← c.target.ensures) (refl, _, c.in-Ok.ensures.ok, c.in-Ok.ensures.latest)
 
 pub returns-in-Err-clause-drew : goal.returns-in-Err-clause-drew
-returns-in-Err-clause-drew g c = rw (← c.self.view_is, ← c.target.ensures) (refl, _, c.in-Err.ensures.err)
+returns-in-Err-clause-drew g c = rw (← c.self.view_is, ← c.target.ensures) (refl, _, c.in-Err.ensures.err, c.in-Err.ensures.still)

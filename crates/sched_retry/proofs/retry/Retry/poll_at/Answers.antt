@@ -1,10 +1,12 @@
-use Rattle.std.proofs.Common.{is_some, ap, ◌∙◌, subst}
+use Rattle.std.proofs.Common.{is_some, refl, sym, ap, ◌∙◌, subst}
 use Rattle.sched_task.specs.Polls.{is_ready}
 use Rattle.sched_task_law.specs.Kind.{retry}
 use Rattle.sched_run_machine.specs.Retrying.{Retrying, RetryPoll}
-use Rattle.sched_run_machine.proofs.Runs.{idle_by}
-use Rattle.sched_retry.specs.Of.{retry_of}
-use Rattle.sched_retry.proofs.Polls.{stays_so, polled_run, leaves_retry}
+use Rattle.sched_run_machine.specs.Of.{made_of}
+use Rattle.sched_run_machine.proofs.Runs.{grows, idle_by}
+use Rattle.sched_run_machine.proofs.Made.{stays_so, polled_run, leaves_task}
+use Rattle.sched_retry.specs.Ending.{over_by, EndingFits}
+use Rattle.sched_retry.proofs.Polls.{some_by, fits_then}
 use Rattle.sched_retry.proofs.retry.Retry.poll_at.Goals as goal
 
 pub returns-then-stays-clause-poll : goal.returns-then-stays-clause-poll
@@ -12,11 +14,11 @@ returns-then-stays-clause-poll g c =
     let r = c.self.inside in
     let ready = c.ready_where in
     subst (λ (v : Retrying g.row.D.Denot). RetryPoll g.D.Draws.grants retry v c.args.tick.now (is_ready ready.result) v) c.self.view_is
-    (stays_so g.D.Draws.grants g.met.D.Draws.lawful r.machine c.args.tick.now r.runner (is_some r.ending) c.self.invariant.0
+    (stays_so g.D.Draws.grants g.met.D.Draws.lawful retry refl r.machine c.args.tick.now r.runner (is_some r.ending) c.self.invariant.0
     (rw c.if-stays.true at c.stays.ensures.looks) (is_ready ready.result) (ready.ensures ∙ ap is_some c.over.ensures))
 
-pub tell-requires : goal.tell-requires
-tell-requires g c =
+pub report_poll-requires : goal.report_poll-requires
+report_poll-requires g c =
     let r = c.self.inside in
     let polled = c.poll_run-polled in record {
       looks = rw c.if-stays.false at c.stays.ensures.looks;
@@ -29,33 +31,41 @@ pub invariant_of-self : goal.invariant_of-self
 invariant_of-self g c =
     let r = c.self.inside in
     let polled = c.poll_run-polled in
-    let tell = c.tell in
-    leaves_retry g.D.Draws.grants g.met.D.Draws.lawful g.X.Item.Coded.coded g.X.Fault.Coded.coded r.machine tell.new.machine c.args.tick.now r.runner polled.new.self r.ending tell.result
+    let told = c.report_poll in
+    let ending = c.ending_of in
+    leaves_task g.D.Draws.grants g.met.D.Draws.lawful retry refl over_by some_by (EndingFits g.X.Item.Coded.coded g.X.Fault.Coded.coded)
+    g.X.Item.Coded.coded g.X.Fault.Coded.coded r.machine told.new.self c.args.tick.now r.runner polled.new.self r.ending ending.result
     c.self.invariant polled.result (record {
       looks = rw c.if-stays.false at c.stays.ensures.looks;
       unended = c.stays.ensures.unended c.if-stays.false;
       ran = polled.ensures.polls;
-      polls = tell.ensures.polls;
-      under_way = tell.ensures.under_way;
-      over = tell.ensures.over;
-      code = tell.ensures.code;
+      polls = told.ensures.polls;
+      under_way = told.ensures.under_way;
+      over = sym c.over-2.ensures ∙ ending.ensures.over;
+      fit = fits_then g.X.Item.Coded.coded g.X.Fault.Coded.coded told.new.self.over r.runner.runs polled.new.self.runs polled.result
+          ending.result (sym c.over-2.ensures ∙ ending.ensures.over) ending.ensures.value
+          (grows g.X.Item.Coded.coded g.X.Fault.Coded.coded r.runner polled.new.self c.args.tick.now polled.result polled.ensures.polls).runs;
     })
 
 pub returns-clause-poll : goal.returns-clause-poll
 returns-clause-poll g c =
     let r = c.self.inside in
     let polled = c.poll_run-polled in
-    let tell = c.tell in
+    let told = c.report_poll in
+    let ending = c.ending_of in
     let ready = is_ready c.ready_where-2.result in
     subst (λ (v : Retrying g.row.D.Denot). RetryPoll g.D.Draws.grants retry v c.args.tick.now ready
-    (retry_of g.D.Draws.grants tell.new.machine polled.new.self (is_some tell.result))) c.self.view_is
-    (polled_run g.D.Draws.grants g.met.D.Draws.lawful g.X.Item.Coded.coded g.X.Fault.Coded.coded r.machine tell.new.machine c.args.tick.now r.runner polled.new.self r.ending tell.result
+    (made_of g.D.Draws.grants told.new.self polled.new.self (is_some ending.result))) c.self.view_is
+    (polled_run g.D.Draws.grants g.met.D.Draws.lawful retry refl over_by some_by (EndingFits g.X.Item.Coded.coded g.X.Fault.Coded.coded)
+    g.X.Item.Coded.coded g.X.Fault.Coded.coded r.machine told.new.self c.args.tick.now r.runner polled.new.self r.ending ending.result
     c.self.invariant polled.result (record {
       looks = rw c.if-stays.false at c.stays.ensures.looks;
       unended = c.stays.ensures.unended c.if-stays.false;
       ran = polled.ensures.polls;
-      polls = tell.ensures.polls;
-      under_way = tell.ensures.under_way;
-      over = tell.ensures.over;
-      code = tell.ensures.code;
-    }) ready (c.ready_where-2.ensures ∙ ap is_some c.over-2.ensures))
+      polls = told.ensures.polls;
+      under_way = told.ensures.under_way;
+      over = sym c.over-2.ensures ∙ ending.ensures.over;
+      fit = fits_then g.X.Item.Coded.coded g.X.Fault.Coded.coded told.new.self.over r.runner.runs polled.new.self.runs polled.result
+          ending.result (sym c.over-2.ensures ∙ ending.ensures.over) ending.ensures.value
+          (grows g.X.Item.Coded.coded g.X.Fault.Coded.coded r.runner polled.new.self c.args.tick.now polled.result polled.ensures.polls).runs;
+    }) ready (c.ready_where-2.ensures ∙ ap is_some c.over-3.ensures))

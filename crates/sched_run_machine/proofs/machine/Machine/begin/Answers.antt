@@ -3,8 +3,8 @@ use Rattle.sched_run_machine.proofs.machine.Machine.begin.Goals as goal
 
 pub returns-clause-polls : goal.returns-clause-polls
 returns-clause-polls g c =
-    begins_run g.R.Drives.stands g.R.Drives.keeps g.R.Drives.goes_by g.D.Draws.grants g.met.D.Draws.lawful _ c.args._tick.now c.args.self.now c.self.view_is c.requires
+    begins_run g.R.Drives.stands (g.A.Aims.kind g.R.Drives.keeps) g.R.Drives.goes_by g.D.Draws.grants g.met.D.Draws.lawful (g.met.A.Aims.alone g.R.Drives.keeps) _ c.args._tick.now c.args.self.now c.self.view_is c.requires
 
 pub invariant_of-self : goal.invariant_of-self
 invariant_of-self g c =
-    left g.R.Drives.stands g.R.Drives.keeps g.R.Drives.goes_by g.D.Draws.grants g.met.D.Draws.lawful _ c.args._tick.now c.args.self.now _ _ c.self.view_is (returns-clause-polls g c) c.self.invariant
+    left g.R.Drives.stands (g.A.Aims.kind g.R.Drives.keeps) g.R.Drives.goes_by g.D.Draws.grants g.met.D.Draws.lawful (g.met.A.Aims.alone g.R.Drives.keeps) _ c.args._tick.now c.args.self.now _ _ c.self.view_is (returns-clause-polls g c) c.self.invariant

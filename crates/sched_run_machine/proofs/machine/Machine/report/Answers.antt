@@ -5,6 +5,6 @@ use Rattle.sched_run_machine.proofs.machine.Machine.report.Goals as goal
 
 pub finish-requires : goal.finish-requires
 finish-requires g c =
-    can_end g.R.Drives.stands g.R.Drives.keeps g.R.Drives.goes_by g.D.Draws.grants g.met.D.Draws.lawful c.args.self.now c.args.tick.now
+    can_end g.R.Drives.stands (g.A.Aims.kind g.R.Drives.keeps) g.R.Drives.goes_by g.D.Draws.grants g.met.D.Draws.lawful (g.met.A.Aims.alone g.R.Drives.keeps) c.args.self.now c.args.tick.now
     (rw (← c.self.view_is) (none_of c.self.inside.over (sym c.is_some.ensures ∙ c.if-is_some.false)))
     (rw (← c.self.view_is) c.if-not-self.false)

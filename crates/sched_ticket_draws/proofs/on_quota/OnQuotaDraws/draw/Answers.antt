@@ -4,6 +4,6 @@ use Rattle.sched_ticket_draws.proofs.on_quota.OnQuotaDraws.draw.Goals.{in-Ok, in
 
 pub returns-clause-drew : goal.returns-clause-drew
 returns-clause-drew g c = elim c.match-draw.branch [
-  | in-Ok w ↦ rw (w.result-is, ← c.self.view_is, ← c.target.ensures) (refl, _, w.in-Ok.ensures.ok)
-  | in-Err w ↦ rw (w.result-is, ← c.self.view_is, ← c.target.ensures) (refl, _, w.in-Err.ensures.err)
+  | in-Ok w ↦ rw (w.result-is, ← c.self.view_is, ← c.target.ensures) (refl, _, w.in-Ok.ensures.ok, w.in-Ok.ensures.latest)
+  | in-Err w ↦ rw (w.result-is, ← c.self.view_is, ← c.target.ensures) (refl, _, w.in-Err.ensures.err, w.in-Err.ensures.still)
 ]

@@ -1,0 +1,94 @@
+-- What C gives of a course, and what it is told.
+use Rattle.std.specs.Prelude.{◌≡◌, ◌⊎◌, ℕ, ◌+◌, ◌<◌, ◌≤◌, List, [], ◌∷◌, map, flat_map, length, true, false, Option, Some, Result, Ok, Err, string_bytes}
+use Rattle.std.specs.List.{All}
+use Rattle.sched_time.specs.declared.numbers.TheConstants.{FAR}
+use Rattle.sched_time.specs.declared.starts.Decision.{Decision}
+use Rattle.sched_time.specs.declared.starts.Decision.TheVariants.{Go, Done}
+use Rattle.sched_plan.specs.DatumText.{text_of}
+use Rattle.sched_plan.specs.Schedule.{Schedule}
+use Rattle.sched_plan_course.specs.Course.{Course}
+use Rattle.sched_plan_course.specs.Lines.{course_lines}
+use Rattle.sched_plan_course.specs.declared.lines.Line.{Line}
+use Rattle.sched_handle.specs.Fills.{HasNoPolicy}
+use Rattle.sched_handle.specs.Status.{code_of}
+use Rattle.sched_handle.specs.declared.held.Held.{Held}
+use Rattle.sched_handle.specs.declared.held.Held.TheVariants.{Policy}
+use Rattle.sched_handle.specs.declared.status.Status.{Status}
+use Rattle.sched_handle.specs.declared.status.Status.TheVariants.{OutOfRange, NoRoom}
+use Rattle.hikebox_c.specs.Texts.{IsWritten}
+use Rattle.hikebox_c.specs.declared.courses.CourseGiven.{CourseGiven}
+use Rattle.hikebox_c.specs.declared.courses.CourseTold.{CourseTold}
+use Rattle.hikebox_c.specs.declared.courses.EventGiven.{EventGiven}
+use Rattle.hikebox_c.specs.declared.courses.LineTold.{LineTold}
+
+abbrev pub InputIsInRange : EventGiven → Type 0
+InputIsInRange e = e.input ≤ FAR
+
+-- a course is given: its numbers are in range, and there is an event
+pub record IsGiven (g : CourseGiven) (es : List EventGiven) : Type 0 where
+  pub steps : g.steps ≤ 4096
+  pub from : g.from ≤ FAR
+  pub took : g.took ≤ FAR
+  pub some_event : 0 < length es
+  pub inputs : All InputIsInRange es
+
+-- the course that is given: each event has the input and the words of its number, the last one repeated
+abbrev pub course_given : CourseGiven → List EventGiven → Course
+course_given g es = record {
+  steps = g.steps;
+  from = g.from;
+  took = g.took;
+  inputs = map (λ (e : EventGiven). e.input) es;
+  words = map (λ (e : EventGiven). e.words) es;
+}
+
+-- the output of a line, as text; and all outputs, one after another
+abbrev pub output_text : Line → List ℕ
+output_text l = text_of l.output
+
+abbrev pub outputs_text : List Line → List ℕ
+outputs_text ls = flat_map output_text ls
+
+-- what is told of an event at this moment, whose output ends at this place among the bytes of all
+abbrev pub told_by : Decision → ℕ → ℕ → LineTold
+told_by (Go start) moment to = record { moment = moment; start = start; text_to = to; goes_on = true }
+told_by Done moment to = record { moment = moment; start = 0; text_to = to; goes_on = false }
+
+-- the lines, where so many bytes stand before the output of the first
+abbrev pub lines_told : ℕ → List Line → List LineTold
+lines_told before [] = []
+lines_told before (l ∷ ls) =
+    told_by l.decision l.moment (before + length (output_text l)) ∷ lines_told (before + length (output_text l)) ls
+
+-- these are the lines as C is told of them, and their outputs' text
+pub record AreTold (ls : List Line) (told : CourseTold) : Type 0 where
+  pub lines : told.lines.items ≡ lines_told 0 ls
+  pub text : string_bytes told.text ≡ outputs_text ls
+
+-- the course of the policy that a handle holds, or none: no course is given, or else there is no policy, or no memory
+abbrev pub StepsPolicy : CourseGiven → List EventGiven → Option Held → Result CourseTold Status → Type 0
+StepsPolicy g es u (Ok told) =
+    IsGiven g es × ((s : Schedule) × (u ≡ Some (Policy s)) × AreTold (course_lines s (course_given g es)) told)
+StepsPolicy g es u (Err OutOfRange) = ¬ IsGiven g es
+StepsPolicy g es u (Err s) = IsGiven g es × HasNoPolicy u s
+
+-- what C gives room for: lines, how many there are, the bytes of a text, and how many there are of these
+pub record Room : Type 0 where
+  pub lines : List LineTold
+  pub count : ℕ
+  pub text : List ℕ
+  pub length : ℕ
+
+-- there is room for the lines and the text
+pub record HasRoom (room : Room) (told : CourseTold) : Type 0 where
+  pub lines : length told.lines.items ≤ length room.lines
+  pub text : length (string_bytes told.text) ≤ length room.text
+
+-- the lines and the text are written where there is room for both, and how many there are in any case; a reason is told by
+-- its number, and the room is as it was
+abbrev pub TellsCourse : Room → ℕ → Room → Result CourseTold Status → Type 0
+TellsCourse old code new (Ok told) = (new.count ≡ length told.lines.items) × (new.length ≡ length (string_bytes told.text))
+    × (((code ≡ 0) × HasRoom old told × IsWritten told.lines.items old.lines new.lines
+    × IsWritten (string_bytes told.text) old.text new.text)
+    ⊎ ((code ≡ code_of NoRoom) × (¬ HasRoom old told) × (new.lines ≡ old.lines) × (new.text ≡ old.text)))
+TellsCourse old code new (Err s) = (code ≡ code_of s) × (new ≡ old)

@@ -1,0 +1,10 @@
+//! A plan that is stepped along a course: what it does, event by event, as records.
+#![tactic(auto)]
+
+mod courses;
+mod lines;
+#[cfg(test)]
+mod tests;
+
+pub use courses::{MOST_STEPS, PlanCourse, PlanOptions};
+pub use lines::{Line, course_lines, line_at};

@@ -1,0 +1,53 @@
+//! What a plan does along a course, worked out by hand.
+use crate::{PlanCourse, PlanOptions, course_lines};
+use sched_plan::Plan;
+use sched_time::{Millis, Moment};
+use std::alloc::Global;
+use std::process::Abort;
+use std::test::Fail;
+
+// `recurs(2)` with `exponential(100, 2)`.
+fn plan(rt: &impl Abort, alloc: Global) -> Plan {
+    let recurs = Plan::recurs(2).expect(rt, "it is in range");
+    let delays = Plan::exponential(100, 2).expect(rt, "it is in range");
+    Plan::meet(alloc, recurs, delays).expect(rt, "it is small")
+}
+
+// At most so many events from 0, each of which takes 5 ms.
+fn course(rt: &impl Abort, alloc: Global, steps: u64) -> PlanCourse {
+    let zero = Millis::new(0).expect(rt, "it is in range");
+    let options = PlanOptions {
+        steps: if steps < 4 { steps } else { 4 },
+        from: Moment::new(0).expect(rt, "it is in range"),
+        took: Millis::new(5).expect(rt, "it is in range"),
+        input: zero,
+        word: 0,
+    };
+    PlanCourse::steady(alloc, &options).expect(rt, "there is memory")
+}
+
+#[test]
+fn a_course_ends_where_the_plan_is_done(rt: HostRuntime) -> Result<(), Fail> {
+    let alloc = rt.alloc();
+    let lines = course_lines(alloc, &plan(&rt, alloc), &course(&rt, alloc, 4))?;
+    let wanted = [
+        (0, "(0, 100)", Some(100)),
+        (105, "(1, 200)", Some(305)),
+        (310, "(2, 400)", None),
+    ];
+    assert_eq!(rt; lines.len(), wanted.len());
+    for (line, (moment, output, start)) in lines.iter().zip(&wanted) {
+        assert_eq!(rt; line.moment.get(), *moment);
+        assert_eq!(rt; line.output.text(alloc)?.as_str(), *output);
+        assert_eq!(rt; line.decision.start().map(Moment::get), *start);
+    }
+    Ok(())
+}
+
+#[test]
+fn a_course_has_no_more_events_than_steps(rt: HostRuntime) -> Result<(), Fail> {
+    let alloc = rt.alloc();
+    let lines = course_lines(alloc, &plan(&rt, alloc), &course(&rt, alloc, 2))?;
+    assert_eq!(rt; lines.len(), 2);
+    Ok(())
+}

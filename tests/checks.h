@@ -1,0 +1,29 @@
+// What the tests of the library in C share.
+#ifndef CHECKS_H
+#define CHECKS_H
+#include <hikebox.h>
+#include <stdio.h>
+#include <stdlib.h>
+#include <string.h>
+
+extern int wrong;
+extern char input[1 << 20];
+
+// A status that is not the one that is wanted is an error.
+void wants_at(const char *file, int line, hikebox_status got, hikebox_status wanted);
+#define wants(got, wanted) wants_at(__FILE__, __LINE__, got, wanted)
+
+void holds_at(const char *file, int line, bool holds);
+#define holds(what) holds_at(__FILE__, __LINE__, what)
+
+void read_input(void);
+hikebox_status read_policy(const char *json, hikebox_policy *policy);
+hikebox_status make_node(const char *name, const uint64_t *numbers, size_t count, hikebox_policy *first, hikebox_policy *second,
+                         hikebox_policy *made);
+
+// The tests of policies.c, each as its word says.
+int plan(char **words);
+int nodes(void);
+int policies(void);
+int courses(void);
+#endif
