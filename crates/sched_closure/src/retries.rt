@@ -133,11 +133,13 @@ where
 // The machine of a retry whose first run began at the tick.
 fn begun<S: Drives, D: Draws>(driver: S, drawing: D, tick: &Tick) -> Machine<S, D>
     requires { S.fresh driver }
-    ensures due { (machine_turning D.grants (a_retry S.keeps) S.stands S.goes_by).due (begins D.grants driver drawing) None }
+    ensures due { (machine_turning D.grants (a_retry S.keeps) S.stands S.goes_by).due
+        (begins D.grants driver drawing) None }
     ensures stands { (s : Schedule) → S.goes_by driver s →
         StandsFor S.stands (a_retry S.keeps) D.grants (begins D.grants driver drawing) (unbegun D.grants s drawing) }
     ensures begun { result ≡ record (begins D.grants driver drawing) { under_way = true } }
-    ensures polls { Polls S.stands (a_retry S.keeps) S.goes_by D.grants (begins D.grants driver drawing) tick.entry.now [] result }
+    ensures polls { Polls S.stands (a_retry S.keeps) S.goes_by D.grants
+        (begins D.grants driver drawing) tick.entry.now [] result }
 {
     let mut retry = Machine::new(driver, drawing);
     match retry.next() {
