@@ -193,7 +193,8 @@ impl<R: Drives, D: Draws, A: Aims> Machine<R, D, A> {
 
     /// The moment that it waits for, or `None` where it waits for none.
     pub fn due(&self) -> Option<Moment>
-        ensures { (v : Retrying D) → StandsFor R.stands (A.kind R.keeps) D.grants self.now v → result ≡ waits_for v.past }
+        ensures { (v : Retrying D) → StandsFor R.stands (A.kind R.keeps) D.grants self.now v →
+            result ≡ waits_for v.past }
     {
         self.next().start()
     }
@@ -202,7 +203,8 @@ impl<R: Drives, D: Draws, A: Aims> Machine<R, D, A> {
     pub fn next(&self) -> Next
         ensures finds { Finds self.now.over self.now.under_way result }
         ensures in_time { WaitsInTime (R.ends self.now.driver) result }
-        ensures next { (v : Retrying D) → StandsFor R.stands (A.kind R.keeps) D.grants self.now v → result ≡ next_of v.past }
+        ensures next { (v : Retrying D) → StandsFor R.stands (A.kind R.keeps) D.grants self.now v →
+            result ≡ next_of v.past }
     {
         if let Some(how) = self.over {
             return Next::Over(how);
@@ -239,7 +241,8 @@ impl<R: Drives, D: Draws, A: Aims> Machine<R, D, A> {
     /// each schedule that its driver may go by.
     pub fn granted(&self) -> u64
         ensures stands { IsMachine R.stands (A.kind R.keeps) R.goes_by D.grants self.now }
-        ensures granted { (v : Retrying D) → StandsFor R.stands (A.kind R.keeps) D.grants self.now v → result ≡ v.past.granted }
+        ensures granted { (v : Retrying D) → StandsFor R.stands (A.kind R.keeps) D.grants self.now v →
+            result ≡ v.past.granted }
         ensures tickets { self.now.had + result ≡ D.grants.granted self.now.drawing }
     {
         self.drawing.granted() - self.had

@@ -116,7 +116,8 @@ impl Pending {
 
     fn pop_wait(&mut self) -> Option<(Key, Due)>
         ensures at { IfSome result (λ event. IsKey self.old.until event.0) }
-        ensures takes { (first : Option (ℕ × ℕ)) → IfSome result (λ event. Takes first event.0 event.1 self.old self.new) }
+        ensures takes { (first : Option (ℕ × ℕ)) →
+            IfSome result (λ event. Takes first event.0 event.1 self.old self.new) }
         ensures less { IsLess self.old self.new }
     {
         let (key, driver) = self.waits.pop_first()?;
@@ -125,7 +126,8 @@ impl Pending {
 
     fn pop_flight(&mut self) -> Option<(Key, Due)>
         ensures at { IfSome result (λ event. IsKey self.old.until event.0) }
-        ensures takes { (first : Option (ℕ × ℕ)) → IfSome result (λ event. Takes first event.0 event.1 self.old self.new) }
+        ensures takes { (first : Option (ℕ × ℕ)) →
+            IfSome result (λ event. Takes first event.0 event.1 self.old self.new) }
         ensures less { IsLess self.old self.new }
     {
         let (key, flight) = self.flights.pop_first()?;
