@@ -4,11 +4,9 @@
 
 mod ended;
 mod faults;
-mod lines;
+pub mod lines;
 mod pools;
 mod quota_pools;
-#[cfg(test)]
-mod tests;
 
 pub use faults::PoolFault;
 pub use pools::print_pool;

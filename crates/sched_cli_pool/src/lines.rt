@@ -9,7 +9,7 @@ use std::fmt::Write;
 
 /// Adds the line of one job at the end, with its line feed: `job K: won C, granted G` and the like, where C is the code
 /// of its last finished run. Fails only with `NoMemory`.
-pub(crate) fn push_line(
+pub fn push_line(
     lines: &mut String,
     number: usize,
     how: Option<How>,
@@ -25,7 +25,7 @@ pub(crate) fn push_line(
 }
 
 /// Adds the line of the total at the end. Fails only with `NoMemory`.
-pub(crate) fn push_total(lines: &mut String, granted: u64, limit: u64) -> Result<(), NoMemory>
+pub fn push_total(lines: &mut String, granted: u64, limit: u64) -> Result<(), NoMemory>
     ensures { OnOk result (string_bytes lines.new ≡ string_bytes lines.old ++ total_text granted limit) }
 {
     write!(lines, "granted {granted} of {limit}\n")?;
@@ -33,7 +33,7 @@ pub(crate) fn push_total(lines: &mut String, granted: u64, limit: u64) -> Result
 }
 
 /// Adds the line of the total of a quota at the end: `granted T in W windows`. Fails only with `NoMemory`.
-pub(crate) fn push_windows(lines: &mut String, granted: u64, windows: usize) -> Result<(), NoMemory>
+pub fn push_windows(lines: &mut String, granted: u64, windows: usize) -> Result<(), NoMemory>
     ensures { OnOk result (string_bytes lines.new ≡ string_bytes lines.old ++ windows_text granted windows) }
 {
     write!(lines, "granted {granted} in {windows} windows\n")?;

@@ -5,7 +5,9 @@ mod commands;
 mod faults;
 mod numbers;
 mod options;
+mod rows;
 
 pub use commands::storm_command;
 pub use faults::StormFault;
 pub use options::{Form, StormOptions, storm_options};
+pub use rows::{Row, Takes, file_command, with_option, with_options};

@@ -1,9 +1,8 @@
 //! The commands of the program, as `clap` takes them.
-use crate::check::check_command;
 use crate::options::{MOST_TICKETS, MOST_TURNS, MOST_WORKERS};
-use crate::quota_words::quota_option;
-use clap::{Arg, Command, value_parser};
-use sched_cli_storm_words::storm_command;
+use clap::builder::ValueParser;
+use clap::{Arg, Command};
+use sched_cli_storm_words::{Row, Takes, file_command, storm_command, with_option, with_options};
 use sched_plan_course::MOST_STEPS;
 use sched_time::FAR;
 use std::alloc::{AllocError, Global};
@@ -19,6 +18,89 @@ const POOL_EXAMPLES: &str = "Examples:
   zsched pool jobs/three-calls.json
   zsched pool --workers 4 --budget 2 - < jobs/three-calls.json
   zsched pool --quota 1/50%/100ms jobs/three-calls.json";
+
+const CHECK_EXAMPLES: &str = "Examples:
+  zsched check plans/poll-fixed.json
+  zsched check - < jobs/three-calls.json";
+
+// When calls are over.
+const CALLS: [Row; 3] = [
+    Row {
+        name: "steps",
+        takes: Takes::NumberOr("N", 0, MOST_STEPS, &["10"]),
+        excludes: &[],
+        help: "How many calls to play at most, from 0 to 4096",
+    },
+    Row {
+        name: "from",
+        takes: Takes::NumberOr("M", 0, FAR, &["0"]),
+        excludes: &[],
+        help: "The moment at which the first call is over, in milliseconds from 0 to 4611686018427387903",
+    },
+    Row {
+        name: "took",
+        takes: Takes::NumberOr("M", 0, FAR, &["0"]),
+        excludes: &[],
+        help: "How long each call takes that the plan starts, in milliseconds from 0 to 4611686018427387903",
+    },
+];
+
+// What calls give.
+const GIFTS: [Row; 1] = [Row {
+    name: "input",
+    takes: Takes::NumberOr("N", 0, FAR, &["0"]),
+    excludes: &[],
+    help: "The number that each call gives, from 0 to 4611686018427387903",
+}];
+
+// Random words.
+const CHANCE: [Row; 2] = [
+    Row {
+        name: "word",
+        takes: Takes::WordOr("W", &["2147483648"]),
+        excludes: &[],
+        help: "The random word after each call, from 0 (least delay) to 4294967295 (most)",
+    },
+    Row {
+        name: "words",
+        takes: Takes::Number("SEED", 0, u64::MAX),
+        excludes: &["word"],
+        help: "Other random words after each call, by a seed from 0 to 18446744073709551615",
+    },
+];
+
+const WORKERS: [Row; 2] = [
+    Row {
+        name: "workers",
+        takes: Takes::NumberOr("N", 1, MOST_WORKERS, &["1"]),
+        excludes: &[],
+        help: "How many workers run the jobs, each on a thread of its own, from 1 to 16",
+    },
+    Row {
+        name: "turns",
+        takes: Takes::NumberOr("N", 0, MOST_TURNS, &["1000000"]),
+        excludes: &[],
+        help: "How many turns each worker takes at most, from 0 to 4294967296",
+    },
+];
+
+// A budget, or a quota in its place.
+const RETRIES: [Row; 2] = [
+    Row {
+        name: "budget",
+        takes: Takes::NumberOr("N", 0, MOST_TICKETS, &["100"]),
+        excludes: &[],
+        help: "How many retries all jobs may have together, from 0 to 4294967296",
+    },
+    Row {
+        name: "quota",
+        takes: Takes::Text("RESERVE/SHARE%/PERIOD"),
+        excludes: &["budget"],
+        help: "In the place of a budget: in each window of PERIOD at most RESERVE retries and SHARE of the requests counted \
+               in it, where each job's first run is a request, as 10/20%/60s with ms, s, m, h or d; without units, as \
+               10/200/60000, SHARE is thousandths and PERIOD milliseconds; jobs on a quota run on one thread",
+    },
+];
 
 /// The whole command.
 pub(crate) fn zsched_command<'a>(alloc: Global) -> Result<Command<'a>, AllocError> {
@@ -41,148 +123,48 @@ fn with<'a>(
 }
 
 fn plan_command<'a>(alloc: Global) -> Result<Command<'a>, AllocError> {
-    let command = Command::new(alloc, "plan")
-        .about("Reads one plan as JSON and prints what it decides after each call, one line each")
-        .after_help(PLAN_EXAMPLES)
-        .arg(file(alloc).help("The plan's file, or - for standard input"))?;
-    with_chance(alloc, with_gifts(alloc, with_calls(alloc, command)?)?)
-}
-
-// The options of when calls are over.
-fn with_calls<'a>(alloc: Global, command: Command<'a>) -> Result<Command<'a>, AllocError> {
-    command
-        .arg(steps(alloc).help_heading("Calls"))?
-        .arg(from(alloc).help_heading("Calls"))?
-        .arg(took(alloc).help_heading("Calls"))
-}
-
-fn steps<'a>(alloc: Global) -> Arg<'a> {
-    number_option(alloc, "steps", "N", "10")
-        .value_parser(value_parser!(u64).range(0..=MOST_STEPS as i64))
-        .help("How many calls to play at most, from 0 to 4096")
-}
-
-fn from<'a>(alloc: Global) -> Arg<'a> {
-    far_option(alloc, "from", "M").help(
-        "The moment at which the first call is over, in milliseconds from 0 to 4611686018427387903",
-    )
-}
-
-fn took<'a>(alloc: Global) -> Arg<'a> {
-    far_option(alloc, "took", "M").help(
-        "How long each call takes that the plan starts, in milliseconds from 0 to 4611686018427387903",
-    )
-}
-
-// The options of what calls give.
-fn with_gifts<'a>(alloc: Global, command: Command<'a>) -> Result<Command<'a>, AllocError> {
-    let command = command.arg(input(alloc).help_heading("What calls give"))?;
-    with_one(command, inputs(alloc), "What calls give")
-}
-
-fn input<'a>(alloc: Global) -> Arg<'a> {
-    far_option(alloc, "input", "N").help(
-        "The number that each call gives, from 0 to 4611686018427387903",
-    )
+    let command = file_command(
+        alloc,
+        "plan",
+        "Reads one plan as JSON and prints what it decides after each call, one line each",
+        PLAN_EXAMPLES,
+        "The plan's file, or - for standard input",
+    )?;
+    let command = with_options(alloc, command.next_help_heading("Calls"), &CALLS)?;
+    let command = with_options(alloc, command.next_help_heading("What calls give"), &GIFTS)?;
+    let command = with_option(command, inputs(alloc))?;
+    with_options(alloc, command.next_help_heading("Chance"), &CHANCE)
 }
 
 fn inputs<'a>(alloc: Global) -> Result<Arg<'a>, AllocError> {
-    let inputs = Arg::new(alloc, "inputs")
+    Arg::new(alloc, "inputs")
         .long("inputs")
         .value_name("A,B,..")
         .value_delimiter(',')
-        .value_parser(value_parser!(u64).range(0..=FAR as i64))
-        .conflicts_with("input")?;
-    Ok(inputs.help(
-        "The numbers that the calls give, in turn; the last one is that of all later calls",
-    ))
-}
-
-// The options of random words.
-fn with_chance<'a>(alloc: Global, command: Command<'a>) -> Result<Command<'a>, AllocError> {
-    let command = command.arg(word(alloc).help_heading("Chance"))?;
-    with_one(command, words(alloc), "Chance")
-}
-
-fn word<'a>(alloc: Global) -> Arg<'a> {
-    number_option(alloc, "word", "W", "2147483648")
-        .value_parser(value_parser!(u32))
-        .help("The random word after each call, from 0 (least delay) to 4294967295 (most)")
-}
-
-fn words<'a>(alloc: Global) -> Result<Arg<'a>, AllocError> {
-    let words = Arg::new(alloc, "words")
-        .long("words")
-        .value_name("SEED")
-        .value_parser(value_parser!(u64))
-        .conflicts_with("word")?;
-    Ok(words.help("Other random words after each call, by a seed from 0 to 18446744073709551615"))
+        .value_parser(ValueParser::unsigned(0, FAR))
+        .help("The numbers that the calls give, in turn; the last one is that of all later calls")
+        .conflicts_with("input")
 }
 
 fn pool_command<'a>(alloc: Global) -> Result<Command<'a>, AllocError> {
-    let command = Command::new(alloc, "pool")
-        .about("Reads jobs as JSON, runs them and prints how each ended")
-        .after_help(POOL_EXAMPLES)
-        .arg(file(alloc).help("The jobs' file, or - for standard input"))?;
-    with_retries(alloc, with_workers(alloc, command)?)
+    let command = file_command(
+        alloc,
+        "pool",
+        "Reads jobs as JSON, runs them and prints how each ended",
+        POOL_EXAMPLES,
+        "The jobs' file, or - for standard input",
+    )?;
+    let command = with_options(alloc, command.next_help_heading("Workers"), &WORKERS)?;
+    with_options(alloc, command.next_help_heading("Retries"), &RETRIES)
 }
 
-// The options of workers.
-fn with_workers<'a>(alloc: Global, command: Command<'a>) -> Result<Command<'a>, AllocError> {
-    command
-        .arg(workers(alloc).help_heading("Workers"))?
-        .arg(turns(alloc).help_heading("Workers"))
-}
-
-fn workers<'a>(alloc: Global) -> Arg<'a> {
-    number_option(alloc, "workers", "N", "1")
-        .value_parser(value_parser!(u64).range(1..=MOST_WORKERS as i64))
-        .help("How many workers run the jobs, each on a thread of its own, from 1 to 16")
-}
-
-fn turns<'a>(alloc: Global) -> Arg<'a> {
-    number_option(alloc, "turns", "N", "1000000")
-        .value_parser(value_parser!(u64).range(0..=MOST_TURNS as i64))
-        .help("How many turns each worker takes at most, from 0 to 4294967296")
-}
-
-// The options of retries: a budget, or a quota in its place.
-fn with_retries<'a>(alloc: Global, command: Command<'a>) -> Result<Command<'a>, AllocError> {
-    let command = command.arg(budget(alloc).help_heading("Retries"))?;
-    with_one(command, quota_option(alloc), "Retries")
-}
-
-fn budget<'a>(alloc: Global) -> Arg<'a> {
-    number_option(alloc, "budget", "N", "100")
-        .value_parser(value_parser!(u64).range(0..=MOST_TICKETS as i64))
-        .help("How many retries all jobs may have together, from 0 to 4294967296")
-}
-
-// The command with this option, under this heading of the help.
-fn with_one<'a>(
-    command: Command<'a>,
-    option: Result<Arg<'a>, AllocError>,
-    heading: &'a str,
-) -> Result<Command<'a>, AllocError> {
-    command.arg(option?.help_heading(heading))
-}
-
-// Where the text is read from.
-pub(crate) fn file<'a>(alloc: Global) -> Arg<'a> {
-    Arg::new(alloc, "file")
-        .value_name("FILE")
-        .default_value("-")
-}
-
-// An option `--NAME VALUE` with its default.
-fn number_option<'a>(alloc: Global, name: &'a str, value: &'a str, default: &'a str) -> Arg<'a> {
-    Arg::new(alloc, name)
-        .long(name)
-        .value_name(value)
-        .default_value(default)
-}
-
-// An option that takes what a moment or a duration may be, 0 where it is not given.
-fn far_option<'a>(alloc: Global, name: &'a str, value: &'a str) -> Arg<'a> {
-    number_option(alloc, name, value, "0").value_parser(value_parser!(u64).range(0..=FAR as i64))
+// The command that checks a text.
+fn check_command<'a>(alloc: Global) -> Result<Command<'a>, AllocError> {
+    file_command(
+        alloc,
+        "check",
+        "Reads a plan or jobs as JSON and says what it is, or where it is wrong and what is wanted there",
+        CHECK_EXAMPLES,
+        "The file of a plan or of jobs, or - for standard input",
+    )
 }

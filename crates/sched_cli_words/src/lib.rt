@@ -1,7 +1,6 @@
 //! The command line of `zsched`: what its words ask for, each option in its range, or why they ask for nothing.
 #![tactic(auto)]
 
-mod check;
 mod commands;
 mod faults;
 mod options;

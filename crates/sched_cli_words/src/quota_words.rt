@@ -9,7 +9,7 @@ ghost use Rattle.sched_cli_words.specs.Quotas.{QuotaIsInRange};
 use crate::faults::WordsFault;
 use crate::options::MOST_TURNS;
 use crate::quotas::QuotaOptions;
-use clap::{Arg, ArgMatches};
+use clap::ArgMatches;
 use sched_ticket_quota::{MAX_RESERVE, MAX_SHARE, MIN_PERIOD, Terms};
 use sched_time::Millis;
 use std::alloc::{AllocError, Global};
@@ -17,19 +17,6 @@ use std::alloc::{AllocError, Global};
 const QUOTA_WANTED: &str =
     "it is spelt as 10/20%/60s, with ms, s, m, h or d, or without units as 10/200/60000; \
      RESERVE is at most 4294967296, SHARE at most 100000%, and PERIOD from 100ms to 4611686018427387903ms";
-
-// The option that takes a quota in the place of a budget.
-pub(crate) fn quota_option<'a>(alloc: Global) -> Result<Arg<'a>, AllocError> {
-    let quota = Arg::new(alloc, "quota")
-        .long("quota")
-        .value_name("RESERVE/SHARE%/PERIOD")
-        .conflicts_with("budget")?;
-    Ok(quota.help(
-        "In the place of a budget: in each window of PERIOD at most RESERVE retries and SHARE of the requests counted in \
-         it, where each job's first run is a request, as 10/20%/60s with ms, s, m, h or d; without units, as 10/200/60000, \
-         SHARE is thousandths and PERIOD milliseconds; jobs on a quota run on one thread",
-    ))
-}
 
 /// The options of a pool on this quota. `None` where another number of workers than 1 is asked for, or a number is
 /// missing or outside its range.

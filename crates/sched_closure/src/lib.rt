@@ -5,8 +5,6 @@ mod endings;
 mod machines;
 mod repeats;
 mod retries;
-#[cfg(test)]
-mod tests;
 mod turns;
 
 pub use endings::{CallEnding, RepeatCallEnding};

@@ -5,64 +5,63 @@ ghost use Rattle.sched_handle.specs.Status.{code_of};
 use sched_plan_json::TextFault;
 use sched_ticket::TicketFault;
 use sched_ticket_quota::{NotBack, QuotaFault, Refusal, WeightTooLarge};
-use thiserror::Error;
 
-/// Why a call was refused, as its text says.
-#[derive(Clone, Copy, Debug, PartialEq, Eq, Error)]
+/// Why a call was refused. The line above each is the text that C has of it, which bin/bindings takes from here.
+#[derive(Clone, Copy, PartialEq, Eq)]
 pub enum Status {
-    #[error("the handle is empty")]
+    /// the handle is empty
     Empty,
-    #[error("the handle holds something of another kind")]
+    /// the handle holds something of another kind
     WrongKind,
-    #[error("the handle holds something already")]
+    /// the handle holds something already
     Full,
-    #[error("no memory")]
+    /// no memory
     NoMemory,
-    #[error("a number is out of range")]
+    /// a number is out of range
     TooLarge,
-    #[error("there is not enough room")]
+    /// there is not enough room
     NoRoom,
-    #[error("the text is not JSON")]
+    /// the text is not JSON
     NotJson,
-    #[error("the value is not a policy")]
+    /// the value is not a policy
     NotAPolicy,
-    #[error("a parameter is out of range")]
+    /// a parameter is out of range
     OutOfRange,
-    #[error("the policy is too deep")]
+    /// the policy is too deep
     TooDeep,
-    #[error("the policy has too many nodes")]
+    /// the policy has too many nodes
     TooMany,
-    #[error("the window is before the one that is counted")]
+    /// the window is before the one that is counted
     Backwards,
-    #[error("the limit is more than 4294967296 tickets")]
+    /// the limit is more than 4294967296 tickets
     LimitTooLarge,
-    #[error("there is no limit that can be raised")]
+    /// there is no limit that can be raised
     Fixed,
-    #[error("there is no ticket")]
+    /// there is no ticket
     NoTicket,
-    #[error("no more passes can be split off")]
+    /// no more passes can be split off
     TooManyPasses,
-    #[error("another pass is alive or was dropped")]
+    /// another pass is alive or was dropped
     PassesOut,
-    #[error("the reserve is more than 4294967296 tickets a window")]
+    /// the reserve is more than 4294967296 tickets a window
     ReserveTooLarge,
-    #[error("the share is more than 1000 tickets a request")]
+    /// the share is more than 1000 tickets a request
     ShareTooLarge,
-    #[error("the window is shorter than 100 ms")]
+    /// the window is shorter than 100 ms
     PeriodTooShort,
-    #[error("64 races with others were lost")]
+    /// 64 races with others were lost
     RacesLost,
-    #[error("there are no terms that can be set")]
+    /// there are no terms that can be set
     NoTerms,
-    #[error("there is no such report")]
+    /// there is no such report
     NoSuchReport,
-    #[error("no run is under way")]
+    /// no run is under way
     NoRun,
-    #[error("the pass draws on something else")]
+    /// the pass draws on something else
     DrawsElsewhere,
-    #[error("there is no ticket to hand back")]
+    /// there is no ticket to hand back
     NothingToHandBack,
-    #[error("the requests are more than the pass has parts")]
+    /// the requests are more than the pass has parts
     TooManyRequests,
 }
 

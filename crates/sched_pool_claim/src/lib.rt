@@ -7,8 +7,6 @@
 mod claims;
 pub mod laws;
 mod shares;
-#[cfg(test)]
-mod tests;
 
 pub use claims::{Claimed, Claims};
 pub use shares::Share;

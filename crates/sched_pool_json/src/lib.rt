@@ -3,8 +3,6 @@
 
 mod jobs;
 mod runs;
-#[cfg(test)]
-mod tests;
 
 pub use jobs::{JobRead, MOST_JOBS, plan_and_runs, read_job, read_jobs};
 pub use runs::{MOST_RUNS, read_run};

@@ -10,7 +10,6 @@ use std::alloc::{AllocGlobal, Global};
 use std::process::Abort;
 use std::random::RandomSource;
 use std::sync::Wait;
-use std::test::Fail;
 
 mod requests;
 mod windows;
@@ -19,9 +18,9 @@ mod windows;
 const AMPLE: u64 = 1000000;
 
 // The jobs of a JSON text.
-fn jobs_of(alloc: Global, text: &str) -> Result<Vec<JobRead>, Fail> {
-    let value = Value::from_str(alloc, text)?;
-    Ok(read_jobs(alloc, &value)?)
+fn jobs_of(rt: &impl Abort, alloc: Global, text: &str) -> Vec<JobRead> {
+    let value = Value::from_str(alloc, text).expect(rt, text);
+    read_jobs(alloc, &value).expect(rt, text)
 }
 
 // What is left of the jobs of a text on a quota of this reserve, share and period, after so many turns.
@@ -29,21 +28,21 @@ fn batch_of<R>(
     rt: &R,
     text: &str,
     (reserve, share, period, turns): (u64, u64, u64, u64),
-) -> Result<QuotaBatch, Fail>
+) -> QuotaBatch
 where
-    R: Wait + RandomSource + AllocGlobal,
+    R: Wait + RandomSource + AllocGlobal + Abort,
 {
-    let jobs = jobs_of(rt.alloc(), text)?;
-    let period = Millis::new(period).ok_or("out of range")?;
+    let period = Millis::new(period).expect(rt, "the period is in range");
     if reserve > MAX_RESERVE || share > MAX_SHARE || period.get() < MIN_PERIOD {
-        return Err(Fail::from("out of range"));
+        panic!(rt; "the terms are out of range");
     }
     let terms = Terms {
         reserve,
         share,
         period,
     };
-    Ok(run_on_quota(rt, rt.alloc(), &jobs, terms, turns)?)
+    let jobs = jobs_of(rt, rt.alloc(), text);
+    run_on_quota(rt, rt.alloc(), &jobs, terms, turns).expect(rt, text)
 }
 
 // How a job ended, the code of its last run, or 0 where none has finished, and how many tickets it was granted.
@@ -56,17 +55,11 @@ const REFUSED: Option<How> = Some(How::BudgetRefused);
 const FULL: Option<How> = Some(How::Broken(RunFault::JournalFull));
 
 // Asserts what is left of each job, and how many tickets were given in how many windows.
-fn leaves<R>(
-    rt: &R,
-    text: &str,
-    quota: (u64, u64, u64, u64),
-    ends: &[Left],
-    total: (u64, usize),
-) -> Result<(), Fail>
+fn leaves<R>(rt: &R, text: &str, quota: (u64, u64, u64, u64), ends: &[Left], total: (u64, usize))
 where
     R: Wait + RandomSource + AllocGlobal + Abort,
 {
-    let batch = batch_of(rt, text, quota)?;
+    let batch = batch_of(rt, text, quota);
     assert_eq!(rt; (batch.granted, batch.windows), total, "{text}");
     assert_eq!(rt; batch.ends.len(), ends.len(), "{text}");
     for (end, left) in batch.ends.iter().zip(ends) {
@@ -76,5 +69,4 @@ where
         };
         assert_eq!(rt; (end.how(), code, end.granted()), *left, "{text}");
     }
-    Ok(())
 }

@@ -1,9 +1,10 @@
 //! Storms that are worked out by hand. The peer does a call a millisecond and is never away where nothing else is said.
-use sched_plan::{Plan, SharedPlan};
+use sched_plan::{Plan, PlanFault, SharedPlan};
 use sched_storm::{Draws, Parameters, Report, Span, Storm, Totals};
 use sched_time::NoMemory;
 use std::alloc::Global;
 use std::fmt::Write;
+use std::process::Abort;
 use std::test::Fail;
 
 mod peers;
@@ -23,10 +24,28 @@ fn storm_of(rate: u64, together: u64) -> Parameters {
     }
 }
 
-fn played(alloc: Global, parameters: Parameters, plan: Plan) -> Result<Report, Fail> {
+fn played(
+    alloc: Global,
+    parameters: Parameters,
+    plan: Result<Plan, PlanFault>,
+) -> Result<Report, Fail> {
     let storm = Storm::new(parameters).ok_or("out of range")?;
-    let plan = SharedPlan::new(alloc, plan)?;
+    let plan = SharedPlan::new(alloc, plan?)?;
     Ok(storm.play(alloc, plan)?)
+}
+
+// Asserts the lines of a storm's windows: its totals.
+fn plays(
+    rt: &impl Abort,
+    alloc: Global,
+    parameters: Parameters,
+    plan: Result<Plan, PlanFault>,
+    want: &str,
+) -> Result<Totals, Fail> {
+    let report = played(alloc, parameters, plan)?;
+    let found = lines(alloc, &report)?;
+    assert_eq!(rt; found.as_str(), want);
+    Ok(report.totals)
 }
 
 // A line for each window: its first moment, requests, won, retries, succeeded, refused, shed, late and waiting.
@@ -42,9 +61,9 @@ fn lines(alloc: Global, report: &Report) -> Result<String, NoMemory> {
     Ok(text)
 }
 
-// How the requests ended, and the calls and tickets.
-fn endings(totals: &Totals) -> [u64; 7] {
-    [
+// Asserts how the requests ended, and the calls and tickets: the requests, won, lost, denied and open.
+fn ends(rt: &impl Abort, totals: &Totals, want: [u64; 7]) {
+    let found = [
         totals.counts.requests,
         totals.counts.won,
         totals.lost,
@@ -52,10 +71,27 @@ fn endings(totals: &Totals) -> [u64; 7] {
         totals.open,
         totals.calls,
         totals.tickets,
-    ]
+    ];
+    assert_eq!(rt; found, want);
+}
+
+// Asserts the calls for a request, in hundredths, and the most of a window and its first moment.
+fn calls(rt: &impl Abort, totals: &Totals, want: [u64; 3]) {
+    let found = [totals.hundredths, totals.most_calls, totals.most_from];
+    assert_eq!(rt; found, want);
+}
+
+// Asserts the times that 50 and 99 in 100 don't pass, and the longest.
+fn takes(rt: &impl Abort, totals: &Totals, want: [Option<u64>; 3]) {
+    assert_eq!(rt; [totals.p50, totals.p99, totals.slowest], want);
+}
+
+// Asserts from which window on the storm has recovered.
+fn recovers(rt: &impl Abort, totals: &Totals, want: Option<u64>) {
+    assert_eq!(rt; totals.recovered, want);
 }
 
 // A plan of so many retries, each so many milliseconds after the failure.
-fn spaced(alloc: Global, retries: u64, millis: u64) -> Result<Plan, Fail> {
-    Ok(Plan::meet(alloc, Plan::recurs(retries)?, Plan::spaced(millis)?)?)
+fn spaced(alloc: Global, retries: u64, millis: u64) -> Result<Plan, PlanFault> {
+    Plan::meet(alloc, Plan::recurs(retries)?, Plan::spaced(millis)?)
 }

@@ -12,7 +12,6 @@ use std::io;
 use std::process::Abort;
 use std::random::RandomSource;
 use std::sync::Wait;
-use std::test::Fail;
 
 mod system;
 
@@ -109,48 +108,49 @@ where
     block_on(rt, Timed::new(rt.alloc(), task, clock, rng))
 }
 
+// Asserts how a task ended, and the moments and the words of its polls.
+fn assert_ended(rt: &impl Abort, task: &Paced, how: How, polls: &[(u64, [u32; 4])]) {
+    assert_eq!(rt; task.over(), Some(how));
+    assert_eq!(rt; task.ticks.len(), polls.len());
+    for (tick, poll) in task.ticks.iter().zip(polls) {
+        assert_eq!(rt; (tick.now.get(), tick.words), *poll);
+    }
+}
+
 // The words are the first ones that the authors' C program gives for the seed 1, 2, 3, 4.
 #[test]
-fn each_poll_has_the_next_four_words(rt: HostRuntime) -> Result<(), Fail> {
+fn each_poll_has_the_next_four_words(rt: HostRuntime) -> io::Result<()> {
     let seed = [1, 0, 0, 0, 2, 0, 0, 0, 3, 0, 0, 0, 4, 0, 0, 0];
     let rng = Xoshiro128PlusPlus::from_seed(seed);
     let task = Paced::new(rt.alloc(), 2, None);
     let task = finish(&rt, task, VirtualClock::at(moment(&rt, 5)), rng)?;
-    let want = [
-        [641, 1573767, 3222811527, 3517856514],
-        [836907274, 4247214768, 3867114732, 1355841295],
+    let polls = [
+        (5, [641, 1573767, 3222811527, 3517856514]),
+        (5, [836907274, 4247214768, 3867114732, 1355841295]),
     ];
-    assert_eq!(rt; task.ticks.len(), 2);
-    for (tick, words) in task.ticks.iter().zip(want) {
-        assert_eq!(rt; tick.words, words);
-        assert_eq!(rt; tick.now.get(), 5);
-    }
-    assert_eq!(rt; task.over(), Some(How::Won));
+    assert_ended(&rt, &task, How::Won, &polls);
     Ok(())
 }
 
 #[test]
-fn a_task_that_waits_is_polled_at_the_clocks_answer(rt: HostRuntime) -> Result<(), Fail> {
+fn a_task_that_waits_is_polled_at_the_clocks_answer(rt: HostRuntime) -> io::Result<()> {
     let pause = Millis::new(100);
     assert!(rt; pause.is_some());
     let task = Paced::new(rt.alloc(), 3, pause);
     let task = finish(&rt, task, VirtualClock::at(moment(&rt, 7)), MidWords)?;
-    assert_eq!(rt; task.ticks.len(), 3);
-    for (tick, want) in task.ticks.iter().zip([7, 107, 207]) {
-        assert_eq!(rt; tick.now.get(), want);
-        assert_eq!(rt; tick.words, [2147483648; 4]);
-    }
+    let middle = [2147483648; 4];
+    let polls = [(7, middle), (107, middle), (207, middle)];
+    assert_ended(&rt, &task, How::Won, &polls);
     Ok(())
 }
 
 #[test]
-fn what_is_over_is_given_at_its_first_poll(rt: HostRuntime) -> Result<(), Fail> {
+fn what_is_over_is_given_at_its_first_poll(rt: HostRuntime) -> io::Result<()> {
     let mut task = Paced::new(rt.alloc(), 9, None);
     task.cancel();
     let task = finish(&rt, task, VirtualClock::at(moment(&rt, 0)), MidWords)?;
-    assert_eq!(rt; task.over(), Some(How::Cancelled));
-    assert_eq!(rt; task.due(), None);
-    assert_eq!(rt; task.ticks.len(), 0);
+    assert!(rt; task.due().is_none());
+    assert_ended(&rt, &task, How::Cancelled, &[]);
     Ok(())
 }
 
@@ -158,10 +158,10 @@ fn what_is_over_is_given_at_its_first_poll(rt: HostRuntime) -> Result<(), Fail> 
 fn a_virtual_clock_never_goes_back(rt: HostRuntime) {
     let mut clock = VirtualClock::at(moment(&rt, 50));
     assert_eq!(rt; clock.now().get(), 50);
-    assert_eq!(rt; clock.wait_until(moment(&rt, 60)).get(), 60);
-    assert_eq!(rt; clock.now().get(), 60);
-    assert_eq!(rt; clock.wait_until(moment(&rt, 10)).get(), 60);
-    assert_eq!(rt; clock.now().get(), 60);
+    for until in [60, 10] {
+        let woke = clock.wait_until(moment(&rt, until)).get();
+        assert_eq!(rt; (until, woke, clock.now().get()), (until, 60, 60));
+    }
 }
 
 #[test]

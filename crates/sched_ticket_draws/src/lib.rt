@@ -9,8 +9,6 @@ mod draws;
 mod on_budget;
 mod on_quota;
 mod refers;
-#[cfg(test)]
-mod tests;
 mod unlimited;
 
 pub use drawing::Drawing;

@@ -119,6 +119,7 @@ impl Stored {
 mod tests {
     use super::*;
     use sched_time::Millis;
+    use std::process::Abort;
 
     fn tenth_and(reserve: u64) -> Grants {
         Grants::Quota(Terms {
@@ -128,97 +129,80 @@ mod tests {
         })
     }
 
-    // The numbers that a store keeps then, and the range: what it had, what was asked, what comes of it.
-    #[derive(Debug, PartialEq, Drop)]
-    struct Came {
-        window: u64,
-        given: u64,
-        asked: u64,
-        first: u64,
-        tickets: u64,
-    }
-
-    fn leased(had: (u64, u64, u64), grants: Grants, asks: (u64, u64, u64)) -> Option<Came> {
-        let (window, given, asked) = had;
+    // The numbers that a store keeps then, and the range: its first number, and how many.
+    fn leased(had: [u64; 3], grants: Grants, asks: [u64; 3]) -> Option<[u64; 5]> {
+        let [window, given, asked] = had;
         let stored = Stored {
             window,
             given,
             asked,
         };
-        let (window, told, wanted) = asks;
+        let [window, told, wanted] = asks;
         let lease = stored.lease(Ask {
             grants,
             window,
             told,
             wanted,
         })?;
-        Some(Came {
-            window: lease.stored.window,
-            given: lease.stored.given,
-            asked: lease.stored.asked,
-            first: lease.first,
-            tickets: lease.tickets,
-        })
+        let kept = lease.stored;
+        Some([
+            kept.window,
+            kept.given,
+            kept.asked,
+            lease.first,
+            lease.tickets,
+        ])
+    }
+
+    // Asserts what comes of what a store had, and what it is asked: a window, the requests told and the tickets wanted.
+    fn leases(
+        rt: &impl Abort,
+        had: [u64; 3],
+        grants: Grants,
+        asks: [u64; 3],
+        want: Option<[u64; 5]>,
+    ) {
+        assert_eq!(rt; leased(had, grants, asks), want, "had {had:?}");
+    }
+
+    // Asserts how many tickets a window of so many requests may give.
+    fn gives(rt: &impl Abort, grants: Grants, asked: u64, want: u64) {
+        assert_eq!(rt; grants.allows(asked), want, "{asked} asked");
     }
 
     // Ten tickets, by fours: the last range is short, and then there is none.
     #[test]
     fn a_budget_is_leased_to_its_end(rt: HostRuntime) {
         for (before, tickets) in [(0, 4), (4, 4), (8, 2), (10, 0), (11, 0)] {
-            let want = Came {
-                window: 0,
-                given: before + tickets,
-                asked: 0,
-                first: before,
-                tickets,
-            };
-            let found = leased((0, before, 0), Grants::Budget(10), (0, 0, 4));
-            assert_eq!(rt; found, Some(want), "after {before}");
+            let want = Some([0, before + tickets, 0, before, tickets]);
+            leases(&rt, [0, before, 0], Grants::Budget(10), [0, 0, 4], want);
         }
     }
 
     // Two tickets, and one for every ten requests: 25 more are 30, so five in all, of which one was given.
     #[test]
     fn requests_are_told_before_tickets_are_counted(rt: HostRuntime) {
-        let want = Came {
-            window: 7,
-            given: 5,
-            asked: 30,
-            first: 1,
-            tickets: 4,
-        };
-        assert_eq!(rt; leased((7, 1, 5), tenth_and(2), (7, 25, 9)), Some(want));
+        let want = Some([7, 5, 30, 1, 4]);
+        leases(&rt, [7, 1, 5], tenth_and(2), [7, 25, 9], want);
     }
 
     #[test]
     fn a_later_window_begins_anew_and_an_earlier_one_is_lost(rt: HostRuntime) {
-        let want = Came {
-            window: 7,
-            given: 1,
-            asked: 10,
-            first: 0,
-            tickets: 1,
-        };
-        assert_eq!(rt; leased((6, 9, 90), tenth_and(2), (7, 10, 1)), Some(want));
-        assert_eq!(rt; leased((8, 9, 90), tenth_and(2), (7, 10, 1)), None);
+        let want = Some([7, 1, 10, 0, 1]);
+        leases(&rt, [6, 9, 90], tenth_and(2), [7, 10, 1], want);
+        leases(&rt, [8, 9, 90], tenth_and(2), [7, 10, 1], None);
     }
 
     #[test]
     fn numbers_end_where_they_must(rt: HostRuntime) {
-        assert_eq!(rt; tenth_and(2).allows(9), 2);
-        assert_eq!(rt; tenth_and(2).allows(10), 3);
-        assert_eq!(rt; tenth_and(0).allows(u64::MAX), 429496729);
-        assert_eq!(rt; tenth_and(u64::MAX).allows(u64::MAX), 4294967296);
-        assert_eq!(rt; Grants::Budget(u64::MAX).allows(0), u64::MAX);
+        gives(&rt, tenth_and(2), 9, 2);
+        gives(&rt, tenth_and(2), 10, 3);
+        gives(&rt, tenth_and(0), u64::MAX, 429496729);
+        gives(&rt, tenth_and(u64::MAX), u64::MAX, 4294967296);
+        gives(&rt, Grants::Budget(u64::MAX), 0, u64::MAX);
         let most = u64::MAX;
-        let want = Came {
-            window: most,
-            given: most,
-            asked: 4611686018427387903,
-            first: 5,
-            tickets: 18446744073709551610,
-        };
-        let found = leased((most, 5, most), Grants::Budget(most), (most, most, most));
-        assert_eq!(rt; found, Some(want));
+        let want = Some([most, most, 4611686018427387903, 5, 18446744073709551610]);
+        let grants = Grants::Budget(most);
+        leases(&rt, [most, 5, most], grants, [most, most, most], want);
     }
 }

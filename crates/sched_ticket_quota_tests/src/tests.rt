@@ -1,8 +1,10 @@
-//! Quotas at work. The helpers take a quota and a pass of it, so that a test need not look at each answer itself.
+//! Quotas at work. A test lists what its passes do, so that a call is proved once, and not wherever it is made.
 ghost use Rattle.std.specs.Prelude.{◌≡◌, ◌≤◌, IfOk};
 ghost use Rattle.sched_ticket_quota.specs.Held.{IsOf};
 
-use sched_ticket_quota::{Pass, PassesOut, Quota, Refusal, Terms, Usage};
+use sched_ticket_quota::{
+    NotBack, Pass, PassesOut, Quota, QuotaFault, Refusal, Terms, WeightTooLarge,
+};
 use sched_time::{Millis, Moment};
 use std::process::Abort;
 use std::test::Fail;
@@ -15,6 +17,37 @@ mod returns;
 mod threads;
 mod weights;
 mod windows;
+
+/// What a pass does at a moment, and what is to come of it.
+#[derive(Clone, Copy, Debug, PartialEq)]
+enum Act {
+    /// A draw is given this ticket.
+    Draws(u64),
+    /// A draw finds the tickets of the window out, and the next one begins then.
+    IsOut(u64),
+    /// A draw loses its races, as no test wants it.
+    LosesRaces,
+    /// Of so many draws so many are given a ticket.
+    Gives(u64, u64),
+    /// A request is counted.
+    Asks,
+    /// So many requests are counted at once.
+    AsksOf(u64, Result<(), WeightTooLarge>),
+    /// The window, what was asked, given and is left in it, and when the next begins.
+    Sees([u64; 5]),
+    HandsBack(Result<(), NotBack>),
+    /// A reserve and a share are set.
+    Sets(u64, u64, Result<(), QuotaFault>),
+    Splits(Option<QuotaFault>),
+    Counts(u64),
+}
+
+/// Which of two passes acts.
+#[derive(Clone, Copy)]
+enum Who {
+    A,
+    B,
+}
 
 fn at(millis: u64) -> Moment
     requires { millis ≤ 4611686018427387903 }
@@ -33,72 +66,106 @@ fn terms(reserve: u64, share: u64, period: u32) -> Terms {
     }
 }
 
-// Asserts that a draw at this moment is given this ticket.
-fn draws(rt: &impl Abort, quota: &Quota, pass: &mut Pass, millis: u64, ticket: u64)
-    requires of { IsOf quota.now pass.old }
-    requires moment { millis ≤ 4611686018427387903 }
-    ensures { IsOf quota.now pass.new }
-{
-    assert_eq!(rt; pass.draw(quota, at(millis)), Ok(ticket));
+fn refused(refusal: Refusal) -> Act {
+    match refusal {
+        Refusal::WindowOut(next) => Act::IsOut(next.get()),
+        Refusal::RacesLost => Act::LosesRaces,
+    }
 }
 
-// Asserts that a draw at this moment finds the tickets of the window out, and that the next one begins then.
-fn is_out(rt: &impl Abort, quota: &Quota, pass: &mut Pass, millis: u64, next: u64)
-    requires of { IsOf quota.now pass.old }
-    requires moment { millis ≤ 4611686018427387903 }
-    requires next { next ≤ 4611686018427387903 }
+fn drawn(quota: &Quota, pass: &mut Pass, now: Moment) -> Act
+    requires { IsOf quota.now pass.old }
     ensures { IsOf quota.now pass.new }
 {
-    assert_eq!(rt;
-        pass.draw(quota, at(millis)),
-        Err(Refusal::WindowOut(at(next)))
-    );
+    match pass.draw(quota, now) {
+        Ok(ticket) => Act::Draws(ticket),
+        Err(refusal) => refused(refusal),
+    }
 }
 
-// Counts a request at this moment.
-fn asks(quota: &Quota, pass: &mut Pass, millis: u64)
-    requires of { IsOf quota.now pass.old }
-    requires moment { millis ≤ 4611686018427387903 }
+// How many of so many draws at one moment were given a ticket.
+fn draw_times(quota: &Quota, pass: &mut Pass, now: Moment, times: u64) -> u64
+    requires { IsOf quota.now pass.old }
     ensures { IsOf quota.now pass.new }
 {
-    pass.deposit(quota, at(millis));
+    let before = pass.granted();
+    for _ in 0..times {
+        let _ticket = pass.draw(quota, now);
+    }
+    pass.granted().wrapping_sub(before)
 }
 
-// Counts so many requests at once.
-fn asks_of(rt: &impl Abort, quota: &Quota, pass: &mut Pass, millis: u64, weight: u64)
-    requires of { IsOf quota.now pass.old }
-    requires moment { millis ≤ 4611686018427387903 }
+fn seen(quota: &Quota, pass: &mut Pass, now: Moment) -> Act
+    requires { IsOf quota.now pass.old }
     ensures { IsOf quota.now pass.new }
 {
-    assert_eq!(rt; pass.deposit_of(quota, at(millis), weight), Ok(()));
+    let usage = pass.seen(quota, now);
+    Act::Sees([
+        usage.window,
+        usage.asked,
+        usage.given,
+        usage.left,
+        usage.next.get(),
+    ])
 }
 
-// Asserts what is seen at this moment: the window, what was asked, given and is left in it, and when the next begins.
-fn sees(
-    rt: &impl Abort,
-    quota: &Quota,
-    pass: &mut Pass,
-    millis: u64,
-    want: (u64, u64, u64, u64, u64),
-)
-    requires of { IsOf quota.now pass.old }
-    requires moment { millis ≤ 4611686018427387903 }
-    requires next { want.4 ≤ 4611686018427387903 }
+// Does this with the pass: the act as it came out.
+fn acted(quota: &Quota, pass: &mut Pass, now: Moment, act: Act) -> Act
+    requires { IsOf quota.now pass.old }
     ensures { IsOf quota.now pass.new }
 {
-    let (window, asked, given, left, next) = want;
-    let usage = Usage {
-        window,
-        asked,
-        given,
-        left,
-        next: at(next),
-    };
-    assert_eq!(rt; pass.seen(quota, at(millis)), usage);
+    match act {
+        Act::Draws(_) | Act::IsOut(_) | Act::LosesRaces => drawn(quota, pass, now),
+        Act::Gives(times, _) => Act::Gives(times, draw_times(quota, pass, now, times)),
+        Act::Asks => {
+            pass.deposit(quota, now);
+            Act::Asks
+        }
+        Act::AsksOf(weight, _) => Act::AsksOf(weight, pass.deposit_of(quota, now, weight)),
+        Act::Sees(_) => seen(quota, pass, now),
+        Act::HandsBack(_) => Act::HandsBack(pass.hand_back(quota)),
+        Act::Sets(reserve, share, _) => {
+            Act::Sets(reserve, share, pass.set_terms(quota, reserve, share))
+        }
+        Act::Splits(_) => Act::Splits(pass.split(quota).err()),
+        Act::Counts(_) => Act::Counts(pass.granted()),
+    }
 }
 
-fn counts(rt: &impl Abort, pass: &Pass, granted: u64) {
-    assert_eq!(rt; pass.granted(), granted);
+// Asserts what comes of an act at a moment, which stands at this place of a list.
+fn acts_at(rt: &impl Abort, quota: &Quota, pass: &mut Pass, act: (u64, Act), place: usize)
+    requires { IsOf quota.now pass.old }
+    ensures { IsOf quota.now pass.new }
+{
+    let (millis, act) = act;
+    let now = Moment::new(millis).expect(rt, "no moment");
+    assert_eq!(rt; acted(quota, pass, now, act), act, "act {place}");
+}
+
+// Asserts what comes of all these acts, each at its moment.
+fn acts(rt: &impl Abort, quota: &Quota, pass: &mut Pass, all: &[(u64, Act)])
+    requires { IsOf quota.now pass.old }
+    ensures { IsOf quota.now pass.new }
+{
+    'acts: for (place, act) in all.iter().enumerate() {
+        acts_at(rt, quota, pass, *act, place);
+    }
+}
+
+// Asserts what comes of all these acts of two passes, each at its moment.
+fn turns(rt: &impl Abort, quota: &Quota, a: &mut Pass, b: &mut Pass, all: &[(Who, u64, Act)])
+    requires a { IsOf quota.now a.old }
+    requires b { IsOf quota.now b.old }
+    ensures a { IsOf quota.now a.new }
+    ensures b { IsOf quota.now b.new }
+{
+    'turns: for (place, turn) in all.iter().enumerate() {
+        let (who, millis, act) = *turn;
+        match who {
+            Who::A => acts_at(rt, quota, a, (millis, act), place),
+            Who::B => acts_at(rt, quota, b, (millis, act), place),
+        }
+    }
 }
 
 // Asserts that the pass has all parts, with so many tickets.
@@ -106,6 +173,16 @@ fn closes(rt: &impl Abort, quota: Quota, pass: Pass, granted: u64)
     requires { IsOf quota pass }
 {
     assert_eq!(rt; quota.close(pass).ok(), Some(granted));
+}
+
+// Asserts that the two passes have all parts, with so many tickets.
+fn closes_with_both(rt: &impl Abort, quota: Quota, a: Pass, b: Pass, granted: u64)
+    requires a { IsOf quota a }
+    requires b { IsOf quota b }
+{
+    let all = a.join(b, &quota);
+    assert_eq!(rt; all.granted(), granted);
+    closes(rt, quota, all, granted);
 }
 
 // Hands quota and pass back, where another pass is alive or was dropped.
@@ -118,4 +195,44 @@ fn stays_open(rt: &impl Abort, quota: Quota, pass: Pass) -> Result<(Quota, Pass)
     };
     assert_eq!(rt; out, PassesOut);
     Ok((quota, pass))
+}
+
+// A quota of one pass, which does all this and closes it with so many tickets.
+fn alone(
+    rt: &impl Abort,
+    made: Result<(Quota, Pass), QuotaFault>,
+    all: &[(u64, Act)],
+    granted: u64,
+) -> Result<(), Fail>
+    requires { IfOk made (λ r. IsOf r.0 r.1) }
+{
+    let (quota, mut pass) = made?;
+    acts(rt, &quota, &mut pass, all);
+    closes(rt, quota, pass, granted);
+    Ok(())
+}
+
+// A quota of two passes, which do all this and close it with so many tickets.
+fn by_two(
+    rt: &impl Abort,
+    made: Result<(Quota, Pass), QuotaFault>,
+    all: &[(Who, u64, Act)],
+    granted: u64,
+) -> Result<(), Fail>
+    requires { IfOk made (λ r. IsOf r.0 r.1) }
+{
+    let (quota, mut a, mut b) = parted(made)?;
+    turns(rt, &quota, &mut a, &mut b, all);
+    closes_with_both(rt, quota, a, b, granted);
+    Ok(())
+}
+
+// A quota, its first pass and one that is split off.
+fn parted(made: Result<(Quota, Pass), QuotaFault>) -> Result<(Quota, Pass, Pass), Fail>
+    requires { IfOk made (λ r. IsOf r.0 r.1) }
+    ensures { IfOk result (λ r. IsOf r.0 r.1 × IsOf r.0 r.2) }
+{
+    let (quota, mut first) = made?;
+    let second = first.split(&quota)?;
+    Ok((quota, first, second))
 }

@@ -1,4 +1,4 @@
-//! Budgets at work. The helpers take a budget and a pass of it, so that a test need not look at each answer itself.
+//! Budgets at work. A test lists what its passes do, so that a call is proved once, and not wherever it is made.
 ghost use Rattle.std.specs.Prelude.{◌≡◌, IfOk};
 ghost use Rattle.sched_ticket.specs.Held.{IsOf};
 
@@ -10,38 +10,72 @@ mod passes;
 mod threads;
 mod worked;
 
-// Asserts what a draw answers.
-fn draws(rt: &impl Abort, budget: &Budget, pass: &mut Pass, ticket: Option<u64>)
+/// What a pass does, and what is to come of it.
+#[derive(Clone, Copy, Debug, PartialEq)]
+enum Act {
+    Draws(Option<u64>),
+    Raises(u64, Result<u64, TicketFault>),
+    Splits(Option<TicketFault>),
+    Counts(u64),
+}
+
+/// Which of two passes acts.
+#[derive(Clone, Copy)]
+enum Who {
+    A,
+    B,
+}
+
+// Does this with the pass: the act as it came out.
+fn acted(budget: &Budget, pass: &mut Pass, act: Act) -> Act
     requires { IsOf budget.now pass.old }
     ensures { IsOf budget.now pass.new }
 {
-    assert_eq!(rt; pass.draw(budget), ticket);
+    match act {
+        Act::Draws(_) => Act::Draws(pass.draw(budget)),
+        Act::Raises(to, _) => Act::Raises(to, pass.raise(budget, to)),
+        Act::Splits(_) => Act::Splits(pass.split(budget).err()),
+        Act::Counts(_) => Act::Counts(pass.count()),
+    }
 }
 
-// Asserts what raising the limit answers.
-fn raises(
-    rt: &impl Abort,
-    budget: &Budget,
-    pass: &mut Pass,
-    to: u64,
-    limit: Result<u64, TicketFault>,
-)
+// Asserts what comes of the act at this place of a list.
+fn acts_at(rt: &impl Abort, budget: &Budget, pass: &mut Pass, act: Act, place: usize)
     requires { IsOf budget.now pass.old }
     ensures { IsOf budget.now pass.new }
 {
-    assert_eq!(rt; pass.raise(budget, to), limit);
+    assert_eq!(rt; acted(budget, pass, act), act, "act {place}");
 }
 
-// Asserts that no further pass can be split off.
-fn splits_no_more(rt: &impl Abort, budget: &Budget, pass: &mut Pass)
+// Asserts what comes of all these acts.
+fn acts(rt: &impl Abort, budget: &Budget, pass: &mut Pass, all: &[Act])
     requires { IsOf budget.now pass.old }
     ensures { IsOf budget.now pass.new }
 {
-    assert_eq!(rt; pass.split(budget).err(), Some(TicketFault::TooManyPasses));
+    'acts: for (place, act) in all.iter().enumerate() {
+        acts_at(rt, budget, pass, *act, place);
+    }
 }
 
-fn counts(rt: &impl Abort, pass: &Pass, tickets: u64) {
-    assert_eq!(rt; pass.count(), tickets);
+// Asserts what comes of all these acts of two passes.
+fn turns(rt: &impl Abort, budget: &Budget, a: &mut Pass, b: &mut Pass, all: &[(Who, Act)])
+    requires a { IsOf budget.now a.old }
+    requires b { IsOf budget.now b.old }
+    ensures a { IsOf budget.now a.new }
+    ensures b { IsOf budget.now b.new }
+{
+    'turns: for (place, turn) in all.iter().enumerate() {
+        let (who, act) = *turn;
+        match who {
+            Who::A => acts_at(rt, budget, a, act, place),
+            Who::B => acts_at(rt, budget, b, act, place),
+        }
+    }
+}
+
+// Asserts that a budget was not made, since its limit is too large.
+fn is_too_large(rt: &impl Abort, made: Result<(Budget, Pass), TicketFault>) {
+    assert_eq!(rt; made.err(), Some(TicketFault::LimitTooLarge));
 }
 
 // Asserts that the pass stands for all passes, with so many tickets.
@@ -49,6 +83,16 @@ fn closes(rt: &impl Abort, budget: Budget, pass: Pass, tickets: u64)
     requires { IsOf budget pass }
 {
     assert_eq!(rt; budget.close(pass).ok(), Some(tickets));
+}
+
+// Asserts that the two passes stand for all passes, with so many tickets.
+fn closes_with_both(rt: &impl Abort, budget: Budget, a: Pass, b: Pass, tickets: u64)
+    requires a { IsOf budget a }
+    requires b { IsOf budget b }
+{
+    let all = a.join(b, &budget);
+    assert_eq!(rt; all.count(), tickets);
+    closes(rt, budget, all, tickets);
 }
 
 // Hands budget and pass back, where another pass is alive or was dropped.
@@ -61,4 +105,34 @@ fn stays_open(rt: &impl Abort, budget: Budget, pass: Pass) -> Result<(Budget, Pa
     };
     assert_eq!(rt; out, PassesOut);
     Ok((budget, pass))
+}
+
+// A budget of one pass, which does all this and closes it with so many tickets.
+fn alone(
+    rt: &impl Abort,
+    made: Result<(Budget, Pass), TicketFault>,
+    all: &[Act],
+    tickets: u64,
+) -> Result<(), Fail>
+    requires { IfOk made (λ r. IsOf r.0 r.1) }
+{
+    let (budget, mut pass) = made?;
+    acts(rt, &budget, &mut pass, all);
+    closes(rt, budget, pass, tickets);
+    Ok(())
+}
+
+// A budget, its first pass, which does all this, and another that is then split off.
+fn parted(
+    rt: &impl Abort,
+    made: Result<(Budget, Pass), TicketFault>,
+    before: &[Act],
+) -> Result<(Budget, Pass, Pass), Fail>
+    requires { IfOk made (λ r. IsOf r.0 r.1) }
+    ensures { IfOk result (λ r. IsOf r.0 r.1 × IsOf r.0 r.2) }
+{
+    let (budget, mut first) = made?;
+    acts(rt, &budget, &mut first, before);
+    let second = first.split(&budget)?;
+    Ok((budget, first, second))
 }

@@ -1,9 +1,8 @@
 //! What plans and jobs are.
 use super::tells;
-use std::test::Fail;
 
 #[test]
-fn plans_are_told_by_their_nodes_depth_and_bound(rt: HostRuntime) -> Result<(), Fail> {
+fn plans_are_told_by_their_nodes_depth_and_bound(rt: HostRuntime) {
     let table = [
         (r#""forever""#, "plan: 1 node, depth 1\n"),
         (
@@ -60,13 +59,12 @@ fn plans_are_told_by_their_nodes_depth_and_bound(rt: HostRuntime) -> Result<(), 
         ),
     ];
     for (text, line) in &table {
-        tells(&rt, rt.alloc(), text, line, Ok(()))?;
+        tells(&rt, rt.alloc(), text, line, Ok(()));
     }
-    Ok(())
 }
 
 #[test]
-fn jobs_are_told_by_their_number_and_that_of_their_runs(rt: HostRuntime) -> Result<(), Fail> {
+fn jobs_are_told_by_their_number_and_that_of_their_runs(rt: HostRuntime) {
     let table = [
         ("[]", "jobs: 0 jobs, 0 runs\n"),
         (
@@ -79,7 +77,6 @@ fn jobs_are_told_by_their_number_and_that_of_their_runs(rt: HostRuntime) -> Resu
         ),
     ];
     for (text, line) in &table {
-        tells(&rt, rt.alloc(), text, line, Ok(()))?;
+        tells(&rt, rt.alloc(), text, line, Ok(()));
     }
-    Ok(())
 }

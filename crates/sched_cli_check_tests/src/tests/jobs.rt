@@ -1,30 +1,16 @@
 //! Faults of jobs with their places.
-use super::{refuses, tells};
+use super::{finds, refuses, repeated, tells};
 use sched_cli_check::jobs_fault;
 use sched_cli_plan::PrintFault;
-use std::alloc::{AllocError, Global};
-use std::test::Fail;
+use std::alloc::Global;
+use std::process::Abort;
 
 const JOB: &str = r#"a job is {"plan":PLAN,"runs":[RUN,..]}"#;
 
 const RUN: &str = r#"a run is {"won":CODE} or {"lost":CODE}, CODE from 0 to 4611686018427387903"#;
 
-// The text of an array that has the same item so many times.
-fn array_of(alloc: Global, item: &str, times: u64) -> Result<String, AllocError> {
-    let mut text = String::from_str(alloc, "[")?;
-    for at in 0..times {
-        if at > 0 {
-            text.push_str(",")?;
-        }
-        text.push_str(item)?;
-    }
-    text.push_str("]")?;
-    Ok(text)
-}
-
 #[test]
-fn jobs_and_runs_that_have_not_their_form(rt: HostRuntime) -> Result<(), Fail> {
-    let alloc = rt.alloc();
+fn jobs_that_have_not_their_form(rt: HostRuntime) {
     let table = [
         ("[7]", "[0]", "7"),
         (r#"[{"plan":"forever","runs":[{"won":1}]},{}]"#, "[1]", "{}"),
@@ -40,10 +26,11 @@ fn jobs_and_runs_that_have_not_their_form(rt: HostRuntime) -> Result<(), Fail> {
             r#"{"plan":"forever","runs":{"won":1}}"#,
         ),
     ];
-    for (text, place, found) in &table {
-        let line = format!(in alloc; "{place}: {JOB}; found {found}\n")?;
-        tells(&rt, alloc, text, line.as_str(), Err(PrintFault::NotAPlan))?;
-    }
+    finds(&rt, rt.alloc(), JOB, &table);
+}
+
+#[test]
+fn runs_that_have_not_their_form(rt: HostRuntime) {
     let table = [
         (
             r#"[{"plan":7,"runs":[{"won":1},{"lost":1,"won":1}]}]"#,
@@ -61,35 +48,40 @@ fn jobs_and_runs_that_have_not_their_form(rt: HostRuntime) -> Result<(), Fail> {
             r#"{"lost":-1}"#,
         ),
     ];
-    for (text, place, found) in &table {
-        let line = format!(in alloc; "{place}: {RUN}; found {found}\n")?;
-        tells(&rt, alloc, text, line.as_str(), Err(PrintFault::NotAPlan))?;
-    }
-    Ok(())
+    finds(&rt, rt.alloc(), RUN, &table);
 }
 
 #[test]
-fn numbers_of_jobs_and_runs_and_codes_out_of_range(rt: HostRuntime) -> Result<(), Fail> {
+fn numbers_of_jobs_and_runs_out_of_range(rt: HostRuntime) {
     let alloc = rt.alloc();
-    let fault = PrintFault::OutOfRange;
-    let many = array_of(alloc, "7", 4097)?;
+    let fault = Err(PrintFault::OutOfRange);
+    let many = repeated(&rt, alloc, "[", "7,", 4096, "7]");
     let line = "top: at most 4096 jobs are wanted, 4097 found\n";
-    tells(&rt, alloc, many.as_str(), line, Err(fault))?;
-    let runs = array_of(alloc, "7", 65)?;
-    let text = format!(in alloc; "[{{\"plan\":7,\"runs\":{runs}}}]")?;
+    tells(&rt, alloc, &many, line, fault);
+    let text = repeated(&rt, alloc, r#"[{"plan":7,"runs":["#, "7,", 64, "7]}]");
     let line = "[0].runs: 1 to 64 runs are wanted, 65 found\n";
-    tells(&rt, alloc, text.as_str(), line, Err(fault))?;
-    let good = r#"{"plan":"forever","runs":[{"won":1}]}"#;
-    let text = format!(in alloc; "[{good},{good},{good},{{\"plan\":7,\"runs\":[]}}]")?;
-    let line = "[3].runs: 1 to 64 runs are wanted, 0 found\n";
-    tells(&rt, alloc, text.as_str(), line, Err(fault))?;
-    let text = r#"[{"plan":7,"runs":[{"lost":0},{"lost":1},{"won":4611686018427387904},7]}]"#;
-    let line = format!(in alloc; "[0].runs[2]: {RUN}; found {{\"won\":4611686018427387904}}\n")?;
-    tells(&rt, alloc, text, line.as_str(), Err(fault))
+    tells(&rt, alloc, &text, line, fault);
 }
 
 #[test]
-fn a_job_s_plan_has_its_place_in_the_job(rt: HostRuntime) -> Result<(), Fail> {
+fn a_job_without_a_run_and_a_code_out_of_range(rt: HostRuntime) {
+    let table = [
+        (
+            r#"[{"plan":"forever","runs":[{"won":1}]},{"plan":"forever","runs":[{"won":1}]},
+                {"plan":"forever","runs":[{"won":1}]},{"plan":7,"runs":[]}]"#,
+            "[3].runs: 1 to 64 runs are wanted, 0 found\n",
+        ),
+        (
+            r#"[{"plan":7,"runs":[{"lost":0},{"lost":1},{"won":4611686018427387904},7]}]"#,
+            "[0].runs[2]: a run is {\"won\":CODE} or {\"lost\":CODE}, CODE from 0 to 4611686018427387903; \
+                found {\"won\":4611686018427387904}\n",
+        ),
+    ];
+    refuses(&rt, rt.alloc(), &table, PrintFault::OutOfRange);
+}
+
+#[test]
+fn a_job_s_plan_has_its_place_in_the_job(rt: HostRuntime) {
     let alloc = rt.alloc();
     let table = [
         (
@@ -102,17 +94,27 @@ fn a_job_s_plan_has_its_place_in_the_job(rt: HostRuntime) -> Result<(), Fail> {
             "[1].plan.meet[1]: no node is called \"fibonaci\"; did you mean \"fibonacci\"?\n",
         ),
     ];
-    refuses(&rt, alloc, &table, PrintFault::NotAPlan)?;
+    refuses(&rt, alloc, &table, PrintFault::NotAPlan);
     let table = [(
         r#"[{"plan":{"first":{"fixed":0}},"runs":[{"won":1}]}]"#,
         "[0].plan.first: \"fixed\" is spelt {\"fixed\":D}, D from 1 to 4611686018427387903; \
             found {\"fixed\":0}\n",
     )];
-    refuses(&rt, alloc, &table, PrintFault::OutOfRange)
+    refuses(&rt, alloc, &table, PrintFault::OutOfRange);
+}
+
+// Asserts the fault of a text that should be jobs, or no text where it has none.
+fn is_fault(rt: &impl Abort, alloc: Global, text: &str, wanted: &str) {
+    let fault = jobs_fault(alloc, text.as_bytes()).expect(rt, "there is memory");
+    let said = match &fault {
+        Some(fault) => fault.text(alloc).expect(rt, "there is memory"),
+        None => String::new(alloc),
+    };
+    assert_eq!(rt; said.as_str(), wanted, "{text}");
 }
 
 #[test]
-fn the_fault_of_a_text_that_should_be_jobs(rt: HostRuntime) -> Result<(), Fail> {
+fn the_fault_of_a_text_that_should_be_jobs(rt: HostRuntime) {
     let alloc = rt.alloc();
     let table = [
         (r#"[{"plan":"forever","runs":[{"won":1}]}]"#, ""),
@@ -127,11 +129,6 @@ fn the_fault_of_a_text_that_should_be_jobs(rt: HostRuntime) -> Result<(), Fail> 
         ),
     ];
     for (text, wanted) in &table {
-        let mut said = String::new(alloc);
-        if let Some(fault) = jobs_fault(alloc, text.as_bytes())? {
-            said = fault.text(alloc)?;
-        }
-        assert_eq!(rt; said.as_str(), *wanted, "{text}");
+        is_fault(&rt, alloc, text, wanted);
     }
-    Ok(())
 }

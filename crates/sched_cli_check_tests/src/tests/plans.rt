@@ -1,31 +1,11 @@
 //! Faults of plans with their places.
-use super::{refuses, tells};
+use super::{finds, refuses, repeated, tells};
 use sched_cli_plan::PrintFault;
-use std::alloc::{AllocError, Global};
-use std::test::Fail;
-
-// The text so many levels deep below nodes of this name, each over one plan.
-fn under(alloc: Global, name: &str, times: u64, last: &str) -> Result<String, AllocError> {
-    let mut text = String::new(alloc);
-    for _ in 0..times {
-        text.push_str("{\"")?;
-        text.push_str(name)?;
-        text.push_str("\":")?;
-    }
-    text.push_str(last)?;
-    for _ in 0..times {
-        text.push_str("}")?;
-    }
-    Ok(text)
-}
-
-// A plan that has the same plan twice.
-fn twice(alloc: Global, plan: &str) -> Result<String, AllocError> {
-    format!(in alloc; "{{\"meet\":[{plan},{plan}]}}")
-}
+use std::alloc::Global;
+use std::process::Abort;
 
 #[test]
-fn values_that_are_no_node(rt: HostRuntime) -> Result<(), Fail> {
+fn values_that_are_no_node(rt: HostRuntime) {
     let table = [
         (
             "7",
@@ -48,11 +28,11 @@ fn values_that_are_no_node(rt: HostRuntime) -> Result<(), Fail> {
             "follow[1].add_out: a plan is a string or an object of one member; found [\"forever\"]\n",
         ),
     ];
-    refuses(&rt, rt.alloc(), &table, PrintFault::NotAPlan)
+    refuses(&rt, rt.alloc(), &table, PrintFault::NotAPlan);
 }
 
 #[test]
-fn names_that_no_node_has(rt: HostRuntime) -> Result<(), Fail> {
+fn names_that_no_node_has(rt: HostRuntime) {
     let table = [
         (
             r#"{"meet":[{"recurs":1},{"cap":[1,{"exponental":[100,2]}]}]}"#,
@@ -81,76 +61,65 @@ fn names_that_no_node_has(rt: HostRuntime) -> Result<(), Fail> {
             "top: no node is called \"Recurs\"; did you mean \"recurs\"?\n",
         ),
     ];
-    refuses(&rt, rt.alloc(), &table, PrintFault::NotAPlan)
+    refuses(&rt, rt.alloc(), &table, PrintFault::NotAPlan);
 }
 
 #[test]
-fn nodes_that_have_not_their_own_form(rt: HostRuntime) -> Result<(), Fail> {
-    let alloc = rt.alloc();
+fn nodes_that_have_not_their_own_form(rt: HostRuntime) {
     let table = [
         (
             r#"{"recurs":-1}"#,
-            "top",
-            r#""recurs" is spelt {"recurs":N}, N from 0 to 4611686018427387903; found {"recurs":-1}"#,
+            "top: \"recurs\" is spelt {\"recurs\":N}, N from 0 to 4611686018427387903; found {\"recurs\":-1}\n",
         ),
         (
             r#"{"first":{"recurs":1.5}}"#,
-            "first",
-            r#""recurs" is spelt {"recurs":N}, N from 0 to 4611686018427387903; found {"recurs":1.5}"#,
+            "first: \"recurs\" is spelt {\"recurs\":N}, N from 0 to 4611686018427387903; found {\"recurs\":1.5}\n",
         ),
         (
             r#"{"forever":1}"#,
-            "top",
-            r#""forever" is spelt "forever"; found {"forever":1}"#,
+            "top: \"forever\" is spelt \"forever\"; found {\"forever\":1}\n",
         ),
         (
             r#""lone""#,
-            "top",
-            r#""lone" is spelt {"lone":D}, D from 0 to 4611686018427387903; found "lone""#,
+            "top: \"lone\" is spelt {\"lone\":D}, D from 0 to 4611686018427387903; found \"lone\"\n",
         ),
         (
             r#"{"exponential":[1]}"#,
-            "top",
-            "\"exponential\" is spelt {\"exponential\":[D,F]}, D from 0 to 4611686018427387903, \
-                F from 1 to 1000; found {\"exponential\":[1]}",
+            "top: \"exponential\" is spelt {\"exponential\":[D,F]}, D from 0 to 4611686018427387903, \
+                F from 1 to 1000; found {\"exponential\":[1]}\n",
         ),
         (
             r#"{"meet":[{"fixed":0},"forever","forever"]}"#,
-            "top",
-            r#""meet" is spelt {"meet":[PLAN,PLAN]}; found {"meet":[{"fixed":0},"forever","forever"]}"#,
+            "top: \"meet\" is spelt {\"meet\":[PLAN,PLAN]}; \
+                found {\"meet\":[{\"fixed\":0},\"forever\",\"forever\"]}\n",
         ),
         (
             r#"{"join":["forever",{"add":["1",{"fixed":0}]}]}"#,
-            "join[1]",
-            r#""add" is spelt {"add":[D,PLAN]}, D from 0 to 4611686018427387903; found {"add":["1",{"fixed":0}]}"#,
+            "join[1]: \"add\" is spelt {\"add\":[D,PLAN]}, D from 0 to 4611686018427387903; \
+                found {\"add\":[\"1\",{\"fixed\":0}]}\n",
         ),
         (
             r#"{"jitter":[0,800,1200,{"jitter":[0,-1,2,{"fixed":0}]}]}"#,
-            "jitter[3]",
-            "\"jitter\" is spelt {\"jitter\":[LANE,LEAST,MOST,PLAN]}, LANE from 0 to 3, \
-                LEAST at most MOST, MOST at most 10000; found {\"jitter\":[0,-1,2,{\"fixed\":0}]}",
+            "jitter[3]: \"jitter\" is spelt {\"jitter\":[LANE,LEAST,MOST,PLAN]}, LANE from 0 to 3, \
+                LEAST at most MOST, MOST at most 10000; found {\"jitter\":[0,-1,2,{\"fixed\":0}]}\n",
         ),
         (
             r#"{"second":{"gate":["input",true,"below",1,{"gather":["min","forever"]}]}}"#,
-            "second.gate[4]",
-            "\"gather\" is spelt {\"gather\":[KIND,PLAN]}, KIND \"sum\", \"count\", \"max\" or \"list\"; \
-                found {\"gather\":[\"min\",\"forever\"]}",
+            "second.gate[4]: \"gather\" is spelt {\"gather\":[KIND,PLAN]}, \
+                KIND \"sum\", \"count\", \"max\" or \"list\"; found {\"gather\":[\"min\",\"forever\"]}\n",
+        ),
+        (
+            r#"{"gate":["input",true,"above",1,"forever"]}"#,
+            "top: \"gate\" is spelt {\"gate\":[SIDE,WANT,TEST,N,PLAN]}, SIDE \"input\" or \"output\", \
+                WANT true or false, TEST \"below\", \"at_least\" or \"equal\", N from 0 to 4611686018427387903; \
+                found {\"gate\":[\"input\",true,\"above\",1,\"forever\"]}\n",
         ),
     ];
-    for (text, place, hint) in &table {
-        let line = format!(in alloc; "{place}: {hint}\n")?;
-        tells(&rt, alloc, text, line.as_str(), Err(PrintFault::NotAPlan))?;
-    }
-    let text = r#"{"gate":["input",true,"above",1,"forever"]}"#;
-    let line =
-        "top: \"gate\" is spelt {\"gate\":[SIDE,WANT,TEST,N,PLAN]}, SIDE \"input\" or \"output\", \
-        WANT true or false, TEST \"below\", \"at_least\" or \"equal\", N from 0 to 4611686018427387903; \
-        found {\"gate\":[\"input\",true,\"above\",1,\"forever\"]}\n";
-    tells(&rt, alloc, text, line, Err(PrintFault::NotAPlan))
+    refuses(&rt, rt.alloc(), &table, PrintFault::NotAPlan);
 }
 
 #[test]
-fn numbers_out_of_their_ranges(rt: HostRuntime) -> Result<(), Fail> {
+fn numbers_out_of_their_ranges(rt: HostRuntime) {
     let table = [
         (
             r#"{"nothing":{"windowed":0}}"#,
@@ -187,11 +156,11 @@ fn numbers_out_of_their_ranges(rt: HostRuntime) -> Result<(), Fail> {
                 {\"linear\":4611686018427387904}\n",
         ),
     ];
-    refuses(&rt, rt.alloc(), &table, PrintFault::OutOfRange)
+    refuses(&rt, rt.alloc(), &table, PrintFault::OutOfRange);
 }
 
 #[test]
-fn the_first_fault_from_the_left_and_the_innermost_is_told(rt: HostRuntime) -> Result<(), Fail> {
+fn the_first_fault_from_the_left_and_the_innermost_is_told(rt: HostRuntime) {
     let alloc = rt.alloc();
     let table = [
         (
@@ -207,60 +176,61 @@ fn the_first_fault_from_the_left_and_the_innermost_is_told(rt: HostRuntime) -> R
             "meet[0]: a plan is a string or an object of one member; found 7\n",
         ),
     ];
-    refuses(&rt, alloc, &table, PrintFault::NotAPlan)
-}
-
-// What was found below the node `first`, and how it is told.
-const FOUND: [(&str, &str); 3] = [
-    (
-        r#"["0123456789012345678901234567890123456789012345678901234567"]"#,
-        r#"["0123456789012345678901234567890123456789012345678901234567.."#,
-    ),
-    (
-        r#"["0123456789012345678901234567890123456789012345678901234é"]"#,
-        r#"["0123456789012345678901234567890123456789012345678901234é"]"#,
-    ),
-    (
-        r#"[{"b":1 , "a" : [ 1.50, "\u0007" ]}]"#,
-        r#"[{"a":[1.5,"\u0007"],"b":1}]"#,
-    ),
-];
-
-#[test]
-fn of_what_was_found_the_first_sixty_letters_are_told(rt: HostRuntime) -> Result<(), Fail> {
-    let alloc = rt.alloc();
-    for (found, shown) in &FOUND {
-        let text = format!(in alloc; "{{\"first\":{found}}}")?;
-        let line = format!(in alloc;
-            "first: a plan is a string or an object of one member; found {shown}\n"
-        )?;
-        tells(
-            &rt,
-            alloc,
-            text.as_str(),
-            line.as_str(),
-            Err(PrintFault::NotAPlan),
-        )?;
-    }
-    Ok(())
+    refuses(&rt, alloc, &table, PrintFault::NotAPlan);
 }
 
 #[test]
-fn plans_that_are_too_deep_or_have_too_many_nodes(rt: HostRuntime) -> Result<(), Fail> {
+fn of_what_was_found_the_first_sixty_letters_are_told(rt: HostRuntime) {
+    let table = [
+        (
+            r#"{"first":["0123456789012345678901234567890123456789012345678901234567"]}"#,
+            "first",
+            r#"["0123456789012345678901234567890123456789012345678901234567.."#,
+        ),
+        (
+            r#"{"first":["0123456789012345678901234567890123456789012345678901234é"]}"#,
+            "first",
+            r#"["0123456789012345678901234567890123456789012345678901234é"]"#,
+        ),
+        (
+            r#"{"first":[{"b":1 , "a" : [ 1.50, "\u0007" ]}]}"#,
+            "first",
+            r#"[{"a":[1.5,"\u0007"],"b":1}]"#,
+        ),
+    ];
+    let wanted = "a plan is a string or an object of one member";
+    finds(&rt, rt.alloc(), wanted, &table);
+}
+
+#[test]
+fn plans_that_are_too_deep(rt: HostRuntime) {
     let alloc = rt.alloc();
-    let deep = under(alloc, "nothing", 32, "\"forever\"")?;
+    let end = repeated(&rt, alloc, "\"forever\"", "}", 32, "");
+    let deep = repeated(&rt, alloc, "", "{\"nothing\":", 32, &end);
     let line = "top: a plan is at most 32 deep\n";
-    tells(&rt, alloc, deep.as_str(), line, Err(PrintFault::TooDeep))?;
-    let deeper = under(alloc, "first", 34, "\"forever\"")?;
+    tells(&rt, alloc, &deep, line, Err(PrintFault::TooDeep));
+    let end = repeated(&rt, alloc, "\"forever\"", "}", 34, "");
+    let deeper = repeated(&rt, alloc, "", "{\"first\":", 34, &end);
     let line = "first.first: a plan is at most 32 deep\n";
-    tells(&rt, alloc, deeper.as_str(), line, Err(PrintFault::TooDeep))?;
-    let mut wide = String::from_str(alloc, "\"forever\"")?;
-    for _ in 0..8 {
-        wide = twice(alloc, wide.as_str())?;
+    tells(&rt, alloc, &deeper, line, Err(PrintFault::TooDeep));
+}
+
+// A plan that has the same plan twice.
+fn twice(rt: &impl Abort, alloc: Global, plan: &str) -> String {
+    let text = format!(in alloc; "{{\"meet\":[{plan},{plan}]}}");
+    text.expect(rt, "there is memory")
+}
+
+#[test]
+fn plans_that_have_too_many_nodes(rt: HostRuntime) {
+    let alloc = rt.alloc();
+    let mut wide = twice(&rt, alloc, "\"forever\"");
+    for _ in 1..8 {
+        wide = twice(&rt, alloc, &wide);
     }
     let line = "top: a plan has at most 256 nodes\n";
-    tells(&rt, alloc, wide.as_str(), line, Err(PrintFault::TooMany))?;
-    let text = format!(in alloc; "{{\"cap\":[9,{wide}]}}")?;
+    tells(&rt, alloc, &wide, line, Err(PrintFault::TooMany));
+    let text = repeated(&rt, alloc, "{\"cap\":[9,", &wide, 1, "]}");
     let line = "cap[1]: a plan has at most 256 nodes\n";
-    tells(&rt, alloc, text.as_str(), line, Err(PrintFault::TooMany))
+    tells(&rt, alloc, &text, line, Err(PrintFault::TooMany));
 }

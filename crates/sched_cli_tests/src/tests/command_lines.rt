@@ -1,16 +1,34 @@
+//! Command lines, and what they ask for.
+use super::read;
 use sched_cli::{Asked, PlanOptions, WordsFault, read_words};
 use std::alloc::Global;
 use std::process::Abort;
-use std::test::Fail;
 
-// What is read of a command line, whose words stand with a space between each two.
-fn read(alloc: Global, line: &str) -> Result<Asked, WordsFault> {
-    let words: Vec<&str> = line.split(' ').collect(alloc)?;
-    read_words(alloc, words.as_slice())
-}
+const LAST: u64 = 4611686018427387903;
 
-// The options in the order steps, from, took, input, word.
-fn numbers(options: &PlanOptions) -> (u64, u64, u64, u64, u32) {
+// The options of a plan in the order steps, from, took, input, word.
+type PlanNumbers = (u64, u64, u64, u64, u32);
+
+// Command lines that ask for a plan, and its options: by default, each with its own value, at the ends of its range.
+const PLANS: [(&str, PlanNumbers); 5] = [
+    ("zsched plan", (10, 0, 0, 0, 2147483648)),
+    ("zsched plan --steps 0", (0, 0, 0, 0, 2147483648)),
+    (
+        "zsched plan --word 5 --input 4 --took=3 --from 2 --steps 1",
+        (1, 2, 3, 4, 5),
+    ),
+    (
+        "zsched plan --steps 4096 --from 4611686018427387903 --took 4611686018427387903 \
+            --input 4611686018427387903 --word 4294967295",
+        (4096, LAST, LAST, LAST, 4294967295),
+    ),
+    (
+        "zsched plan --steps 0 --from 0 --took 0 --input 0 --word 0",
+        (0, 0, 0, 0, 0),
+    ),
+];
+
+fn numbers(options: &PlanOptions) -> PlanNumbers {
     (
         options.steps,
         options.from.get(),
@@ -20,115 +38,103 @@ fn numbers(options: &PlanOptions) -> (u64, u64, u64, u64, u32) {
     )
 }
 
-// The numbers of the plan that the command line asks for.
-fn plan_of(alloc: Global, line: &str) -> Result<(u64, u64, u64, u64, u32), Fail> {
-    let asked = read(alloc, line)?;
-    match &asked {
-        Asked::Plan(options, _) => Ok(numbers(options)),
-        _ => Err(Fail::from("another task was asked for")),
+fn is_plan(rt: &impl Abort, alloc: Global, line: &str, want: PlanNumbers) {
+    let asked = read(alloc, line);
+    let Ok(Asked::Plan(options, _)) = &asked else {
+        panic!(rt; "{line}");
+    };
+    assert_eq!(rt; numbers(options), want, "{line}");
+}
+
+#[test]
+fn the_options_of_a_plan_are_read(rt: HostRuntime) {
+    for (line, want) in &PLANS {
+        is_plan(&rt, rt.alloc(), line, *want);
     }
 }
 
-fn is_plan(
-    rt: &impl Abort,
-    alloc: Global,
-    line: &str,
-    want: (u64, u64, u64, u64, u32),
-) -> Result<(), Fail> {
-    assert_eq!(rt; plan_of(alloc, line)?, want, "{line}");
-    Ok(())
-}
+// Command lines that ask for a pool, and its options in the order workers, budget, turns: by default, each with its own
+// value, and at the ends of its range.
+const POOLS: [(&str, (u64, u64, u64)); 5] = [
+    ("zsched pool", (1, 100, 1000000)),
+    ("zsched pool --workers 2", (2, 100, 1000000)),
+    ("zsched pool --turns 3 --budget=2 --workers 1", (1, 2, 3)),
+    (
+        "zsched pool --workers 16 --budget 4294967296 --turns 4294967296",
+        (16, 4294967296, 4294967296),
+    ),
+    ("zsched pool --budget 0 --turns 0", (1, 0, 0)),
+];
 
-// The options of a pool in the order workers, budget, turns.
-fn is_pool(rt: &impl Abort, alloc: Global, line: &str, want: (u64, u64, u64)) -> Result<(), Fail> {
-    let Asked::Pool(options, _) = read(alloc, line)? else {
-        return Err(Fail::from("another task was asked for"));
+fn is_pool(rt: &impl Abort, alloc: Global, line: &str, want: (u64, u64, u64)) {
+    let asked = read(alloc, line);
+    let Ok(Asked::Pool(options, _)) = &asked else {
+        panic!(rt; "{line}");
     };
     let numbers = (options.workers, options.budget, options.turns);
     assert_eq!(rt; numbers, want, "{line}");
-    Ok(())
 }
 
-fn is_bad(rt: &impl Abort, alloc: Global, line: &str) {
-    let answer = read(alloc, line);
-    assert!(rt;
-        matches!(answer, Err(WordsFault::Bad(_))),
-        "{line}: {answer:?}"
-    );
-}
-
-// Each name, up to a comma or the end, stands in the help that the command line asks for.
-fn help_has(rt: &impl Abort, alloc: Global, line: &str, names: &str) -> Result<(), Fail> {
-    let Err(WordsFault::Help(text)) = read(alloc, line) else {
-        return Err(Fail::from("no help"));
-    };
-    for name in names.split(',') {
-        assert!(rt; text.as_str().contains(name), "{name} in {text}");
+#[test]
+fn the_options_of_a_pool_are_read(rt: HostRuntime) {
+    for (line, want) in &POOLS {
+        is_pool(&rt, rt.alloc(), line, *want);
     }
-    Ok(())
 }
 
-#[test]
-fn options_have_defaults(rt: HostRuntime) -> Result<(), Fail> {
-    let alloc = rt.alloc();
-    is_plan(&rt, alloc, "zsched plan", (10, 0, 0, 0, 2147483648))?;
-    is_plan(
-        &rt,
-        alloc,
-        "zsched plan --steps 0",
-        (0, 0, 0, 0, 2147483648),
-    )?;
-    Ok(())
-}
+// Bad command lines, with a bar between each two.
+const BAD_TASKS: &str =
+    "zsched|zsched plans|zsched plan --none|zsched --steps 1|zsched plan file file|\
+    zsched plan --version";
 
-#[test]
-fn each_option_has_its_own_value(rt: HostRuntime) -> Result<(), Fail> {
-    let line = "zsched plan --word 5 --input 4 --took=3 --from 2 --steps 1";
-    is_plan(&rt, rt.alloc(), line, (1, 2, 3, 4, 5))
-}
+const BAD_STEPS: &str =
+    "zsched plan --steps|zsched plan --steps 4097|zsched plan --steps -1|zsched plan --steps 1.5|\
+     zsched plan --steps |zsched plan --steps ten|zsched plan --steps 1 --steps 2";
 
-#[test]
-fn the_ends_of_each_range_are_read(rt: HostRuntime) -> Result<(), Fail> {
-    let most = "zsched plan --steps 4096 --from 4611686018427387903 --took 4611686018427387903 \
-        --input 4611686018427387903 --word 4294967295";
-    let last = 4611686018427387903;
-    is_plan(&rt, rt.alloc(), most, (4096, last, last, last, 4294967295))?;
-    let least = "zsched plan --steps 0 --from 0 --took 0 --input 0 --word 0";
-    is_plan(&rt, rt.alloc(), least, (0, 0, 0, 0, 0))
-}
+const BAD_NUMBERS: &str =
+    "zsched plan --from 4611686018427387904|zsched plan --took 4611686018427387904|\
+     zsched plan --input 4611686018427387904|zsched plan --input 18446744073709551616|\
+     zsched plan --word 4294967296|zsched plan --word -1";
 
-#[test]
-fn a_pool_s_options_have_defaults(rt: HostRuntime) -> Result<(), Fail> {
-    let alloc = rt.alloc();
-    is_pool(&rt, alloc, "zsched pool", (1, 100, 1000000))?;
-    is_pool(&rt, alloc, "zsched pool --workers 2", (2, 100, 1000000))?;
-    Ok(())
-}
+const BAD_COURSES: &str =
+    "zsched plan --inputs |zsched plan --inputs 1,,2|zsched plan --inputs 1,4611686018427387904|\
+     zsched plan --inputs 1 --input 1|zsched plan --inputs 1 --inputs 2|zsched plan --words 18446744073709551616|\
+     zsched plan --words 1 --word 2147483648|zsched pool --inputs 1|zsched pool --words 1";
 
-#[test]
-fn each_option_of_a_pool_has_its_own_value(rt: HostRuntime) -> Result<(), Fail> {
-    let line = "zsched pool --turns 3 --budget=2 --workers 1";
-    is_pool(&rt, rt.alloc(), line, (1, 2, 3))
-}
-
-#[test]
-fn the_ends_of_a_pool_s_ranges_are_read(rt: HostRuntime) -> Result<(), Fail> {
-    let most = "zsched pool --workers 16 --budget 4294967296 --turns 4294967296";
-    is_pool(&rt, rt.alloc(), most, (16, 4294967296, 4294967296))?;
-    let least = "zsched pool --budget 0 --turns 0";
-    is_pool(&rt, rt.alloc(), least, (1, 0, 0))
-}
-
-// Command lines, with a bar between each two.
 const BAD_POOLS: &str =
     "zsched plan --workers 1|zsched pool --steps 1|zsched pool --workers 0|zsched pool --workers 17|\
      zsched pool --budget 4294967297|zsched pool --turns 4294967297|zsched pool --turns -1|zsched pool --turns";
 
+const BAD_QUOTAS: &str =
+    "zsched pool --quota 1/2|zsched pool --quota 1/2/300/4|zsched pool --quota 1//300|zsched pool --quota a/2/300|\
+     zsched pool --quota 4294967297/2/300|zsched pool --quota 1/1000001/300|zsched pool --quota 1/2/99|\
+     zsched pool --quota 1/2%/300|zsched pool --quota 1/2/3s|zsched pool --quota 1/0.55%/3s|zsched pool --quota 1/2%/99ms|\
+     zsched pool --quota 1/2/4611686018427387904|zsched pool --quota 1/2/300 --budget 100|\
+     zsched pool --quota 1/2/300 --workers 2|zsched plan --quota 1/2/300";
+
+const BAD: [&str; 6] = [
+    BAD_TASKS,
+    BAD_STEPS,
+    BAD_NUMBERS,
+    BAD_COURSES,
+    BAD_POOLS,
+    BAD_QUOTAS,
+];
+
 #[test]
-fn a_pool_with_a_bad_option_is_a_bad_command_line(rt: HostRuntime) {
-    for line in BAD_POOLS.split('|') {
-        is_bad(&rt, rt.alloc(), line);
+fn a_bad_command_line_is_no_task(rt: HostRuntime) {
+    for lines in BAD {
+        for line in lines.split('|') {
+            let asked = read(rt.alloc(), line);
+            assert!(rt; matches!(asked, Err(WordsFault::Bad(_))), "{line}");
+        }
     }
+}
+
+#[test]
+fn no_word_is_a_bad_command_line(rt: HostRuntime) {
+    let answer = read_words(rt.alloc(), &[]);
+    assert!(rt; matches!(answer, Err(WordsFault::Bad(_))));
 }
 
 // Why a command line is bad, as clap says it, in a line.
@@ -164,58 +170,43 @@ const REASONS: [(&str, &str); 6] = [
 ];
 
 #[test]
-fn a_bad_command_line_says_why(rt: HostRuntime) -> Result<(), Fail> {
+fn a_bad_command_line_says_why(rt: HostRuntime) {
     for (line, why) in &REASONS {
-        match read(rt.alloc(), line) {
-            Err(WordsFault::Bad(said)) => assert_eq!(rt; said.as_str(), *why, "{line}"),
-            answer => assert!(rt; false, "{line}: {answer:?}"),
-        }
-    }
-    Ok(())
-}
-
-const NO_TASKS: &str =
-    "zsched|zsched plans|zsched plan --none|zsched --steps 1|zsched plan file file";
-
-const BAD_STEPS: &str =
-    "zsched plan --steps|zsched plan --steps 4097|zsched plan --steps -1|zsched plan --steps 1.5|\
-     zsched plan --steps |zsched plan --steps ten|zsched plan --steps 1 --steps 2";
-
-const BAD_NUMBERS: &str =
-    "zsched plan --from 4611686018427387904|zsched plan --took 4611686018427387904|\
-     zsched plan --input 4611686018427387904|zsched plan --input 18446744073709551616|\
-     zsched plan --word 4294967296|zsched plan --word -1";
-
-#[test]
-fn what_is_no_task_is_a_bad_command_line(rt: HostRuntime) {
-    for lines in [NO_TASKS, BAD_STEPS, BAD_NUMBERS] {
-        for line in lines.split('|') {
-            is_bad(&rt, rt.alloc(), line);
-        }
+        let asked = read(rt.alloc(), line);
+        let Err(WordsFault::Bad(said)) = &asked else {
+            panic!(rt; "{line}");
+        };
+        assert_eq!(rt; said.as_str(), *why, "{line}");
     }
 }
 
-#[test]
-fn no_word_is_a_bad_command_line(rt: HostRuntime) {
-    let answer = read_words(rt.alloc(), &[]);
-    assert!(rt; matches!(answer, Err(WordsFault::Bad(_))));
-}
-
-#[test]
-fn help_names_the_subcommand_and_each_option(rt: HostRuntime) -> Result<(), Fail> {
-    let alloc = rt.alloc();
-    help_has(&rt, alloc, "zsched --help", "plan,pool,check")?;
-    help_has(
-        &rt,
-        alloc,
+// Command lines that ask for help, and names that stand in it, with a comma between each two.
+const HELPS: [(&str, &str); 3] = [
+    ("zsched --help", "plan,pool,check"),
+    (
         "zsched plan --help",
         "--steps,--from,--took,--input,--word,2147483648,[default: 10]",
-    )?;
-    help_has(
-        &rt,
-        alloc,
+    ),
+    (
         "zsched pool --help",
         "--workers,--budget,--quota,--turns,[default: 1000000]",
-    )?;
-    Ok(())
+    ),
+];
+
+// Each of the names stands in the help that the command line asks for.
+fn help_has(rt: &impl Abort, alloc: Global, line: &str, names: &str) {
+    let asked = read(alloc, line);
+    let Err(WordsFault::Help(text)) = &asked else {
+        panic!(rt; "{line}");
+    };
+    for name in names.split(',') {
+        assert!(rt; text.as_str().contains(name), "{name} in {text}");
+    }
+}
+
+#[test]
+fn help_names_the_subcommand_and_each_option(rt: HostRuntime) {
+    for (line, names) in &HELPS {
+        help_has(&rt, rt.alloc(), line, names);
+    }
 }

@@ -1,25 +1,21 @@
+use super::is_told;
 use sched_cli::{PoolFault, PrintFault, WordsFault};
-use std::alloc::{AllocError, Global};
+use std::alloc::Global;
 use std::process::Abort;
-use std::test::Fail;
+
+fn tells(rt: &impl Abort, alloc: Global, fault: &WordsFault, line: &str, status: u8) {
+    is_told(rt, fault.to_string(alloc), fault.status(), (line, status));
+}
 
 #[test]
-fn each_fault_of_a_command_line_has_its_line_and_status(rt: HostRuntime) -> Result<(), Fail> {
-    let help = String::from_str(rt.alloc(), "Usage: zsched plan\n")?;
-    let table = [
-        (
-            WordsFault::bad(rt.alloc(), "why"),
-            "zsched: bad command line\nwhy",
-            2u8,
-        ),
-        (WordsFault::Help(help), "Usage: zsched plan\n", 0),
-        (WordsFault::NoMemory, "zsched: no memory", 5),
-    ];
-    for (fault, line, status) in table {
-        assert_eq!(rt; fault.to_string(rt.alloc())?.as_str(), line);
-        assert_eq!(rt; fault.status(), status, "{line}");
-    }
-    Ok(())
+fn each_fault_of_a_command_line_has_its_line_and_status(rt: HostRuntime) {
+    let alloc = rt.alloc();
+    let bad = WordsFault::bad(alloc, "why");
+    tells(&rt, alloc, &bad, "zsched: bad command line\nwhy", 2);
+    let usage = "Usage: zsched plan\n";
+    let help = String::from_str(alloc, usage).expect(&rt, "there is memory");
+    tells(&rt, alloc, &WordsFault::Help(help), usage, 0);
+    tells(&rt, alloc, &WordsFault::NoMemory, "zsched: no memory", 5);
 }
 
 // Each fault of printing a pool, its line and its status.
@@ -67,22 +63,13 @@ const FAULTS: [(PoolFault, &str, u8); 12] = [
 ];
 
 #[test]
-fn each_fault_of_printing_a_pool_has_its_line_and_status(
-    rt: HostRuntime,
-) -> Result<(), AllocError> {
+fn each_fault_of_printing_a_pool_has_its_line_and_status(rt: HostRuntime) {
     for (fault, line, status) in &FAULTS {
-        assert_told(&rt, rt.alloc(), *fault, (line, *status))?;
+        is_told(
+            &rt,
+            fault.to_string(rt.alloc()),
+            fault.status(),
+            (line, *status),
+        );
     }
-    Ok(())
-}
-
-fn assert_told(
-    rt: &impl Abort,
-    alloc: Global,
-    fault: PoolFault,
-    told: (&str, u8),
-) -> Result<(), AllocError> {
-    let line = fault.to_string(alloc)?;
-    assert_eq!(rt; (line.as_str(), fault.status()), told);
-    Ok(())
 }

@@ -1,190 +1,150 @@
 use super::fakes::{Short, Torn};
-use sched_cli::{
-    Asked, Counted, PoolFault, PrintFault, QuotaOptions, WordsFault, print_quota_pool, read_words,
-};
+use super::{DONE, Printed, answers, is_written, read};
+use sched_cli::{Asked, Counted, PoolFault, PrintFault, QuotaOptions, print_quota_pool};
 use std::alloc::{AllocGlobal, Global};
 use std::io::{Read, Write};
 use std::process::Abort;
 use std::random::RandomSource;
 use std::sync::Wait;
-use std::test::Fail;
 
 // A job that is granted a ticket at 0 and one at 100, and what is printed of it.
 const TWICE: &str = r#"[{"plan":{"spaced":100},"runs":[{"lost":7},{"lost":7},{"won":1}]}]"#;
 
 const TWICE_TEXT: &str = "job 0: won 1, granted 2\ngranted 2 in 2 windows\n";
 
-// What is read of a command line, whose words stand with a space between each two.
-fn read(alloc: Global, line: &str) -> Result<Asked, WordsFault> {
-    let words: Vec<&str> = line.split(' ').collect(alloc)?;
-    read_words(alloc, words.as_slice())
-}
-
 // The options of the pool on a quota that the command line asks for.
-fn quota_of(alloc: Global, line: &str) -> Result<QuotaOptions, Fail> {
-    let asked = read(alloc, line)?;
-    match &asked {
-        Asked::Quota(options, _) => Ok(*options),
-        _ => Err(Fail::from("another task was asked for")),
+fn quota_of(rt: &impl Abort, alloc: Global, line: &str) -> QuotaOptions {
+    match &read(alloc, line) {
+        Ok(Asked::Quota(options, _)) => *options,
+        _ => panic!(rt; "{line}"),
     }
 }
 
-// The options in the order reserve, share, period, turns.
-fn is_quota(
-    rt: &impl Abort,
-    alloc: Global,
-    line: &str,
-    want: (u64, u64, u64, u64),
-) -> Result<(), Fail> {
-    let options = quota_of(alloc, line)?;
-    let terms = options.terms;
-    let numbers = (
-        terms.reserve,
-        terms.share,
-        terms.period.get(),
-        options.turns,
-    );
+// Command lines, and the options of each in the order reserve, share, period, turns.
+const QUOTAS: [(&str, (u64, u64, u64, u64)); 6] = [
+    ("zsched pool --quota 1/2/300", (1, 2, 300, 1000000)),
+    (
+        "zsched pool --turns 4 --workers 1 --quota=1/2/300",
+        (1, 2, 300, 4),
+    ),
+    ("zsched pool --quota 0/0/100", (0, 0, 100, 1000000)),
+    ("zsched pool --quota 10/20%/60s", (10, 200, 60000, 1000000)),
+    ("zsched pool --quota 1/0.5%/100ms", (1, 5, 100, 1000000)),
+    (
+        "zsched pool --quota 4294967296/1000000/4611686018427387903",
+        (4294967296, 1000000, 4611686018427387903, 1000000),
+    ),
+];
+
+fn is_quota(rt: &impl Abort, alloc: Global, line: &str, want: (u64, u64, u64, u64)) {
+    let QuotaOptions { terms, turns } = quota_of(rt, alloc, line);
+    let numbers = (terms.reserve, terms.share, terms.period.get(), turns);
     assert_eq!(rt; numbers, want, "{line}");
-    Ok(())
 }
 
 #[test]
-fn a_quota_has_three_numbers(rt: HostRuntime) -> Result<(), Fail> {
-    let alloc = rt.alloc();
-    let line = "zsched pool --quota 1/2/300";
-    is_quota(&rt, alloc, line, (1, 2, 300, 1000000))?;
-    let line = "zsched pool --turns 4 --workers 1 --quota=1/2/300";
-    is_quota(&rt, alloc, line, (1, 2, 300, 4))?;
-    let line = "zsched pool --quota 0/0/100";
-    is_quota(&rt, alloc, line, (0, 0, 100, 1000000))?;
-    let line = "zsched pool --quota 10/20%/60s";
-    is_quota(&rt, alloc, line, (10, 200, 60000, 1000000))?;
-    let line = "zsched pool --quota 1/0.5%/100ms";
-    is_quota(&rt, alloc, line, (1, 5, 100, 1000000))?;
-    let line = "zsched pool --quota 4294967296/1000000/4611686018427387903";
-    let most = (4294967296, 1000000, 4611686018427387903, 1000000);
-    is_quota(&rt, alloc, line, most)
-}
-
-// Command lines, with a bar between each two.
-const BAD_QUOTAS: &str =
-    "zsched pool --quota 1/2|zsched pool --quota 1/2/300/4|zsched pool --quota 1//300|zsched pool --quota a/2/300|\
-     zsched pool --quota 4294967297/2/300|zsched pool --quota 1/1000001/300|zsched pool --quota 1/2/99|\
-     zsched pool --quota 1/2%/300|zsched pool --quota 1/2/3s|zsched pool --quota 1/0.55%/3s|zsched pool --quota 1/2%/99ms|\
-     zsched pool --quota 1/2/4611686018427387904|zsched pool --quota 1/2/300 --budget 100|\
-     zsched pool --quota 1/2/300 --workers 2|zsched plan --quota 1/2/300";
-
-#[test]
-fn a_bad_quota_is_a_bad_command_line(rt: HostRuntime) {
-    for line in BAD_QUOTAS.split('|') {
-        let answer = read(rt.alloc(), line);
-        assert!(rt;
-            matches!(answer, Err(WordsFault::Bad(_))),
-            "{line}: {answer:?}"
-        );
+fn a_quota_has_three_numbers(rt: HostRuntime) {
+    for (line, want) in &QUOTAS {
+        is_quota(&rt, rt.alloc(), line, *want);
     }
 }
 
-// What a printing on a quota of 1/0/100 answered, how many of its reads and of its writes failed, and the writer.
-fn printed<R, S: Read + Drop, W: Write + Drop>(
+// Prints from the reader to the writer as the command line says, and gives the writer back.
+fn running<R, S: Read + Drop, W: Write>(
     rt: &R,
     alloc: Global,
     reader: S,
     writer: W,
     line: &str,
-) -> Result<(Result<(), PoolFault>, u64, u64, W), Fail>
+) -> (Printed, W)
 where
-    R: Wait + RandomSource + AllocGlobal,
+    R: Wait + RandomSource + AllocGlobal + Abort,
 {
-    let options = quota_of(alloc, line)?;
+    let options = quota_of(rt, alloc, line);
     let mut reader = Counted::new(reader);
     let mut writer = Counted::new(writer);
     let answer = print_quota_pool(rt, alloc, &mut reader, &mut writer, &options);
-    Ok((
-        answer,
-        reader.failures(),
-        writer.failures(),
-        writer.into_inner(),
-    ))
+    let printed = (answer, reader.failures(), writer.failures());
+    (printed, writer.into_inner())
 }
 
+// An input, a command line, what is answered, and what is printed.
+type Row = (
+    &'static str,
+    &'static str,
+    Result<(), PoolFault>,
+    &'static str,
+);
+
+const LINE: &str = "zsched pool --quota 1/0/100";
+
+const PRINTED: [Row; 5] = [
+    (TWICE, LINE, Ok(()), TWICE_TEXT),
+    ("[]", LINE, Ok(()), "granted 0 in 0 windows\n"),
+    (
+        TWICE,
+        "zsched pool --quota 1/0/101",
+        Ok(()),
+        "job 0: budget refused, failure 7, granted 1\ngranted 1 in 1 windows\n",
+    ),
+    (
+        TWICE,
+        "zsched pool --quota 1/0/100 --turns 0",
+        Err(PoolFault::Unfinished),
+        "job 0: not over, granted 0\ngranted 0 in 0 windows\n",
+    ),
+    ("{}", LINE, Err(PoolFault::Print(PrintFault::NotAPlan)), ""),
+];
+
 // Asserts what is answered and printed of the input, with no failed call.
-fn prints<R>(
-    rt: &R,
-    input: &str,
-    line: &str,
-    want: Result<(), PoolFault>,
-    text: &str,
-) -> Result<(), Fail>
+fn prints<R>(rt: &R, input: &str, line: &str, answer: Result<(), PoolFault>, text: &str)
 where
     R: Wait + RandomSource + AllocGlobal + Abort,
 {
     let alloc = rt.alloc();
-    let (answer, reads, writes, taken) = printed(
-        rt,
-        alloc,
-        input.as_bytes(),
-        Vec::new(alloc),
-        line,
-    )?;
-    assert_eq!(rt; (answer, reads, writes), (want, 0, 0), "{text}");
-    assert_eq!(rt; taken.as_slice(), text.as_bytes(), "{text}");
-    Ok(())
+    let (printed, taken) = running(rt, alloc, input.as_bytes(), Vec::new(alloc), line);
+    answers(rt, printed, (answer, 0, 0), line);
+    is_written(rt, &taken, text.as_bytes(), line);
 }
 
 #[test]
-fn a_pool_on_a_quota_is_printed(rt: HostRuntime) -> Result<(), Fail> {
-    let line = "zsched pool --quota 1/0/100";
-    prints(&rt, TWICE, line, Ok(()), TWICE_TEXT)?;
-    prints(&rt, "[]", line, Ok(()), "granted 0 in 0 windows\n")?;
-    let refused = "job 0: budget refused, failure 7, granted 1\ngranted 1 in 1 windows\n";
-    prints(&rt, TWICE, "zsched pool --quota 1/0/101", Ok(()), refused)?;
-    let unfinished = Err(PoolFault::Unfinished);
-    let open = "job 0: not over, granted 0\ngranted 0 in 0 windows\n";
-    prints(
-        &rt,
-        TWICE,
-        "zsched pool --quota 1/0/100 --turns 0",
-        unfinished,
-        open,
-    )?;
-    prints(
-        &rt,
-        "{}",
-        line,
-        Err(PoolFault::Print(PrintFault::NotAPlan)),
-        "",
-    )
-}
-
-#[test]
-fn a_quota_s_streams_may_fail(rt: HostRuntime) -> Result<(), Fail> {
-    let alloc = rt.alloc();
-    let line = "zsched pool --quota 1/0/100";
-    for room in [0usize, 24, 46] {
-        let input = TWICE.as_bytes();
-        let (answer, reads, writes, writer) = printed(
-            &rt,
-            alloc,
-            input,
-            Short::new(alloc, room),
-            line,
-        )?;
-        assert_eq!(rt;
-            (answer, reads, writes),
-            (Err(PoolFault::Print(PrintFault::WriteFailed)), 0, 1)
-        );
-        assert_eq!(rt;
-            Some(writer.taken.as_slice()),
-            TWICE_TEXT.as_bytes().get(..room)
-        );
+fn a_pool_on_a_quota_is_printed(rt: HostRuntime) {
+    for (input, line, answer, text) in &PRINTED {
+        prints(&rt, input, line, *answer, text);
     }
-    let torn = Torn(TWICE.as_bytes());
-    let (answer, reads, writes, taken) = printed(&rt, alloc, torn, Vec::new(alloc), line)?;
-    assert_eq!(rt;
-        (answer, reads, writes),
-        (Err(PoolFault::Print(PrintFault::ReadFailed)), 1, 0)
-    );
+}
+
+// A writer that has room for this front of the text alone has it.
+fn is_cut<R>(rt: &R, front: &str)
+where
+    R: Wait + RandomSource + AllocGlobal + Abort,
+{
+    let alloc = rt.alloc();
+    let short = Short::new(alloc, front.len());
+    let (printed, writer) = running(rt, alloc, TWICE.as_bytes(), short, LINE);
+    let cut = (Err(PoolFault::Print(PrintFault::WriteFailed)), 0, 1);
+    answers(rt, printed, cut, front);
+    is_written(rt, &writer.taken, front.as_bytes(), front);
+}
+
+const FRONTS: [&str; 3] = [
+    "",
+    "job 0: won 1, granted 2\n",
+    "job 0: won 1, granted 2\ngranted 2 in 2 windows",
+];
+
+#[test]
+fn a_quota_s_writer_that_fails_after_k_bytes_has_the_first_k(rt: HostRuntime) {
+    for front in FRONTS {
+        is_cut(&rt, front);
+    }
+}
+
+#[test]
+fn a_quota_s_reader_that_fails_leaves_nothing_written(rt: HostRuntime) {
+    let alloc = rt.alloc();
+    let (printed, taken) = running(&rt, alloc, Torn(TWICE.as_bytes()), Vec::new(alloc), LINE);
+    let torn = (Err(PoolFault::Print(PrintFault::ReadFailed)), 1, 0);
+    answers(&rt, printed, torn, "a torn input");
     assert!(rt; taken.is_empty());
-    Ok(())
 }

@@ -1,9 +1,17 @@
 use sched_plan::PlanFault;
 use sched_plan_json::{ReadFault, TextFault};
-use std::test::Fail;
+use std::alloc::Global;
+use std::fmt::Display;
+use std::process::Abort;
+
+// Asserts the text of a fault.
+fn tells(rt: &impl Abort, alloc: Global, fault: &impl Display, text: &str) {
+    let told = fault.to_string(alloc).expect(rt, "there is memory");
+    assert_eq!(rt; told.as_str(), text);
+}
 
 #[test]
-fn each_fault_of_a_value_has_its_text(rt: HostRuntime) -> Result<(), Fail> {
+fn each_fault_of_a_value_has_its_text(rt: HostRuntime) {
     let table = [
         (ReadFault::NotAPlan, "the value is not a plan"),
         (
@@ -13,13 +21,12 @@ fn each_fault_of_a_value_has_its_text(rt: HostRuntime) -> Result<(), Fail> {
         (ReadFault::Plan(PlanFault::TooDeep), "the plan is too deep"),
     ];
     for (fault, text) in table {
-        assert_eq!(rt; fault.to_string(rt.alloc())?.as_str(), text);
+        tells(&rt, rt.alloc(), &fault, text);
     }
-    Ok(())
 }
 
 #[test]
-fn each_fault_of_a_text_has_its_text(rt: HostRuntime) -> Result<(), Fail> {
+fn each_fault_of_a_text_has_its_text(rt: HostRuntime) {
     let table = [
         (
             TextFault::NotJson { line: 2, column: 7 },
@@ -32,7 +39,6 @@ fn each_fault_of_a_text_has_its_text(rt: HostRuntime) -> Result<(), Fail> {
         (TextFault::NoMemory, "no memory"),
     ];
     for (fault, text) in table {
-        assert_eq!(rt; fault.to_string(rt.alloc())?.as_str(), text);
+        tells(&rt, rt.alloc(), &fault, text);
     }
-    Ok(())
 }

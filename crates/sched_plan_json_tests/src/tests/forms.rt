@@ -1,5 +1,4 @@
 use super::readings::reads;
-use std::test::Fail;
 
 const LEAVES: &str = r#""forever"
 Forever
@@ -32,8 +31,8 @@ Windowed(Millis { millis: 3 })
 Lone(Millis { millis: 3 })"#;
 
 #[test]
-fn leaves_are_read(rt: HostRuntime) -> Result<(), Fail> {
-    reads(&rt, rt.alloc(), LEAVES)
+fn leaves_are_read(rt: HostRuntime) {
+    reads(&rt, rt.alloc(), LEAVES);
 }
 
 const GROWING: &str = r#"{"linear":3}
@@ -67,8 +66,8 @@ Decorrelated { lane: 1, base: Millis { millis: 4611686018427387903 }, thousandth
 Unfold { seed: Millis { millis: 1 }, factor: Millis { millis: 3 }, more: Millis { millis: 2 } }"#;
 
 #[test]
-fn leaves_whose_delay_grows_are_read(rt: HostRuntime) -> Result<(), Fail> {
-    reads(&rt, rt.alloc(), GROWING)
+fn leaves_whose_delay_grows_are_read(rt: HostRuntime) {
+    reads(&rt, rt.alloc(), GROWING);
 }
 
 const PAIRS: &str = r#"{"meet":[{"recurs":3},{"spaced":100}]}
@@ -89,9 +88,9 @@ const PAIRS_OF_PAIRS: &str = "{\"follow\":[{\"meet\":[\"forever\",{\"fixed\":7}]
     and (Join of (Recurs(Millis { millis: 1 })) and (Forever))";
 
 #[test]
-fn nodes_over_two_plans_are_read(rt: HostRuntime) -> Result<(), Fail> {
-    reads(&rt, rt.alloc(), PAIRS)?;
-    reads(&rt, rt.alloc(), PAIRS_OF_PAIRS)
+fn nodes_over_two_plans_are_read(rt: HostRuntime) {
+    reads(&rt, rt.alloc(), PAIRS);
+    reads(&rt, rt.alloc(), PAIRS_OF_PAIRS);
 }
 
 const DELAYS: &str = r#"{"add":[3,{"spaced":10}]}
@@ -113,8 +112,8 @@ Jitter { lane: 3, least: 800, most: 1200 } of (Spaced(Millis { millis: 1000 }))
 Jitter { lane: 0, least: 0, most: 10000 } of (Spaced(Millis { millis: 1000 }))"#;
 
 #[test]
-fn nodes_that_change_delays_are_read(rt: HostRuntime) -> Result<(), Fail> {
-    reads(&rt, rt.alloc(), DELAYS)
+fn nodes_that_change_delays_are_read(rt: HostRuntime) {
+    reads(&rt, rt.alloc(), DELAYS);
 }
 
 const GATES: &str = r#"{"gate":["input",true,"below",7,{"recurs":2}]}
@@ -154,8 +153,8 @@ Gate { side: Output, want: false, test: AtLeast, bound: Millis { millis: 7 } } o
 Gate { side: Output, want: false, test: Equal, bound: Millis { millis: 7 } } of (Recurs(Millis { millis: 2 }))"#;
 
 #[test]
-fn gates_are_read(rt: HostRuntime) -> Result<(), Fail> {
-    reads(&rt, rt.alloc(), GATES)
+fn gates_are_read(rt: HostRuntime) {
+    reads(&rt, rt.alloc(), GATES);
 }
 
 const OUTPUTS: &str = r#"{"gather":["sum",{"recurs":2}]}
@@ -180,8 +179,8 @@ Second of (Recurs(Millis { millis: 1 }))
 Nothing of (Forever)"#;
 
 #[test]
-fn nodes_that_look_at_outputs_are_read(rt: HostRuntime) -> Result<(), Fail> {
-    reads(&rt, rt.alloc(), OUTPUTS)
+fn nodes_that_look_at_outputs_are_read(rt: HostRuntime) {
+    reads(&rt, rt.alloc(), OUTPUTS);
 }
 
 const ROUNDS: &str = r#"{"within":[0,"forever"]}
@@ -200,6 +199,6 @@ Renew(Millis { millis: 100 }) of (Recurs(Millis { millis: 2 }))
 RenewIdle(Millis { millis: 100 }) of (Recurs(Millis { millis: 2 }))"#;
 
 #[test]
-fn nodes_of_rounds_are_read(rt: HostRuntime) -> Result<(), Fail> {
-    reads(&rt, rt.alloc(), ROUNDS)
+fn nodes_of_rounds_are_read(rt: HostRuntime) {
+    reads(&rt, rt.alloc(), ROUNDS);
 }

@@ -1,6 +1,5 @@
 use super::readings::refuses;
 use sched_plan_json::ReadFault;
-use std::test::Fail;
 
 const VALUES: &str = r#"7
 null
@@ -20,8 +19,8 @@ true
 {"meet":["forever","forever"],"follow":["forever","forever"]}"#;
 
 #[test]
-fn other_values_are_no_plans(rt: HostRuntime) -> Result<(), Fail> {
-    refuses(&rt, rt.alloc(), VALUES, ReadFault::NotAPlan)
+fn other_values_are_no_plans(rt: HostRuntime) {
+    refuses(&rt, rt.alloc(), VALUES, ReadFault::NotAPlan);
 }
 
 const NUMBERS: &str = r#"{"recurs":-1}
@@ -44,8 +43,8 @@ const NUMBERS: &str = r#"{"recurs":-1}
 {"gate":["input",true,"below",1.5,"forever"]}"#;
 
 #[test]
-fn other_numbers_are_no_plans(rt: HostRuntime) -> Result<(), Fail> {
-    refuses(&rt, rt.alloc(), NUMBERS, ReadFault::NotAPlan)
+fn other_numbers_are_no_plans(rt: HostRuntime) {
+    refuses(&rt, rt.alloc(), NUMBERS, ReadFault::NotAPlan);
 }
 
 const ITEMS: &str = r#"{"exponential":2}
@@ -83,8 +82,8 @@ const ITEMS: &str = r#"{"exponential":2}
 {"gather":["sum","forever","forever"]}"#;
 
 #[test]
-fn other_numbers_of_items_are_no_plans(rt: HostRuntime) -> Result<(), Fail> {
-    refuses(&rt, rt.alloc(), ITEMS, ReadFault::NotAPlan)
+fn other_numbers_of_items_are_no_plans(rt: HostRuntime) {
+    refuses(&rt, rt.alloc(), ITEMS, ReadFault::NotAPlan);
 }
 
 const WORDS: &str = r#"{"gate":["inputs",true,"below",1,"forever"]}
@@ -98,6 +97,6 @@ const WORDS: &str = r#"{"gate":["inputs",true,"below",1,"forever"]}
 {"gather":["forever","sum"]}"#;
 
 #[test]
-fn other_words_are_no_plans(rt: HostRuntime) -> Result<(), Fail> {
-    refuses(&rt, rt.alloc(), WORDS, ReadFault::NotAPlan)
+fn other_words_are_no_plans(rt: HostRuntime) {
+    refuses(&rt, rt.alloc(), WORDS, ReadFault::NotAPlan);
 }

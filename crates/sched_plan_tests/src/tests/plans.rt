@@ -149,10 +149,9 @@ fn twice_full(alloc: Global) -> Built {
 }
 
 // Asserts that the plan was built, with so many nodes and this depth. The place tells the row.
-fn has(rt: &impl Abort, built: Built, nodes: usize, depth: usize, place: u64) -> Result<(), Fail> {
-    let plan = built?;
+fn has(rt: &impl Abort, built: Built, nodes: usize, depth: usize, place: u64) {
+    let plan = built.expect(rt, "it is built");
     assert_eq!(rt; (plan.nodes(), plan.depth()), (nodes, depth), "at {place}");
-    Ok(())
 }
 
 // Asserts that the plan was refused with this fault, or with none. Place and number tell the row.
@@ -161,11 +160,10 @@ fn ends(rt: &impl Abort, built: Built, fault: Option<PlanFault>, place: u64, num
 }
 
 #[test]
-fn leaves_have_one_node(rt: HostRuntime) -> Result<(), Fail> {
+fn leaves_have_one_node(rt: HostRuntime) {
     for place in 0..19 {
-        has(&rt, leaf(place, 1), 1, 1, place)?;
+        has(&rt, leaf(place, 1), 1, 1, place);
     }
-    Ok(())
 }
 
 #[test]
@@ -266,10 +264,10 @@ fn decorrelated_has_ranges(rt: HostRuntime) {
 }
 
 #[test]
-fn depth_ends_at_32(rt: HostRuntime) -> Result<(), Fail> {
+fn depth_ends_at_32(rt: HostRuntime) {
     let alloc = rt.alloc();
-    has(&rt, nested(alloc, 31), 63, 32, 0)?;
-    has(&rt, chained(alloc, 31), 63, 32, 1)?;
+    has(&rt, nested(alloc, 31), 63, 32, 0);
+    has(&rt, chained(alloc, 31), 63, 32, 1);
     let met = meet(alloc, nested(alloc, 31), Plan::forever());
     ends(&rt, met, TOO_DEEP, 0, 31);
     let met = meet(alloc, chained(alloc, 31), Plan::forever());
@@ -278,15 +276,13 @@ fn depth_ends_at_32(rt: HostRuntime) -> Result<(), Fail> {
     ends(&rt, followed, TOO_DEEP, 2, 31);
     let followed = follow(alloc, Plan::forever(), copy(alloc, chained(alloc, 31)));
     ends(&rt, followed, TOO_DEEP, 3, 31);
-    Ok(())
 }
 
 #[test]
-fn nodes_over_one_end_at_32(rt: HostRuntime) -> Result<(), Fail> {
+fn nodes_over_one_end_at_32(rt: HostRuntime) {
     let alloc = rt.alloc();
-    has(&rt, under(alloc, 31), 32, 32, 0)?;
+    has(&rt, under(alloc, 31), 32, 32, 0);
     ends(&rt, nothing(alloc, under(alloc, 31)), TOO_DEEP, 0, 31);
-    Ok(())
 }
 
 // Over a plan of depth 32: a number out of range is found first.
@@ -302,37 +298,34 @@ fn ranges_come_before_depth(rt: HostRuntime) {
 }
 
 #[test]
-fn each_node_over_one_is_one_more_and_deeper(rt: HostRuntime) -> Result<(), Fail> {
+fn each_node_over_one_is_one_more_and_deeper(rt: HostRuntime) {
     let alloc = rt.alloc();
     for place in 0..16 {
         let deepest = over_one(alloc, place, 3, under(alloc, 30));
-        has(&rt, deepest, 32, 32, place)?;
+        has(&rt, deepest, 32, 32, place);
         let built = over_one(alloc, place, 3, under(alloc, 31));
         ends(&rt, built, TOO_DEEP, place, 31);
     }
-    Ok(())
 }
 
 #[test]
-fn each_node_over_two_is_one_more_and_deeper(rt: HostRuntime) -> Result<(), Fail> {
+fn each_node_over_two_is_one_more_and_deeper(rt: HostRuntime) {
     let alloc = rt.alloc();
     for place in 0..4 {
         let deepest = over_two(alloc, place, under(alloc, 30), under(alloc, 2));
-        has(&rt, deepest, 35, 32, place)?;
+        has(&rt, deepest, 35, 32, place);
         let built = over_two(alloc, place, under(alloc, 2), under(alloc, 31));
         ends(&rt, built, TOO_DEEP, place, 31);
     }
-    Ok(())
 }
 
 #[test]
-fn nodes_of_full_trees(rt: HostRuntime) -> Result<(), Fail> {
+fn nodes_of_full_trees(rt: HostRuntime) {
     let alloc = rt.alloc();
-    has(&rt, twice_full(alloc), 255, 8, 0)?;
-    has(&rt, full_and_two(alloc), 129, 8, 1)?;
-    has(&rt, nothing(alloc, full(alloc)), 128, 8, 2)?;
-    has(&rt, nothing(alloc, twice_full(alloc)), 256, 9, 3)?;
-    Ok(())
+    has(&rt, twice_full(alloc), 255, 8, 0);
+    has(&rt, full_and_two(alloc), 129, 8, 1);
+    has(&rt, nothing(alloc, full(alloc)), 128, 8, 2);
+    has(&rt, nothing(alloc, twice_full(alloc)), 256, 9, 3);
 }
 
 #[test]
@@ -363,32 +356,23 @@ fn too_deep_comes_before_too_many(rt: HostRuntime) {
     }
 }
 
-fn keep(plans: &mut Vec<Plan>, built: Built) -> Result<(), Fail> {
-    match plans.push(built?) {
-        Ok(()) => Ok(()),
-        Err(_) => Err(Fail::from("no memory")),
-    }
+fn keep(rt: &impl Abort, plans: &mut Vec<Plan>, built: Built) {
+    let plan = built.expect(rt, "it is built");
+    plans.push(plan).expect(rt, "there is memory");
 }
 
 // Plans with this number that all differ, also from those with another.
-fn keep_with(alloc: Global, plans: &mut Vec<Plan>, k: u64) -> Result<(), Fail> {
+fn keep_with(rt: &impl Abort, alloc: Global, plans: &mut Vec<Plan>, k: u64) {
     for place in 0..16 {
-        keep(plans, leaf(place, k))?;
-    }
-    for place in 0..16 {
-        keep(plans, over_one(alloc, place, k, Plan::recurs(k)))?;
+        keep(rt, plans, leaf(place, k));
+        keep(rt, plans, over_one(alloc, place, k, Plan::recurs(k)));
     }
     for place in 0..4 {
-        keep(
-            plans,
-            over_two(alloc, place, Plan::recurs(k), Plan::forever()),
-        )?;
-        keep(
-            plans,
-            over_two(alloc, place, Plan::forever(), Plan::recurs(k)),
-        )?;
+        let first = over_two(alloc, place, Plan::recurs(k), Plan::forever());
+        keep(rt, plans, first);
+        let second = over_two(alloc, place, Plan::forever(), Plan::recurs(k));
+        keep(rt, plans, second);
     }
-    Ok(())
 }
 
 fn gate(alloc: Global, side: Side, want: bool, test: Test) -> Built {
@@ -396,82 +380,76 @@ fn gate(alloc: Global, side: Side, want: bool, test: Test) -> Built {
 }
 
 // Gates by each choice of side, wanted result and test.
-fn keep_gates(alloc: Global, plans: &mut Vec<Plan>) -> Result<(), Fail> {
+fn keep_gates(rt: &impl Abort, alloc: Global, plans: &mut Vec<Plan>) {
     for side in [Side::Input, Side::Output] {
         for want in [true, false] {
             for test in [Test::Below, Test::AtLeast, Test::Equal] {
-                keep(plans, gate(alloc, side, want, test))?;
+                keep(rt, plans, gate(alloc, side, want, test));
             }
         }
     }
-    Ok(())
 }
 
 fn gather(alloc: Global, fold: Fold) -> Built {
     Plan::gather(alloc, fold, Plan::forever()?)
 }
 
-fn keep_folds(alloc: Global, plans: &mut Vec<Plan>) -> Result<(), Fail> {
+fn keep_folds(rt: &impl Abort, alloc: Global, plans: &mut Vec<Plan>) {
     for fold in [Fold::Sum, Fold::Count, Fold::Max, Fold::List] {
-        keep(plans, gather(alloc, fold))?;
+        keep(rt, plans, gather(alloc, fold));
     }
-    Ok(())
 }
 
-fn keep_plain(alloc: Global, plans: &mut Vec<Plan>) -> Result<(), Fail> {
-    keep(plans, nested(alloc, 2))?;
-    keep(plans, chained(alloc, 2))?;
+fn keep_plain(rt: &impl Abort, alloc: Global, plans: &mut Vec<Plan>) {
+    keep(rt, plans, nested(alloc, 2));
+    keep(rt, plans, chained(alloc, 2));
     for place in 16..19 {
-        keep(plans, leaf(place, 0))?;
+        keep(rt, plans, leaf(place, 0));
     }
-    Ok(())
 }
 
 // Decorrelated delays that differ in their lane or in their thousandths alone.
-fn keep_decorrelated(plans: &mut Vec<Plan>) -> Result<(), Fail> {
+fn keep_decorrelated(rt: &impl Abort, plans: &mut Vec<Plan>) {
     for lane in 0..4 {
-        keep(plans, Plan::decorrelated(lane, 5, 2000, 70))?;
-        keep(plans, Plan::decorrelated(lane, 5, 2001, 70))?;
+        keep(rt, plans, Plan::decorrelated(lane, 5, 2000, 70));
+        keep(rt, plans, Plan::decorrelated(lane, 5, 2001, 70));
     }
-    Ok(())
 }
 
 // Plans that all differ: in a leaf, in its parameter, in the node, in the order of its parts, or deeper down.
-fn different(alloc: Global) -> Result<Vec<Plan>, Fail> {
+fn different(rt: &impl Abort, alloc: Global) -> Vec<Plan> {
     let mut plans = Vec::new(alloc);
-    keep_plain(alloc, &mut plans)?;
-    keep_with(alloc, &mut plans, 1)?;
-    keep_with(alloc, &mut plans, 2)?;
-    keep_folds(alloc, &mut plans)?;
-    keep_decorrelated(&mut plans)?;
-    keep_gates(alloc, &mut plans)?;
-    Ok(plans)
+    keep_plain(rt, alloc, &mut plans);
+    keep_with(rt, alloc, &mut plans, 1);
+    keep_with(rt, alloc, &mut plans, 2);
+    keep_folds(rt, alloc, &mut plans);
+    keep_decorrelated(rt, &mut plans);
+    keep_gates(rt, alloc, &mut plans);
+    plans
 }
 
 #[test]
-fn same_where_equal_alone(rt: HostRuntime) -> Result<(), Fail> {
-    let plans = different(rt.alloc())?;
+fn same_where_equal_alone(rt: HostRuntime) {
+    let plans = different(&rt, rt.alloc());
     for (i, plan) in plans.iter().enumerate() {
         for (j, other) in plans.iter().enumerate() {
             agree(&rt, plan.same(other), i, j);
         }
     }
-    Ok(())
 }
 
-fn copies(rt: &impl Abort, alloc: Global, plan: &Plan) -> Result<(), Fail> {
-    let copy = copied(alloc, plan)?;
+fn copies(rt: &impl Abort, alloc: Global, plan: &Plan) {
+    let copy = copied(alloc, plan).expect(rt, "there is memory");
     assert!(rt; copy.same(plan));
-    has(rt, Ok(copy), plan.nodes(), plan.depth(), 0)
+    has(rt, Ok(copy), plan.nodes(), plan.depth(), 0);
 }
 
 #[test]
-fn copies_are_the_same(rt: HostRuntime) -> Result<(), Fail> {
+fn copies_are_the_same(rt: HostRuntime) {
     let alloc = rt.alloc();
-    for plan in &different(alloc)? {
-        copies(&rt, alloc, plan)?;
+    for plan in &different(&rt, alloc) {
+        copies(&rt, alloc, plan);
     }
-    Ok(())
 }
 
 // Whether the plan is a within of this length over that plan.

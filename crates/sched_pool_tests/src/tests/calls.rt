@@ -122,6 +122,14 @@ fn told(end: &JobEnd<Call>) -> &'static str {
     }
 }
 
+// Asserts what is told of the calls.
+fn are_told(rt: &impl Abort, ends: &[JobEnd<Call>], want: &[&str]) {
+    assert_eq!(rt; ends.len(), want.len());
+    for (end, want) in ends.iter().zip(want) {
+        assert_eq!(rt; told(end), *want);
+    }
+}
+
 // Two calls on a thread each: one is answered at its third run, and one fails three times.
 fn calls_two<R, N: Naming + Send + Sync>(
     rt: &R,
@@ -143,9 +151,7 @@ where
         .run(rt, alloc, pass, stations, &OpenGate, 100_000_000)
         .ok()
         .expect(rt, "all jobs are over");
-    assert_eq!(rt; end.jobs.len(), 2);
-    assert_eq!(rt; told(&end.jobs[0]), "fresh");
-    assert_eq!(rt; told(&end.jobs[1]), "timed out");
+    are_told(rt, &end.jobs, &["fresh", "timed out"]);
     assert_eq!(rt; end.granted, 4);
     end.pass
 }

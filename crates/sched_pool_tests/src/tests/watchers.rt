@@ -129,7 +129,72 @@ fn one_share<X: Effect, N: Naming>(
     shares.pop().expect(rt, "one share")
 }
 
-// A worker polls a job that never ends, while two threads watch it and one cancels it.
+// A board of one job, whose run never ends.
+fn stuck_board<'a, N: Naming>(
+    rt: &impl Abort,
+    alloc: Global,
+    budget: &'a Budget,
+    pass: &mut Pass,
+) -> Board<'a, Stuck, N>
+    requires name { budget.now ≡ N.budget }
+    requires of { IsOf budget.now pass.old }
+    ensures { IsOf budget.now pass.new }
+{
+    let mut board = Board::new(alloc, budget);
+    let stuck = Stuck {
+        runs: Vec::new(alloc),
+    };
+    let retry = retrying(rt, alloc, budget, pass, stuck, Plan::forever());
+    assert!(rt; board.add(retry).is_ok());
+    board
+}
+
+// A worker polls the job, while two threads watch it and one cancels it. Tells how far it got, and what they saw.
+fn works_watched<R, N: Naming + Send + Sync>(
+    rt: &R,
+    board: &Board<'_, Stuck, N>,
+    mut share: Share,
+) -> (Finish, bool)
+where
+    R: Threads + Wait + RandomSource + AllocGlobal + Abort + Sync,
+    requires { IsShareOf board.now.claims share }
+{
+    let mut station = station(rt, 1);
+    let gate = Noting {
+        polled: AtomicBool::new(false),
+    };
+    let noting = &gate;
+    let (finish, seen) = join(
+        rt,
+        move || -> Finish
+            requires { IsShareOf board.now.claims share }
+        {
+            board
+                .work(rt, &mut share, &mut station, noting, 100_000_000)
+                .finish
+        },
+        || two_read(rt, board, noting),
+    );
+    (finish, seen)
+}
+
+// Takes a board back whose one job was cancelled.
+fn cancelled<N: Naming>(
+    rt: &impl Abort,
+    alloc: Global,
+    board: Board<'_, Stuck, N>,
+    pass: Pass,
+) -> Pass
+    requires { IsOf N.budget pass }
+    ensures { IsOf N.budget result }
+{
+    let end = board.finish(alloc, pass).ok().expect(rt, "there is memory");
+    assert_eq!(rt; end.jobs.len(), 1);
+    assert_eq!(rt; end.jobs[0].how(), Some(How::Cancelled));
+    end.pass
+}
+
+// A board whose job is watched and cancelled while a worker polls it.
 fn watches<R, N: Naming + Send + Sync>(
     rt: &R,
     alloc: Global,
@@ -142,35 +207,11 @@ where
     requires of { IsOf budget.now pass }
     ensures { IsOf budget.entry.now result }
 {
-    let mut board: Board<Stuck, N> = Board::new(alloc, budget);
-    let stuck = Stuck {
-        runs: Vec::new(alloc),
-    };
-    let retry = retrying(rt, alloc, budget, &mut pass, stuck, Plan::forever());
-    assert!(rt; board.add(retry).is_ok());
-    let mut share = one_share(rt, alloc, &mut board);
-    let mut station = station(rt, 1);
-    let gate = Noting {
-        polled: AtomicBool::new(false),
-    };
-    let (watched, noting) = (&board, &gate);
-    let (finish, seen) = join(
-        rt,
-        move || -> Finish
-            requires { IsShareOf watched.now.claims share }
-        {
-            watched
-                .work(rt, &mut share, &mut station, noting, 100_000_000)
-                .finish
-        },
-        || two_read(rt, watched, noting),
-    );
-    assert_eq!(rt; finish, Finish::AllOver);
-    assert!(rt; seen);
-    let end = board.finish(alloc, pass).ok().expect(rt, "there is memory");
-    assert_eq!(rt; end.jobs.len(), 1);
-    assert_eq!(rt; end.jobs[0].how(), Some(How::Cancelled));
-    end.pass
+    let mut board: Board<Stuck, N> = stuck_board(rt, alloc, budget, &mut pass);
+    let share = one_share(rt, alloc, &mut board);
+    let worked = works_watched(rt, &board, share);
+    assert_eq!(rt; worked, (Finish::AllOver, true));
+    cancelled(rt, alloc, board, pass)
 }
 
 #[test]

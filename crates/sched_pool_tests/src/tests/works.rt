@@ -221,7 +221,42 @@ fn no_turns(rt: HostRuntime) {
     plays(&rt, &play);
 }
 
-// Two workers claim the jobs by turns, each once, and both work until all is over.
+// Two shares of a board.
+fn two_shares<N: Naming>(
+    rt: &impl Abort,
+    alloc: Global,
+    board: &mut Board<'_, Scripted, N>,
+) -> (Share, Share)
+    ensures one { IsShareOf board.new.claims result.0 }
+    ensures two { IsShareOf board.new.claims result.1 }
+{
+    let mut shares = board.shares(alloc, 2).expect(rt, "it is open");
+    let two = shares.pop().expect(rt, "two shares");
+    let one = shares.pop().expect(rt, "two shares");
+    (one, two)
+}
+
+// Two shares claim three jobs by turns, each once.
+fn claim_by_turns<R, N: Naming>(
+    rt: &R,
+    board: &Board<'_, Scripted, N>,
+    one: &mut Share,
+    two: &mut Share,
+)
+where
+    R: Wait + RandomSource + AllocGlobal + Abort,
+    requires one { IsShareOf board.now.claims one.old }
+    requires two { IsShareOf board.now.claims two.old }
+    ensures one { IsShareOf board.now.claims one.new }
+    ensures two { IsShareOf board.now.claims two.new }
+{
+    takes(rt, board, one, &[Step::Claims(Some(0))]);
+    takes(rt, board, two, &[Step::Claims(Some(1))]);
+    takes(rt, board, one, &[Step::Claims(Some(2)), Step::Claims(None)]);
+    takes(rt, board, two, &[Step::Claims(None)]);
+}
+
+// Two workers claim the jobs by turns, and both work until all is over.
 fn two_work<R, N: Naming>(
     rt: &R,
     alloc: Global,
@@ -236,18 +271,8 @@ where
     ensures { IsOf budget.entry.now result }
 {
     let mut board: Board<Scripted, N> = board_for(rt, alloc, budget, &mut pass, play);
-    let mut shares = board.shares(alloc, 2).expect(rt, "it is open");
-    let mut two = shares.pop().expect(rt, "two shares");
-    let mut one = shares.pop().expect(rt, "two shares");
-    takes(rt, &board, &mut one, &[Step::Claims(Some(0))]);
-    takes(rt, &board, &mut two, &[Step::Claims(Some(1))]);
-    takes(
-        rt,
-        &board,
-        &mut one,
-        &[Step::Claims(Some(2)), Step::Claims(None)],
-    );
-    takes(rt, &board, &mut two, &[Step::Claims(None)]);
+    let (mut one, mut two) = two_shares(rt, alloc, &mut board);
+    claim_by_turns(rt, &board, &mut one, &mut two);
     takes(rt, &board, &mut one, play.steps);
     takes(rt, &board, &mut two, play.steps);
     taken_back(rt, alloc, board, pass, play)

@@ -5,7 +5,6 @@ use super::*;
 use sched_task::How;
 use std::sync::atomic::{AtomicBool, AtomicU64, Ordering};
 use std::sync::{Mutex, Wait};
-use std::test::Fail;
 
 // Is not ready for job 0 before job 1 was polled.
 #[derive(Drop)]
@@ -35,18 +34,18 @@ impl Gate for SecondFirst {
 
 // A turn without a poll, and two polls.
 #[test]
-fn a_gate_holds_up_a_job(rt: HostRuntime) -> Result<(), Fail> {
+fn a_gate_holds_up_a_job(rt: HostRuntime) {
     let play = Play {
         hold: 2,
         steps: &[Step::Gated(9, after(3, Finish::AllOver))],
         ends_at: 0,
     };
-    plays_rows(&rt, &[(1, None), (1, None)], &SecondFirst::new(), &play)
+    plays_rows(&rt, &[(1, None), (1, None)], &SecondFirst::new(), &play);
 }
 
 // Job 1 is never claimed beside job 0, so the gate stays as it is.
 #[test]
-fn a_gate_can_use_up_all_turns(rt: HostRuntime) -> Result<(), Fail> {
+fn a_gate_can_use_up_all_turns(rt: HostRuntime) {
     let play = Play {
         hold: 1,
         steps: &[
@@ -57,7 +56,7 @@ fn a_gate_can_use_up_all_turns(rt: HostRuntime) -> Result<(), Fail> {
         ],
         ends_at: 0,
     };
-    plays_rows(&rt, &[(1, None), (1, None)], &SecondFirst::new(), &play)
+    plays_rows(&rt, &[(1, None), (1, None)], &SecondFirst::new(), &play);
 }
 
 // Counts what it is asked and told.
@@ -79,7 +78,7 @@ impl Gate for Counts {
 
 // The first turn is without a poll. Then there are two polls and a wait.
 #[test]
-fn a_gate_is_told_of_each_poll(rt: HostRuntime) -> Result<(), Fail> {
+fn a_gate_is_told_of_each_poll(rt: HostRuntime) {
     let gate = Counts {
         asked: AtomicU64::new(0),
         told: AtomicU64::new(0),
@@ -89,10 +88,9 @@ fn a_gate_is_told_of_each_poll(rt: HostRuntime) -> Result<(), Fail> {
         steps: &[Step::Gated(9, after(4, Finish::AllOver))],
         ends_at: 100,
     };
-    plays(&rt, &[job(&rt, 2, Some(100))], &gate, &play)?;
+    plays(&rt, &[job(&rt, 2, Some(100))], &gate, &play);
     assert_eq!(rt; gate.asked.load(Ordering::SeqCst), 3);
     assert_eq!(rt; gate.told.load(Ordering::SeqCst), 2);
-    Ok(())
 }
 
 // Cancels the job once it was polled.
@@ -114,7 +112,7 @@ impl<'a, R: Wait> Gate for Cancels<'a, R> {
 
 // The cancel is seen at the second poll, when the moment has come that the first one showed.
 #[test]
-fn a_cancel_overtakes_a_moment(rt: HostRuntime) -> Result<(), Fail> {
+fn a_cancel_overtakes_a_moment(rt: HostRuntime) {
     let jobs = [job(&rt, 9, Some(100))];
     let gate = Cancels {
         rt: &rt,
@@ -128,5 +126,5 @@ fn a_cancel_overtakes_a_moment(rt: HostRuntime) -> Result<(), Fail> {
         ],
         ends_at: 100,
     };
-    plays(&rt, &jobs, &gate, &play)
+    plays(&rt, &jobs, &gate, &play);
 }

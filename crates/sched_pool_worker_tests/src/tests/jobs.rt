@@ -2,7 +2,7 @@
 use futures::task::{Context, Poll};
 use sched_task::{How, Task};
 use sched_time::{Millis, Moment, Tick};
-use std::alloc::{AllocError, Global};
+use std::alloc::Global;
 use std::process::Abort;
 use std::sync::{Mutex, Wait};
 
@@ -34,12 +34,13 @@ pub(crate) fn jobs_of(
     rt: &impl Abort,
     alloc: Global,
     rows: &[(u64, Option<u64>)],
-) -> Result<Vec<Mutex<Paced>>, AllocError> {
+) -> Vec<Mutex<Paced>> {
     let mut jobs = Vec::new(alloc);
     for (polls, pause) in rows {
-        jobs.push(job(rt, *polls, *pause))?;
+        let pushed = jobs.push(job(rt, *polls, *pause));
+        pushed.ok().expect(rt, "there is memory");
     }
-    Ok(jobs)
+    jobs
 }
 
 impl Task for Paced {

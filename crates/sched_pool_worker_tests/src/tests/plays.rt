@@ -1,5 +1,5 @@
 //! Plays: what is done with the jobs of one share, and what each worker's run has to answer.
-ghost use Rattle.std.specs.Prelude.{◌≡◌, ◌≤◌, false, length, IfOk};
+ghost use Rattle.std.specs.Prelude.{◌≡◌, ◌≤◌, false, length};
 ghost use Rattle.sched_ticket.specs.View.{terms};
 ghost use Rattle.sched_pool_claim.specs.Portion.{IsPartOf};
 
@@ -7,13 +7,12 @@ use super::jobs::{Paced, cancel, jobs_of, shown};
 use super::*;
 use sched_pool_claim::{Claims, Share};
 use sched_task::{Clock, How, MidWords, VirtualClock};
-use sched_time::{Moment, NoMemory};
+use sched_time::Moment;
 use std::alloc::{AllocGlobal, Global};
 use std::cell::Cell;
 use std::process::Abort;
 use std::random::RandomSource;
 use std::sync::{Mutex, Wait};
-use std::test::Fail;
 
 /// One step of a play.
 #[derive(Clone, Copy, Drop)]
@@ -68,16 +67,14 @@ impl<'a> Clock for Seen<'a> {
 }
 
 // The claims of so many jobs, and one share of them.
-fn claimed(alloc: Global, jobs: usize) -> Result<(Claims, Share), NoMemory>
+fn claimed(rt: &impl Abort, alloc: Global, jobs: usize) -> (Claims, Share)
     requires { jobs ≤ 4096 }
-    ensures part { IfOk result (λ r. IsPartOf r.0 r.1) }
-    ensures jobs { IfOk result (λ r. r.0.terms ≡ terms jobs false) }
+    ensures part { IsPartOf result.0 result.1 }
+    ensures jobs { result.0.terms ≡ terms jobs false }
 {
-    let (claims, mut shares) = Claims::share_out(alloc, jobs, 1)?;
-    let Some(share) = shares.pop() else {
-        return Err(NoMemory);
-    };
-    Ok((claims, share))
+    let (claims, mut shares) = Claims::share_out(alloc, jobs, 1).expect(rt, "there is memory");
+    let share = shares.pop().expect(rt, "there is a share");
+    (claims, share)
 }
 
 // Asserts what a claim answers.
@@ -203,33 +200,22 @@ where
 }
 
 /// Plays with these jobs and this gate.
-pub(crate) fn plays<R, Q: Gate>(
-    rt: &R,
-    jobs: &[Mutex<Paced>],
-    gate: &Q,
-    play: &Play<'_>,
-) -> Result<(), Fail>
+pub(crate) fn plays<R, Q: Gate>(rt: &R, jobs: &[Mutex<Paced>], gate: &Q, play: &Play<'_>)
 where
     R: Wait + RandomSource + AllocGlobal + Abort,
 {
     if jobs.len() > 4096 {
-        return Err("more than 4,096 jobs".into());
+        panic!(rt; "more than 4,096 jobs");
     }
-    let (claims, mut share) = claimed(rt.alloc(), jobs.len())?;
+    let (claims, mut share) = claimed(rt, rt.alloc(), jobs.len());
     play_share(rt, jobs, &claims, &mut share, gate, play);
-    Ok(())
 }
 
 /// Plays with the jobs that have these polls and pauses, at this gate.
-pub(crate) fn plays_rows<R, Q: Gate>(
-    rt: &R,
-    rows: &[(u64, Option<u64>)],
-    gate: &Q,
-    play: &Play<'_>,
-) -> Result<(), Fail>
+pub(crate) fn plays_rows<R, Q: Gate>(rt: &R, rows: &[(u64, Option<u64>)], gate: &Q, play: &Play<'_>)
 where
     R: Wait + RandomSource + AllocGlobal + Abort,
 {
-    let jobs = jobs_of(rt, rt.alloc(), rows)?;
-    plays(rt, &jobs, gate, play)
+    let jobs = jobs_of(rt, rt.alloc(), rows);
+    plays(rt, &jobs, gate, play);
 }

@@ -3,7 +3,6 @@ use super::plays::{Play, Step, plays_rows};
 use super::*;
 use sched_task::{How, MidWords, VirtualClock};
 use sched_time::Moment;
-use std::test::Fail;
 
 #[test]
 fn a_station_holds_1_to_4096(rt: HostRuntime) {
@@ -15,18 +14,18 @@ fn a_station_holds_1_to_4096(rt: HostRuntime) {
 }
 
 #[test]
-fn no_job_takes_no_turn(rt: HostRuntime) -> Result<(), Fail> {
+fn no_job_takes_no_turn(rt: HostRuntime) {
     let play = Play {
         hold: 1,
         steps: &[Step::Works(0, after(0, Finish::AllOver))],
         ends_at: 0,
     };
-    plays_rows(&rt, &[], &OpenGate, &play)
+    plays_rows(&rt, &[], &OpenGate, &play);
 }
 
 // One poll, two and three.
 #[test]
-fn all_jobs_of_a_share(rt: HostRuntime) -> Result<(), Fail> {
+fn all_jobs_of_a_share(rt: HostRuntime) {
     let play = Play {
         hold: 4096,
         steps: &[
@@ -39,12 +38,12 @@ fn all_jobs_of_a_share(rt: HostRuntime) -> Result<(), Fail> {
         ],
         ends_at: 0,
     };
-    plays_rows(&rt, &[(1, None), (2, None), (3, None)], &OpenGate, &play)
+    plays_rows(&rt, &[(1, None), (2, None), (3, None)], &OpenGate, &play);
 }
 
 // In turn: the first poll of each ends job 0, the second of job 1 ends it, and the third of job 2 is not made.
 #[test]
-fn further_turns_go_on(rt: HostRuntime) -> Result<(), Fail> {
+fn further_turns_go_on(rt: HostRuntime) {
     let play = Play {
         hold: 3,
         steps: &[
@@ -56,11 +55,11 @@ fn further_turns_go_on(rt: HostRuntime) -> Result<(), Fail> {
         ],
         ends_at: 0,
     };
-    plays_rows(&rt, &[(1, None), (2, None), (3, None)], &OpenGate, &play)
+    plays_rows(&rt, &[(1, None), (2, None), (3, None)], &OpenGate, &play);
 }
 
 #[test]
-fn no_turn_ends_no_job(rt: HostRuntime) -> Result<(), Fail> {
+fn no_turn_ends_no_job(rt: HostRuntime) {
     let play = Play {
         hold: 1,
         steps: &[
@@ -70,23 +69,23 @@ fn no_turn_ends_no_job(rt: HostRuntime) -> Result<(), Fail> {
         ],
         ends_at: 0,
     };
-    plays_rows(&rt, &[(1, None), (1, None)], &OpenGate, &play)
+    plays_rows(&rt, &[(1, None), (1, None)], &OpenGate, &play);
 }
 
 // Three polls and two waits.
 #[test]
-fn waits_are_turns(rt: HostRuntime) -> Result<(), Fail> {
+fn waits_are_turns(rt: HostRuntime) {
     let play = Play {
         hold: 1,
         steps: &[Step::Works(9, after(5, Finish::AllOver))],
         ends_at: 200,
     };
-    plays_rows(&rt, &[(3, Some(100))], &OpenGate, &play)
+    plays_rows(&rt, &[(3, Some(100))], &OpenGate, &play);
 }
 
 // Of each of three jobs two polls and the wait between them: one after the other, or several at a time.
 #[test]
-fn as_many_at_a_time_as_are_held(rt: HostRuntime) -> Result<(), Fail> {
+fn as_many_at_a_time_as_are_held(rt: HostRuntime) {
     let jobs = [(2, Some(100)), (2, Some(100)), (2, Some(100))];
     for (hold, turns, ends_at) in [(1, 9, 300), (2, 8, 200), (3, 7, 100)] {
         let play = Play {
@@ -94,13 +93,12 @@ fn as_many_at_a_time_as_are_held(rt: HostRuntime) -> Result<(), Fail> {
             steps: &[Step::Works(20, after(turns, Finish::AllOver))],
             ends_at,
         };
-        plays_rows(&rt, &jobs, &OpenGate, &play)?;
+        plays_rows(&rt, &jobs, &OpenGate, &play);
     }
-    Ok(())
 }
 
 #[test]
-fn what_is_over_is_not_polled(rt: HostRuntime) -> Result<(), Fail> {
+fn what_is_over_is_not_polled(rt: HostRuntime) {
     let play = Play {
         hold: 2,
         steps: &[
@@ -111,12 +109,12 @@ fn what_is_over_is_not_polled(rt: HostRuntime) -> Result<(), Fail> {
         ],
         ends_at: 0,
     };
-    plays_rows(&rt, &[(2, None), (2, None)], &OpenGate, &play)
+    plays_rows(&rt, &[(2, None), (2, None)], &OpenGate, &play);
 }
 
 // Also more of them than are held.
 #[test]
-fn it_begins_with_what_was_claimed(rt: HostRuntime) -> Result<(), Fail> {
+fn it_begins_with_what_was_claimed(rt: HostRuntime) {
     let play = Play {
         hold: 1,
         steps: &[
@@ -128,5 +126,5 @@ fn it_begins_with_what_was_claimed(rt: HostRuntime) -> Result<(), Fail> {
         ],
         ends_at: 0,
     };
-    plays_rows(&rt, &[(1, None), (1, None), (1, None)], &OpenGate, &play)
+    plays_rows(&rt, &[(1, None), (1, None), (1, None)], &OpenGate, &play);
 }

@@ -3,19 +3,17 @@ use sched_storm::BrownOut;
 
 #[test]
 fn one_request(rt: HostRuntime) -> Result<(), Fail> {
-    let report = played(rt.alloc(), storm_of(1, 1), Plan::recurs(3)?)?;
-    assert_eq!(rt; lines(rt.alloc(), &report)?.as_str(), "0 1 1 0 1 0 0 0 0\n");
-    let totals = report.totals;
-    assert_eq!(rt; endings(&totals), [1, 1, 0, 0, 0, 1, 0]);
-    assert_eq!(rt;
-        (totals.hundredths, totals.most_calls, totals.most_from),
-        (100, 1, 0)
-    );
-    assert_eq!(rt;
-        (totals.p50, totals.p99, totals.slowest),
-        (Some(1), Some(1), Some(1))
-    );
-    assert_eq!(rt; totals.recovered, Some(0));
+    let totals = plays(
+        &rt,
+        rt.alloc(),
+        storm_of(1, 1),
+        Plan::recurs(3),
+        "0 1 1 0 1 0 0 0 0\n",
+    )?;
+    ends(&rt, &totals, [1, 1, 0, 0, 0, 1, 0]);
+    calls(&rt, &totals, [100, 1, 0]);
+    takes(&rt, &totals, [Some(1), Some(1), Some(1)]);
+    recovers(&rt, &totals, Some(0));
     assert!(rt; !totals.is_cut);
     Ok(())
 }
@@ -23,13 +21,14 @@ fn one_request(rt: HostRuntime) -> Result<(), Fail> {
 // The second waits for the first.
 #[test]
 fn two_at_one_moment(rt: HostRuntime) -> Result<(), Fail> {
-    let report = played(rt.alloc(), storm_of(2, 2), Plan::recurs(3)?)?;
-    assert_eq!(rt; lines(rt.alloc(), &report)?.as_str(), "0 2 2 0 2 0 0 0 0\n");
-    let totals = report.totals;
-    assert_eq!(rt;
-        (totals.p50, totals.p99, totals.slowest),
-        (Some(1), Some(2), Some(2))
-    );
+    let totals = plays(
+        &rt,
+        rt.alloc(),
+        storm_of(2, 2),
+        Plan::recurs(3),
+        "0 2 2 0 2 0 0 0 0\n",
+    )?;
+    takes(&rt, &totals, [Some(1), Some(2), Some(2)]);
     Ok(())
 }
 
@@ -40,12 +39,16 @@ fn queue_of_one(rt: HostRuntime) -> Result<(), Fail> {
         queue: 1,
         ..storm_of(3, 3)
     };
-    let report = played(rt.alloc(), parameters, Plan::recurs(1)?)?;
-    assert_eq!(rt; lines(rt.alloc(), &report)?.as_str(), "0 3 1 2 1 0 4 0 0\n");
-    let totals = report.totals;
-    assert_eq!(rt; endings(&totals), [3, 1, 2, 0, 0, 5, 0]);
-    assert_eq!(rt; totals.hundredths, 167);
-    assert_eq!(rt; totals.recovered, None);
+    let totals = plays(
+        &rt,
+        rt.alloc(),
+        parameters,
+        Plan::recurs(1),
+        "0 3 1 2 1 0 4 0 0\n",
+    )?;
+    ends(&rt, &totals, [3, 1, 2, 0, 0, 5, 0]);
+    calls(&rt, &totals, [167, 5, 0]);
+    recovers(&rt, &totals, None);
     Ok(())
 }
 
@@ -56,8 +59,13 @@ fn queue_of_none(rt: HostRuntime) -> Result<(), Fail> {
         queue: 0,
         ..storm_of(2, 2)
     };
-    let report = played(rt.alloc(), parameters, Plan::recurs(0)?)?;
-    assert_eq!(rt; lines(rt.alloc(), &report)?.as_str(), "0 2 1 0 1 0 1 0 0\n");
+    plays(
+        &rt,
+        rt.alloc(),
+        parameters,
+        Plan::recurs(0),
+        "0 2 1 0 1 0 1 0 0\n",
+    )?;
     Ok(())
 }
 
@@ -68,9 +76,14 @@ fn patience_to_the_millisecond(rt: HostRuntime) -> Result<(), Fail> {
         patience: 2,
         ..storm_of(3, 3)
     };
-    let report = played(rt.alloc(), parameters, Plan::recurs(0)?)?;
-    assert_eq!(rt; lines(rt.alloc(), &report)?.as_str(), "0 3 2 0 2 0 0 1 0\n");
-    assert_eq!(rt; report.totals.slowest, Some(2));
+    let totals = plays(
+        &rt,
+        rt.alloc(),
+        parameters,
+        Plan::recurs(0),
+        "0 3 2 0 2 0 0 1 0\n",
+    )?;
+    takes(&rt, &totals, [Some(1), Some(2), Some(2)]);
     Ok(())
 }
 
@@ -84,12 +97,14 @@ fn late_work_is_done_all_the_same(rt: HostRuntime) -> Result<(), Fail> {
         window: 60,
         ..storm_of(1, 1)
     };
-    let report = played(rt.alloc(), parameters, Plan::recurs(1)?)?;
-    assert_eq!(rt;
-        lines(rt.alloc(), &report)?.as_str(),
-        "0 1 0 0 0 0 0 0 0\n60 0 0 1 0 0 0 1 0\n120 0 0 0 0 0 0 1 0\n"
-    );
-    assert_eq!(rt; report.totals.p50, None);
+    let totals = plays(
+        &rt,
+        rt.alloc(),
+        parameters,
+        Plan::recurs(1),
+        "0 1 0 0 0 0 0 0 0\n60 0 0 1 0 0 0 1 0\n120 0 0 0 0 0 0 1 0\n",
+    )?;
+    takes(&rt, &totals, [None, None, None]);
     Ok(())
 }
 
@@ -105,15 +120,14 @@ fn brown_out_in_the_midst_of_a_call(rt: HostRuntime) -> Result<(), Fail> {
         }),
         ..storm_of(2, 2)
     };
-    let report = played(rt.alloc(), parameters, Plan::recurs(0)?)?;
-    assert_eq!(rt;
-        lines(rt.alloc(), &report)?.as_str(),
-        "0 2 2 0 0 0 0 0 1\n100 0 0 0 1 0 0 0 0\n200 0 0 0 1 0 0 0 0\n"
-    );
-    assert_eq!(rt;
-        (report.totals.p50, report.totals.slowest),
-        (Some(150), Some(275))
-    );
-    assert_eq!(rt; report.totals.recovered, None);
+    let totals = plays(
+        &rt,
+        rt.alloc(),
+        parameters,
+        Plan::recurs(0),
+        "0 2 2 0 0 0 0 0 1\n100 0 0 0 1 0 0 0 0\n200 0 0 0 1 0 0 0 0\n",
+    )?;
+    takes(&rt, &totals, [Some(150), Some(275), Some(275)]);
+    recovers(&rt, &totals, None);
     Ok(())
 }

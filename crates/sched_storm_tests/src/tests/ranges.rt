@@ -2,6 +2,10 @@ use super::*;
 
 // Each parameter at its border, and past it.
 
+fn fits(rt: &impl Abort, parameters: Parameters, want: bool) {
+    assert_eq!(rt; Storm::new(parameters).is_some(), want, "{parameters:?}");
+}
+
 #[test]
 fn requests(rt: HostRuntime) {
     let good = Parameters::default();
@@ -25,7 +29,7 @@ fn requests(rt: HostRuntime) {
             seconds,
             ..good
         };
-        assert_eq!(rt; Storm::new(parameters).is_some(), want);
+        fits(&rt, parameters, want);
     }
 }
 
@@ -47,7 +51,7 @@ fn peers(rt: HostRuntime) {
             queue,
             ..good
         };
-        assert_eq!(rt; Storm::new(parameters).is_some(), want);
+        fits(&rt, parameters, want);
     }
 }
 
@@ -70,7 +74,7 @@ fn reports(rt: HostRuntime) {
             calls,
             ..good
         };
-        assert_eq!(rt; Storm::new(parameters).is_some(), want);
+        fits(&rt, parameters, want);
     }
 }
 
@@ -84,6 +88,6 @@ fn spans(rt: HostRuntime) {
         (0, 3600001, false),
     ] {
         let outage = Span { from, to };
-        assert_eq!(rt; Storm::new(Parameters { outage, ..good }).is_some(), want);
+        fits(&rt, Parameters { outage, ..good }, want);
     }
 }

@@ -17,9 +17,14 @@ fn plan_that_is_done_at_once(rt: HostRuntime) -> Result<(), Fail> {
         outage: Span { from: 0, to: 1 },
         ..storm_of(1, 1)
     };
-    let report = played(rt.alloc(), parameters, Plan::recurs(0)?)?;
-    assert_eq!(rt; lines(rt.alloc(), &report)?.as_str(), "0 1 0 0 0 1 0 0 0\n");
-    assert_eq!(rt; endings(&report.totals), [1, 0, 1, 0, 0, 1, 0]);
+    let totals = plays(
+        &rt,
+        rt.alloc(),
+        parameters,
+        Plan::recurs(0),
+        "0 1 0 0 0 1 0 0 0\n",
+    )?;
+    ends(&rt, &totals, [1, 0, 1, 0, 0, 1, 0]);
     Ok(())
 }
 
@@ -31,10 +36,15 @@ fn window_border_of_a_quota(rt: HostRuntime) -> Result<(), Fail> {
         draws: quota(1, 0, 100),
         ..storm_of(2, 2)
     };
-    let report = played(rt.alloc(), parameters, spaced(rt.alloc(), 2, 100)?)?;
-    assert_eq!(rt; lines(rt.alloc(), &report)?.as_str(), "0 2 1 2 1 3 0 0 0\n");
-    assert_eq!(rt; endings(&report.totals), [2, 1, 0, 1, 0, 4, 2]);
-    assert_eq!(rt; report.totals.p50, Some(201));
+    let totals = plays(
+        &rt,
+        rt.alloc(),
+        parameters,
+        spaced(rt.alloc(), 2, 100),
+        "0 2 1 2 1 3 0 0 0\n",
+    )?;
+    ends(&rt, &totals, [2, 1, 0, 1, 0, 4, 2]);
+    takes(&rt, &totals, [Some(201), Some(201), Some(201)]);
     Ok(())
 }
 
@@ -46,9 +56,9 @@ fn share_of_a_quota(rt: HostRuntime) -> Result<(), Fail> {
         draws: quota(0, 500, 100),
         ..storm_of(2, 2)
     };
-    let report = played(rt.alloc(), parameters, spaced(rt.alloc(), 1, 10)?)?;
-    assert_eq!(rt; endings(&report.totals), [2, 1, 0, 1, 0, 3, 1]);
-    assert_eq!(rt; report.totals.p50, Some(11));
+    let totals = played(rt.alloc(), parameters, spaced(rt.alloc(), 1, 10))?.totals;
+    ends(&rt, &totals, [2, 1, 0, 1, 0, 3, 1]);
+    takes(&rt, &totals, [Some(11), Some(11), Some(11)]);
     Ok(())
 }
 
@@ -59,9 +69,14 @@ fn budget_of_one(rt: HostRuntime) -> Result<(), Fail> {
         draws: Draws::Budget(1),
         ..storm_of(2, 2)
     };
-    let report = played(rt.alloc(), parameters, Plan::recurs(2)?)?;
-    assert_eq!(rt; lines(rt.alloc(), &report)?.as_str(), "0 2 0 1 0 3 0 0 0\n");
-    assert_eq!(rt; endings(&report.totals), [2, 0, 0, 2, 0, 3, 1]);
+    let totals = plays(
+        &rt,
+        rt.alloc(),
+        parameters,
+        Plan::recurs(2),
+        "0 2 0 1 0 3 0 0 0\n",
+    )?;
+    ends(&rt, &totals, [2, 0, 0, 2, 0, 3, 1]);
     Ok(())
 }
 
@@ -73,10 +88,9 @@ fn inputs_of_failures(rt: HostRuntime) -> Result<(), Fail> {
         ..storm_of(2, 2)
     };
     let retry = spaced(rt.alloc(), 1, 5)?;
-    let plan = Plan::gate(rt.alloc(), Side::Input, true, Test::Equal, 2, retry)?;
-    let report = played(rt.alloc(), parameters, plan)?;
-    assert_eq!(rt; lines(rt.alloc(), &report)?.as_str(), "0 2 2 1 2 0 1 0 0\n");
-    assert_eq!(rt; (report.totals.p50, report.totals.p99), (Some(1), Some(6)));
+    let plan = Plan::gate(rt.alloc(), Side::Input, true, Test::Equal, 2, retry);
+    let totals = plays(&rt, rt.alloc(), parameters, plan, "0 2 2 1 2 0 1 0 0\n")?;
+    takes(&rt, &totals, [Some(1), Some(6), Some(6)]);
     Ok(())
 }
 
@@ -90,11 +104,8 @@ fn words_of_a_seed(rt: HostRuntime) -> Result<(), Fail> {
         ..storm_of(2, 2)
     };
     let retry = spaced(rt.alloc(), 1, 1000)?;
-    let plan = Plan::jitter(rt.alloc(), 0, 800, 1200, retry)?;
-    let report = played(rt.alloc(), parameters, plan)?;
-    assert_eq!(rt;
-        (report.totals.p50, report.totals.p99),
-        (Some(824), Some(839))
-    );
+    let plan = Plan::jitter(rt.alloc(), 0, 800, 1200, retry);
+    let totals = played(rt.alloc(), parameters, plan)?.totals;
+    takes(&rt, &totals, [Some(824), Some(839), Some(839)]);
     Ok(())
 }

@@ -8,12 +8,14 @@ fn outage_of_no_length(rt: HostRuntime) -> Result<(), Fail> {
         outage: Span { from: 500, to: 500 },
         ..storm_of(2, 1)
     };
-    let report = played(rt.alloc(), parameters, Plan::recurs(0)?)?;
-    assert_eq!(rt;
-        lines(rt.alloc(), &report)?.as_str(),
-        "0 1 1 0 1 0 0 0 0\n500 1 1 0 1 0 0 0 0\n"
-    );
-    assert_eq!(rt; report.totals.recovered, Some(500));
+    let totals = plays(
+        &rt,
+        rt.alloc(),
+        parameters,
+        Plan::recurs(0),
+        "0 1 1 0 1 0 0 0 0\n500 1 1 0 1 0 0 0 0\n",
+    )?;
+    recovers(&rt, &totals, Some(500));
     Ok(())
 }
 
@@ -24,20 +26,16 @@ fn outage_of_a_millisecond(rt: HostRuntime) -> Result<(), Fail> {
         outage: Span { from: 500, to: 501 },
         ..storm_of(2, 1)
     };
-    let report = played(rt.alloc(), parameters, spaced(rt.alloc(), 1, 1)?)?;
-    assert_eq!(rt;
-        lines(rt.alloc(), &report)?.as_str(),
-        "0 1 1 0 1 0 0 0 0\n500 1 1 1 1 1 0 0 0\n"
-    );
-    let totals = report.totals;
-    assert_eq!(rt;
-        (totals.hundredths, totals.most_calls, totals.most_from),
-        (150, 2, 500)
-    );
-    assert_eq!(rt;
-        (totals.p50, totals.p99, totals.recovered),
-        (Some(1), Some(2), None)
-    );
+    let totals = plays(
+        &rt,
+        rt.alloc(),
+        parameters,
+        spaced(rt.alloc(), 1, 1),
+        "0 1 1 0 1 0 0 0 0\n500 1 1 1 1 1 0 0 0\n",
+    )?;
+    calls(&rt, &totals, [150, 2, 500]);
+    takes(&rt, &totals, [Some(1), Some(2), Some(2)]);
+    recovers(&rt, &totals, None);
     Ok(())
 }
 
@@ -51,12 +49,14 @@ fn until_in_the_midst(rt: HostRuntime) -> Result<(), Fail> {
         draws: Draws::Budget(10),
         ..storm_of(1, 1)
     };
-    let report = played(rt.alloc(), parameters, Plan::spaced(1000)?)?;
-    assert_eq!(rt;
-        lines(rt.alloc(), &report)?.as_str(),
-        "0 1 0 0 0 1 0 0 0\n1000 1 0 1 0 2 0 0 0\n"
-    );
-    assert_eq!(rt; endings(&report.totals), [2, 0, 0, 0, 2, 3, 3]);
+    let totals = plays(
+        &rt,
+        rt.alloc(),
+        parameters,
+        Plan::spaced(1000),
+        "0 1 0 0 0 1 0 0 0\n1000 1 0 1 0 2 0 0 0\n",
+    )?;
+    ends(&rt, &totals, [2, 0, 0, 0, 2, 3, 3]);
     Ok(())
 }
 
@@ -68,11 +68,16 @@ fn cut(rt: HostRuntime) -> Result<(), Fail> {
         outage: Span { from: 0, to: 10 },
         ..storm_of(2, 2)
     };
-    let report = played(rt.alloc(), parameters, Plan::forever()?)?;
-    assert_eq!(rt; lines(rt.alloc(), &report)?.as_str(), "0 1 0 4 0 5 0 0 0\n");
-    assert_eq!(rt; endings(&report.totals), [1, 0, 0, 0, 1, 5, 0]);
-    assert_eq!(rt; report.totals.hundredths, 500);
-    assert!(rt; report.totals.is_cut);
+    let totals = plays(
+        &rt,
+        rt.alloc(),
+        parameters,
+        Plan::forever(),
+        "0 1 0 4 0 5 0 0 0\n",
+    )?;
+    ends(&rt, &totals, [1, 0, 0, 0, 1, 5, 0]);
+    calls(&rt, &totals, [500, 5, 0]);
+    assert!(rt; totals.is_cut);
     Ok(())
 }
 
@@ -85,8 +90,8 @@ fn no_cut_after_the_end(rt: HostRuntime) -> Result<(), Fail> {
         outage: Span { from: 0, to: 100 },
         ..storm_of(1, 1)
     };
-    let report = played(rt.alloc(), parameters, Plan::spaced(10)?)?;
-    assert_eq!(rt; endings(&report.totals), [1, 0, 0, 0, 1, 2, 0]);
-    assert!(rt; !report.totals.is_cut);
+    let totals = played(rt.alloc(), parameters, Plan::spaced(10))?.totals;
+    ends(&rt, &totals, [1, 0, 0, 0, 1, 2, 0]);
+    assert!(rt; !totals.is_cut);
     Ok(())
 }

@@ -1,50 +1,77 @@
 //! Tickets handed back.
-use super::{at, closes, counts, draws, is_out, sees, terms};
+use super::Act::{Counts, Draws, HandsBack, IsOut, Sees};
+use super::Who::{A, B};
+use super::{at, by_two, closes_with_both, parted, terms, turns};
 use sched_ticket_quota::{NotBack, Quota};
 use std::test::Fail;
 
 // Another pass draws one more in the window, once for each ticket that comes back.
 #[test]
 fn a_ticket_comes_back(rt: HostRuntime) -> Result<(), Fail> {
-    let (quota, mut pass) = Quota::new(rt.alloc(), at(0), terms(2, 0, 1000))?;
-    let mut other = pass.split(&quota)?;
-    assert_eq!(rt; pass.hand_back(&quota), Err(NotBack::NoTicket));
-    draws(&rt, &quota, &mut pass, 0, 0);
-    draws(&rt, &quota, &mut other, 0, 1);
-    is_out(&rt, &quota, &mut other, 0, 1000);
-    assert_eq!(rt; pass.hand_back(&quota), Ok(()));
-    assert_eq!(rt; pass.hand_back(&quota), Err(NotBack::NoTicket));
-    counts(&rt, &pass, 0);
-    sees(&rt, &quota, &mut pass, 0, (0, 0, 1, 1, 1000));
-    draws(&rt, &quota, &mut other, 999, 2);
-    is_out(&rt, &quota, &mut pass, 999, 1000);
-    assert_eq!(rt; other.hand_back(&quota), Ok(()));
-    assert_eq!(rt; other.hand_back(&quota), Err(NotBack::NoTicket));
-    counts(&rt, &other, 1);
-    draws(&rt, &quota, &mut pass, 0, 3);
-    is_out(&rt, &quota, &mut other, 0, 1000);
-    let all = pass.join(other, &quota);
-    closes(&rt, quota, all, 2);
-    Ok(())
+    by_two(
+        &rt,
+        Quota::new(rt.alloc(), at(0), terms(2, 0, 1000)),
+        &[
+            (A, 0, HandsBack(Err(NotBack::NoTicket))),
+            (A, 0, Draws(0)),
+            (B, 0, Draws(1)),
+            (B, 0, IsOut(1000)),
+            (A, 0, HandsBack(Ok(()))),
+            (A, 0, HandsBack(Err(NotBack::NoTicket))),
+            (A, 0, Counts(0)),
+            (A, 0, Sees([0, 0, 1, 1, 1000])),
+            (B, 999, Draws(2)),
+            (A, 999, IsOut(1000)),
+            (B, 999, HandsBack(Ok(()))),
+            (B, 999, HandsBack(Err(NotBack::NoTicket))),
+            (B, 999, Counts(1)),
+            (A, 0, Draws(3)),
+            (B, 0, IsOut(1000)),
+        ],
+        2,
+    )
 }
 
 // A ticket of a window that is over gives none to a later one.
 #[test]
 fn a_ticket_comes_late(rt: HostRuntime) -> Result<(), Fail> {
-    let (quota, mut pass) = Quota::new(rt.alloc(), at(0), terms(1, 0, 1000))?;
-    let mut other = pass.split(&quota)?;
+    let (quota, mut pass, mut other) = parted(Quota::new(rt.alloc(), at(0), terms(1, 0, 1000)))?;
     let mut third = pass.split(&quota)?;
-    draws(&rt, &quota, &mut pass, 0, 0);
-    draws(&rt, &quota, &mut other, 1000, 4294967296);
-    assert_eq!(rt; pass.hand_back(&quota), Ok(()));
-    counts(&rt, &pass, 0);
-    is_out(&rt, &quota, &mut third, 1000, 2000);
-    draws(&rt, &quota, &mut pass, 2000, 8589934592);
-    assert_eq!(rt; pass.hand_back(&quota), Ok(()));
-    assert_eq!(rt; other.hand_back(&quota), Ok(()));
-    draws(&rt, &quota, &mut other, 2000, 8589934593);
-    is_out(&rt, &quota, &mut third, 2000, 3000);
-    let all = pass.join(other, &quota).join(third, &quota);
-    closes(&rt, quota, all, 1);
+    turns(
+        &rt,
+        &quota,
+        &mut pass,
+        &mut other,
+        &[
+            (A, 0, Draws(0)),
+            (B, 1000, Draws(4294967296)),
+            (A, 1000, HandsBack(Ok(()))),
+            (A, 1000, Counts(0)),
+        ],
+    );
+    turns(
+        &rt,
+        &quota,
+        &mut pass,
+        &mut third,
+        &[
+            (B, 1000, IsOut(2000)),
+            (A, 2000, Draws(8589934592)),
+            (A, 2000, HandsBack(Ok(()))),
+        ],
+    );
+    turns(
+        &rt,
+        &quota,
+        &mut other,
+        &mut third,
+        &[
+            (A, 2000, HandsBack(Ok(()))),
+            (A, 2000, Draws(8589934593)),
+            (B, 2000, IsOut(3000)),
+        ],
+    );
+    let pass = pass.join(other, &quota);
+    closes_with_both(&rt, quota, pass, third, 1);
     Ok(())
 }

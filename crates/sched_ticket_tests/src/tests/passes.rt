@@ -1,9 +1,12 @@
 //! Passes counted, split and joined.
 ghost use Rattle.sched_ticket.specs.Held.{IsOf};
 
-use super::{closes, draws, splits_no_more, stays_open};
-use sched_ticket::{Budget, Pass};
+use super::Act::{Draws, Splits};
+use super::{acts, closes, closes_with_both, parted, stays_open};
+use sched_ticket::{Budget, Pass, TicketFault};
 use std::test::Fail;
+
+const TOO_MANY: Option<TicketFault> = Some(TicketFault::TooManyPasses);
 
 // It takes no handle, so it can neither wait nor allocate.
 fn draw_apart(budget: &Budget, mut pass: Pass) -> (Option<u64>, Pass)
@@ -45,9 +48,12 @@ fn counts_passes(rt: HostRuntime) -> Result<(), Fail> {
     let (budget, pass) = Budget::new(rt.alloc(), 9)?;
     let (each, mut pass) = split_times(&budget, pass, 65535);
     assert!(rt; each);
-    splits_no_more(&rt, &budget, &mut pass);
-    splits_no_more(&rt, &budget, &mut pass);
-    draws(&rt, &budget, &mut pass, Some(0));
+    acts(
+        &rt,
+        &budget,
+        &mut pass,
+        &[Splits(TOO_MANY), Splits(TOO_MANY), Draws(Some(0))],
+    );
     stays_open(&rt, budget, pass)?;
     Ok(())
 }
@@ -72,8 +78,7 @@ fn counts_joined_passes(rt: HostRuntime) -> Result<(), Fail> {
     let (budget, pass) = Budget::new(rt.alloc(), 9)?;
     let (each, mut pass) = split_and_join(&budget, pass, 65535);
     assert!(rt; each);
-    splits_no_more(&rt, &budget, &mut pass);
-    draws(&rt, &budget, &mut pass, Some(0));
+    acts(&rt, &budget, &mut pass, &[Splits(TOO_MANY), Draws(Some(0))]);
     closes(&rt, budget, pass, 1);
     Ok(())
 }
@@ -84,12 +89,12 @@ fn splits_by_parts_without_end(rt: HostRuntime) -> Result<(), Fail> {
     let (budget, pass) = Budget::by_parts(rt.alloc(), 9)?;
     let (each, mut pass) = split_and_join(&budget, pass, 70000);
     assert!(rt; each);
-    draws(&rt, &budget, &mut pass, Some(0));
+    acts(&rt, &budget, &mut pass, &[Draws(Some(0))]);
     closes(&rt, budget, pass, 1);
     let (budget, pass) = Budget::rising_by_parts(rt.alloc(), 9)?;
     let (each, mut pass) = split_times(&budget, pass, 70000);
     assert!(rt; each);
-    draws(&rt, &budget, &mut pass, Some(0));
+    acts(&rt, &budget, &mut pass, &[Draws(Some(0))]);
     stays_open(&rt, budget, pass)?;
     Ok(())
 }
@@ -97,14 +102,12 @@ fn splits_by_parts_without_end(rt: HostRuntime) -> Result<(), Fail> {
 // The first pass gives 2^20 parts away, one of those gives one, and that one is kept.
 #[test]
 fn keeps_its_last_part(rt: HostRuntime) -> Result<(), Fail> {
-    let (budget, mut pass) = Budget::by_parts(rt.alloc(), 9)?;
-    let mut part = pass.split(&budget)?;
+    let (budget, pass, mut part) = parted(&rt, Budget::by_parts(rt.alloc(), 9), &[])?;
     let mut last = part.split(&budget)?;
-    splits_no_more(&rt, &budget, &mut last);
-    draws(&rt, &budget, &mut last, Some(0));
+    acts(&rt, &budget, &mut last, &[Splits(TOO_MANY), Draws(Some(0))]);
     let (budget, last) = stays_open(&rt, budget, last)?;
     let (budget, pass) = stays_open(&rt, budget, pass)?;
-    let all = last.join(pass, &budget).join(part, &budget);
-    closes(&rt, budget, all, 1);
+    let last = last.join(pass, &budget);
+    closes_with_both(&rt, budget, last, part, 1);
     Ok(())
 }

@@ -2,7 +2,8 @@
 ghost use Rattle.std.specs.Prelude.{All, IfOk};
 ghost use Rattle.sched_ticket.specs.Held.{IsOf};
 
-use super::{closes, raises};
+use super::Act::{Counts, Raises};
+use super::{acts, closes};
 use crate::locked::drawn_by_two;
 use crate::workers::drain;
 use sched_ticket::{Budget, Pass};
@@ -249,8 +250,8 @@ fn sixteen_threads_by_parts(rt: HostRuntime) -> Result<(), Fail> {
 fn raised_after_refusals(rt: HostRuntime) -> Result<(), Fail> {
     let (budget, pass) = Budget::rising_by_parts(rt.alloc(), 1000)?;
     let mut pass = draw_in_sixteen(&rt, rt.alloc(), &budget, pass, 5000)?;
-    assert_eq!(rt; pass.count(), 1000);
-    raises(&rt, &budget, &mut pass, 1500, Ok(1500));
+    let between = [Counts(1000), Raises(1500, Ok(1500))];
+    acts(&rt, &budget, &mut pass, &between);
     let pass = draw_in_sixteen(&rt, rt.alloc(), &budget, pass, 5000)?;
     closes(&rt, budget, pass, 1500);
     Ok(())

@@ -1,0 +1,5 @@
+//! Tests of `sched_pool_json`, of its public calls alone: here they are proved without a second proof of that library.
+#![tactic(auto)]
+
+#[cfg(test)]
+mod tests;

@@ -1,5 +1,0 @@
-use Rattle.sched_ticket_quota.specs.Held.{IsOf}
-use Rattle.sched_ticket_quota_tests.proofs.tests.windows.draw_times.Given as goal
-
-abbrev pub invariant-loop : goal.invariant-loop
-invariant-loop l = IsOf l.quota l.pass
