@@ -6,7 +6,7 @@ ghost use Rattle.sched_cli_check.specs.Checking.{PrintsCheck};
 ghost use Rattle.sched_cli_pool.specs.JobsPrinting.{count_of_pool_reads, count_of_pool_writes};
 ghost use Rattle.sched_cli_pool.specs.PoolPrinting.{PrintsPool};
 ghost use Rattle.sched_cli_pool.specs.QuotaPrinting.{PrintsQuotaPool};
-ghost use Rattle.sched_cli.specs.Answering.{ForInput, OfPrint, Answers};
+ghost use Rattle.sched_cli.specs.Answering.{AnswersText, ForInput, OfPrint};
 
 use crate::storms::storm_text;
 use sched_cli_check::print_check;
@@ -28,7 +28,7 @@ pub(crate) fn print_text<R, W: Sink>(
 ) -> Result<(), PoolFault>
 where
     R: Threads + Wait + RandomSource + AllocGlobal + Sync,
-    ensures text { ForInput bytes.now (λ l m. Answers asked.now l m (W.taken writer.old) (W.taken writer.new) result) }
+    ensures text { AnswersText bytes.now asked.now (W.taken writer.old) (W.taken writer.new) result }
     ensures reads { 0 ≡ count_of_pool_reads result 0 }
     ensures writes { W.failures writer.new ≡ count_of_pool_writes result (W.failures writer.old) }
 {

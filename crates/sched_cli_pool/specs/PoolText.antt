@@ -1,11 +1,16 @@
 -- What is printed of jobs that have ended: a line for each in order of their numbers, and the total.
-use Rattle.std.specs.Prelude.{ℕ, ◌+◌, ◌-◌, slice_get, length, List, [], ◌∷◌, ◌++◌, Option, Some, None, codes, decimal}
+use Rattle.std.specs.Prelude.{◌≡◌, ℕ, ◌+◌, ◌-◌, slice_get, length, List, [], ◌∷◌, ◌++◌, Option, Some, None}
+use Rattle.std.specs.Prelude.{String, codes, decimal, string_bytes}
 use Rattle.sched_effect.specs.Runs.{code_of}
 use Rattle.sched_effect.specs.declared.ran.Ran.{Ran}
 use Rattle.sched_task.specs.declared.endings.How.{How}
 use Rattle.sched_task.specs.declared.endings.How.TheVariants.{Won, ScheduleDone, BudgetRefused, Failed, Cancelled, Broken}
 use Rattle.sched_task.specs.declared.endings.RunFault.TheVariants.{NoMemory, JournalFull, Backwards}
 use Rattle.sched_task_law.specs.Past.{Past}
+
+-- the lines have this text more, at their end
+abbrev pub Adds : {Z : Type 0} → String Z → List ℕ → String Z → Type 0
+Adds lines text lines' = string_bytes lines' ≡ string_bytes lines ++ text
 
 abbrev pub code_or_0 : Option Ran → ℕ
 code_or_0 None = 0

@@ -1,6 +1,6 @@
 //! The lines of jobs that have ended, and of their total.
-ghost use Rattle.std.specs.Prelude.{◌≡◌, ◌++◌, string_bytes, OnOk};
-ghost use Rattle.sched_cli_pool.specs.PoolText.{last_code, ending_text, line_text, total_text, windows_text};
+ghost use Rattle.std.specs.Prelude.{◌≡◌, OnOk};
+ghost use Rattle.sched_cli_pool.specs.PoolText.{Adds, last_code, ending_text, line_text, total_text, windows_text};
 
 use sched_effect::Ran;
 use sched_task::{How, RunFault};
@@ -16,7 +16,7 @@ pub fn push_line(
     runs: &[Ran],
     granted: u64,
 ) -> Result<(), NoMemory>
-    ensures { OnOk result (string_bytes lines.new ≡ string_bytes lines.old ++ line_text number how runs.now granted) }
+    ensures { OnOk result (Adds lines.old (line_text number how runs.now granted) lines.new) }
 {
     write!(lines, "job {number}: ")?;
     push_ending(lines, how, last_code(runs))?;
@@ -26,7 +26,7 @@ pub fn push_line(
 
 /// Adds the line of the total at the end. Fails only with `NoMemory`.
 pub fn push_total(lines: &mut String, granted: u64, limit: u64) -> Result<(), NoMemory>
-    ensures { OnOk result (string_bytes lines.new ≡ string_bytes lines.old ++ total_text granted limit) }
+    ensures { OnOk result (Adds lines.old (total_text granted limit) lines.new) }
 {
     write!(lines, "granted {granted} of {limit}\n")?;
     Ok(())
@@ -34,7 +34,7 @@ pub fn push_total(lines: &mut String, granted: u64, limit: u64) -> Result<(), No
 
 /// Adds the line of the total of a quota at the end: `granted T in W windows`. Fails only with `NoMemory`.
 pub fn push_windows(lines: &mut String, granted: u64, windows: usize) -> Result<(), NoMemory>
-    ensures { OnOk result (string_bytes lines.new ≡ string_bytes lines.old ++ windows_text granted windows) }
+    ensures { OnOk result (Adds lines.old (windows_text granted windows) lines.new) }
 {
     write!(lines, "granted {granted} in {windows} windows\n")?;
     Ok(())
@@ -42,7 +42,7 @@ pub fn push_windows(lines: &mut String, granted: u64, windows: usize) -> Result<
 
 // Adds how a job ended.
 fn push_ending(lines: &mut String, how: Option<How>, code: u64) -> Result<(), NoMemory>
-    ensures { OnOk result (string_bytes lines.new ≡ string_bytes lines.old ++ ending_text how code) }
+    ensures { OnOk result (Adds lines.old (ending_text how code) lines.new) }
 {
     match how {
         Some(How::Won) => write!(lines, "won {code}")?,

@@ -40,7 +40,8 @@ module _ {D : Type 0} (grants : Grants D) where
   pub record WinsOnce (keeps : Bool) (plan : Schedule) (drawing : D) (moment code : ℕ) : Type 0 where
     pub running : Retrying D
     pub begins : (words : List ℕ) →
-        HostPoll grants (a_retry keeps) (unbegun grants plan drawing) (record { now = moment; words = words }) [] running
+        HostPoll grants (a_retry keeps) (unbegun grants plan drawing) (record { now = moment; words = words }) []
+        running
     pub wins : (tick : Tick) →
         HostPoll grants (a_retry keeps) running tick (Won code ∷ []) (won_once plan drawing moment code)
     pub law : RetryLaw grants (a_retry keeps) (won_once plan drawing moment code)
@@ -52,8 +53,8 @@ module _ {R D K C I F : Type 0} (stands : R → Driven → Type 0) (keeps : Bool
   -- turns, is over as the ending says, and is one that the machine may stand for in the end.
   pub record Goes (s n : Calling (Machine R D) K C (Result I F)) (ending : CallEnding I F) : Type 0 where
     pub ticks : List Tick
-    pub leads : (v : Retrying D) → StandsFor stands (a_retry keeps) grants s.task v → goes_by n.task.driver v.past.driver.plan →
-        (u : Retrying D)
+    pub leads : (v : Retrying D) → StandsFor stands (a_retry keeps) grants s.task v →
+        goes_by n.task.driver v.past.driver.plan → (u : Retrying D)
         × FoldsTo (Turn (task_turning grants (a_retry keeps)) tells waits gives item_code fault_code)
         (calling v s.clock s.words s.call s.last) ticks (calling u n.clock n.words n.call n.last)
         × EndsWith item_code fault_code u.past.over u.past.runs (how_of ending) (gave ending)
@@ -62,7 +63,8 @@ module _ {R D K C I F : Type 0} (stands : R → Driven → Type 0) (keeps : Bool
     pub budget : grants.name n.task.drawing ≡ grants.name s.task.drawing
 
 module _ {T D K C I F : Type 0} (grants : Grants D) (keeps : Bool) (tells : K → ℕ → K → Type 0)
-    (waits : K → ℕ → ℕ → K → Type 0) (gives : C → Result I F → C → Type 0) (item_code : I → ℕ) (fault_code : F → ℕ) where
+    (waits : K → ℕ → ℕ → K → Type 0) (gives : C → Result I F → C → Type 0)
+    (item_code : I → ℕ) (fault_code : F → ℕ) where
   -- The first call succeeded: the clock was asked before it, no word was drawn and nothing made, and a retry that had not
   -- begun won.
   pub record WonAtOnce (s n : Calling T K C (Result I F)) (item : I) : Type 0 where

@@ -54,7 +54,8 @@ MakesUnlimited (Ok b) = b.value ≡ Pass (Unlimited 0)
 MakesUnlimited (Err s) = s ≡ NoMemory
 
 -- a call on what a handle holds does this to its pass; of what is of another kind nothing changes
-abbrev pub OnPass : {A : Type 0} → (Drawing → Result A Status → Drawing → Type 0) → Held → Result A Status → Held → Type 0
+abbrev pub OnPass : {A : Type 0} → (Drawing → Result A Status → Drawing → Type 0) → Held → Result A Status → Held →
+    Type 0
 OnPass does (Pass d) r v = (e : Drawing) × (v ≡ Pass e) × does d r e
 OnPass does u r v = OtherKind u r v
 

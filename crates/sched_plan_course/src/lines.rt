@@ -60,7 +60,8 @@ pub fn line_at(
     ensures in_range { event.now ≤ FAR }
 
     // The new state fits the plan from now on.
-    ensures fits { IfOk result (λ _. (later : ℕ) → event.now ≤ later → IsTrue (fits plan.now state.new later)) }
+    ensures fits { IfOk result (λ _. (later : ℕ) → event.now ≤ later →
+        IsTrue (fits plan.now state.new later)) }
     ensures unchanged { IfErr result (λ _. state.new ≡ state.old) }
 {
     let moment = event.now;

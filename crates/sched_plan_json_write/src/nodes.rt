@@ -86,7 +86,8 @@ fn gate_test(alloc: Global, side: Side, want: bool, test: Test) -> Result<Vec<Va
 // `[..,bound,A]`, after the first items.
 #[tactic(auto, using(crate::proofs::Writings::two_more))]
 fn gate_items(mut items: Vec<Value>, bound: u64, plan: Value) -> Result<Value, NoMemory>
-    ensures { IfOk result (λ v. view v ≡ array (items_of (map view items.items ++ whole bound ∷ view plan ∷ []))) }
+    ensures { IfOk result (λ v.
+        view v ≡ array (items_of (map view items.items ++ whole bound ∷ view plan ∷ []))) }
 {
     items.push(Value::from(bound))?;
     items.push(plan)?;

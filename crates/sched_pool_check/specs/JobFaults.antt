@@ -25,7 +25,8 @@ is_wrong_number runs = (count runs == 0) || nat_lt 64 (count runs)
 
 -- the first fault of a job's runs and plan, the place and the value that has it: a run, or a value in the plan
 pub data PartFault (fault : ReadFault) (plan : Data) (runs : Items) : List Into → Data → Type 0 where
-  of_run : (i : ℕ) (v : Data) → FirstItem run_in fault runs i v → PartFault fault plan runs (key (codes "runs") ∷ index i ∷ []) v
+  of_run : (i : ℕ) (v : Data) → FirstItem run_in fault runs i v
+      → PartFault fault plan runs (key (codes "runs") ∷ index i ∷ []) v
   of_plan : (place : List Into) (v : Data) → IsRead (each run_in runs) → FirstFault fault plan place v
       → PartFault fault plan runs (key (codes "plan") ∷ place) v
 
@@ -41,12 +42,14 @@ pub data JobFault (fault : ReadFault) (job : Data) : List Into → Data → Type
 pub data JobsFault (fault : ReadFault) (d : Data) : List Into → Data → Type 0 where
   of_whole : (as_array d ≡ None) ⊎ ((jobs : Items) × (as_array d ≡ Some jobs) × (nat_lt 4096 (count jobs) ≡ true))
       → jobs_of d ≡ Err fault → JobsFault fault d [] d
-  of_job : (job v : Data) (jobs : Items) (i : ℕ) (place : List Into) → as_array d ≡ Some jobs → nat_lt 4096 (count jobs) ≡ false
+  of_job : (job v : Data) (jobs : Items) (i : ℕ) (place : List Into) → as_array d ≡ Some jobs
+      → nat_lt 4096 (count jobs) ≡ false
       → FirstItem job_in fault jobs i job → JobFault fault job place v → JobsFault fault d (index i ∷ place) v
 
 -- after these steps further ones lead to the first fault
 abbrev pub PartLeadsOn : ReadFault → Data → Items → List Into → List Into → Data → Type 0
-PartLeadsOn fault plan runs before place v = (rest : List Into) × (place ≡ before ++ rest) × PartFault fault plan runs rest v
+PartLeadsOn fault plan runs before place v =
+    (rest : List Into) × (place ≡ before ++ rest) × PartFault fault plan runs rest v
 
 abbrev pub JobLeadsOn : ReadFault → Data → List Into → List Into → Data → Type 0
 JobLeadsOn fault job before place v = (rest : List Into) × (place ≡ before ++ rest) × JobFault fault job rest v

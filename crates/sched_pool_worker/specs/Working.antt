@@ -1,5 +1,6 @@
 -- What a worker works with, what it notes of its jobs, and what it does to its share.
-use Rattle.std.specs.Prelude.{◌≡◌, ℕ, ◌+◌, ◌-◌, ◌≤◌, true, List, [], ◌∷◌, ◌++◌, length, Option, if◌then◌else◌, is_some}
+use Rattle.std.specs.Prelude.{◌≡◌, ℕ, ◌+◌, ◌-◌, ◌≤◌, true, List, [], ◌∷◌, ◌++◌, length, drop, Option, is_some}
+use Rattle.std.specs.Prelude.{Vec, vec_len, if◌then◌else◌}
 use Rattle.sched_ticket.specs.Lists.{IsSame}
 use Rattle.sched_pool_claim.specs.Portion.{Portion}
 use Rattle.sched_task.specs.declared.endings.How.{How}
@@ -38,6 +39,10 @@ open_number seat = if is_some seat.over then [] else seat.number ∷ []
 abbrev pub open_numbers : List Noted → List ℕ
 open_numbers [] = []
 open_numbers (seat ∷ seats) = open_number seat ++ open_numbers seats
+
+-- the active jobs of a share that are still to be driven once the seats are gone, which have the first of them
+abbrev pub left_active : {A : Type 0} → Vec Noted A → List ℕ → List ℕ
+left_active seats active = open_numbers seats.items ++ drop (vec_len seats) active
 
 -- A share goes on: it claims further jobs and closes some. No job is lost: the active and the claimed ones are active
 -- or closed, each as often. A share that was answered None stays so.

@@ -3,7 +3,7 @@ ghost use Rattle.std.specs.Prelude.{◌≡◌, ◌<◌, ◌≤◌, ◌++◌, [],
 ghost use Rattle.std.specs.Option.{ForSome};
 ghost use Rattle.sched_pool_claim.specs.Portion.{IsShareOf};
 ghost use Rattle.sched_wheel.specs.Polled.{IsLeft};
-ghost use Rattle.sched_pool_worker.specs.Working.{WentOn, numbers, open_numbers, still_to_do};
+ghost use Rattle.sched_pool_worker.specs.Working.{WentOn, left_active, numbers, still_to_do};
 
 use crate::gates::Gate;
 use crate::seats::Seat;
@@ -167,7 +167,7 @@ fn take_seats<'b, T: Task, R: Wait, Q: Gate>(
 // Closes the jobs of those seats that saw theirs over: the seats of the share's first active jobs.
 fn close_over<T: Task, R: Wait, Q: Gate>(share: &mut Share, mut seats: Vec<Seat<'_, T, R, Q>>)
     requires { numbers seats.items ≡ take (vec_len seats) share.old.active }
-    ensures active { share.new.active ≡ open_numbers seats.entry.items ++ drop (vec_len seats.entry) share.old.active }
+    ensures active { share.new.active ≡ left_active seats.entry share.old.active }
     ensures pass { share.new.pass ≡ share.old.pass }
 {
     while let Some(seat) = seats.pop() {

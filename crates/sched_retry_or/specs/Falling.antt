@@ -29,7 +29,8 @@ pub record Falling (D : Type 0) : Type 0 where
 abbrev pub coded_falling : {D : Type 0} → Coded D → Coded (Falling D)
 coded_falling {D} coded_drawing =
     code_by (Retrying D × (Option (ℕ × Datum) × Option Ran))
-    (coded× (coded_retrying coded_drawing) (coded× (coded_option (coded× coded_ℕ coded_datum)) (coded_option coded_ran)))
+    (coded× (coded_retrying coded_drawing)
+    (coded× (coded_option (coded× coded_ℕ coded_datum)) (coded_option coded_ran)))
     (λ v. (v.retrying, (v.asked, v.answered)))
     (λ p. record { retrying = p.0; asked = p.1.0; answered = p.1.1 }) (λ _. refl)
 
@@ -87,8 +88,8 @@ KeepsStop code v over (Some stopped) = (v.over ≡ Some stopped.how) × IsWhy co
 
 -- What is true of a retry with a fallback, of the retry beneath, how it is over, and what it keeps.
 pub record IsFalling {D I F : Type 0} (grants : Grants D) (item_code : I → ℕ) (fault_code : F → ℕ) (v : Retrying D)
-    (over : Option How) (stopped : Option (Stopped F)) (ending : Option (RetryOrEnding I F)) (asked : Option (ℕ × Datum))
-    (answered : Option Ran) : Type 0 where
+    (over : Option How) (stopped : Option (Stopped F)) (ending : Option (RetryOrEnding I F))
+    (asked : Option (ℕ × Datum)) (answered : Option Ran) : Type 0 where
   pub law : FallingLaw grants (falling v over (is_some ending) asked answered)
   pub fits : IfSome ending (RetryOrFits item_code fault_code over v.past.runs answered)
   pub keeps : KeepsStop fault_code v.past over stopped

@@ -32,5 +32,6 @@ module _ {D : Type 0} (grants : Grants D) where
   IsOf kind m r untaken = StandsFor IsDriven kind grants m (made_of m r untaken)
 
   -- and with this ending, which fits how it is over and its runs
-  abbrev pub IsTask : Kind → {E : Type 0} → (Option How → List Ran → E → Type 0) → Machine Driven D → Runs → Option E → Type 0
+  abbrev pub IsTask : Kind → {E : Type 0} → (Option How → List Ran → E → Type 0) → Machine Driven D → Runs →
+      Option E → Type 0
   IsTask kind fits m r ending = IsOf kind m r (is_some ending) × IfSome ending (fits m.over r.runs)

@@ -48,7 +48,8 @@ beneath deadline d = record { plan = plan_of deadline d.plan; journal = d.journa
 pub plan_of-until : (from : ℕ) (deadline : Option ℕ) (s : Schedule) → plan_of deadline (until_from from deadline s) ≡ s
 plan_of-until from None s = refl
 plan_of-until from (Some deadline) s =
-    elim (nat_le from deadline) as (λ b. planned (if b then one (EndsBy (deadline - from)) s else one First (two Meet s (leaf (Recurs 0)))) ≡ s) [
+    elim (nat_le from deadline) as (λ b. planned
+    (if b then one (EndsBy (deadline - from)) s else one First (two Meet s (leaf (Recurs 0)))) ≡ s) [
       | true ↦ refl
       | false ↦ refl
     ]
@@ -97,10 +98,14 @@ same_first : (first : Option ℕ) → IfSome first (λ moment. moment ≡ unwrap
 same_first None = tt
 same_first (Some moment) = refl
 
-pub goes_until : {R : Type 0} (goes_by : R → Schedule → Type 0) (v : Until R) (plan : Schedule) → goes_by v.driver plan →
-    GoesUntil goes_by v (schedule_until v plan)
+pub goes_until : {R : Type 0} (goes_by : R → Schedule → Type 0) (v : Until R) (plan : Schedule) →
+    goes_by v.driver plan → GoesUntil goes_by v (schedule_until v plan)
 goes_until goes_by v plan by =
     let same = sym (plan_of-until (unwrap_or v.first 0) v.deadline plan) in (
       subst (λ (s : Schedule). goes_by v.driver s) same by,
-      (unwrap_or v.first 0, ap (λ (s : Schedule). until_from (unwrap_or v.first 0) v.deadline s) same, same_first v.first),
+      (
+        unwrap_or v.first 0,
+        ap (λ (s : Schedule). until_from (unwrap_or v.first 0) v.deadline s) same,
+        same_first v.first,
+      ),
     )

@@ -156,7 +156,8 @@ impl<R: Drives, D: Draws, A: Aims> Machine<R, D, A> {
     /// Ends the run under way as it went, or one that began at the tick, as `report` does.
     pub fn finish(&mut self, alloc: Global, tick: &Tick, ran: Ran)
         requires { Looks R.stands (A.kind R.keeps) D.grants self.old tick.now false }
-        ensures polls { Polls R.stands (A.kind R.keeps) R.goes_by D.grants self.old tick.entry.now (ran ∷ []) self.new }
+        ensures polls { Polls R.stands (A.kind R.keeps) R.goes_by D.grants
+            self.old tick.entry.now (ran ∷ []) self.new }
         ensures ends { EndsAs (repeats (A.kind R.keeps)) ran self.new.over }
         ensures idle { self.new.under_way ≡ false }
         ensures deadline { R.ends self.new.driver ≡ R.ends self.old.driver }

@@ -20,22 +20,22 @@ second_next OnlyFirst s = s.present
 second_next OnlySecond s = s.next
 
 -- what a node over two schedules is, from whose turn it is and from both sides
-abbrev pub present_two : Turns → Phases → Phases → Progress
-present_two turns first second = at_two turns.present first.present second.present
+abbrev pub present_two : Turns → Phases × Phases → Progress
+present_two turns sides = at_two turns.present sides.0.present sides.1.present
 
 -- what it will be
-abbrev pub next_two : Turns → Phases → Phases → Progress
-next_two turns first second = at_two turns.next (first_next turns.moves first) (second_next turns.moves second)
+abbrev pub next_two : Turns → Phases × Phases → Progress
+next_two turns sides = at_two turns.next (first_next turns.moves sides.0) (second_next turns.moves sides.1)
 
 abbrev pub present_of : TreeShape → Progress
 present_of (Leaf present next) = at_leaf present
 present_of (One own tree) = at_one own.present tree.value.present
-present_of (Two turns sides) = present_two turns sides.value.0 sides.value.1
+present_of (Two turns sides) = present_two turns sides.value
 
 abbrev pub next_of : TreeShape → Progress
 next_of (Leaf present next) = at_leaf next
 next_of (One own tree) = at_one own.next tree.value.next
-next_of (Two turns sides) = next_two turns sides.value.0 sides.value.1
+next_of (Two turns sides) = next_two turns sides.value
 
 abbrev pub phases_of : TreeShape → Phases
 phases_of s = record { present = present_of s; next = next_of s }

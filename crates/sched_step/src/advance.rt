@@ -101,11 +101,11 @@ fn advance_beside(
 ) -> Result<(), NoMemory>
     requires beside { IsTrue (is_beside node) }
     requires fits { IsTrue (fits (two_schedule node plans.now.0 plans.now.1)
-        (present_two turns.old sides.old.0 sides.old.1) walk.now.tick.now) }
-    ensures present { present_two turns.new sides.new.0 sides.new.1 ≡ present_two turns.old sides.old.0 sides.old.1 }
+        (present_two turns.old sides.old) walk.now.tick.now) }
+    ensures present { present_two turns.new sides.new ≡ present_two turns.old sides.old }
     ensures step { IfOk result (λ _. Steps (two_schedule node plans.now.0 plans.now.1) walk.now.fresh
-        (event_of walk.now.tick walk.now.input.now) (present_two turns.old sides.old.0 sides.old.1)
-        (next_two turns.new sides.new.0 sides.new.1) (answered output.new decision.new)) }
+        (event_of walk.now.tick walk.now.input.now) (present_two turns.old sides.old)
+        (next_two turns.new sides.new) (answered output.new decision.new)) }
 {
     turns.next = Turn::Together;
     turns.moves = Moves::Both;
@@ -135,11 +135,11 @@ fn advance_feed(
     decision: &mut Decision,
 ) -> Result<(), NoMemory>
     requires { IsTrue (fits (two_schedule Two.Feed plans.now.0 plans.now.1)
-        (present_two turns.old sides.old.0 sides.old.1) walk.now.tick.now) }
-    ensures present { present_two turns.new sides.new.0 sides.new.1 ≡ present_two turns.old sides.old.0 sides.old.1 }
+        (present_two turns.old sides.old) walk.now.tick.now) }
+    ensures present { present_two turns.new sides.new ≡ present_two turns.old sides.old }
     ensures step { IfOk result (λ _. Steps (two_schedule Two.Feed plans.now.0 plans.now.1) walk.now.fresh
-        (event_of walk.now.tick walk.now.input.now) (present_two turns.old sides.old.0 sides.old.1)
-        (next_two turns.new sides.new.0 sides.new.1) (answered output.new decision.new)) }
+        (event_of walk.now.tick walk.now.input.now) (present_two turns.old sides.old)
+        (next_two turns.new sides.new) (answered output.new decision.new)) }
 {
     turns.next = Turn::Together;
     turns.moves = Moves::Both;
@@ -170,11 +170,11 @@ fn advance_follow(
     decision: &mut Decision,
 ) -> Result<(), NoMemory>
     requires { IsTrue (fits (two_schedule Two.Follow plans.now.0 plans.now.1)
-        (present_two turns.old sides.old.0 sides.old.1) walk.now.tick.now) }
-    ensures present { present_two turns.new sides.new.0 sides.new.1 ≡ present_two turns.old sides.old.0 sides.old.1 }
+        (present_two turns.old sides.old) walk.now.tick.now) }
+    ensures present { present_two turns.new sides.new ≡ present_two turns.old sides.old }
     ensures step { IfOk result (λ _. Steps (two_schedule Two.Follow plans.now.0 plans.now.1) walk.now.fresh
-        (event_of walk.now.tick walk.now.input.now) (present_two turns.old sides.old.0 sides.old.1)
-        (next_two turns.new sides.new.0 sides.new.1) (answered output.new decision.new)) }
+        (event_of walk.now.tick walk.now.input.now) (present_two turns.old sides.old)
+        (next_two turns.new sides.new) (answered output.new decision.new)) }
 {
     if let Turn::Crossed = turns.present.origin(walk.fresh, Two::Follow) {
         turns.next = Turn::Crossed;

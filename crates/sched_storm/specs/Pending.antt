@@ -37,7 +37,8 @@ pub record IsWait (until : ℕ) (key : ℕ × ℕ) (driver : Box Standing Global
   pub at : IsKey until key
   pub order : IsBy key.0 driver
 
-pub record AreDue (until : ℕ) (flights : BTreeMap (ℕ × ℕ) Flight) (waits : BTreeMap (ℕ × ℕ) (Box Standing Global)) : Type 0 where
+pub record AreDue (until : ℕ) (flights : BTreeMap (ℕ × ℕ) Flight)
+    (waits : BTreeMap (ℕ × ℕ) (Box Standing Global)) : Type 0 where
   pub each_flight : (q : ℕ × ℕ) (x : Flight) → get due_cmp flights q ≡ Some x → IsFlight until q x
   pub each_wait : (q : ℕ × ℕ) (x : Box Standing Global) → get due_cmp waits q ≡ Some x → IsWait until q x
 

@@ -61,7 +61,8 @@ impl Course {
     /// Plays all events, and tells whether the storm was cut: whether one call more was to begin than it may make.
     pub(crate) fn run(&mut self, alloc: Global) -> Result<bool, NoMemory>
         ensures storm { self.new.storm ≡ self.old.storm }
-        ensures cut { IfOk result (λ is_cut. IsTrue is_cut → calls_in self.new.tally.score.all ≡ self.new.storm.calls) }
+        ensures cut { IfOk result (λ is_cut. IsTrue is_cut →
+            calls_in self.new.tally.score.all ≡ self.new.storm.calls) }
     {
         loop {
             let first = self.next_request();

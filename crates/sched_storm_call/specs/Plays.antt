@@ -28,7 +28,8 @@ pub record HasRoom (g : StormGiven) (t : Told) : Type 0 where
 -- What is played where a handle holds this: a storm whose report adds up, or none for this reason. Of several reasons it is
 -- the first.
 abbrev pub Plays : StormGiven → Told → Option Held → Result Report Status → Type 0
-Plays g t held (Ok report) = HasRoom g t × ((u : Held) × (held ≡ Some u) × (kind_of u ≡ kind.Policy)) × AddsUp (parameters_of g) report
+Plays g t held (Ok report) =
+    HasRoom g t × ((u : Held) × (held ≡ Some u) × (kind_of u ≡ kind.Policy)) × AddsUp (parameters_of g) report
 Plays g t held (Err OutOfRange) = ¬ IsGiven g
 Plays g t held (Err NoRoom) = IsGiven g × (length t.windows < room_of (parameters_of g))
 Plays g t held (Err Empty) = HasRoom g t × (held ≡ None)

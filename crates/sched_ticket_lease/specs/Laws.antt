@@ -17,7 +17,8 @@ pub record Taken : Type 0 where
 -- A store keeps its numbers until the next lease: it may pass over tickets and lose requests, and it may come to a later
 -- window, of which it was told no request. It never goes back.
 abbrev pub Keeps : Stored → Stored → Type 0
-Keeps s t = ((s.window ≡ t.window) × (s.given ≤ t.given) × (t.asked ≤ s.asked)) ⊎ ((s.window < t.window) × (t.asked ≡ 0))
+Keeps s t =
+    ((s.window ≡ t.window) × (s.given ≤ t.given) × (t.asked ≤ s.asked)) ⊎ ((s.window < t.window) × (t.asked ≡ 0))
 
 -- leases in the order in which a store took them, from these numbers on
 abbrev pub AreTaken : Stored → List Taken → Type 0

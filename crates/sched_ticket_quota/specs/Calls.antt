@@ -31,7 +31,8 @@ Meets at v u = (q : ℕ) × (v.seen ≤ q) × (at ≤ window_of q) × (u ≡ wit
 -- requests the window before had, where it was the latest.
 abbrev pub Opens : ℕ → View → View → Type 0
 Opens at v u = (q found : ℕ) × (v.seen ≤ q) × (q ≤ found) × (window_of q < at)
-    × (u ≡ with_opening (with_note (with_reading v q) (note_for at (with_reading v q))) (first_of at) (max found (first_of at)))
+    × (u ≡ with_opening (with_note (with_reading v q) (note_for at (with_reading v q)))
+    (first_of at) (max found (first_of at)))
 
 -- the pass comes to the window of this moment, or to a later one that is the latest: it was there, another pass opened
 -- it, or this one opens it

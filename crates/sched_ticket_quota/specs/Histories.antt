@@ -57,8 +57,8 @@ pub data Made (b : Name) : List Call → View → Type 0 where
       → Made b calls v → Made b (call_of now v w ∷ calls) w
   sets_terms : (v : View) (x : ℕ) (calls : List Call) → Made b calls v → Made b calls (with_change v x)
   hands_back : (v w : View) (calls : List Call) → HandedBack v w → Made b calls v → Made b calls w
-  keeps_ticket : (v w : View) (calls : List Call) → w ≡ record v { back = w.back; recalls = w.recalls; losses = w.losses }
-      → Made b calls v → Made b calls w
+  keeps_ticket : (v w : View) (calls : List Call)
+      → w ≡ record v { back = w.back; recalls = w.recalls; losses = w.losses } → Made b calls v → Made b calls w
   gives_part : (v : View) (calls : List Call) → Made b calls v → Made b calls (without_part v)
   begins_as_part : (v : View) (calls : List Call) → Made b calls v → Made b [] (part_of v)
   takes_in : (v w : View) (calls those : List Call) → Made b calls v → Made b those w
@@ -85,8 +85,8 @@ opened_after to calls = total (λ (c : Call). if nat_lt to c.moment then c.opene
 -- on, in so many windows that the last ticket was drawn in one of them. Of a quota that carries, it is the share of the
 -- requests of the window before as well. Reserve and share are the greatest that were in force.
 abbrev pub CallsAreBounded : Type 0
-CallsAreBounded = (b : Name) (s : State ℕ View) → AreTerms b.terms → (kept : IsKept b.terms s) → kept.carries ≡ b.carries →
-    (most : Terms) → AreMost b.terms s.views most →
+CallsAreBounded = (b : Name) (s : State ℕ View) → AreTerms b.terms → (kept : IsKept b.terms s) →
+    kept.carries ≡ b.carries → (most : Terms) → AreMost b.terms s.views most →
     (calls : List (List Call)) → AreMade b calls s.views → (since to count : ℕ) → since ≤ to →
     drawn_of s + late_numbers b.carries ≤ first_of (window_at b.terms b.start since + count) →
     let requests = over (requests_in s.views) (window_at b.terms b.start since) count in

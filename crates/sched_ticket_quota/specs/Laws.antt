@@ -43,7 +43,8 @@ UnchangedAreKept = Always (λ k s kept.
 -- the terms that a draw reads, and those that a pass has read, were in force
 abbrev pub TermsWereInForce : Type 0
 TermsWereInForce = Always (λ k s kept. WereInForce k s.views (terms_of k (current_of s))
-    × ((by : ℕ) (v : View) → get_elem? s.views by ≡ some v → 0 < v.weight → WereInForce k s.views (terms_of k v.current)))
+    × ((by : ℕ) (v : View) → get_elem? s.views by ≡ some v → 0 < v.weight →
+    WereInForce k s.views (terms_of k v.current)))
 
 -- nor 4294967296
 abbrev pub WindowsAreSmall : Type 0

@@ -80,7 +80,8 @@ impl Model for Pass {
 impl Pass {
     pub(crate) fn of_seat(seat: Seat, weight: u64, told: u64, start: u64) -> Pass
         requires bare { seat.me.1 ≡ [] }
-        requires new { let v = seat.me.0 in v ≡ record (fresh_view v.terms v.current v.seen told v.found v.back weight)
+        requires new { let v = seat.me.0 in
+            v ≡ record (fresh_view v.terms v.current v.seen told v.found v.back weight)
             { carries = v.carries; past = v.past; noted = v.noted } }
         requires live { (0 < weight) × (weight ≤ 4611686018427387904) }
         ensures of { (result.table ≡ seat.table_id) × (result.start ≡ start) × (result.has ≡ seat.me.0) }
