@@ -1,33 +1,35 @@
-//! Drivers at work. The helpers take a driver or what a builder answers as it is, so that a test holds few values.
+//! Drivers at work. Tests answer nothing and end by `expect` in helpers, which take values as they are: so they hold few.
 use sched_driver::{DriveFault, Driver, Event};
-use sched_plan::{Plan, PlanFault, Val};
-use sched_time::{Decision, Interval, Moment, NoMemory, Tick};
+use sched_plan::{Plan, Val};
+use sched_time::{Decision, Interval, Moment, Tick};
 use std::alloc::Global;
 use std::process::Abort;
-use std::test::Fail;
 
 mod cells;
 mod drivers;
 mod steppers;
 
 // Three recurrences, 100 milliseconds apart.
-fn spaced_recurs(alloc: Global) -> Result<Plan, PlanFault> {
-    Plan::meet(alloc, Plan::recurs(3)?, Plan::spaced(100)?)
+fn spaced_recurs(rt: &impl Abort, alloc: Global) -> Plan {
+    let recurs = Plan::recurs(3).expect(rt, "it is in range");
+    let spaced = Plan::spaced(100).expect(rt, "it is in range");
+    Plan::meet(alloc, recurs, spaced).expect(rt, "it is small")
 }
 
-// A copy of them, which is the same plan.
-fn copied(rt: &impl Abort, alloc: Global) -> Result<Plan, PlanFault> {
-    let plan = spaced_recurs(alloc)?;
-    let Ok(copy) = plan.copy(alloc) else {
-        return Err(PlanFault::NoMemory);
-    };
-    assert!(rt; copy.same(&plan));
-    Ok(copy)
+fn forever(rt: &impl Abort) -> Plan {
+    Plan::forever().expect(rt, "it is small")
+}
+
+// A copy of the plan, which is the same.
+fn copied(rt: &impl Abort, alloc: Global, plan: &Plan) -> Plan {
+    let copy = plan.copy(alloc).expect(rt, "there is memory");
+    assert!(rt; copy.same(plan));
+    copy
 }
 
 // A new driver of this plan.
-fn driver_of(alloc: Global, plan: Result<Plan, PlanFault>) -> Result<Driver, Fail> {
-    Ok(Driver::new(alloc, plan?)?)
+fn driver_of(rt: &impl Abort, alloc: Global, plan: Plan) -> Driver {
+    Driver::new(alloc, plan).expect(rt, "there is memory")
 }
 
 fn moment(rt: &impl Abort, at: u64) -> Moment {
@@ -78,33 +80,23 @@ struct Shown<'a> {
     view: &'a str,
 }
 
-fn assert_shows(
-    rt: &impl Abort,
-    alloc: Global,
-    driver: &Driver,
-    want: &Shown<'_>,
-) -> Result<(), NoMemory> {
+fn assert_shows(rt: &impl Abort, alloc: Global, driver: &Driver, want: &Shown<'_>) {
     assert_moments(rt, driver.journal(), want.moments);
     assert_eq!(rt; driver.next_start().map(Moment::get), want.next_start);
-    assert_last(rt, alloc, driver, want.last)?;
-    let view = driver.state().view(alloc);
-    assert_text(rt, alloc, &view?, want.view)
+    assert_last(rt, alloc, driver, want.last);
+    let view = driver.state().view(alloc).expect(rt, "there is memory");
+    assert_text(rt, alloc, &view, want.view);
 }
 
 // Asserts the text of the output last given.
-fn assert_last(
-    rt: &impl Abort,
-    alloc: Global,
-    driver: &Driver,
-    want: &str,
-) -> Result<(), NoMemory> {
+fn assert_last(rt: &impl Abort, alloc: Global, driver: &Driver, want: &str) {
     let last = driver.last().expect(rt, "an output was given");
-    assert_text(rt, alloc, last, want)
+    assert_text(rt, alloc, last, want);
 }
 
-fn assert_text(rt: &impl Abort, alloc: Global, value: &Val, want: &str) -> Result<(), NoMemory> {
-    assert_eq!(rt; value.text(alloc)?.as_str(), want);
-    Ok(())
+fn assert_text(rt: &impl Abort, alloc: Global, value: &Val, want: &str) {
+    let text = value.text(alloc).expect(rt, "there is memory");
+    assert_eq!(rt; text.as_str(), want);
 }
 
 fn assert_moments(rt: &impl Abort, journal: &[Event], want: &[u64]) {
@@ -115,11 +107,6 @@ fn assert_moments(rt: &impl Abort, journal: &[Event], want: &[u64]) {
 }
 
 // Asserts that the driver's plan is this one.
-fn assert_plan(
-    rt: &impl Abort,
-    driver: &Driver,
-    plan: Result<Plan, PlanFault>,
-) -> Result<(), Fail> {
-    assert!(rt; driver.plan().same(&plan?));
-    Ok(())
+fn assert_plan(rt: &impl Abort, driver: &Driver, plan: &Plan) {
+    assert!(rt; driver.plan().same(plan));
 }

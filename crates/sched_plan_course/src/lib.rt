@@ -3,8 +3,6 @@
 
 mod courses;
 mod lines;
-#[cfg(test)]
-mod tests;
 
 pub use courses::{MOST_STEPS, PlanCourse, PlanOptions};
 pub use lines::{Line, course_lines, line_at};

@@ -7,8 +7,6 @@ mod hints;
 mod json_faults;
 mod nodes;
 mod places;
-#[cfg(test)]
-mod tests;
 
 pub use faults::{ToldFault, plan_fault, tell_fault, tell_no_json, tell_plan_fault};
 pub use found::push_found;

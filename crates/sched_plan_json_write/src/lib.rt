@@ -5,8 +5,6 @@ mod forms;
 mod leaves;
 mod nodes;
 mod plans;
-#[cfg(test)]
-mod tests;
 mod words;
 
 pub use forms::{name_alone, of_value};

@@ -6,8 +6,6 @@ mod leaves;
 mod nodes;
 mod numbers;
 mod over;
-#[cfg(test)]
-mod tests;
 
 pub use faults::NodeFault;
 pub use nodes::node;

@@ -1,6 +1,8 @@
 //! Tests of what no clause says.
 use std::process::Abort;
 
+mod courses;
+mod nodes;
 mod plans;
 mod values;
 

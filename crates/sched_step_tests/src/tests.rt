@@ -3,7 +3,6 @@ use sched_step::{Answer, State, initial, step};
 use sched_time::{FAR, Moment, NoMemory, Tick};
 use std::alloc::{AllocGlobal, Global};
 use std::process::Abort;
-use std::test::Fail;
 
 // What an event at this moment gives: its output, its start if the plan goes on, and the view of the state after it.
 type Wanted<'a> = (u64, &'a str, Option<u64>, &'a str);
@@ -13,6 +12,11 @@ fn tick_at(rt: &impl Abort, at: u64) -> Tick {
         now: Moment::new(at).expect(rt, "the moment is in range"),
         words: [2147483648; 4],
     }
+}
+
+// The state before the first event.
+fn begun(rt: &impl Abort, alloc: Global, plan: &Plan) -> State {
+    initial(alloc, plan).expect(rt, "there is memory")
 }
 
 // One more event, for a state that fits the plan there.
@@ -29,16 +33,10 @@ fn advanced(
 }
 
 // The same beside the old state.
-fn stepped(
-    rt: &impl Abort,
-    alloc: Global,
-    plan: &Plan,
-    state: &State,
-    at: u64,
-) -> Result<(State, Answer), NoMemory> {
+fn stepped(rt: &impl Abort, alloc: Global, plan: &Plan, state: &State, at: u64) -> (State, Answer) {
     let tick = tick_at(rt, at);
     assert!(rt; state.fits(plan, tick.now), "the state fits at {at}");
-    step(alloc, plan, state, &tick, &Val::unit())
+    step(alloc, plan, state, &tick, &Val::unit()).expect(rt, "there is memory")
 }
 
 fn renewed(rt: &impl Abort, plan: &Plan, state: &mut State) {
@@ -47,10 +45,14 @@ fn renewed(rt: &impl Abort, plan: &Plan, state: &mut State) {
     state.renew(plan);
 }
 
-fn assert_view(rt: &impl Abort, alloc: Global, state: &State, want: &str) -> Result<(), NoMemory> {
-    let text = state.view(alloc)?.text(alloc)?;
+fn assert_text(rt: &impl Abort, alloc: Global, value: &Val, want: &str) {
+    let text = value.text(alloc).expect(rt, "there is memory");
     assert_eq!(rt; text.as_str(), want);
-    Ok(())
+}
+
+fn assert_view(rt: &impl Abort, alloc: Global, state: &State, want: &str) {
+    let view = state.view(alloc).expect(rt, "there is memory");
+    assert_text(rt, alloc, &view, want);
 }
 
 fn assert_answer(
@@ -59,11 +61,9 @@ fn assert_answer(
     answer: &Answer,
     output: &str,
     start: Option<u64>,
-) -> Result<(), NoMemory> {
-    let text = answer.output.text(alloc)?;
-    assert_eq!(rt; text.as_str(), output);
+) {
+    assert_text(rt, alloc, &answer.output, output);
     assert_eq!(rt; answer.decision.start().map(Moment::get), start);
-    Ok(())
 }
 
 // Takes an event. A refused step leaves the state as it was, and the same event is then taken.
@@ -73,9 +73,9 @@ fn taken(
     plan: &Plan,
     state: &mut State,
     (at, before): (u64, &str),
-) -> Result<Answer, NoMemory> {
+) -> Answer {
     match advanced(rt, alloc, plan, state, at) {
-        Ok(answer) => Ok(answer),
+        Ok(answer) => answer,
         Err(NoMemory) => taken_again(rt, alloc, plan, state, (at, before)),
     }
 }
@@ -86,9 +86,9 @@ fn taken_again(
     plan: &Plan,
     state: &mut State,
     (at, before): (u64, &str),
-) -> Result<Answer, NoMemory> {
-    assert_view(rt, alloc, state, before)?;
-    advanced(rt, alloc, plan, state, at)
+) -> Answer {
+    assert_view(rt, alloc, state, before);
+    advanced(rt, alloc, plan, state, at).expect(rt, "there is memory")
 }
 
 // An event is answered as wanted. The text is that of the view before it.
@@ -98,10 +98,10 @@ fn assert_event(
     state: &mut State,
     before: &str,
     (at, output, start, after): &Wanted<'_>,
-) -> Result<(), NoMemory> {
-    let answer = taken(rt, rt.alloc(), plan, state, (*at, before))?;
-    assert_answer(rt, rt.alloc(), &answer, *output, *start)?;
-    assert_view(rt, rt.alloc(), state, *after)
+) {
+    let answer = taken(rt, rt.alloc(), plan, state, (*at, before));
+    assert_answer(rt, rt.alloc(), &answer, *output, *start);
+    assert_view(rt, rt.alloc(), state, *after);
 }
 
 // Events at these moments are answered as wanted.
@@ -111,24 +111,18 @@ fn assert_events(
     state: &mut State,
     first: &str,
     want: &[Wanted<'_>],
-) -> Result<(), NoMemory> {
+) {
     let mut before = first;
     for event in want {
-        assert_event(rt, plan, state, before, event)?;
+        assert_event(rt, plan, state, before, event);
         before = event.3;
     }
-    Ok(())
 }
 
 // Events at these moments are answered as wanted from the initial state on, and the renewed state is the initial one.
-fn assert_course(
-    rt: &(impl Abort + AllocGlobal),
-    plan: &Plan,
-    first: &str,
-    want: &[Wanted<'_>],
-) -> Result<(), NoMemory> {
-    let mut state = initial(rt.alloc(), plan)?;
-    assert_from(rt, plan, &mut state, first, want)
+fn assert_course(rt: &(impl Abort + AllocGlobal), plan: &Plan, first: &str, want: &[Wanted<'_>]) {
+    let mut state = begun(rt, rt.alloc(), plan);
+    assert_from(rt, plan, &mut state, first, want);
 }
 
 fn assert_from(
@@ -137,15 +131,19 @@ fn assert_from(
     state: &mut State,
     first: &str,
     want: &[Wanted<'_>],
-) -> Result<(), NoMemory> {
-    assert_view(rt, rt.alloc(), state, first)?;
-    assert_events(rt, plan, state, first, want)?;
+) {
+    assert_view(rt, rt.alloc(), state, first);
+    assert_events(rt, plan, state, first, want);
     renewed(rt, plan, state);
-    assert_view(rt, rt.alloc(), state, first)
+    assert_view(rt, rt.alloc(), state, first);
 }
 
 // What a builder answers. The helpers take it as it is, so that a test need not look at it.
 type Built = Result<Plan, PlanFault>;
+
+fn plan_of(rt: &impl Abort, built: Built) -> Plan {
+    built.expect(rt, "it is in range")
+}
 
 fn follow(alloc: Global, first: Built, second: Built) -> Built {
     Plan::follow(alloc, first?, second?)
@@ -175,9 +173,9 @@ fn crossings(alloc: Global) -> Built {
 }
 
 #[test]
-fn crossings_move_only_their_side(rt: HostRuntime) -> Result<(), Fail> {
+fn crossings_move_only_their_side(rt: HostRuntime) {
     let alloc = rt.alloc();
-    let plan = crossings(alloc)?;
+    let plan = plan_of(&rt, crossings(alloc));
     let first = "(0, (0, ((0, (0, 0)), ((), 0))))";
     let want = [
         (0, "0", Some(0), "(0, (1, ((0, (0, 0)), ((), 0))))"),
@@ -187,8 +185,7 @@ fn crossings_move_only_their_side(rt: HostRuntime) -> Result<(), Fail> {
         (79, "(1, 2)", Some(129), "(1, (3, ((1, (2, 2)), (9, 3))))"),
         (209, "(2, 3)", None, "(1, (3, ((1, (2, 3)), (9, 4))))"),
     ];
-    assert_course(&rt, &plan, first, &want)?;
-    Ok(())
+    assert_course(&rt, &plan, first, &want);
 }
 
 // The outputs of (one event, then the time since it) so far, from the first event on of rounds of 100 milliseconds.
@@ -198,9 +195,9 @@ fn rounds(alloc: Global) -> Built {
 }
 
 #[test]
-fn round_begins_with_an_empty_list(rt: HostRuntime) -> Result<(), Fail> {
+fn round_begins_with_an_empty_list(rt: HostRuntime) {
     let alloc = rt.alloc();
-    let plan = rounds(alloc)?;
+    let plan = plan_of(&rt, rounds(alloc));
     let first = "((), ([], (0, (0, ()))))";
     let want = [
         (7, "[]", Some(7), "(7, ([0], (0, (1, ()))))"),
@@ -209,8 +206,7 @@ fn round_begins_with_an_empty_list(rt: HostRuntime) -> Result<(), Fail> {
         (107, "[]", Some(107), "(107, ([0], (0, (1, ()))))"),
         (110, "[0]", Some(110), "(107, ([0, 0], (1, (2, 110))))"),
     ];
-    assert_course(&rt, &plan, first, &want)?;
-    Ok(())
+    assert_course(&rt, &plan, first, &want);
 }
 
 fn ends_by(alloc: Global, length: u64, built: Built) -> Built {
@@ -218,28 +214,26 @@ fn ends_by(alloc: Global, length: u64, built: Built) -> Built {
 }
 
 #[test]
-fn ending_is_counted_from_the_first_event(rt: HostRuntime) -> Result<(), Fail> {
-    let plan = ends_by(rt.alloc(), 1000, Plan::spaced(450))?;
+fn ending_is_counted_from_the_first_event(rt: HostRuntime) {
+    let plan = plan_of(&rt, ends_by(rt.alloc(), 1000, Plan::spaced(450)));
     let want = [
         (7, "0", Some(457), "(7, 1)"),
         (457, "1", Some(907), "(7, 2)"),
         (907, "2", None, "(7, 3)"),
     ];
-    assert_course(&rt, &plan, "((), 0)", &want)?;
-    Ok(())
+    assert_course(&rt, &plan, "((), 0)", &want);
 }
 
 #[test]
-fn delay_is_picked_by_the_one_before(rt: HostRuntime) -> Result<(), Fail> {
-    let plan = Plan::decorrelated(0, 100, 3000, 800)?;
+fn delay_is_picked_by_the_one_before(rt: HostRuntime) {
+    let plan = plan_of(&rt, Plan::decorrelated(0, 100, 3000, 800));
     let want = [
         (0, "200", Some(200), "200"),
         (200, "350", Some(550), "350"),
         (550, "575", Some(1125), "575"),
         (1125, "800", Some(1925), "800"),
     ];
-    assert_course(&rt, &plan, "100", &want)?;
-    Ok(())
+    assert_course(&rt, &plan, "100", &want);
 }
 
 // Decorrelated delays beside one of 100 milliseconds that ends within 300, in rounds of 500 milliseconds.
@@ -250,8 +244,8 @@ fn renewed_delays(alloc: Global) -> Built {
 }
 
 #[test]
-fn round_begins_with_the_base_and_a_later_end(rt: HostRuntime) -> Result<(), Fail> {
-    let plan = renewed_delays(rt.alloc())?;
+fn round_begins_with_the_base_and_a_later_end(rt: HostRuntime) {
+    let plan = plan_of(&rt, renewed_delays(rt.alloc()));
     let want = [
         (0, "(200, 0)", Some(200), "(0, (200, (0, 1)))"),
         (200, "(350, 1)", Some(550), "(0, (350, (0, 2)))"),
@@ -259,82 +253,70 @@ fn round_begins_with_the_base_and_a_later_end(rt: HostRuntime) -> Result<(), Fai
         (750, "(350, 1)", Some(1100), "(550, (350, (550, 2)))"),
         (1000, "(575, 2)", None, "(550, (575, (550, 3)))"),
     ];
-    assert_course(&rt, &plan, "((), (100, ((), 0)))", &want)?;
-    Ok(())
+    assert_course(&rt, &plan, "((), (100, ((), 0)))", &want);
 }
 
 fn assert_fits(rt: &impl Abort, plan: &Plan, state: &State, at: u64, want: bool) {
     assert_eq!(rt; state.fits(plan, tick_at(rt, at).now), want);
 }
 
-fn takes(
-    rt: &impl Abort,
-    alloc: Global,
-    plan: &Plan,
-    state: &mut State,
-    at: u64,
-) -> Result<(), NoMemory> {
-    let _answer = advanced(rt, alloc, plan, state, at)?;
-    Ok(())
+// Takes an event, whose answer is not looked at.
+fn takes(rt: &impl Abort, alloc: Global, plan: &Plan, state: &mut State, at: u64) {
+    let answer = advanced(rt, alloc, plan, state, at);
+    assert!(rt; answer.is_ok());
 }
 
 // The state of a `renew_idle` after events at 0 and 99.
-fn idle(rt: &impl Abort, alloc: Global, plan: &Plan) -> Result<State, NoMemory> {
-    let mut state = initial(alloc, plan)?;
-    takes(rt, alloc, plan, &mut state, 0)?;
-    takes(rt, alloc, plan, &mut state, 99)?;
-    Ok(state)
+fn idle(rt: &impl Abort, alloc: Global, plan: &Plan) -> State {
+    let mut state = begun(rt, alloc, plan);
+    takes(rt, alloc, plan, &mut state, 0);
+    takes(rt, alloc, plan, &mut state, 99);
+    state
 }
 
 fn renew_idle(alloc: Global, length: u64, built: Built) -> Built {
     Plan::renew_idle(alloc, length, built?)
 }
 
-fn assert_idle(rt: &impl Abort, alloc: Global, plan: &Plan, other: &Plan) -> Result<(), NoMemory> {
-    let state = idle(rt, alloc, plan)?;
+fn assert_idle(rt: &impl Abort, alloc: Global, plan: &Plan, other: &Plan) {
+    let state = idle(rt, alloc, plan);
     assert_fits(rt, plan, &state, 99, true);
     assert_fits(rt, plan, &state, 98, false);
     assert_fits(rt, other, &state, 99, false);
-    assert_view(rt, alloc, &state, "(99, 2)")
+    assert_view(rt, alloc, &state, "(99, 2)");
 }
 
 #[test]
-fn kept_last_moment_is_not_after_the_next(rt: HostRuntime) -> Result<(), Fail> {
+fn kept_last_moment_is_not_after_the_next(rt: HostRuntime) {
     let alloc = rt.alloc();
-    let plan = renew_idle(alloc, 100, Plan::recurs(2))?;
-    let other = Plan::forever()?;
-    assert_idle(&rt, alloc, &plan, &other)?;
-    Ok(())
+    let plan = plan_of(&rt, renew_idle(alloc, 100, Plan::recurs(2)));
+    let other = plan_of(&rt, Plan::forever());
+    assert_idle(&rt, alloc, &plan, &other);
 }
 
 // The state after an event at 7.
-fn at_seven(rt: &impl Abort, alloc: Global, plan: &Plan) -> Result<State, NoMemory> {
-    let mut state = initial(alloc, plan)?;
-    takes(rt, alloc, plan, &mut state, 7)?;
-    Ok(state)
-}
-
-fn assert_next(rt: &impl Abort, alloc: Global, next: &(State, Answer)) -> Result<(), NoMemory> {
-    assert_answer(rt, alloc, &next.1, "[0]", Some(20))?;
-    assert_view(rt, alloc, &next.0, "(7, ([0, 0], (1, (2, 20))))")
+fn at_seven(rt: &impl Abort, alloc: Global, plan: &Plan) -> State {
+    let mut state = begun(rt, alloc, plan);
+    takes(rt, alloc, plan, &mut state, 7);
+    state
 }
 
 // Steps beside the old state, which stays as it was.
-fn assert_beside(rt: &impl Abort, alloc: Global, plan: &Plan, old: &State) -> Result<(), NoMemory> {
-    let next = stepped(rt, alloc, plan, old, 20)?;
-    assert_next(rt, alloc, &next)?;
-    assert_view(rt, alloc, old, "(7, ([0], (0, (1, ()))))")
+fn assert_beside(rt: &impl Abort, alloc: Global, plan: &Plan, old: &State) {
+    let (next, answer) = stepped(rt, alloc, plan, old, 20);
+    assert_answer(rt, alloc, &answer, "[0]", Some(20));
+    assert_view(rt, alloc, &next, "(7, ([0, 0], (1, (2, 20))))");
+    assert_view(rt, alloc, old, "(7, ([0], (0, (1, ()))))");
 }
 
-fn assert_beside_twice(rt: &impl Abort, alloc: Global, plan: &Plan) -> Result<(), NoMemory> {
-    let old = at_seven(rt, alloc, plan)?;
-    assert_beside(rt, alloc, plan, &old)?;
-    assert_beside(rt, alloc, plan, &old)
+fn assert_beside_twice(rt: &impl Abort, alloc: Global, plan: &Plan) {
+    let old = at_seven(rt, alloc, plan);
+    assert_beside(rt, alloc, plan, &old);
+    assert_beside(rt, alloc, plan, &old);
 }
 
 #[test]
-fn step_leaves_the_old_state_to_its_owner(rt: HostRuntime) -> Result<(), Fail> {
-    let plan = rounds(rt.alloc())?;
-    assert_beside_twice(&rt, rt.alloc(), &plan)?;
-    Ok(())
+fn step_leaves_the_old_state_to_its_owner(rt: HostRuntime) {
+    let plan = plan_of(&rt, rounds(rt.alloc()));
+    assert_beside_twice(&rt, rt.alloc(), &plan);
 }

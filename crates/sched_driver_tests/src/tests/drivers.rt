@@ -3,7 +3,7 @@ use sched_driver::{DriverCell, MOST_EVENTS};
 use std::sync::Wait;
 
 // Drives a new driver of three recurrences 100 milliseconds apart to its third start.
-fn drive(rt: &impl Abort, alloc: Global, driver: &mut Driver) -> Result<(), NoMemory> {
+fn drive(rt: &impl Abort, alloc: Global, driver: &mut Driver) {
     assert_fresh(rt, driver);
     goes(rt, alloc, driver, 50, 150);
     let floor = moment(rt, 50);
@@ -14,66 +14,72 @@ fn drive(rt: &impl Abort, alloc: Global, driver: &mut Driver) -> Result<(), NoMe
         next_start: Some(150),
         view: "(1, 1)",
     };
-    assert_shows(rt, alloc, driver, &once)?;
+    assert_shows(rt, alloc, driver, &once);
     goes(rt, alloc, driver, 150, 250);
-    Ok(())
 }
 
 // What such a driver shows then, and after it was reset.
-fn reset(rt: &impl Abort, alloc: Global, driver: &mut Driver) -> Result<(), NoMemory> {
+fn reset(rt: &impl Abort, alloc: Global, driver: &mut Driver) {
     let twice = Shown {
         moments: &[50, 150],
         last: "(1, 1)",
         next_start: Some(250),
         view: "(2, 2)",
     };
-    assert_shows(rt, alloc, driver, &twice)?;
-    let last = driver.last().expect(rt, "an output was given");
-    assert!(rt; last.same(&last.copy(alloc)?));
+    assert_shows(rt, alloc, driver, &twice);
+    assert_last_copies(rt, alloc, driver);
     driver.reset();
     assert_fresh(rt, driver);
     goes(rt, alloc, driver, 10, 110);
-    Ok(())
+}
+
+// Asserts that a copy of the last output is the same.
+fn assert_last_copies(rt: &impl Abort, alloc: Global, driver: &Driver) {
+    let last = driver.last().expect(rt, "an output was given");
+    let copy = last.copy(alloc).expect(rt, "there is memory");
+    assert!(rt; last.same(&copy));
 }
 
 // Asserts what it shows after that, and that its plan is still that one.
-fn assert_reset(rt: &impl Abort, alloc: Global, driver: &Driver) -> Result<(), Fail> {
+fn assert_reset(rt: &impl Abort, alloc: Global, driver: &Driver) {
     let again = Shown {
         moments: &[10],
         last: "(0, 0)",
         next_start: Some(110),
         view: "(1, 1)",
     };
-    assert_shows(rt, alloc, driver, &again)?;
-    assert_plan(rt, driver, spaced_recurs(alloc))
+    assert_shows(rt, alloc, driver, &again);
+    assert_plan(rt, driver, &spaced_recurs(rt, alloc));
 }
 
-fn all_of_it(rt: &impl Abort, alloc: Global, driver: &mut Driver) -> Result<(), Fail> {
-    drive(rt, alloc, driver)?;
-    reset(rt, alloc, driver)?;
-    assert_reset(rt, alloc, driver)
+fn all_of_it(rt: &impl Abort, alloc: Global, mut driver: Driver) {
+    drive(rt, alloc, &mut driver);
+    reset(rt, alloc, &mut driver);
+    assert_reset(rt, alloc, &driver);
 }
 
 // The same with one lock for each half, and with the driver out of its cell at the end.
-fn through_a_cell(rt: &(impl Abort + Wait), alloc: Global, driver: Driver) -> Result<(), Fail> {
+fn through_a_cell(rt: &(impl Abort + Wait), alloc: Global, driver: Driver) {
     let cell = DriverCell::new(driver);
-    drive(rt, alloc, &mut cell.enter(rt))?;
-    reset(rt, alloc, &mut cell.enter(rt))?;
-    assert_reset(rt, alloc, &cell.into_driver())
+    drive(rt, alloc, &mut cell.enter(rt));
+    reset(rt, alloc, &mut cell.enter(rt));
+    assert_reset(rt, alloc, &cell.into_driver());
 }
 
 #[test]
-fn driver_steps_its_plan_and_begins_again(rt: HostRuntime) -> Result<(), Fail> {
+fn driver_steps_its_plan_and_begins_again(rt: HostRuntime) {
     let alloc = rt.alloc();
-    all_of_it(&rt, alloc, &mut driver_of(alloc, spaced_recurs(alloc))?)?;
-    all_of_it(&rt, alloc, &mut driver_of(alloc, copied(&rt, alloc))?)
+    let plan = spaced_recurs(&rt, alloc);
+    all_of_it(&rt, alloc, driver_of(&rt, alloc, copied(&rt, alloc, &plan)));
+    all_of_it(&rt, alloc, driver_of(&rt, alloc, plan));
 }
 
 #[test]
-fn cell_leads_to_its_driver(rt: HostRuntime) -> Result<(), Fail> {
+fn cell_leads_to_its_driver(rt: HostRuntime) {
     let alloc = rt.alloc();
-    through_a_cell(&rt, alloc, driver_of(alloc, spaced_recurs(alloc))?)?;
-    through_a_cell(&rt, alloc, driver_of(alloc, copied(&rt, alloc))?)
+    let plan = spaced_recurs(&rt, alloc);
+    through_a_cell(&rt, alloc, driver_of(&rt, alloc, copied(&rt, alloc, &plan)));
+    through_a_cell(&rt, alloc, driver_of(&rt, alloc, plan));
 }
 
 fn nine(rt: &impl Abort) -> Val {
@@ -81,19 +87,14 @@ fn nine(rt: &impl Abort) -> Val {
 }
 
 // Asserts that one more event, with an input and words of its own, is done with this output.
-fn is_done(
-    rt: &impl Abort,
-    alloc: Global,
-    driver: &mut Driver,
-    output: &str,
-) -> Result<(), NoMemory> {
+fn is_done(rt: &impl Abort, alloc: Global, driver: &mut Driver, output: &str) {
     let tick = Tick {
         now: moment(rt, 7),
         words: [1, 2, 3, 4],
     };
     assert_eq!(rt; driver.next(alloc, tick, nine(rt)), Ok(Decision::Done));
     assert!(rt; driver.next_start().is_none());
-    assert_last(rt, alloc, driver, output)
+    assert_last(rt, alloc, driver, output);
 }
 
 // Asserts that the journal has so many of these events.
@@ -107,45 +108,42 @@ fn assert_kept(rt: &impl Abort, journal: &[Event], events: usize) {
 }
 
 // Asserts that each of two such events is done, and kept.
-fn is_done_twice(rt: &impl Abort, alloc: Global, driver: &mut Driver) -> Result<(), NoMemory> {
-    is_done(rt, alloc, driver, "0")?;
+fn is_done_twice(rt: &impl Abort, alloc: Global, mut driver: Driver) {
+    is_done(rt, alloc, &mut driver, "0");
     assert_kept(rt, driver.journal(), 1);
-    is_done(rt, alloc, driver, "1")?;
+    is_done(rt, alloc, &mut driver, "1");
     assert_kept(rt, driver.journal(), 2);
-    Ok(())
 }
 
 #[test]
-fn steps_after_done_and_keeps_what_it_was_given(rt: HostRuntime) -> Result<(), Fail> {
+fn steps_after_done_and_keeps_what_it_was_given(rt: HostRuntime) {
     let alloc = rt.alloc();
-    is_done_twice(&rt, alloc, &mut driver_of(alloc, Plan::recurs(0))?)?;
-    Ok(())
+    let none = Plan::recurs(0).expect(&rt, "it is in range");
+    is_done_twice(&rt, alloc, driver_of(&rt, alloc, none));
 }
 
 // Asserts what the full journal of a driver of `forever` refuses.
-fn assert_full(rt: &impl Abort, alloc: Global, driver: &mut Driver) -> Result<(), NoMemory> {
+fn assert_full(rt: &impl Abort, alloc: Global, driver: &mut Driver) {
     refuses(rt, alloc, driver, 5, DriveFault::JournalFull);
     let floor = moment(rt, 5);
     refuses(rt, alloc, driver, 4, DriveFault::Backwards { floor });
     assert_eq!(rt; driver.journal().len(), 65536);
-    assert_last(rt, alloc, driver, "65535")
+    assert_last(rt, alloc, driver, "65535");
 }
 
 // Fills the journal of such a driver, and resets it.
-fn fill(rt: &impl Abort, alloc: Global, driver: &mut Driver) -> Result<(), NoMemory> {
+fn fill(rt: &impl Abort, alloc: Global, mut driver: Driver) {
     assert_eq!(rt; MOST_EVENTS, 65536);
     for _ in 0..65536 {
-        goes(rt, alloc, driver, 5, 5);
+        goes(rt, alloc, &mut driver, 5, 5);
     }
-    assert_full(rt, alloc, driver)?;
+    assert_full(rt, alloc, &mut driver);
     driver.reset();
-    goes(rt, alloc, driver, 0, 0);
-    Ok(())
+    goes(rt, alloc, &mut driver, 0, 0);
 }
 
 #[test]
-fn journal_ends_at_65536(rt: HostRuntime) -> Result<(), Fail> {
+fn journal_ends_at_65536(rt: HostRuntime) {
     let alloc = rt.alloc();
-    fill(&rt, alloc, &mut driver_of(alloc, Plan::forever())?)?;
-    Ok(())
+    fill(&rt, alloc, driver_of(&rt, alloc, forever(&rt)));
 }

@@ -1,6 +1,6 @@
 //! Nodes by their names, and names that no node has with so many numbers and plans.
-use crate::{NodeFault, node};
 use sched_plan::{Plan, PlanFault};
+use sched_plan_node::{NodeFault, node};
 use std::alloc::Global;
 use std::process::Abort;
 

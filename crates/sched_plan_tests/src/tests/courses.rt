@@ -1,10 +1,9 @@
 //! What a plan does along a course, worked out by hand.
-use crate::{PlanCourse, PlanOptions, course_lines};
 use sched_plan::Plan;
+use sched_plan_course::{Line, PlanCourse, PlanOptions, course_lines};
 use sched_time::{Millis, Moment};
 use std::alloc::Global;
 use std::process::Abort;
-use std::test::Fail;
 
 // `recurs(2)` with `exponential(100, 2)`.
 fn plan(rt: &impl Abort, alloc: Global) -> Plan {
@@ -26,28 +25,35 @@ fn course(rt: &impl Abort, alloc: Global, steps: u64) -> PlanCourse {
     PlanCourse::steady(alloc, &options).expect(rt, "there is memory")
 }
 
+// What the plan does at the first events, at most so many.
+fn lines(rt: &impl Abort, alloc: Global, steps: u64) -> Vec<Line> {
+    let lines = course_lines(alloc, &plan(rt, alloc), &course(rt, alloc, steps));
+    lines.expect(rt, "there is memory")
+}
+
+// Asserts the moment of an event, its output, and the start that is planned then.
+fn is_line(rt: &impl Abort, alloc: Global, line: &Line, wanted: &(u64, &str, Option<u64>)) {
+    let output = line.output.text(alloc).expect(rt, "there is memory");
+    assert_eq!(rt; line.moment.get(), wanted.0);
+    assert_eq!(rt; output.as_str(), wanted.1);
+    assert_eq!(rt; line.decision.start().map(Moment::get), wanted.2);
+}
+
 #[test]
-fn a_course_ends_where_the_plan_is_done(rt: HostRuntime) -> Result<(), Fail> {
-    let alloc = rt.alloc();
-    let lines = course_lines(alloc, &plan(&rt, alloc), &course(&rt, alloc, 4))?;
+fn a_course_ends_where_the_plan_is_done(rt: HostRuntime) {
+    let lines = lines(&rt, rt.alloc(), 4);
     let wanted = [
         (0, "(0, 100)", Some(100)),
         (105, "(1, 200)", Some(305)),
         (310, "(2, 400)", None),
     ];
     assert_eq!(rt; lines.len(), wanted.len());
-    for (line, (moment, output, start)) in lines.iter().zip(&wanted) {
-        assert_eq!(rt; line.moment.get(), *moment);
-        assert_eq!(rt; line.output.text(alloc)?.as_str(), *output);
-        assert_eq!(rt; line.decision.start().map(Moment::get), *start);
+    for (line, want) in lines.iter().zip(&wanted) {
+        is_line(&rt, rt.alloc(), line, want);
     }
-    Ok(())
 }
 
 #[test]
-fn a_course_has_no_more_events_than_steps(rt: HostRuntime) -> Result<(), Fail> {
-    let alloc = rt.alloc();
-    let lines = course_lines(alloc, &plan(&rt, alloc), &course(&rt, alloc, 2))?;
-    assert_eq!(rt; lines.len(), 2);
-    Ok(())
+fn a_course_has_no_more_events_than_steps(rt: HostRuntime) {
+    assert_eq!(rt; lines(&rt, rt.alloc(), 2).len(), 2);
 }
