@@ -50,6 +50,9 @@ block() {
 # codes WORDS: the code in the line of README.md that has these words, a line each
 codes() { grep -F -- "$1" "$top/README.md" | grep -oE '`[^`]+`' | tr -d '`'; }
 
+# activates: how README.md says that the environment of Python is entered
+activates() { grep -oE '\. [^ ]+/bin/activate' "$top/README.md" | head -n 1; }
+
 # installs WORDS: the packages that README.md says are to be installed for this
 installs() { grep -F -- "$1" "$top/README.md" | grep -oE 'apt-get install [a-z0-9 -]+' | head -n 1; }
 
@@ -83,17 +86,17 @@ makes_repository() {
 
 gets_it() {
   as_root "$(installs 'python3 -m venv' | sed 's/install/install -y/') && git config --system safe.directory '*'"
-  as_user "rm -rf hikebox; set -e; $(block sh 'git clone' | sed 's#REPOSITORY#/srv/hikebox.git#')"
+  as_user "rm -rf hikebox*; set -e; $(block sh 'git clone' | sed 's#REPOSITORY#/srv/hikebox.git#')"
 }
 
 pastes_python() {
   block python 'from hikebox' >"$folder/home/ann/pasted.py"
-  [ "$(as_user 'cd hikebox && . .venv/bin/activate && python3 <../pasted.py')" = '# Hikebox' ]
+  [ "$(as_user "cd hikebox && $(activates) && python3 <../pasted.py")" = '# Hikebox' ]
 }
 
 pastes_shell() {
   block sh 'hikebox run' >"$folder/home/ann/pasted.sh"
-  as_user 'cd hikebox && . .venv/bin/activate && bash -e ../pasted.sh' >"$work/told"
+  as_user "cd hikebox && $(activates) && bash -e ../pasted.sh" >"$work/told"
   cat "$work/told"
   grep -qx 'here at last' "$work/told"
   as_user "cd hikebox && $(block sh 'bin/zsched plan' | head -n 1)" | diff - <(block text 'next 100')
