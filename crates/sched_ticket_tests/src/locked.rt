@@ -82,16 +82,44 @@ pub fn draw_locked<N: Naming>(rt: &impl Wait, budget: &Budget, job: &Mutex<Job<N
     job.lock(rt).draw(budget)
 }
 
-// Two tickets at most, one for each job.
-fn draw_each<N: Naming>(
-    rt: &impl Wait,
+// Draws a ticket for each of two jobs.
+fn draw_each<N: Naming>(rt: &impl Wait, budget: &Budget, one: &Mutex<Job<N>>, two: &Mutex<Job<N>>)
+    requires { budget.now ≡ N.budget }
+{
+    let _first = draw_locked(rt, budget, one);
+    let _second = draw_locked(rt, budget, two);
+}
+
+// Two threads draw for both jobs.
+fn draw_beside<N: Naming + Send + Sync, R: Threads + Wait + Sync>(
+    rt: &R,
     budget: &Budget,
     one: &Mutex<Job<N>>,
     two: &Mutex<Job<N>>,
-) -> (Option<u64>, Option<u64>)
+)
     requires { budget.now ≡ N.budget }
 {
-    (draw_locked(rt, budget, one), draw_locked(rt, budget, two))
+    join(
+        rt,
+        ||
+            requires { budget.now ≡ N.budget }
+        { draw_each(rt, budget, one, two) },
+        ||
+            requires { budget.now ≡ N.budget }
+        { draw_each(rt, budget, two, one) },
+    );
+}
+
+// Closes the budget with the passes of both jobs: what it gave out, and what each was granted.
+fn settle<N: Naming>(budget: Budget, one: Job<N>, two: Job<N>) -> Option<(u64, u64, u64)>
+    requires { budget ≡ N.budget }
+    ensures granted { IfSome result (λ r. r.0 ≡ r.1 + r.2) }
+    ensures limit { IfSome result (λ r. budget.terms.rises ≡ false → r.0 ≤ budget.terms.limit) }
+{
+    let granted = (one.granted(), two.granted());
+    let pass = one.into_pass().join(two.into_pass(), &budget);
+    let count = budget.close(pass).ok()?;
+    Some((count, granted.0, granted.1))
 }
 
 /// Two threads draw for two jobs under their locks. What the budget gave out is what the jobs were granted.
@@ -109,22 +137,8 @@ pub fn two_jobs<N: Naming + Send + Sync, R: Threads + Wait + Sync>(
     let second = first.split(&budget).ok()?;
     let one: Mutex<Job<N>> = Mutex::new(Job::new(first));
     let two: Mutex<Job<N>> = Mutex::new(Job::new(second));
-    let shared = &budget;
-    join(
-        rt,
-        || -> (Option<u64>, Option<u64>)
-            requires { shared.now ≡ N.budget }
-        { draw_each(rt, shared, &one, &two) },
-        || -> (Option<u64>, Option<u64>)
-            requires { shared.now ≡ N.budget }
-        { draw_each(rt, shared, &two, &one) },
-    );
-    let one = one.into_inner();
-    let two = two.into_inner();
-    let granted = (one.granted(), two.granted());
-    let pass = one.into_pass().join(two.into_pass(), &budget);
-    let count = budget.close(pass).ok()?;
-    Some((count, granted.0, granted.1))
+    draw_beside(rt, &budget, &one, &two);
+    settle(budget, one.into_inner(), two.into_inner())
 }
 
 /// Makes a budget, whose name is known only now, and has two jobs draw on it.

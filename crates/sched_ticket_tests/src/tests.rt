@@ -4,7 +4,6 @@ ghost use Rattle.sched_ticket.specs.Held.{IsOf};
 
 use sched_ticket::{Budget, Pass, PassesOut, TicketFault};
 use std::process::Abort;
-use std::test::Fail;
 
 mod passes;
 mod threads;
@@ -73,16 +72,34 @@ fn turns(rt: &impl Abort, budget: &Budget, a: &mut Pass, b: &mut Pass, all: &[(W
     }
 }
 
+// The budget that was made, and its first pass.
+fn made(rt: &impl Abort, made: Result<(Budget, Pass), TicketFault>) -> (Budget, Pass)
+    requires { IfOk made (λ r. IsOf r.0 r.1) }
+    ensures { IsOf result.0 result.1 }
+{
+    made.expect(rt, "there is memory")
+}
+
 // Asserts that a budget was not made, since its limit is too large.
 fn is_too_large(rt: &impl Abort, made: Result<(Budget, Pass), TicketFault>) {
     assert_eq!(rt; made.err(), Some(TicketFault::LimitTooLarge));
+}
+
+// Another pass, split off this one.
+fn part_of(rt: &impl Abort, budget: &Budget, pass: &mut Pass) -> Pass
+    requires { IsOf budget.now pass.old }
+    ensures of { IsOf budget.now pass.new }
+    ensures part { IsOf budget.now result }
+{
+    pass.split(budget).expect(rt, "a further pass is left")
 }
 
 // Asserts that the pass stands for all passes, with so many tickets.
 fn closes(rt: &impl Abort, budget: Budget, pass: Pass, tickets: u64)
     requires { IsOf budget pass }
 {
-    assert_eq!(rt; budget.close(pass).ok(), Some(tickets));
+    let count = budget.close(pass).ok();
+    assert_eq!(rt; count, Some(tickets));
 }
 
 // Asserts that the two passes stand for all passes, with so many tickets.
@@ -96,43 +113,36 @@ fn closes_with_both(rt: &impl Abort, budget: Budget, a: Pass, b: Pass, tickets: 
 }
 
 // Hands budget and pass back, where another pass is alive or was dropped.
-fn stays_open(rt: &impl Abort, budget: Budget, pass: Pass) -> Result<(Budget, Pass), Fail>
+fn stays_open(rt: &impl Abort, budget: Budget, pass: Pass) -> (Budget, Pass)
     requires { IsOf budget pass }
-    ensures { IfOk result (λ r. (r.0 ≡ budget) × IsOf r.0 r.1) }
+    ensures { (result.0 ≡ budget) × IsOf result.0 result.1 }
 {
-    let Err((budget, pass, out)) = budget.close(pass) else {
-        return Err(Fail::from("another pass is out"));
+    let Err((budget, pass, PassesOut)) = budget.close(pass) else {
+        panic!(rt; "another pass is out");
     };
-    assert_eq!(rt; out, PassesOut);
-    Ok((budget, pass))
+    (budget, pass)
 }
 
 // A budget of one pass, which does all this and closes it with so many tickets.
-fn alone(
-    rt: &impl Abort,
-    made: Result<(Budget, Pass), TicketFault>,
-    all: &[Act],
-    tickets: u64,
-) -> Result<(), Fail>
-    requires { IfOk made (λ r. IsOf r.0 r.1) }
+fn alone(rt: &impl Abort, new: Result<(Budget, Pass), TicketFault>, all: &[Act], tickets: u64)
+    requires { IfOk new (λ r. IsOf r.0 r.1) }
 {
-    let (budget, mut pass) = made?;
+    let (budget, mut pass) = made(rt, new);
     acts(rt, &budget, &mut pass, all);
     closes(rt, budget, pass, tickets);
-    Ok(())
 }
 
 // A budget, its first pass, which does all this, and another that is then split off.
 fn parted(
     rt: &impl Abort,
-    made: Result<(Budget, Pass), TicketFault>,
+    new: Result<(Budget, Pass), TicketFault>,
     before: &[Act],
-) -> Result<(Budget, Pass, Pass), Fail>
-    requires { IfOk made (λ r. IsOf r.0 r.1) }
-    ensures { IfOk result (λ r. IsOf r.0 r.1 × IsOf r.0 r.2) }
+) -> (Budget, Pass, Pass)
+    requires { IfOk new (λ r. IsOf r.0 r.1) }
+    ensures { IsOf result.0 result.1 × IsOf result.0 result.2 }
 {
-    let (budget, mut first) = made?;
+    let (budget, mut first) = made(rt, new);
     acts(rt, &budget, &mut first, before);
-    let second = first.split(&budget)?;
-    Ok((budget, first, second))
+    let second = part_of(rt, &budget, &mut first);
+    (budget, first, second)
 }

@@ -7,7 +7,6 @@ ghost use Rattle.sched_ticket_tests.specs.Drains.{RefusesDrain, IsSplitFault};
 use sched_ticket::{Budget, Pass, TicketFault};
 use std::alloc::{AllocError, Global};
 use std::thread::{Threads, map_vec};
-use thiserror::Error;
 
 /// What all workers drew of one budget.
 #[derive(Drop)]
@@ -19,13 +18,11 @@ pub struct Drained {
 }
 
 /// Why a budget was not drained.
-#[derive(Clone, Copy, Debug, PartialEq, Eq, Drop, Error)]
+#[derive(Clone, Copy, Debug, PartialEq, Eq, Drop)]
 pub enum DrainFault {
     /// A budget was not made or a pass not split, or memory was refused.
-    #[error(transparent)]
     Refused(TicketFault),
     /// A pass is missing. No clause rules it out, and no run meets it.
-    #[error("a pass of the budget is missing")]
     PassesOut,
 }
 
@@ -47,7 +44,7 @@ impl From<AllocError> for DrainFault {
 
     ghost from_gives = { λ _ e. e ≡ Refused NoMemory };
 
-    fn from(_none: AllocError) -> DrainFault {
+    fn from(_refused: AllocError) -> DrainFault {
         DrainFault::Refused(TicketFault::NoMemory)
     }
 }
@@ -101,7 +98,9 @@ fn split_off(
     let mut passes = Vec::new(alloc);
     for _ in 0..workers {
         let part = pass.split(budget)?;
-        passes.push(part).map_err(AllocError::from)?;
+        if passes.push(part).is_err() {
+            return Err(DrainFault::Refused(TicketFault::NoMemory));
+        }
     }
     Ok(passes)
 }

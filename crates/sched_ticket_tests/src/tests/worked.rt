@@ -1,14 +1,13 @@
 //! Examples worked by hand, on one thread.
 use super::Act::{Counts, Draws, Raises};
 use super::Who::{A, B};
-use super::{acts, alone, closes_with_both, is_too_large, parted, stays_open, turns};
+use super::{acts, alone, closes_with_both, is_too_large, part_of, parted, stays_open, turns};
 use sched_ticket::{Budget, TicketFault};
-use std::test::Fail;
 
 #[test]
-fn two_tickets(rt: HostRuntime) -> Result<(), Fail> {
+fn two_tickets(rt: HostRuntime) {
     let made = Budget::new(rt.alloc(), 2);
-    let (budget, mut first, mut second) = parted(&rt, made, &[Draws(Some(0))])?;
+    let (budget, mut first, mut second) = parted(&rt, made, &[Draws(Some(0))]);
     turns(
         &rt,
         &budget,
@@ -23,35 +22,34 @@ fn two_tickets(rt: HostRuntime) -> Result<(), Fail> {
             (A, Counts(1)),
         ],
     );
-    let (budget, mut first) = stays_open(&rt, budget, first)?;
+    let (budget, mut first) = stays_open(&rt, budget, first);
     acts(&rt, &budget, &mut first, &[Counts(1)]);
     closes_with_both(&rt, budget, first, second, 2);
-    Ok(())
 }
 
 #[test]
-fn no_ticket(rt: HostRuntime) -> Result<(), Fail> {
-    alone(&rt, Budget::new(rt.alloc(), 0), &[Draws(None)], 0)
+fn no_ticket(rt: HostRuntime) {
+    alone(&rt, Budget::new(rt.alloc(), 0), &[Draws(None)], 0);
 }
 
 #[test]
-fn limits(rt: HostRuntime) -> Result<(), Fail> {
+fn limits(rt: HostRuntime) {
     is_too_large(&rt, Budget::new(rt.alloc(), 4294967297));
-    alone(&rt, Budget::new(rt.alloc(), 4294967296), &[], 0)
+    alone(&rt, Budget::new(rt.alloc(), 4294967296), &[], 0);
 }
 
 #[test]
-fn limits_that_rise(rt: HostRuntime) -> Result<(), Fail> {
+fn limits_that_rise(rt: HostRuntime) {
     is_too_large(&rt, Budget::rising(rt.alloc(), 4294967297));
     let made = Budget::rising(rt.alloc(), 4294967296);
-    alone(&rt, made, &[Raises(4294967296, Ok(4294967296))], 0)
+    alone(&rt, made, &[Raises(4294967296, Ok(4294967296))], 0);
 }
 
 #[test]
-fn rises_past_one(rt: HostRuntime) -> Result<(), Fail> {
+fn rises_past_one(rt: HostRuntime) {
     let made = Budget::rising(rt.alloc(), 1);
-    let (budget, mut a, mut b) = parted(&rt, made, &[Draws(Some(0))])?;
-    let mut c = a.split(&budget)?;
+    let (budget, mut a, mut b) = parted(&rt, made, &[Draws(Some(0))]);
+    let mut c = part_of(&rt, &budget, &mut a);
     turns(
         &rt,
         &budget,
@@ -74,13 +72,12 @@ fn rises_past_one(rt: HostRuntime) -> Result<(), Fail> {
     );
     let a = a.join(b, &budget);
     closes_with_both(&rt, budget, a, c, 2);
-    Ok(())
 }
 
 // A draw goes by the limit of its own moment, and not by one that was read before.
 #[test]
-fn rises_under_a_pass(rt: HostRuntime) -> Result<(), Fail> {
-    let (budget, mut a, mut b) = parted(&rt, Budget::rising(rt.alloc(), 2), &[])?;
+fn rises_under_a_pass(rt: HostRuntime) {
+    let (budget, mut a, mut b) = parted(&rt, Budget::rising(rt.alloc(), 2), &[]);
     turns(
         &rt,
         &budget,
@@ -94,11 +91,10 @@ fn rises_under_a_pass(rt: HostRuntime) -> Result<(), Fail> {
         ],
     );
     closes_with_both(&rt, budget, a, b, 3);
-    Ok(())
 }
 
 #[test]
-fn keeps_its_limit(rt: HostRuntime) -> Result<(), Fail> {
+fn keeps_its_limit(rt: HostRuntime) {
     alone(
         &rt,
         Budget::new(rt.alloc(), 1),
@@ -110,35 +106,33 @@ fn keeps_its_limit(rt: HostRuntime) -> Result<(), Fail> {
             Draws(None),
         ],
         1,
-    )
+    );
 }
 
 // The pass that is handed in has drawn nothing and was never refused: only the look tells that another is alive.
 #[test]
-fn empty_pass_is_not_all(rt: HostRuntime) -> Result<(), Fail> {
-    let (budget, first, part) = parted(&rt, Budget::new(rt.alloc(), 5), &[])?;
-    let (budget, first) = stays_open(&rt, budget, first)?;
-    let (budget, part) = stays_open(&rt, budget, part)?;
+fn empty_pass_is_not_all(rt: HostRuntime) {
+    let (budget, first, part) = parted(&rt, Budget::new(rt.alloc(), 5), &[]);
+    let (budget, first) = stays_open(&rt, budget, first);
+    let (budget, part) = stays_open(&rt, budget, part);
     closes_with_both(&rt, budget, part, first, 0);
-    Ok(())
 }
 
 #[test]
-fn dropped_pass_stays_out(rt: HostRuntime) -> Result<(), Fail> {
-    let (budget, first, mut part) = parted(&rt, Budget::new(rt.alloc(), 5), &[])?;
+fn dropped_pass_stays_out(rt: HostRuntime) {
+    let (budget, first, mut part) = parted(&rt, Budget::new(rt.alloc(), 5), &[]);
     acts(&rt, &budget, &mut part, &[Draws(Some(0))]);
     drop(part);
-    let (budget, mut first) = stays_open(&rt, budget, first)?;
+    let (budget, mut first) = stays_open(&rt, budget, first);
     acts(&rt, &budget, &mut first, &[Draws(Some(1))]);
-    stays_open(&rt, budget, first)?;
-    Ok(())
+    stays_open(&rt, budget, first);
 }
 
 // Refused draws use no number up: a limit that is raised by two gives two tickets more, to the refused pass too.
 #[test]
-fn rises_by_parts(rt: HostRuntime) -> Result<(), Fail> {
+fn rises_by_parts(rt: HostRuntime) {
     let made = Budget::rising_by_parts(rt.alloc(), 1);
-    let (budget, mut a, mut b) = parted(&rt, made, &[Draws(Some(0))])?;
+    let (budget, mut a, mut b) = parted(&rt, made, &[Draws(Some(0))]);
     turns(
         &rt,
         &budget,
@@ -156,13 +150,12 @@ fn rises_by_parts(rt: HostRuntime) -> Result<(), Fail> {
             (A, Draws(None)),
         ],
     );
-    let (budget, a) = stays_open(&rt, budget, a)?;
+    let (budget, a) = stays_open(&rt, budget, a);
     closes_with_both(&rt, budget, a, b, 3);
-    Ok(())
 }
 
 #[test]
-fn keeps_its_limit_by_parts(rt: HostRuntime) -> Result<(), Fail> {
+fn keeps_its_limit_by_parts(rt: HostRuntime) {
     is_too_large(&rt, Budget::by_parts(rt.alloc(), 4294967297));
     is_too_large(&rt, Budget::rising_by_parts(rt.alloc(), 4294967297));
     let before = [
@@ -171,8 +164,7 @@ fn keeps_its_limit_by_parts(rt: HostRuntime) -> Result<(), Fail> {
         Draws(None),
         Draws(None),
     ];
-    let (budget, pass, mut part) = parted(&rt, Budget::by_parts(rt.alloc(), 1), &before)?;
+    let (budget, pass, mut part) = parted(&rt, Budget::by_parts(rt.alloc(), 1), &before);
     acts(&rt, &budget, &mut part, &[Draws(None), Counts(0)]);
     closes_with_both(&rt, budget, part, pass, 1);
-    Ok(())
 }

@@ -2,4 +2,4 @@ use Rattle.sched_ticket.specs.Held.{IsOf}
 use Rattle.sched_ticket_tests.proofs.tests.passes.split_and_join.Given as goal
 
 abbrev pub invariant-loop : goal.invariant-loop
-invariant-loop l = IsOf l.budget l.pass
+invariant-loop g l = IsOf l.budget l.pass
