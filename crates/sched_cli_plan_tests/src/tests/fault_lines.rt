@@ -1,5 +1,5 @@
 use sched_cli_plan::PrintFault;
-use std::alloc::{AllocError, Global};
+use std::alloc::Global;
 use std::process::Abort;
 
 // Each fault, its line and its status.
@@ -15,21 +15,15 @@ const FAULTS: [(PrintFault, &str, u8); 9] = [
     (PrintFault::WriteFailed, "zsched: write failed", 4),
 ];
 
-#[test]
-fn each_fault_of_printing_has_its_line_and_status(rt: HostRuntime) -> Result<(), AllocError> {
-    for (fault, line, status) in &FAULTS {
-        assert_told(&rt, rt.alloc(), *fault, (line, *status))?;
-    }
-    Ok(())
+// Asserts the line and the status of a fault.
+fn assert_told(rt: &impl Abort, alloc: Global, fault: PrintFault, told: (&str, u8)) {
+    let line = fault.to_string(alloc).expect(rt, "there is memory");
+    assert_eq!(rt; (line.as_str(), fault.status()), told);
 }
 
-fn assert_told(
-    rt: &impl Abort,
-    alloc: Global,
-    fault: PrintFault,
-    told: (&str, u8),
-) -> Result<(), AllocError> {
-    let line = fault.to_string(alloc)?;
-    assert_eq!(rt; (line.as_str(), fault.status()), told);
-    Ok(())
+#[test]
+fn each_fault_of_printing_has_its_line_and_status(rt: HostRuntime) {
+    for (fault, line, status) in &FAULTS {
+        assert_told(&rt, rt.alloc(), *fault, (line, *status));
+    }
 }

@@ -6,7 +6,7 @@ use super::printings::{
 };
 use super::texts::{Part, text_of, tree};
 use sched_cli_plan::{PlanOptions, PrintFault};
-use std::alloc::{AllocError, Global};
+use std::alloc::Global;
 use std::process::Abort;
 
 // The intersection of three recurrences and a spacing of 100 ms, and its four lines.
@@ -105,12 +105,12 @@ fn other_inputs_are_refused_with_nothing_written(rt: HostRuntime) {
 }
 
 // The lines of `forever` from 0, for so many events.
-fn counted_lines(alloc: Global, events: u64) -> Result<String, AllocError> {
+fn counted_lines(rt: &impl Abort, alloc: Global, events: u64) -> String {
     let mut lines = String::new(alloc);
     for event in 0..events {
-        write!(lines, "0: {event} next 0\n")?;
+        write!(lines, "0: {event} next 0\n").expect(rt, "there is memory");
     }
-    Ok(lines)
+    lines
 }
 
 // `forever` and 1,048,567 spaces: the longest input, of 1,048,576 bytes.
@@ -121,21 +121,21 @@ const LONGER: [Part; 2] = [(FOREVER, 1), (" ", 1048568)];
 const BRACKETS: [Part; 2] = [("[", 1000), ("]", 1000)];
 
 #[test]
-fn the_longest_input_is_printed(rt: HostRuntime) -> Result<(), AllocError> {
-    let alloc = rt.alloc();
-    let longest = text_of(alloc, &LONGEST)?;
+fn the_longest_input_is_printed(rt: HostRuntime) {
+    let longest = text_of(&rt, rt.alloc(), &LONGEST);
     assert_eq!(rt; longest.len(), 1048576);
-    prints_text(&rt, alloc, Ok(longest), 10, counted_lines(alloc, 10))
+    let lines = counted_lines(&rt, rt.alloc(), 10);
+    prints_text(&rt, rt.alloc(), longest.as_str(), 10, lines.as_str());
 }
 
 #[test]
-fn one_byte_more_is_refused(rt: HostRuntime) -> Result<(), AllocError> {
-    refuses_parts(&rt, rt.alloc(), &LONGER, PrintFault::TooLong)
+fn one_byte_more_is_refused(rt: HostRuntime) {
+    refuses_parts(&rt, rt.alloc(), &LONGER, PrintFault::TooLong);
 }
 
 #[test]
-fn brackets_are_no_json(rt: HostRuntime) -> Result<(), AllocError> {
-    refuses_parts(&rt, rt.alloc(), &BRACKETS, PrintFault::NotJson)
+fn brackets_are_no_json(rt: HostRuntime) {
+    refuses_parts(&rt, rt.alloc(), &BRACKETS, PrintFault::NotJson);
 }
 
 // Asserts that the text has 4,096 lines in 60,330 bytes, and ends in the last one.
@@ -146,16 +146,10 @@ fn assert_most_lines(rt: &impl Abort, text: &[u8]) {
 }
 
 #[test]
-fn the_most_events_have_4096_lines(rt: HostRuntime) -> Result<(), AllocError> {
-    let lines = counted_lines(rt.alloc(), 4096)?;
+fn the_most_events_have_4096_lines(rt: HostRuntime) {
+    let lines = counted_lines(&rt, rt.alloc(), 4096);
     assert_most_lines(&rt, lines.as_bytes());
-    prints_text(
-        &rt,
-        rt.alloc(),
-        text_of(rt.alloc(), &[(FOREVER, 1)]),
-        4096,
-        Ok(lines),
-    )
+    prints_text(&rt, rt.alloc(), FOREVER, 4096, lines.as_str());
 }
 
 // The front of a text, of so many bytes.
@@ -194,14 +188,13 @@ fn is_cut_after(rt: &impl Abort, alloc: Global, options: &PlanOptions, lines: &s
 }
 
 #[test]
-fn many_lines_are_few_writes(rt: HostRuntime) -> Result<(), AllocError> {
-    let lines = counted_lines(rt.alloc(), 4096)?;
+fn many_lines_are_few_writes(rt: HostRuntime) {
+    let lines = counted_lines(&rt, rt.alloc(), 4096);
     let options = options(&rt, (4096, 0, 0));
     is_written_whole(&rt, rt.alloc(), &options, lines.as_str());
     for works in 0..8 {
         is_cut_after(&rt, rt.alloc(), &options, lines.as_str(), works);
     }
-    Ok(())
 }
 
 // Meets of `forever`, nested on the left to a depth of 32, which is the most, and the line of the first event.
@@ -219,33 +212,39 @@ const DEEPEST_LINE: [Part; 5] = [
 const DEEPER: [Part; 3] = [(r#"{"meet":["#, 32), (FOREVER, 1), (r#","forever"]}"#, 32)];
 
 #[test]
-fn depth_ends_at_32(rt: HostRuntime) -> Result<(), AllocError> {
-    prints_parts(&rt, rt.alloc(), &DEEPEST, 1, &DEEPEST_LINE)?;
-    refuses_parts(&rt, rt.alloc(), &DEEPER, PrintFault::TooDeep)
+fn depth_ends_at_32(rt: HostRuntime) {
+    prints_parts(&rt, rt.alloc(), &DEEPEST, 1, &DEEPEST_LINE);
+    refuses_parts(&rt, rt.alloc(), &DEEPER, PrintFault::TooDeep);
 }
 
 // Meets of `forever` as a full tree of so many levels of meets.
-fn full(alloc: Global, levels: u64) -> Result<String, AllocError> {
-    tree(alloc, FOREVER, (r#"{"meet":["#, ",", "]}"), levels)
+fn full(rt: &impl Abort, alloc: Global, levels: u64) -> String {
+    tree(rt, alloc, FOREVER, (r#"{"meet":["#, ",", "]}"), levels)
 }
 
 // The line of its first event.
-fn full_line(alloc: Global, levels: u64) -> Result<String, AllocError> {
-    let output = tree(alloc, "0", ("(", ", ", ")"), levels)?;
-    format!(in alloc; "0: {output} next 0\n")
+fn full_line(rt: &impl Abort, alloc: Global, levels: u64) -> String {
+    let output = tree(rt, alloc, "0", ("(", ", ", ")"), levels);
+    format!(in alloc; "0: {output} next 0\n").expect(rt, "there is memory")
 }
 
 // A full tree of 6 levels has 127 nodes. This one has 257.
-fn over_full(alloc: Global) -> Result<String, AllocError> {
-    let half = full(alloc, 6)?;
-    format!(in alloc; "{{\"meet\":[{half},{{\"meet\":[{half},{FOREVER}]}}]}}")
+fn over_full(rt: &impl Abort, alloc: Global) -> String {
+    let half = full(rt, alloc, 6);
+    format!(in alloc; "{{\"meet\":[{half},{{\"meet\":[{half},{FOREVER}]}}]}}").expect(
+        rt,
+        "there is memory",
+    )
 }
 
 #[test]
-fn nodes_end_at_256(rt: HostRuntime) -> Result<(), AllocError> {
+fn nodes_end_at_256(rt: HostRuntime) {
     let alloc = rt.alloc();
-    prints_text(&rt, alloc, full(alloc, 7), 1, full_line(alloc, 7))?;
-    refuses_text(&rt, alloc, over_full(alloc), PrintFault::TooMany)
+    let text = full(&rt, alloc, 7);
+    let line = full_line(&rt, alloc, 7);
+    prints_text(&rt, alloc, text.as_str(), 1, line.as_str());
+    let over = over_full(&rt, alloc);
+    refuses_text(&rt, alloc, over.as_str(), PrintFault::TooMany);
 }
 
 // Asserts what a printing answers to a writer, which has so much of the lines then. Answers how many writes were made.

@@ -3,7 +3,7 @@ use super::fakes::Halting;
 use super::texts::{Part, text_of};
 use sched_cli_plan::{Counted, MOST_STEPS, PlanOptions, PrintFault, print_plan};
 use sched_time::{Millis, Moment};
-use std::alloc::{AllocError, Global};
+use std::alloc::Global;
 use std::io::{Read, Write};
 use std::process::Abort;
 
@@ -123,49 +123,27 @@ pub(crate) fn shows(rt: &impl Abort, alloc: Global, rows: &[Row]) {
     }
 }
 
-/// Asserts that each of these texts is refused with its fault, where ten steps are asked for.
+/// Asserts that a text is printed, in so many steps, as these lines.
+pub(crate) fn prints_text(rt: &impl Abort, alloc: Global, text: &str, steps: u64, lines: &str) {
+    let options = options(rt, (steps, 0, 0));
+    prints(rt, alloc, text.as_bytes(), &options, lines);
+}
+
+/// Asserts that a text is refused with this fault, where ten steps are asked for.
+pub(crate) fn refuses_text(rt: &impl Abort, alloc: Global, text: &str, fault: PrintFault) {
+    refuses(rt, alloc, text.as_bytes(), &options(rt, (10, 0, 0)), fault);
+}
+
+/// Asserts that each of these texts is refused with its fault.
 pub(crate) fn refuse_all(rt: &impl Abort, alloc: Global, rows: &[(&str, PrintFault)]) {
-    let options = options(rt, (10, 0, 0));
     for (text, fault) in rows {
-        refuses(rt, alloc, text.as_bytes(), &options, *fault);
+        refuses_text(rt, alloc, text, *fault);
     }
 }
 
-/// Asserts that a text that was built is printed, in so many steps, as lines that were built.
-pub(crate) fn prints_text(
-    rt: &impl Abort,
-    alloc: Global,
-    text: Result<String, AllocError>,
-    steps: u64,
-    lines: Result<String, AllocError>,
-) -> Result<(), AllocError> {
-    let text = text?;
-    let lines = lines?;
-    let options = options(rt, (steps, 0, 0));
-    prints(rt, alloc, text.as_bytes(), &options, lines.as_str());
-    Ok(())
-}
-
-/// Asserts that a text that was built is refused with this fault.
-pub(crate) fn refuses_text(
-    rt: &impl Abort,
-    alloc: Global,
-    text: Result<String, AllocError>,
-    fault: PrintFault,
-) -> Result<(), AllocError> {
-    let text = text?;
-    refuses(rt, alloc, text.as_bytes(), &options(rt, (10, 0, 0)), fault);
-    Ok(())
-}
-
-/// The same of the text of these parts.
-pub(crate) fn refuses_parts(
-    rt: &impl Abort,
-    alloc: Global,
-    parts: &[Part],
-    fault: PrintFault,
-) -> Result<(), AllocError> {
-    refuses_text(rt, alloc, text_of(alloc, parts), fault)
+/// Asserts that the text of these parts is refused with this fault.
+pub(crate) fn refuses_parts(rt: &impl Abort, alloc: Global, parts: &[Part], fault: PrintFault) {
+    refuses_text(rt, alloc, text_of(rt, alloc, parts).as_str(), fault);
 }
 
 /// Asserts that the text of these parts is printed, in so many steps, as the text of those lines.
@@ -175,12 +153,8 @@ pub(crate) fn prints_parts(
     parts: &[Part],
     steps: u64,
     lines: &[Part],
-) -> Result<(), AllocError> {
-    prints_text(
-        rt,
-        alloc,
-        text_of(alloc, parts),
-        steps,
-        text_of(alloc, lines),
-    )
+) {
+    let text = text_of(rt, alloc, parts);
+    let lines = text_of(rt, alloc, lines);
+    prints_text(rt, alloc, text.as_str(), steps, lines.as_str());
 }

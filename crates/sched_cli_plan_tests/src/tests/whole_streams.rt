@@ -1,7 +1,7 @@
 use super::fakes::Halting;
 use sched_cli_plan::{Counted, PrintFault, Sink, Source, put_all, read_all};
-use std::alloc::{AllocError, Global};
-use std::io::{ErrorKind, Read, Write};
+use std::alloc::Global;
+use std::io::ErrorKind;
 use std::process::Abort;
 
 const TEXT: &[u8] = b"0: (0, 0) next 100\n";
@@ -17,19 +17,18 @@ fn reading(
 }
 
 // Asserts that the whole text is read, at most so many bytes a read.
-fn reads_by(rt: &impl Abort, alloc: Global, text: &[u8], step: usize) -> Result<(), PrintFault> {
+fn reads_by(rt: &impl Abort, alloc: Global, text: &[u8], step: usize) {
     let (answer, failures, _) = reading(alloc, Halting::steady(text, step));
-    let bytes = answer?;
+    let bytes = answer.expect(rt, "the input is read");
     assert_eq!(rt; (bytes.as_slice(), failures), (text, 0));
-    Ok(())
 }
 
 #[test]
-fn reads_the_whole_input_whatever_a_read_gives(rt: HostRuntime) -> Result<(), PrintFault> {
+fn reads_the_whole_input_whatever_a_read_gives(rt: HostRuntime) {
     for step in [1usize, 2, 7, 19, 100] {
-        reads_by(&rt, rt.alloc(), TEXT, step)?;
+        reads_by(&rt, rt.alloc(), TEXT, step);
     }
-    reads_by(&rt, rt.alloc(), &[], 1)
+    reads_by(&rt, rt.alloc(), &[], 1);
 }
 
 // What a reading answers whose read after so many fails: its fault. Beside it, how many reads failed and were made.
@@ -52,49 +51,35 @@ fn a_stream_keeps_the_error_of_its_last_failed_call(rt: HostRuntime) {
     assert!(rt; reader.last_error().is_none());
     let answer = read_all(rt.alloc(), &mut reader);
     assert_eq!(rt; answer.err(), Some(PrintFault::ReadFailed));
-    let kind = reader.last_error().map(|error| error.kind());
-    assert_eq!(rt; kind, Some(ErrorKind::WouldBlock));
+    let error = reader.last_error().expect(&rt, "a read failed");
+    assert_eq!(rt; error.kind(), ErrorKind::WouldBlock);
 }
 
 // What `read_all` answers of an input of this many bytes: their number. Beside it, how many reads it made and how many
 // bytes it left.
-fn counted(
-    alloc: Global,
-    length: usize,
-    step: usize,
-) -> Result<(Result<usize, PrintFault>, u64, usize), AllocError> {
-    let text = vec![in alloc; b' '; length]?;
+type Taken = (Result<usize, PrintFault>, u64, usize);
+
+fn counted(rt: &impl Abort, alloc: Global, length: usize, step: usize) -> Taken {
+    let text = vec![in alloc; b' '; length].expect(rt, "there is memory");
     let (answer, _, reader) = reading(alloc, Halting::steady(text.as_slice(), step));
-    Ok((
-        answer.map(|bytes| bytes.len()),
-        reader.calls,
-        reader.inner.len(),
-    ))
+    let number = answer.map(|bytes| bytes.len());
+    (number, reader.calls, reader.inner.len())
 }
 
 // Asserts what is read of an input of so many bytes, by so many reads, and how many bytes they leave.
-fn assert_read(
-    rt: &impl Abort,
-    alloc: Global,
-    (length, step): (usize, usize),
-    read: (Result<usize, PrintFault>, u64, usize),
-) -> Result<(), AllocError> {
-    assert_eq!(rt; counted(alloc, length, step)?, read);
-    Ok(())
+fn assert_read(rt: &impl Abort, alloc: Global, (length, step): (usize, usize), read: Taken) {
+    assert_eq!(rt; counted(rt, alloc, length, step), read);
 }
 
 #[test]
-fn the_longest_input_is_read_and_one_byte_more_is_refused(
-    rt: HostRuntime,
-) -> Result<(), AllocError> {
+fn the_longest_input_is_read_and_one_byte_more_is_refused(rt: HostRuntime) {
     let alloc = rt.alloc();
     let too_long = Err(PrintFault::TooLong);
     for (step, reads) in [(1usize, 1048577u64), (8192, 129), (1048577, 129)] {
-        assert_read(&rt, alloc, (1048576, step), (Ok(1048576), reads, 0))?;
-        assert_read(&rt, alloc, (1048577, step), (too_long, reads, 0))?;
-        assert_read(&rt, alloc, (1050000, step), (too_long, reads, 1423))?;
+        assert_read(&rt, alloc, (1048576, step), (Ok(1048576), reads, 0));
+        assert_read(&rt, alloc, (1048577, step), (too_long, reads, 0));
+        assert_read(&rt, alloc, (1050000, step), (too_long, reads, 1423));
     }
-    Ok(())
 }
 
 // What a writing of the text answers, and how many of its writes fail.
@@ -154,28 +139,36 @@ fn a_write_that_takes_no_byte_has_failed(rt: HostRuntime) {
     assert_eq!(rt; taking_none(rt.alloc()), want);
 }
 
+// Asserts how many bytes a read gives, or that it fails.
+fn reads(rt: &impl Abort, reader: &mut impl Source, buf: &mut [u8], want: Option<usize>) {
+    assert_eq!(rt; reader.read(buf).ok(), want);
+}
+
 // The second of three reads fails.
 #[test]
 fn counts_each_failed_read_and_no_other(rt: HostRuntime) {
     let mut buf = [0u8; 4];
     let mut reader = Counted::new(Halting::failing_after(TEXT, 2, 1));
-    let first = reader.read(&mut buf).ok();
-    let second = reader.read(&mut buf).ok();
-    let third = reader.read(&mut buf).ok();
-    assert_eq!(rt; [first, second, third], [Some(2), None, Some(2)]);
+    reads(&rt, &mut reader, &mut buf, Some(2));
+    reads(&rt, &mut reader, &mut buf, None);
+    reads(&rt, &mut reader, &mut buf, Some(2));
     assert_eq!(rt; reader.failures(), 1);
     assert_eq!(rt; buf[..2], TEXT[2..4]);
+}
+
+// Asserts how many bytes a write takes, or that it fails.
+fn writes(rt: &impl Abort, writer: &mut impl Sink, bytes: &[u8], want: Option<usize>) {
+    assert_eq!(rt; writer.write(bytes).ok(), want);
 }
 
 // So does the second of three writes.
 #[test]
 fn counts_each_failed_write_and_no_other(rt: HostRuntime) {
     let mut writer = Counted::new(Halting::failing_after(Vec::new(rt.alloc()), 2, 1));
-    let first = writer.write(TEXT).ok();
-    let second = writer.write(TEXT).ok();
-    let third = writer.write(&TEXT[2..]).ok();
-    let failures = writer.failures();
-    let writer = writer.into_inner();
-    assert_eq!(rt; [first, second, third], [Some(2), None, Some(2)]);
-    assert_eq!(rt; (failures, writer.inner.as_slice()), (1, &TEXT[..4]));
+    writes(&rt, &mut writer, TEXT, Some(2));
+    writes(&rt, &mut writer, TEXT, None);
+    writes(&rt, &mut writer, &TEXT[2..], Some(2));
+    assert_eq!(rt; writer.failures(), 1);
+    let taken = writer.into_inner().inner;
+    assert_eq!(rt; taken.as_slice(), &TEXT[..4]);
 }
