@@ -7,7 +7,6 @@ use sched_ticket_quota::{
 };
 use sched_time::{Millis, Moment};
 use std::process::Abort;
-use std::test::Fail;
 
 mod carries;
 mod changes;
@@ -168,11 +167,29 @@ fn turns(rt: &impl Abort, quota: &Quota, a: &mut Pass, b: &mut Pass, all: &[(Who
     }
 }
 
+// The quota that was made, and its first pass.
+fn made(rt: &impl Abort, made: Result<(Quota, Pass), QuotaFault>) -> (Quota, Pass)
+    requires { IfOk made (λ r. IsOf r.0 r.1) }
+    ensures { IsOf result.0 result.1 }
+{
+    made.expect(rt, "there is memory")
+}
+
+// Another pass, split off this one.
+fn part_of(rt: &impl Abort, quota: &Quota, pass: &mut Pass) -> Pass
+    requires { IsOf quota.now pass.old }
+    ensures of { IsOf quota.now pass.new }
+    ensures part { IsOf quota.now result }
+{
+    pass.split(quota).expect(rt, "a part is left")
+}
+
 // Asserts that the pass has all parts, with so many tickets.
 fn closes(rt: &impl Abort, quota: Quota, pass: Pass, granted: u64)
     requires { IsOf quota pass }
 {
-    assert_eq!(rt; quota.close(pass).ok(), Some(granted));
+    let tickets = quota.close(pass).ok();
+    assert_eq!(rt; tickets, Some(granted));
 }
 
 // Asserts that the two passes have all parts, with so many tickets.
@@ -186,53 +203,45 @@ fn closes_with_both(rt: &impl Abort, quota: Quota, a: Pass, b: Pass, granted: u6
 }
 
 // Hands quota and pass back, where another pass is alive or was dropped.
-fn stays_open(rt: &impl Abort, quota: Quota, pass: Pass) -> Result<(Quota, Pass), Fail>
+fn stays_open(rt: &impl Abort, quota: Quota, pass: Pass) -> (Quota, Pass)
     requires { IsOf quota pass }
-    ensures { IfOk result (λ r. (r.0 ≡ quota) × IsOf r.0 r.1) }
+    ensures { (result.0 ≡ quota) × IsOf result.0 result.1 }
 {
-    let Err((quota, pass, out)) = quota.close(pass) else {
-        return Err(Fail::from("another pass is out"));
+    let Err((quota, pass, PassesOut)) = quota.close(pass) else {
+        panic!(rt; "another pass is out");
     };
-    assert_eq!(rt; out, PassesOut);
-    Ok((quota, pass))
+    (quota, pass)
 }
 
 // A quota of one pass, which does all this and closes it with so many tickets.
-fn alone(
-    rt: &impl Abort,
-    made: Result<(Quota, Pass), QuotaFault>,
-    all: &[(u64, Act)],
-    granted: u64,
-) -> Result<(), Fail>
-    requires { IfOk made (λ r. IsOf r.0 r.1) }
+fn alone(rt: &impl Abort, new: Result<(Quota, Pass), QuotaFault>, all: &[(u64, Act)], granted: u64)
+    requires { IfOk new (λ r. IsOf r.0 r.1) }
 {
-    let (quota, mut pass) = made?;
+    let (quota, mut pass) = made(rt, new);
     acts(rt, &quota, &mut pass, all);
     closes(rt, quota, pass, granted);
-    Ok(())
 }
 
 // A quota of two passes, which do all this and close it with so many tickets.
 fn by_two(
     rt: &impl Abort,
-    made: Result<(Quota, Pass), QuotaFault>,
+    new: Result<(Quota, Pass), QuotaFault>,
     all: &[(Who, u64, Act)],
     granted: u64,
-) -> Result<(), Fail>
-    requires { IfOk made (λ r. IsOf r.0 r.1) }
+)
+    requires { IfOk new (λ r. IsOf r.0 r.1) }
 {
-    let (quota, mut a, mut b) = parted(made)?;
+    let (quota, mut a, mut b) = parted(rt, new);
     turns(rt, &quota, &mut a, &mut b, all);
     closes_with_both(rt, quota, a, b, granted);
-    Ok(())
 }
 
 // A quota, its first pass and one that is split off.
-fn parted(made: Result<(Quota, Pass), QuotaFault>) -> Result<(Quota, Pass, Pass), Fail>
-    requires { IfOk made (λ r. IsOf r.0 r.1) }
-    ensures { IfOk result (λ r. IsOf r.0 r.1 × IsOf r.0 r.2) }
+fn parted(rt: &impl Abort, new: Result<(Quota, Pass), QuotaFault>) -> (Quota, Pass, Pass)
+    requires { IfOk new (λ r. IsOf r.0 r.1) }
+    ensures { IsOf result.0 result.1 × IsOf result.0 result.2 }
 {
-    let (quota, mut first) = made?;
-    let second = first.split(&quota)?;
-    Ok((quota, first, second))
+    let (quota, mut first) = made(rt, new);
+    let second = part_of(rt, &quota, &mut first);
+    (quota, first, second)
 }

@@ -3,11 +3,10 @@ use super::Act::{AsksOf, Draws, HandsBack, IsOut, Sees, Sets};
 use super::Who::{A, B};
 use super::{alone, at, by_two, terms};
 use sched_ticket_quota::Quota;
-use std::test::Fail;
 
 // Four requests at the end of a window give two tickets. The second retry's back-off ends in the next.
 #[test]
-fn a_backoff_across_a_border(rt: HostRuntime) -> Result<(), Fail> {
+fn a_backoff_across_a_border(rt: HostRuntime) {
     alone(
         &rt,
         Quota::carrying(rt.alloc(), at(0), terms(0, 500, 1000)),
@@ -20,11 +19,11 @@ fn a_backoff_across_a_border(rt: HostRuntime) -> Result<(), Fail> {
             (1100, IsOut(2000)),
         ],
         2,
-    )
+    );
 }
 
 #[test]
-fn none_without_the_option(rt: HostRuntime) -> Result<(), Fail> {
+fn none_without_the_option(rt: HostRuntime) {
     alone(
         &rt,
         Quota::new(rt.alloc(), at(0), terms(0, 500, 1000)),
@@ -34,12 +33,12 @@ fn none_without_the_option(rt: HostRuntime) -> Result<(), Fail> {
             (1100, IsOut(2000)),
         ],
         1,
-    )
+    );
 }
 
 // Of two of the reserve and five of the share three were drawn: four are carried, and the other window has its own two.
 #[test]
-fn a_share_and_a_reserve(rt: HostRuntime) -> Result<(), Fail> {
+fn a_share_and_a_reserve(rt: HostRuntime) {
     by_two(
         &rt,
         Quota::carrying(rt.alloc(), at(0), terms(2, 500, 1000)),
@@ -59,12 +58,12 @@ fn a_share_and_a_reserve(rt: HostRuntime) -> Result<(), Fail> {
             (A, 1000, IsOut(2000)),
         ],
         9,
-    )
+    );
 }
 
 // Where none was drawn the share is carried, and the reserve is lost.
 #[test]
-fn no_reserve_is_carried(rt: HostRuntime) -> Result<(), Fail> {
+fn no_reserve_is_carried(rt: HostRuntime) {
     alone(
         &rt,
         Quota::carrying(rt.alloc(), at(0), terms(3, 500, 1000)),
@@ -77,13 +76,13 @@ fn no_reserve_is_carried(rt: HostRuntime) -> Result<(), Fail> {
             (2000, Draws(8589934592)),
         ],
         3,
-    )
+    );
 }
 
 // Five are carried to window 1, which draws one of them. Window 2 has one of the two requests of window 1, and none of the
 // others.
 #[test]
-fn nothing_twice(rt: HostRuntime) -> Result<(), Fail> {
+fn nothing_twice(rt: HostRuntime) {
     alone(
         &rt,
         Quota::carrying(rt.alloc(), at(0), terms(0, 500, 1000)),
@@ -96,12 +95,12 @@ fn nothing_twice(rt: HostRuntime) -> Result<(), Fail> {
             (3000, IsOut(4000)),
         ],
         2,
-    )
+    );
 }
 
 // A window that nobody called in leaves nothing, and hands nothing on.
 #[test]
-fn an_idle_window(rt: HostRuntime) -> Result<(), Fail> {
+fn an_idle_window(rt: HostRuntime) {
     alone(
         &rt,
         Quota::carrying(rt.alloc(), at(0), terms(1, 1000, 1000)),
@@ -111,12 +110,12 @@ fn an_idle_window(rt: HostRuntime) -> Result<(), Fail> {
             (2000, IsOut(3000)),
         ],
         1,
-    )
+    );
 }
 
 // How many are carried goes by the terms that the window's first draw reads.
 #[test]
-fn terms_between(rt: HostRuntime) -> Result<(), Fail> {
+fn terms_between(rt: HostRuntime) {
     alone(
         &rt,
         Quota::carrying(rt.alloc(), at(0), terms(0, 500, 1000)),
@@ -132,12 +131,12 @@ fn terms_between(rt: HostRuntime) -> Result<(), Fail> {
             (1000, IsOut(2000)),
         ],
         2,
-    )
+    );
 }
 
 // One that was handed back in its window is not carried: of five three were drawn. One that was carried is given up.
 #[test]
-fn handed_back(rt: HostRuntime) -> Result<(), Fail> {
+fn handed_back(rt: HostRuntime) {
     alone(
         &rt,
         Quota::carrying(rt.alloc(), at(0), terms(0, 500, 1000)),
@@ -153,12 +152,12 @@ fn handed_back(rt: HostRuntime) -> Result<(), Fail> {
             (1000, IsOut(2000)),
         ],
         3,
-    )
+    );
 }
 
 // Half of a window's numbers are of its own tickets, and half of those carried from it.
 #[test]
-fn half_of_the_numbers(rt: HostRuntime) -> Result<(), Fail> {
+fn half_of_the_numbers(rt: HostRuntime) {
     alone(
         &rt,
         Quota::carrying(rt.alloc(), at(0), terms(4294967296, 1000000, 1000)),
@@ -170,5 +169,5 @@ fn half_of_the_numbers(rt: HostRuntime) -> Result<(), Fail> {
             (1000, Draws(2147483648)),
         ],
         2,
-    )
+    );
 }

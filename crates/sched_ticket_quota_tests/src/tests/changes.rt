@@ -3,11 +3,10 @@ use super::Act::{Asks, Draws, IsOut, Sees, Sets};
 use super::Who::{A, B};
 use super::{alone, at, by_two, terms};
 use sched_ticket_quota::{Quota, QuotaFault};
-use std::test::Fail;
 
 // Each pass draws by the terms that were set last, in the present window too. What was given stays given.
 #[test]
-fn a_reserve_set(rt: HostRuntime) -> Result<(), Fail> {
+fn a_reserve_set(rt: HostRuntime) {
     by_two(
         &rt,
         Quota::new(rt.alloc(), at(0), terms(2, 0, 1000)),
@@ -25,11 +24,11 @@ fn a_reserve_set(rt: HostRuntime) -> Result<(), Fail> {
             (B, 1000, IsOut(2000)),
         ],
         4,
-    )
+    );
 }
 
 #[test]
-fn a_share_set(rt: HostRuntime) -> Result<(), Fail> {
+fn a_share_set(rt: HostRuntime) {
     alone(
         &rt,
         Quota::new(rt.alloc(), at(0), terms(0, 0, 1000)),
@@ -45,12 +44,12 @@ fn a_share_set(rt: HostRuntime) -> Result<(), Fail> {
             (0, Sees([0, 2, 1, 4294967295, 1000])),
         ],
         1,
-    )
+    );
 }
 
 // What no quota is made with is not set, and changes nothing.
 #[test]
-fn terms_are_refused(rt: HostRuntime) -> Result<(), Fail> {
+fn terms_are_refused(rt: HostRuntime) {
     alone(
         &rt,
         Quota::new(rt.alloc(), at(0), terms(1, 0, 1000)),
@@ -62,5 +61,5 @@ fn terms_are_refused(rt: HostRuntime) -> Result<(), Fail> {
             (0, IsOut(1000)),
         ],
         1,
-    )
+    );
 }

@@ -1,12 +1,11 @@
 //! Requests counted at once.
 use super::Act::{AsksOf, Draws, IsOut, Sees};
-use super::{acts, alone, at, closes_with_both, parted, terms};
+use super::{acts, alone, at, closes_with_both, part_of, parted, terms};
 use sched_ticket_quota::{Quota, WeightTooLarge};
-use std::test::Fail;
 
 // Three requests at once give as many tickets as three.
 #[test]
-fn three_at_once(rt: HostRuntime) -> Result<(), Fail> {
+fn three_at_once(rt: HostRuntime) {
     alone(
         &rt,
         Quota::new(rt.alloc(), at(0), terms(0, 1000, 1000)),
@@ -23,13 +22,13 @@ fn three_at_once(rt: HostRuntime) -> Result<(), Fail> {
             (0, Draws(4294967296)),
         ],
         4,
-    )
+    );
 }
 
 // The first split gives 2^20 parts, and the split of those gives one.
 #[test]
-fn no_more_than_the_parts(rt: HostRuntime) -> Result<(), Fail> {
-    let (quota, first, mut second) = parted(Quota::new(rt.alloc(), at(0), terms(0, 1, 1000)))?;
+fn no_more_than_the_parts(rt: HostRuntime) {
+    let (quota, first, mut second) = parted(&rt, Quota::new(rt.alloc(), at(0), terms(0, 1, 1000)));
     acts(
         &rt,
         &quota,
@@ -40,7 +39,7 @@ fn no_more_than_the_parts(rt: HostRuntime) -> Result<(), Fail> {
             (0, AsksOf(1048576, Ok(()))),
         ],
     );
-    let mut third = second.split(&quota)?;
+    let mut third = part_of(&rt, &quota, &mut second);
     acts(
         &rt,
         &quota,
@@ -53,12 +52,11 @@ fn no_more_than_the_parts(rt: HostRuntime) -> Result<(), Fail> {
     );
     let first = first.join(second, &quota);
     closes_with_both(&rt, quota, first, third, 0);
-    Ok(())
 }
 
 // The requests past the 4,294,967,296 of a window open the next one before its time.
 #[test]
-fn into_the_next_window(rt: HostRuntime) -> Result<(), Fail> {
+fn into_the_next_window(rt: HostRuntime) {
     alone(
         &rt,
         Quota::new(rt.alloc(), at(0), terms(1, 1000, 1000)),
@@ -73,12 +71,12 @@ fn into_the_next_window(rt: HostRuntime) -> Result<(), Fail> {
             (2000, Draws(8589934592)),
         ],
         5,
-    )
+    );
 }
 
 // In the last window nothing is counted that is past its 4,294,967,296 requests.
 #[test]
-fn at_the_end(rt: HostRuntime) -> Result<(), Fail> {
+fn at_the_end(rt: HostRuntime) {
     alone(
         &rt,
         Quota::new(rt.alloc(), at(0), terms(0, 0, 100)),
@@ -90,5 +88,5 @@ fn at_the_end(rt: HostRuntime) -> Result<(), Fail> {
             (0, Sees([3000000000, 2, 0, 0, 4611686018427387903])),
         ],
         0,
-    )
+    );
 }

@@ -3,11 +3,10 @@ use super::Act::{Asks, Counts, Draws, Gives, IsOut, Sees};
 use super::Who::{A, B};
 use super::{alone, at, by_two, terms};
 use sched_ticket_quota::Quota;
-use std::test::Fail;
 
 // A request gives half a ticket: two of them give one.
 #[test]
-fn a_window_by_hand(rt: HostRuntime) -> Result<(), Fail> {
+fn a_window_by_hand(rt: HostRuntime) {
     alone(
         &rt,
         Quota::new(rt.alloc(), at(0), terms(2, 500, 1000)),
@@ -23,12 +22,12 @@ fn a_window_by_hand(rt: HostRuntime) -> Result<(), Fail> {
             (10, Sees([0, 2, 3, 0, 1000])),
         ],
         3,
-    )
+    );
 }
 
 // Window 1 begins at 1000. A moment that goes back is served in the latest window.
 #[test]
-fn a_border_by_hand(rt: HostRuntime) -> Result<(), Fail> {
+fn a_border_by_hand(rt: HostRuntime) {
     alone(
         &rt,
         Quota::new(rt.alloc(), at(0), terms(2, 500, 1000)),
@@ -45,11 +44,11 @@ fn a_border_by_hand(rt: HostRuntime) -> Result<(), Fail> {
             (5999, Counts(3)),
         ],
         3,
-    )
+    );
 }
 
 #[test]
-fn no_reserve(rt: HostRuntime) -> Result<(), Fail> {
+fn no_reserve(rt: HostRuntime) {
     alone(
         &rt,
         Quota::new(rt.alloc(), at(0), terms(0, 1000000, 100)),
@@ -60,22 +59,22 @@ fn no_reserve(rt: HostRuntime) -> Result<(), Fail> {
             (100, IsOut(200)),
         ],
         1000,
-    )
+    );
 }
 
 #[test]
-fn no_share(rt: HostRuntime) -> Result<(), Fail> {
+fn no_share(rt: HostRuntime) {
     alone(
         &rt,
         Quota::new(rt.alloc(), at(0), terms(0, 0, 100)),
         &[(0, Asks), (100, Asks), (0, IsOut(200)), (700, IsOut(800))],
         0,
-    )
+    );
 }
 
 // The last window does not end.
 #[test]
-fn the_last_window(rt: HostRuntime) -> Result<(), Fail> {
+fn the_last_window(rt: HostRuntime) {
     alone(
         &rt,
         Quota::new(rt.alloc(), at(0), terms(1, 1000, 100)),
@@ -88,12 +87,12 @@ fn the_last_window(rt: HostRuntime) -> Result<(), Fail> {
             (0, Sees([2999999999, 1, 2, 0, 4611686018427387903])),
         ],
         3,
-    )
+    );
 }
 
 // Moments since 1970, with the shortest period: from November 2023 to May 2033.
 #[test]
-fn moments_of_an_epoch(rt: HostRuntime) -> Result<(), Fail> {
+fn moments_of_an_epoch(rt: HostRuntime) {
     alone(
         &rt,
         Quota::new(rt.alloc(), at(1700000000042), terms(3, 0, 100)),
@@ -113,12 +112,12 @@ fn moments_of_an_epoch(rt: HostRuntime) -> Result<(), Fail> {
             ),
         ],
         6,
-    )
+    );
 }
 
 // A quota that is made at the last moment of all.
 #[test]
-fn the_last_moment(rt: HostRuntime) -> Result<(), Fail> {
+fn the_last_moment(rt: HostRuntime) {
     alone(
         &rt,
         Quota::new(rt.alloc(), at(4611686018427387903), terms(1, 0, 100)),
@@ -128,12 +127,12 @@ fn the_last_moment(rt: HostRuntime) -> Result<(), Fail> {
             (0, IsOut(4611686018427387903)),
         ],
         1,
-    )
+    );
 }
 
 // After a week without a call a window has its one reserve, for all passes.
 #[test]
-fn an_idle_week(rt: HostRuntime) -> Result<(), Fail> {
+fn an_idle_week(rt: HostRuntime) {
     by_two(
         &rt,
         Quota::new(rt.alloc(), at(0), terms(10, 0, 1000)),
@@ -146,12 +145,12 @@ fn an_idle_week(rt: HostRuntime) -> Result<(), Fail> {
             (A, 604801000, IsOut(604802000)),
         ],
         30,
-    )
+    );
 }
 
 // The clock of one call is a year ahead: there is one reserve more at that second, and then none for a year.
 #[test]
-fn a_year_ahead(rt: HostRuntime) -> Result<(), Fail> {
+fn a_year_ahead(rt: HostRuntime) {
     by_two(
         &rt,
         Quota::new(rt.alloc(), at(5000), terms(10, 1000, 1000)),
@@ -166,13 +165,13 @@ fn a_year_ahead(rt: HostRuntime) -> Result<(), Fail> {
             (A, 31536006000, Gives(20, 10)),
         ],
         31,
-    )
+    );
 }
 
 // Three calls whose clocks are ahead, each further: three reserves more at one moment. One that is ahead, but behind the
 // latest window, gives none.
 #[test]
-fn three_calls_ahead(rt: HostRuntime) -> Result<(), Fail> {
+fn three_calls_ahead(rt: HostRuntime) {
     by_two(
         &rt,
         Quota::new(rt.alloc(), at(0), terms(2, 0, 1000)),
@@ -187,5 +186,5 @@ fn three_calls_ahead(rt: HostRuntime) -> Result<(), Fail> {
             (B, 15000, IsOut(31000)),
         ],
         8,
-    )
+    );
 }

@@ -2,4 +2,4 @@ use Rattle.sched_ticket_quota.specs.Held.{IsOf}
 use Rattle.sched_ticket_quota_tests.proofs.tests.threads.draw_all.Given as goal
 
 abbrev pub invariant-loop : goal.invariant-loop
-invariant-loop l = IsOf l.quota l.pass
+invariant-loop g l = IsOf l.quota l.pass

@@ -2,4 +2,4 @@ use Rattle.sched_ticket_quota.specs.Held.{IsOf}
 use Rattle.sched_ticket_quota_tests.proofs.tests.threads.draw_over.Given as goal
 
 abbrev pub invariant-loop-turn : goal.invariant-loop-turn
-invariant-loop-turn l = IsOf l.quota l.pass
+invariant-loop-turn g l = IsOf l.quota l.pass
