@@ -63,10 +63,15 @@ fn crossed(alloc: Global) -> Result<Plan, PlanFault> {
 /// Eight nodes: an exponential back-off, each wait a little longer, capped and jittered, within a time and so many
 /// times, with the waits as output.
 fn retry(alloc: Global) -> Result<Plan, PlanFault> {
-    let waits = Plan::add(alloc, 5, Plan::exponential(100, 2)?)?;
-    let waits = Plan::jitter(alloc, 0, 800, 1200, Plan::cap(alloc, 1000, waits)?)?;
-    let waits = Plan::within(alloc, FAR, waits)?;
-    Plan::second(alloc, Plan::meet(alloc, Plan::recurs(FAR)?, waits)?)
+    let both = Plan::meet(alloc, Plan::recurs(FAR)?, waits(alloc)?)?;
+    Plan::second(alloc, both)
+}
+
+/// The back-off, capped and jittered, within a time.
+fn waits(alloc: Global) -> Result<Plan, PlanFault> {
+    let longer = Plan::add(alloc, 5, Plan::exponential(100, 2)?)?;
+    let capped = Plan::cap(alloc, 1000, longer)?;
+    Plan::within(alloc, FAR, Plan::jitter(alloc, 0, 800, 1200, capped)?)
 }
 
 /// Rounds of sixteen events, each with the list of the outputs so far.

@@ -98,6 +98,6 @@ fn show(rt: &HostRuntime, driver: &Driver) -> Option<()> {
         Some(output) => Some(output.text(alloc).ok()?),
         None => None,
     };
-    let next = driver.next_start().map(Moment::get);
+    let next = driver.next_start().map(|start| start.get());
     println!(rt; "{events} events, last {last:?}, next {next:?}, state {state}").ok()
 }

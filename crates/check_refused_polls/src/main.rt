@@ -207,7 +207,7 @@ fn show_driver(
         Some(output) => Some(output.text(rt.alloc()).ok()?),
         None => None,
     };
-    let next = driver.next_start().map(Moment::get);
+    let next = driver.next_start().map(|start| start.get());
     print!(rt;
         "{name}; poll {turn}; {events} events, last {last:?}, next {next:?}, {granted} granted; "
     ).ok()
