@@ -10,7 +10,7 @@ ghost use Rattle.std.specs.Prelude.{◌≡◌, [], IfSome};
 use futures::task::{Context, Doorbell, Poll, Queue};
 use sched_driver::Driver;
 use sched_plan::{Plan, PlanFault, Val};
-use sched_run::{OnBudget, Ran, Retry, Scripted};
+use sched_run::{Draws, OnBudget, Ran, Retry, Scripted, Task};
 use sched_ticket::Budget;
 use sched_time::{FAR, Millis, Moment, Tick};
 use std::alloc::Global;
@@ -60,15 +60,19 @@ fn queue_of_one(rt: &HostRuntime) -> Option<Queue> {
 fn run(alloc: Global, what: &str, plan: &str, rounds: u64, cx: &mut Context<'_>) -> Option<u64> {
     let mut count: u64 = 0;
     for _ in 0..rounds {
-        let driver = driver(alloc, plan)?;
-        let counted = match what {
-            "retry" => retry(alloc, driver, cx)?,
-            "step" => step(alloc, driver)?,
-            _ => wait(alloc, driver, cx)?,
-        };
-        count = count.saturating_add(counted);
+        count = count.saturating_add(round(alloc, what, plan, cx)?);
     }
     Some(count)
+}
+
+// One round, with a driver of its own.
+fn round(alloc: Global, what: &str, plan: &str, cx: &mut Context<'_>) -> Option<u64> {
+    let driver = driver(alloc, plan)?;
+    match what {
+        "retry" => retry(alloc, driver, cx),
+        "step" => step(alloc, driver),
+        _ => wait(alloc, driver, cx),
+    }
 }
 
 // A driver of the plan of this name, which goes on 1 ms after each event.
@@ -93,9 +97,10 @@ fn failing(alloc: Global) -> Option<Scripted>
 }
 
 fn tick(millis: u64) -> Option<Tick> {
-    let now = Moment::new(millis)?;
-    let words = [0; 4];
-    Some(Tick { now, words })
+    Some(Tick {
+        now: Moment::new(millis)?,
+        words: [0; 4],
+    })
 }
 
 // Retries, each polled when its moment has come; it answers how many were granted.
@@ -103,7 +108,18 @@ fn retry(alloc: Global, driver: Driver, cx: &mut Context<'_>) -> Option<u64>
     requires { driver.journal ≡ [] }
 {
     let (budget, pass) = Budget::new(alloc, ROUND).ok()?;
-    let drawing = OnBudget::new(pass, &budget);
+    retry_by(alloc, driver, OnBudget::new(pass, &budget), cx)
+}
+
+// The same, by what draws their tickets.
+fn retry_by<D: Draws>(
+    alloc: Global,
+    driver: Driver,
+    drawing: D,
+    cx: &mut Context<'_>,
+) -> Option<u64>
+    requires { driver.journal ≡ [] }
+{
     let mut retry = Retry::new(alloc, failing(alloc)?, driver, drawing);
     for turn in 0..ROUND {
         let _ = retry.poll_at(alloc, &tick(turn)?, cx);
@@ -115,8 +131,10 @@ fn retry(alloc: Global, driver: Driver, cx: &mut Context<'_>) -> Option<u64>
 fn step(alloc: Global, mut driver: Driver) -> Option<u64> {
     let mut count: u64 = 0;
     for turn in 0..ROUND {
-        let input = Val::from(Millis::from(7));
-        if driver.next(alloc, tick(turn)?, input).is_ok() {
+        if driver
+            .next(alloc, tick(turn)?, Val::from(Millis::from(7)))
+            .is_ok()
+        {
             count = count.saturating_add(1);
         }
     }
@@ -128,15 +146,25 @@ fn wait(alloc: Global, driver: Driver, cx: &mut Context<'_>) -> Option<u64>
     requires { driver.journal ≡ [] }
 {
     let (budget, pass) = Budget::new(alloc, 1).ok()?;
-    let drawing = OnBudget::new(pass, &budget);
-    let mut retry = Retry::new(alloc, failing(alloc)?, driver, drawing);
-    let now = tick(0)?;
+    wait_by(alloc, driver, OnBudget::new(pass, &budget), cx)
+}
+
+// The same, by what draws its tickets.
+fn wait_by<D: Draws>(alloc: Global, driver: Driver, drawing: D, cx: &mut Context<'_>) -> Option<u64>
+    requires { driver.journal ≡ [] }
+{
+    let retry = Retry::new(alloc, failing(alloc)?, driver, drawing);
+    Some(poll_early(alloc, retry, &tick(0)?, cx))
+}
+
+// Polls of a task, all at one moment; it answers how many were pending.
+fn poll_early<T: Task>(alloc: Global, mut task: T, now: &Tick, cx: &mut Context<'_>) -> u64 {
     let mut count: u64 = 0;
     for _ in 0..ROUND {
-        match retry.poll_at(alloc, &now, cx) {
+        match task.poll_at(alloc, now, cx) {
             Poll::Pending => count = count.saturating_add(1),
             Poll::Ready(()) => {}
         }
     }
-    Some(count)
+    count
 }
