@@ -4,7 +4,7 @@ use super::*;
 use futures::task::Context;
 
 // What a call is answered with.
-#[derive(Drop)]
+#[derive(Clone, Copy)]
 pub(super) struct Reply {
     status: u32,
     pub(super) body: &'static str,
@@ -19,7 +19,7 @@ impl Coded for Reply {
 }
 
 // That a call was not answered: it may be made again after this.
-#[derive(Drop)]
+#[derive(Clone, Copy)]
 pub(super) struct Outage {
     after: Millis,
 }

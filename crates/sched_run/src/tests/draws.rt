@@ -2,7 +2,7 @@
 ghost use Rattle.sched_ticket_quota.specs.Held.{IsOf};
 
 use super::calls::{Cache, Calls};
-use super::plays::{play_drawing, play_drawing_or};
+use super::plays::{drawing_of, play_drawing, play_drawing_or};
 use super::shows::{Counts, Step, Told};
 use super::*;
 use std::sync::Arc;
@@ -78,7 +78,7 @@ fn retry_or_by_a_quota(rt: HostRuntime) {
         Step::Tells(Told::Fallen(Ok(203))),
     ];
     let drawing = OnQuota::new(pass, &quota);
-    let (drawing, _) = play_drawing_or(&rt, both, Plan::spaced(100), drawing, &steps);
+    let drawing = play_drawing_or(&rt, both, Plan::spaced(100), drawing, &steps);
     assert_eq!(rt; drawing.granted(), 1);
 }
 
@@ -111,10 +111,15 @@ fn three_retries_by_one_pass(rt: HostRuntime) {
     ];
     let effect = scripted(&rt, alloc, &[Err(8)]);
     let drawing = play_drawing(&rt, effect, Plan::recurs(9), drawing, &three);
+    assert_closes(&rt, drawing, 5);
+}
+
+// The pass has so many tickets, and its budget, to which nothing else refers, is closed with them.
+fn assert_closes(rt: &impl Abort, drawing: OnBudget<Arc<Budget>>, tickets: u64) {
     let (pass, budget) = drawing.into_parts();
-    assert_eq!(rt; pass.count(), 5);
-    let budget = Arc::into_inner(budget).expect(&rt, "no other refers to it");
-    assert_eq!(rt; budget.close(pass).ok(), Some(5));
+    assert_eq!(rt; pass.count(), tickets);
+    let budget = Arc::into_inner(budget).expect(rt, "no other refers to it");
+    assert_eq!(rt; budget.close(pass).ok(), Some(tickets));
 }
 
 // A retry of an effect that fails each time, by the one ticket of a budget that no other refers to.
@@ -132,10 +137,7 @@ fn retry_by_an_arc(rt: HostRuntime) {
     let retry = finish(&rt, with_its_budget(&rt, rt.alloc()));
     assert_eq!(rt; retry.over(), Some(How::BudgetRefused));
     assert_eq!(rt; retry.granted(), 1);
-    let (_, _, drawing) = retry.into_parts();
-    let (pass, budget) = drawing.into_parts();
-    let budget = Arc::into_inner(budget).expect(&rt, "no other refers to it");
-    assert_eq!(rt; budget.close(pass).ok(), Some(1));
+    assert_closes(&rt, drawing_of(retry), 1);
 }
 
 // A retry of an effect that fails once, polled twice at this moment. Answers whether it has won, and what drew.
@@ -149,8 +151,7 @@ where
     poll(rt, &mut retry, at);
     poll(rt, &mut retry, at);
     let won = retry.over() == Some(How::Won);
-    let (_, _, drawing) = retry.into_parts();
-    (won, drawing)
+    (won, drawing_of(retry))
 }
 
 // A worker makes a request each 10 ms, and a hundred in each of the thousand seconds, where each adds a tenth of a ticket

@@ -1,5 +1,6 @@
 // The page docs/RETRYING.md as code.
 use super::calls::{Cache, Calls};
+use super::plays::drawing_and_fallback;
 use super::*;
 
 // Five more tries, after 100, 200, 400 and then 500 milliseconds each, made up to a fifth shorter or longer.
@@ -21,15 +22,20 @@ fn retry_a_call(rt: HostRuntime) {
     let cache = Cache::new(alloc, 0, Some(Ok(203)));
     let retry = RetryOr::new(alloc, calls, driver, OnBudget::new(pass, &budget), cache);
     let mut retry = finish(&rt, retry);
+    assert_refused(&rt, &mut retry);
+    let (drawing, _) = drawing_and_fallback(retry);
+    assert_eq!(rt; drawing.granted(), 4);
+}
+
+// The budget refused a fifth ticket, and the cache answered.
+fn assert_refused<D: Draws>(rt: &impl Abort, retry: &mut RetryOr<Calls, D, Cache>) {
     assert_eq!(rt; retry.over(), Some(How::BudgetRefused));
     assert_eq!(rt; retry.granted(), 4);
-    assert_moments(&rt, retry.begun(), &[0, 100, 300, 700, 1200]);
+    assert_moments(rt, retry.begun(), &[0, 100, 300, 700, 1200]);
     match retry.take_ending() {
         Some(RetryOrEnding::Fallen(Ok(reply))) => assert_eq!(rt; reply.body, "cached"),
         _ => assert!(rt; false, "another ending"),
     }
-    let (_, _, drawing, _) = retry.into_parts();
-    assert_eq!(rt; drawing.granted(), 4);
 }
 
 // Goes on while the status is 202, a second after it.

@@ -34,18 +34,12 @@ where
 {
     let alloc = rt.alloc();
     let had = drawing.granted();
-    let driver = driver(rt, alloc, plan);
-    let mut retry = Retry::new(alloc, effect, driver, drawing);
+    let mut retry = Retry::new(alloc, effect, driver(rt, alloc, plan), drawing);
     play(rt, &mut retry, steps);
     let counts = retry.counts();
     let (effect, driver, drawing) = retry.into_parts();
-    assert_parts(
-        rt,
-        counts,
-        &effect,
-        &driver,
-        drawing.granted().saturating_sub(had),
-    );
+    let granted = drawing.granted().saturating_sub(had);
+    assert_parts(rt, counts, effect, driver, granted);
     drawing
 }
 
@@ -65,36 +59,33 @@ where
     let (budget, pass) = budget(rt, alloc, limit);
     let driver = driver(rt, alloc, plan);
     let drawing = OnBudget::new(pass, &budget);
-    let mut retry = finish(rt, Retry::new(alloc, effect, driver, drawing));
-    play(rt, &mut retry, steps);
+    play_finished(rt, Retry::new(alloc, effect, driver, drawing), steps);
 }
 
-// A retry of this effect with this fallback, by this plan and this many tickets, polled by hand. Answers the fallback.
+// A retry of this effect with this fallback, by this plan and this many tickets, polled by hand.
 pub(super) fn play_retry_or<R, X: Effect, F: Fallback<X>>(
     rt: &R,
     both: (X, F),
     plan: Result<Plan, PlanFault>,
     limit: u64,
     steps: &[Step<'_>],
-) -> F
+)
 where
     R: RandomSource + AllocGlobal + Abort,
     requires { X.fresh both.0 }
 {
     let (budget, pass) = budget(rt, rt.alloc(), limit);
-    let drawing = OnBudget::new(pass, &budget);
-    let (_, fallback) = play_drawing_or(rt, both, plan, drawing, steps);
-    fallback
+    play_drawing_or(rt, both, plan, OnBudget::new(pass, &budget), steps);
 }
 
-// The same, by what draws its tickets. Answers that too.
+// The same, by what draws its tickets. Answers that.
 pub(super) fn play_drawing_or<R, X: Effect, D: Draws, F: Fallback<X>>(
     rt: &R,
     both: (X, F),
     plan: Result<Plan, PlanFault>,
     drawing: D,
     steps: &[Step<'_>],
-) -> (D, F)
+) -> D
 where
     R: RandomSource + AllocGlobal + Abort,
     requires { X.fresh both.0 }
@@ -106,18 +97,13 @@ where
     let mut retry = RetryOr::new(alloc, effect, driver, drawing, fallback);
     play(rt, &mut retry, steps);
     let counts = retry.counts();
-    let (effect, driver, drawing, fallback) = retry.into_parts();
-    assert_parts(
-        rt,
-        counts,
-        &effect,
-        &driver,
-        drawing.granted().saturating_sub(had),
-    );
-    (drawing, fallback)
+    let (effect, driver, drawing, _) = retry.into_parts();
+    let granted = drawing.granted().saturating_sub(had);
+    assert_parts(rt, counts, effect, driver, granted);
+    drawing
 }
 
-// The same, at its end by a future before the first step.
+// The same, at its end by a future before the first step. Answers the fallback.
 pub(super) fn finish_retry_or<R, X: Effect, F: Fallback<X>>(
     rt: &R,
     both: (X, F),
@@ -137,7 +123,7 @@ where
     let retry = RetryOr::new(alloc, effect, driver, drawing, fallback);
     let mut retry = finish(rt, retry);
     play(rt, &mut retry, steps);
-    let (_, _, _, fallback) = retry.into_parts();
+    let (_, fallback) = drawing_and_fallback(retry);
     fallback
 }
 
@@ -153,12 +139,11 @@ where
     requires { X.fresh effect }
 {
     let alloc = rt.alloc();
-    let driver = driver(rt, alloc, plan);
-    let mut repeat = Repeat::new(alloc, effect, driver);
+    let mut repeat = Repeat::new(alloc, effect, driver(rt, alloc, plan));
     play(rt, &mut repeat, steps);
     let counts = repeat.counts();
     let (effect, driver) = repeat.into_parts();
-    assert_parts(rt, counts, &effect, &driver, 0);
+    assert_parts(rt, counts, effect, driver, 0);
 }
 
 // The same, at its end by a future before the first step.
@@ -174,17 +159,40 @@ where
 {
     let alloc = rt.alloc();
     let driver = driver(rt, alloc, plan);
-    let mut repeat = finish(rt, Repeat::new(alloc, effect, driver));
-    play(rt, &mut repeat, steps);
+    play_finished(rt, Repeat::new(alloc, effect, driver), steps);
 }
 
+// Plays this task to its end by a future, and then by these steps.
+fn play_finished<R, T: Shows>(rt: &R, task: T, steps: &[Step<'_>])
+where
+    R: Wait + RandomSource + AllocGlobal + Abort,
+{
+    let mut task = finish(rt, task);
+    play(rt, &mut task, steps);
+}
+
+// The parts of a task that had these counts have the same ones.
 fn assert_parts<X: Effect>(
     rt: &impl Abort,
     counts: Counts,
-    effect: &X,
-    driver: &Driver,
+    effect: X,
+    driver: Driver,
     granted: u64,
 ) {
     let parts = Counts::of(effect.runs().len(), driver.journal().len(), granted);
     assert_eq!(rt; parts, counts);
+}
+
+// What a retry drew its tickets by.
+pub(super) fn drawing_of<X: Effect, D: Draws>(retry: Retry<X, D>) -> D {
+    let (_, _, drawing) = retry.into_parts();
+    drawing
+}
+
+// What a retry with a fallback drew its tickets by, and that fallback.
+pub(super) fn drawing_and_fallback<X: Effect, D: Draws, F: Fallback<X>>(
+    retry: RetryOr<X, D, F>,
+) -> (D, F) {
+    let (_, _, drawing, fallback) = retry.into_parts();
+    (drawing, fallback)
 }

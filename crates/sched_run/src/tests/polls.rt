@@ -120,10 +120,19 @@ fn timed_polls_once(rt: HostRuntime) {
     let stuck = Stuck::new(&rt, alloc, &polls);
     let repeat = Repeat::new(alloc, stuck, driver(&rt, alloc, Plan::forever()));
     let clock = VirtualClock::at(moment(&rt, 0));
-    let mut timed = Timed::new(alloc, repeat, clock, MidWords);
-    future_polls(&rt, &mut timed, &polls, 1);
-    future_polls(&rt, &mut timed, &polls, 2);
-    future_polls(&rt, &mut timed, &polls, 3);
+    three_polls(&rt, Timed::new(alloc, repeat, clock, MidWords), &polls);
+}
+
+// Three polls of the future, each of which polls its effect once.
+fn three_polls<R, F: Future + Drop>(rt: &R, future: F, polls: &AtomicU64)
+where
+    R: RandomSource + AllocGlobal + Abort,
+    requires { F.can_poll future }
+{
+    let mut future = future;
+    future_polls(rt, &mut future, polls, 1);
+    future_polls(rt, &mut future, polls, 2);
+    future_polls(rt, &mut future, polls, 3);
 }
 
 // A poll of the future leaves it pending, and the polls of its effect are then so many.

@@ -3,7 +3,7 @@ use super::*;
 use std::sync::atomic::{AtomicU64, Ordering};
 
 // How many runs, events and tickets a task has.
-#[derive(Debug, PartialEq, Drop)]
+#[derive(Clone, Copy, Debug, PartialEq)]
 pub(super) struct Counts {
     runs: usize,
     events: usize,
@@ -21,7 +21,7 @@ impl Counts {
 }
 
 // What an ending holds, by its code.
-#[derive(Debug, PartialEq, Drop)]
+#[derive(Clone, Copy, Debug, PartialEq)]
 pub(super) enum Told {
     // The item of a success.
     Won(u64),
@@ -141,7 +141,7 @@ fn told_of_repeat<F: Coded + Drop>(ending: RepeatEnding<F>) -> Told {
 }
 
 // What is done to a task, or looked at.
-#[derive(Drop)]
+#[derive(Clone, Copy)]
 pub(super) enum Step<'a> {
     // A poll at this moment: it goes on, and waits for none.
     Goes(u64),

@@ -1,4 +1,5 @@
 //! An ending hands out the very item or fault that the last run gave: here all have one code, and their values differ.
+use super::shows::Told;
 use super::*;
 use futures::task::Context;
 
@@ -53,8 +54,36 @@ impl Action for Tries {
     }
 }
 
-// How a retry of these tries ends, by this many recurrences and tickets, and the value that it hands out.
-fn retried<R>(rt: &R, tries: Tries, recurs: u64, limit: u64) -> Option<(How, u64)>
+// A task of tries.
+trait Hands: Task {
+    // What its ending holds, by its value, where that is an item or a fault. The ending is taken.
+    fn handed(&mut self) -> Option<Told>;
+}
+
+impl<D: Draws> Hands for Retry<Call<Tries>, D> {
+    fn handed(&mut self) -> Option<Told> {
+        match self.take_ending() {
+            Some(Ending::Won(item)) => Some(Told::Won(item.value)),
+            Some(Ending::ScheduleDone(fault)) => Some(Told::Lost(How::ScheduleDone, fault.value)),
+            Some(Ending::BudgetRefused(fault)) => Some(Told::Lost(How::BudgetRefused, fault.value)),
+            _ => None,
+        }
+    }
+}
+
+// The task, at its end by a future, hands out this value.
+fn assert_hands<R, T: Hands>(rt: &R, task: T, want: Told)
+where
+    R: Wait + RandomSource + AllocGlobal + Abort,
+{
+    let handed = finish(rt, task)
+        .handed()
+        .expect(rt, "a value is handed out");
+    assert_eq!(rt; handed, want);
+}
+
+// A retry of these tries hands out this value, by this many recurrences and tickets.
+fn retry_hands<R>(rt: &R, tries: Tries, recurs: u64, limit: u64, want: Told)
 where
     R: Wait + RandomSource + AllocGlobal + Abort,
 {
@@ -63,26 +92,16 @@ where
     let driver = driver(rt, alloc, Plan::recurs(recurs));
     let drawing = OnBudget::new(pass, &budget);
     let retry = Retry::new(alloc, Call::new(alloc, tries), driver, drawing);
-    value_of(finish(rt, retry).take_ending())
-}
-
-fn value_of(ending: Option<Ending<Tagged<u64>, Tagged<u64>>>) -> Option<(How, u64)> {
-    match ending {
-        Some(Ending::Won(item)) => Some((How::Won, item.value)),
-        Some(Ending::ScheduleDone(fault)) => Some((How::ScheduleDone, fault.value)),
-        Some(Ending::BudgetRefused(fault)) => Some((How::BudgetRefused, fault.value)),
-        _ => None,
-    }
+    assert_hands(rt, retry, want);
 }
 
 #[test]
 fn retry_hands_out_the_last_value(rt: HostRuntime) {
-    let won = retried(&rt, Tries::winning(3), 5, 100);
-    assert_eq!(rt; won, Some((How::Won, 3)));
-    let done = retried(&rt, Tries::winning(99), 2, 100);
-    assert_eq!(rt; done, Some((How::ScheduleDone, 3)));
-    let refused = retried(&rt, Tries::winning(99), 5, 1);
-    assert_eq!(rt; refused, Some((How::BudgetRefused, 2)));
+    retry_hands(&rt, Tries::winning(3), 5, 100, Told::Won(3));
+    let done = Told::Lost(How::ScheduleDone, 3);
+    retry_hands(&rt, Tries::winning(99), 2, 100, done);
+    let refused = Told::Lost(How::BudgetRefused, 2);
+    retry_hands(&rt, Tries::winning(99), 5, 1, refused);
 }
 
 // A fallback that answers with a hundred more than the value of the fault that it is asked with: an item where it spares
@@ -132,8 +151,19 @@ impl Fallback<Call<Tries>> for Hundred {
     }
 }
 
-// The value of the item or the fault that a retry of these tries with that fallback hands out, by two recurrences.
-fn retried_or<R>(rt: &R, tries: Tries, spares: bool) -> Option<Result<u64, u64>>
+impl<D: Draws> Hands for RetryOr<Call<Tries>, D, Hundred> {
+    fn handed(&mut self) -> Option<Told> {
+        match self.take_ending() {
+            Some(RetryOrEnding::Won(item)) => Some(Told::Won(item.value)),
+            Some(RetryOrEnding::Fallen(Ok(item))) => Some(Told::Fallen(Ok(item.value))),
+            Some(RetryOrEnding::Fallen(Err(fault))) => Some(Told::Fallen(Err(fault.value))),
+            _ => None,
+        }
+    }
+}
+
+// A retry of these tries with that fallback hands out this value, by two recurrences.
+fn retry_or_hands<R>(rt: &R, tries: Tries, spares: bool, want: Told)
 where
     R: Wait + RandomSource + AllocGlobal + Abort,
 {
@@ -149,25 +179,23 @@ where
     let calls = Call::new(alloc, tries);
     let drawing = OnBudget::new(pass, &budget);
     let retry = RetryOr::new(alloc, calls, driver, drawing, hundred);
-    value_of_or(finish(rt, retry).take_ending())
-}
-
-fn value_of_or(
-    ending: Option<RetryOrEnding<Tagged<u64>, Tagged<u64>>>,
-) -> Option<Result<u64, u64>> {
-    match ending {
-        Some(RetryOrEnding::Won(item)) => Some(Ok(item.value)),
-        Some(RetryOrEnding::Fallen(Ok(item))) => Some(Ok(item.value)),
-        Some(RetryOrEnding::Fallen(Err(fault))) => Some(Err(fault.value)),
-        _ => None,
-    }
+    assert_hands(rt, retry, want);
 }
 
 #[test]
 fn retry_or_hands_out_the_last_value(rt: HostRuntime) {
-    assert_eq!(rt; retried_or(&rt, Tries::winning(2), true), Some(Ok(2)));
-    assert_eq!(rt; retried_or(&rt, Tries::winning(99), true), Some(Ok(103)));
-    assert_eq!(rt; retried_or(&rt, Tries::winning(99), false), Some(Err(103)));
+    retry_or_hands(&rt, Tries::winning(2), true, Told::Won(2));
+    retry_or_hands(&rt, Tries::winning(99), true, Told::Fallen(Ok(103)));
+    retry_or_hands(&rt, Tries::winning(99), false, Told::Fallen(Err(103)));
+}
+
+impl Hands for Repeat<Call<Tries>> {
+    fn handed(&mut self) -> Option<Told> {
+        match self.take_ending() {
+            Some(RepeatEnding::Failed(fault)) => Some(Told::Lost(How::Failed, fault.value)),
+            _ => None,
+        }
+    }
 }
 
 #[test]
@@ -175,13 +203,6 @@ fn repeat_hands_out_the_last_value(rt: HostRuntime) {
     let alloc = rt.alloc();
     let driver = driver(&rt, alloc, Plan::recurs(5));
     let calls = Call::new(alloc, Tries::losing(3));
-    let mut repeat = finish(&rt, Repeat::new(alloc, calls, driver));
-    assert_eq!(rt; value_of_repeat(repeat.take_ending()), Some(3));
-}
-
-fn value_of_repeat(ending: Option<RepeatEnding<Tagged<u64>>>) -> Option<u64> {
-    match ending {
-        Some(RepeatEnding::Failed(fault)) => Some(fault.value),
-        _ => None,
-    }
+    let repeat = Repeat::new(alloc, calls, driver);
+    assert_hands(&rt, repeat, Told::Lost(How::Failed, 3));
 }
