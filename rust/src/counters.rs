@@ -58,6 +58,7 @@ impl Counters {
     }
 
     /// Counts a request at this instant, where this thread's counter can, and says whether it did.
+    #[inline]
     pub(crate) fn count_one(&self, now: Instant) -> bool {
         match &mut *self.own() {
             Some(counter) => counter.count(now, 1),

@@ -72,10 +72,12 @@ mod sealed {
     }
 
     impl Begins for Whenever {
+        #[inline]
         fn begins() -> Self {
             Self
         }
 
+        #[inline]
         fn began(&self, now: Instant) -> Instant {
             now
         }
@@ -86,6 +88,7 @@ mod sealed {
             Self(now())
         }
 
+        #[inline]
         fn began(&self, _: Instant) -> Instant {
             self.0
         }
