@@ -2,10 +2,9 @@
 # The instructions that a call takes which succeeds at once, what its first failure takes more, and a retry that is granted
 # after others, by the Rust crate, by backoff, by tower with a policy of its own and by tower with this crate's. Started by
 # hand at the top of the repository: bench/crates.sh. With --check it counts tower's alone, and fails where they take too
-# much more with this crate's policy than with one of its own: more than 1.2 times for a success (1.3 by a compiler older
-# than Rust 1.85, as Debian 12's), and 3 times for a granted retry. It needs cargo, valgrind, what tests/rust.sh installs, and
-# librust-retry-dev of Debian. Instructions don't depend on what else the machine does. HIKEBOX_LIB_DIR names the library's
-# folder, dist/ where it does not.
+# much more with this crate's policy than with one of its own: more than 1.2 times for a success, and 3 times for a granted
+# retry. It needs cargo, valgrind, what tests/rust.sh installs, and librust-retry-dev of Debian. Instructions don't depend
+# on what else the machine does. HIKEBOX_LIB_DIR names the library's folder, dist/ where it does not.
 set -euo pipefail
 cd "$(dirname "$0")/.."
 source bench/least.sh
@@ -36,16 +35,14 @@ tells() {
 }
 
 if [ "${1:-}" = --check ]; then
-  most=1.2
-  [ "$(printf '%s\n' "$(cargo --version | cut -d ' ' -f 2)" 1.85 | sort -V | head -n 1)" = 1.85 ] || most=1.3
   told=$(tells tower && tells hikebox-in-tower)
   echo "$told"
-  awk -v most="$most" '
+  awk '
     { for (at = 1; at <= NF; at++) if ($at == "success") success[NR] = $(at + 1); granted[NR] = $NF }
     END {
       whole = success[2] / success[1]; retry = granted[2] / granted[1]
       printf "beside a policy of tower a success takes %.2f times the instructions, a granted retry %.2f times\n", whole, retry
-      exit !(whole <= most && retry <= 3)
+      exit !(whole <= 1.2 && retry <= 3)
     }' <<<"$told"
   exit
 fi
