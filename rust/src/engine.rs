@@ -682,9 +682,9 @@ pub(crate) fn try_lock(file: &std::fs::File) -> std::io::Result<()> {
     }
 }
 
-/// Milliseconds since the machine started, also those for which it slept. Nobody can set this clock.
+/// How long ago the machine started, also while it slept. Nobody can set this clock.
 #[cfg(feature = "leased")]
-pub(crate) fn uptime() -> std::io::Result<u64> {
+pub(crate) fn uptime() -> std::io::Result<std::time::Duration> {
     let mut time = std::mem::MaybeUninit::<libc::timespec>::uninit();
     // SAFETY: the call writes the time to the place that it is handed, and it is read only where it answers 0.
     let time = unsafe {
@@ -693,5 +693,5 @@ pub(crate) fn uptime() -> std::io::Result<u64> {
         }
         time.assume_init()
     };
-    Ok(u64::try_from(time.tv_sec).unwrap_or(0) * 1000 + u64::try_from(time.tv_nsec).unwrap_or(0) / 1_000_000)
+    Ok(std::time::Duration::new(u64::try_from(time.tv_sec).unwrap_or(0), u32::try_from(time.tv_nsec).unwrap_or(0)))
 }

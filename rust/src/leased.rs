@@ -4,7 +4,7 @@ use crate::budget::{Budget, BudgetError, Pass};
 use crate::engine::{lease_of_budget, lease_of_quota, uptime, Asking, Range, Stored, MOST_TICKETS};
 use crate::grants::{DrawnOn, Grants, Source, Tickets};
 use crate::quota::{thousandths, Terms, Usage, Uses};
-use crate::store::{CountFile, StoreError, Window};
+use crate::store::{window_at, CountFile, StoreError, Window};
 use std::error::Error;
 use std::path::Path;
 use std::sync::{Arc, Mutex, MutexGuard, PoisonError};
@@ -264,7 +264,7 @@ impl LeasedQuota {
         let mut counted = lock(&self.shared.requests);
         // Where the uptime can't be told, none is counted.
         if let Ok(now) = uptime() {
-            counted.reach(now / self.period);
+            counted.reach(window_at(now, self.period));
             counted.count += u64::from(requests);
         }
     }

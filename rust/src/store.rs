@@ -74,13 +74,14 @@ impl CountFile {
 }
 
 impl Window {
-    /// The present one of so many milliseconds.
+    /// The present one of so many milliseconds. What it says of its end is never later than that, so that no ticket of it
+    /// is drawn in the next one.
     pub(crate) fn present(period: u64) -> io::Result<Self> {
         let (asked, now) = (Instant::now(), uptime()?);
-        let number = now / period;
-        let left = (number + 1).saturating_mul(period) - now;
+        let number = window_at(now, period);
+        let end = Duration::from_millis((number + 1).saturating_mul(period));
         let boot = fs::read_to_string("/proc/sys/kernel/random/boot_id")?;
-        let until = asked.checked_add(Duration::from_millis(left)).unwrap_or_else(|| asked + A_CENTURY);
+        let until = asked.checked_add(end.saturating_sub(now)).unwrap_or_else(|| asked + A_CENTURY);
         Ok(Self { boot: boot.trim().to_owned(), number, until })
     }
 
@@ -89,6 +90,11 @@ impl Window {
         let (boot, number) = text.split_once(' ')?;
         if boot == self.boot { number.parse().ok() } else { None }
     }
+}
+
+/// The number of the window of so many milliseconds at this uptime.
+pub(crate) fn window_at(now: Duration, period: u64) -> u64 {
+    u64::try_from(now.as_millis()).unwrap_or(u64::MAX) / period
 }
 
 /// An end that the system's clock can't tell is so far away.
