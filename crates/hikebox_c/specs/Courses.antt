@@ -88,7 +88,8 @@ pub record HasRoom (room : Room) (told : CourseTold) : Type 0 where
 -- its number, and the room is as it was
 abbrev pub TellsCourse : Room → ℕ → Room → Result CourseTold Status → Type 0
 TellsCourse old code new (Ok told) =
-    (new.count ≡ length told.lines.items) × (new.length ≡ length (string_bytes told.text)) × (((code ≡ 0) × HasRoom old told × IsWritten told.lines.items old.lines new.lines
+    (new.count ≡ length told.lines.items) × (new.length ≡ length (string_bytes told.text))
+    × (((code ≡ 0) × HasRoom old told × IsWritten told.lines.items old.lines new.lines
     × IsWritten (string_bytes told.text) old.text new.text)
     ⊎ ((code ≡ code_of NoRoom) × (¬ HasRoom old told) × (new.lines ≡ old.lines) × (new.text ≡ old.text)))
 TellsCourse old code new (Err s) = (code ≡ code_of s) × (new ≡ old)

@@ -72,7 +72,8 @@ Answers (asked.Check origin) left left' taken taken' result =
 
 -- what is asked for is done with a text that is there as a whole
 abbrev pub AnswersText : List ℕ → Asked → Option (List ℕ) → Option (List ℕ) → Result (Unit {0}) PoolFault → Type 0
-AnswersText bytes asked taken taken' result = ForInput bytes (λ left left'. Answers asked left left' taken taken' result)
+AnswersText bytes asked taken taken' result =
+    ForInput bytes (λ left left'. Answers asked left left' taken taken' result)
 
 -- what is answered, but for what is told
 abbrev pub stopped : Result (Unit {0}) Stop → Result (Unit {0}) PoolFault
