@@ -1,3 +1,4 @@
+# shellcheck shell=bash
 # What the benchmarks share; sourced by them.
 
 # the machine

@@ -35,7 +35,8 @@ static uint64_t draw(uint64_t draws) {
     hikebox_pass pass = HIKEBOX_INIT;
     uint64_t ticket, tickets;
     check(hikebox_budget_fixed(draws, &pass));
-    for (uint64_t turn = 0; turn < draws; turn++) check(hikebox_pass_draw(&pass, 0, &ticket));
+    for (uint64_t turn = 0; turn < draws; turn++)
+        check(hikebox_pass_draw(&pass, 0, &ticket));
     check(hikebox_pass_close(&pass, &tickets));
     return tickets;
 }
@@ -104,7 +105,8 @@ __attribute__((noinline)) static uint64_t retried(struct on *on, uint64_t *state
     hikebox_next next;
     check(hikebox_retry_new(&on->policy, &on->pass, HIKEBOX_NO_DEADLINE, &machine));
     check(hikebox_retry_poll(&machine, 0, words, HIKEBOX_NO_REPORT, 0, &next));
-    do check(hikebox_retry_poll(&machine, 0, words, HIKEBOX_LOST, CODE, &next));
+    do
+        check(hikebox_retry_poll(&machine, 0, words, HIKEBOX_LOST, CODE, &next));
     while (next.what == HIKEBOX_RUN && !attempt(state, left--));
     check(hikebox_retry_end(&machine, &on->pass));
     return next.granted;
@@ -121,12 +123,20 @@ static uint64_t calls(const char *what, const char *name, uint64_t many) {
     uint64_t state = 1, done = 0, tickets = what[0] == 'r' ? 0 : HIKEBOX_MOST_TICKETS;
     hikebox_place place;
     check(hikebox_policy_read("\"forever\"", 9, &on.policy, &place));
-    if (name[0] == 'b') check(hikebox_budget_fixed(tickets, &on.pass));
-    else if (on.counts) check(hikebox_quota_new(0, tickets, 0, 1000, false, &on.pass));
-    else check(hikebox_pass_unlimited(&on.pass));
-    if (what[0] == 'c') for (uint64_t turn = 0; turn < many; turn++) done += attempt(&state, 0);
-    else if (what[0] == 'g') done = call(&on, &state, many);
-    else for (uint64_t turn = 0; turn < many; turn++) done += call(&on, &state, what[0] == 'r');
+    if (name[0] == 'b')
+        check(hikebox_budget_fixed(tickets, &on.pass));
+    else if (on.counts)
+        check(hikebox_quota_new(0, tickets, 0, 1000, false, &on.pass));
+    else
+        check(hikebox_pass_unlimited(&on.pass));
+    if (what[0] == 'c')
+        for (uint64_t turn = 0; turn < many; turn++)
+            done += attempt(&state, 0);
+    else if (what[0] == 'g')
+        done = call(&on, &state, many);
+    else
+        for (uint64_t turn = 0; turn < many; turn++)
+            done += call(&on, &state, what[0] == 'r');
     check(hikebox_pass_free(&on.pass));
     check(hikebox_policy_free(&on.policy));
     return done + (state == 0);

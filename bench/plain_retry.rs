@@ -75,7 +75,11 @@ impl Draw for Quota {
 #[inline(never)]
 fn attempt(state: &mut u64, left: u64) -> Result<u64, u64> {
     *state = state.wrapping_mul(6364136223846793005).wrapping_add(1442695040888963407);
-    if left == 0 { Ok(*state) } else { Err(*state) }
+    if left == 0 {
+        Ok(*state)
+    } else {
+        Err(*state)
+    }
 }
 
 /// One call, again after each failure while there is a ticket.

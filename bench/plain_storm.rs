@@ -65,7 +65,9 @@ fn main() {
     loop {
         let first = (fresh < rate * seconds && comes_at(fresh) <= until).then(|| (comes_at(fresh), fresh));
         let (at, request, what) = match (first, pending.peek()) {
-            (Some((at, request)), Some(Reverse((other, number, _)))) if (at, request) < (*other, *number) => (at, request, None),
+            (Some((at, request)), Some(Reverse((other, number, _)))) if (at, request) < (*other, *number) => {
+                (at, request, None)
+            }
             (Some((at, request)), None) => (at, request, None),
             (_, Some(_)) => {
                 let Reverse((at, request, what)) = pending.pop().unwrap();

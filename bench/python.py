@@ -23,7 +23,7 @@ from typing import Any, Callable, List
 import tenacity
 
 import hikebox
-from hikebox import Budget, exponential, recurs, spaced
+from hikebox import Budget, Quota, exponential, recurs, spaced
 
 ATTEMPTS = 11
 RUNS = 100
@@ -100,6 +100,42 @@ def tell(what: str, ours: Callable[[int], Any], theirs: Callable[[int], Any], at
     print(f"{what}: an attempt {own / 1000:.2f} us, of tenacity {other / 1000:.2f} us, ratio {own / other:.2f}")
 
 
+def made(policy: Any) -> None:
+    """Tells what policies, objects and functions that retry take to make."""
+    stop, wait = tenacity.stop_after_attempt, tenacity.wait_exponential
+
+    def five() -> Any:
+        return recurs(20) & exponential(1, 2).cap(30).jittered()
+
+    def in_a_loop() -> None:
+        for attempt in hikebox.Retrying(five()):
+            with attempt:
+                pass
+
+    def in_their_loop() -> None:
+        for attempt in tenacity.Retrying(stop=stop(21), wait=wait(max=30)):
+            with attempt:
+                pass
+
+    rows: List[Any] = [
+        ("a policy of five nodes made", five, lambda: (stop(21), wait(max=30))),
+        (
+            "a Retrying made of a policy",
+            lambda: hikebox.Retrying(policy),
+            lambda: tenacity.Retrying(stop=stop(21), wait=wait(max=30)),
+        ),
+        (
+            "a function decorated, with its policy",
+            lambda: hikebox.retry(five())(nothing),
+            lambda: tenacity.retry(stop=stop(21), wait=wait(max=30))(nothing),
+        ),
+        ("a loop of one attempt, with its policy", in_a_loop, in_their_loop),
+    ]
+    for what, ours, theirs in rows:
+        own, other = least(100, calls(ours), calls(theirs))
+        print(f"{what}: {own / 1000:.1f} us, of tenacity {other / 1000:.1f} us, ratio {own / other:.2f}")
+
+
 def imports(name: str) -> int:
     """The least nanoseconds of processor time in which a new interpreter imports this."""
     text = f"import time; began = time.process_time_ns(); import {name}; print(time.process_time_ns() - began)"
@@ -107,7 +143,7 @@ def imports(name: str) -> int:
 
 
 def crowd(retrying: Any, count: int = 10_000) -> str:
-    """What so many coroutines take that fail three times at once, and wait 50 ms after each: in a process of its own."""
+    """What so many coroutines take that fail three times and wait 50 ms after each: in a process of their own."""
 
     async def call(left: List[int]) -> None:
         left[0] -= 1
@@ -143,6 +179,8 @@ def main() -> None:
     ours = hikebox.Retrying(policy).wraps(nothing)
     theirs = tenacity.Retrying(**their).wraps(nothing)
     tell("a call that succeeds", calls(ours), calls(theirs), 1)
+    ours = hikebox.Retrying(policy, budget=Quota(reserve=10, share=0.1, per=60)).wraps(nothing)
+    tell("a call that succeeds on a quota", calls(ours), calls(theirs), 1)
 
     ours = hikebox.Retrying(policy, sleep=nothing).wraps(Fails())
     theirs = tenacity.Retrying(sleep=nothing, **their).wraps(Fails())
@@ -171,15 +209,7 @@ def main() -> None:
 
     with Budget(2**32) as budget:
         print(f"a draw: {least(1000, calls(budget.draw))[0] / 1000:.2f} us")
-    stop, wait = tenacity.stop_after_attempt, tenacity.wait_exponential
-    ours = calls(lambda: recurs(20) & exponential(1, 2).cap(30))
-    theirs = calls(lambda: (stop(21), wait(max=30)))
-    own, other = least(100, ours, theirs)
-    print(f"a policy of four nodes made: {own / 1000:.1f} us, a stop and a wait of tenacity {other / 1000:.1f} us")
-    ours = calls(lambda: hikebox.Retrying(recurs(20) & exponential(1, 2).cap(30)))
-    theirs = calls(lambda: tenacity.Retrying(stop=stop(21), wait=wait(max=30)))
-    own, other = least(100, ours, theirs)
-    print(f"a policy and its Retrying made: {own / 1000:.1f} us, of tenacity {other / 1000:.1f} us")
+    made(policy)
     own, other = imports("hikebox"), imports("tenacity")
     print(f"the import: {own / 1e6:.1f} ms, of tenacity {other / 1e6:.1f} ms")
 

@@ -42,6 +42,8 @@ per_step_counted() {
 }
 
 # kilobytes that a whole run holds at most
+# (what time writes, and not what the program prints)
+# shellcheck disable=SC2069
 resident() { /usr/bin/time -f %M "$@" 2>&1 > /dev/null; }
 
 # what zsched prints of the plan, and what the program by hand does

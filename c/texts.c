@@ -1,5 +1,5 @@
-/* Made by bin/bindings: the calls of hikebox.h that answer a text. They are not proved: the engine's exports answer numbers
- * alone. (It includes nothing, so that the kit's compiler builds it.) */
+/* Made by bin/bindings: the calls of hikebox.h that answer a text. They are not proved: the engine's
+ * exports answer numbers alone. (It includes nothing, so that the kit's compiler builds it.) */
 const char *hikebox_version(void);
 const char *hikebox_status_text(unsigned status);
 
@@ -37,6 +37,9 @@ const char *hikebox_status_text(unsigned status) {
     case 42: return "the pass draws on something else";
     case 43: return "there is no ticket to hand back";
     case 44: return "the requests are more than the pass has parts";
+    case 50: return "a lease is wanted";
+    case 51: return "the ticket is not out";
+    case 52: return "the range was granted already";
     default: return "no such status";
     }
 }

@@ -23,17 +23,22 @@
  * milliseconds. Which moment is 0 is the program's choice, as the start of the process; moments given to one
  * retry never fall.
  *
- * HANDLES. A policy, a pass (of a budget, of a quota or of nothing) and a retry are each held by a handle, a
+ * HANDLES. A policy, a pass (of a budget, of a quota or of nothing), a leased pass and a retry are each held by a handle, a
  * struct of one pointer that the program keeps and hands to each call by its address. A handle begins as HIKEBOX_INIT,
  * which holds nothing. A call that makes something puts it into an empty handle, and from then on the handle owns it,
  * until a call frees it or takes it away and leaves the handle empty. A call on an empty handle, on a handle of
  * another kind (by a cast, or from a language that does not tell them apart) and a call that would fill a handle
- * that holds something are refused by a status.
+ * that holds something are refused by a status. No call takes a handle as `const`, not even one that only reads: during
+ * each call the library takes what the handle holds, and puts it back before the call returns. So two threads must not
+ * read through one handle at once; for a policy, hikebox_policy_share gives the second thread a handle of its own.
  *
  * STATUSES. Each call answers a hikebox_status. Where it is not HIKEBOX_OK nothing has changed: no handle,
  * nothing that a handle holds, and no result (save where a call says otherwise). Each refusal has one status.
  * Where several apply, the first one in the order of the call's own list is the answer; a status that no list
  * names does not come from that call.
+ *
+ * STRUCTS. A struct keeps its size and its members within a major version; a later version adds structs and calls of
+ * their own, under a later symbol version of libhikebox.so.
  *
  * WHAT THE PROGRAM OWES. The library does not check these:
  *  - Every pointer is to valid memory of its type, and not NULL, also where a length is 0; no two of a call's
@@ -64,8 +69,13 @@ extern "C" {
 #define HIKEBOX_CHECKED
 #endif
 
-/* The version of this header, and, of the library that is linked or loaded, hikebox_version(). */
+/* The version of this header: as a text, and as numbers for the preprocessor. HIKEBOX_VERSION_NUMBER is 1002003 in version
+ * 1.2.3. hikebox_version() returns the version of the library that is linked or loaded. */
 #define HIKEBOX_VERSION "1.0.0"
+#define HIKEBOX_VERSION_MAJOR 1
+#define HIKEBOX_VERSION_MINOR 0
+#define HIKEBOX_VERSION_PATCH 0
+#define HIKEBOX_VERSION_NUMBER (HIKEBOX_VERSION_MAJOR * 1000000 + HIKEBOX_VERSION_MINOR * 1000 + HIKEBOX_VERSION_PATCH)
 
 /* The last moment, the longest duration and the greatest code: 2^62 - 1. */
 #define HIKEBOX_FAR UINT64_C(4611686018427387903)
@@ -126,7 +136,7 @@ enum {
     /* There is no limit that can be raised: the budget keeps its limit, or the pass is of no budget. */
     HIKEBOX_FIXED = 31,
     /* The budget has no ticket left, or the window of a quota has given out its own: `next` of hikebox_usage tells when
-     * the next begins. */
+     * the next begins. Or a leased pass has no ticket at hand, and its store is left alone. */
     HIKEBOX_NO_TICKET = 32,
     /* The pass of the budget or of the quota has one part, which it keeps. */
     HIKEBOX_TOO_MANY_PASSES = 33,
@@ -152,7 +162,14 @@ enum {
     /* The pass has no ticket to hand back: it drew none since it handed one back, or it draws on no quota. */
     HIKEBOX_NOTHING_TO_HAND_BACK = 43,
     /* More requests are counted at once than the pass has parts. */
-    HIKEBOX_TOO_MANY_REQUESTS = 44
+    HIKEBOX_TOO_MANY_REQUESTS = 44,
+
+    /* The leased pass has no ticket at hand, and the store may be asked for a lease. */
+    HIKEBOX_LEASE_WANTED = 50,
+    /* The ticket is not out: it was not drawn with this pass, was handed back already, or is of another window. */
+    HIKEBOX_NOT_OUT = 51,
+    /* The range was granted already: the leased pass has, or had, some of its numbers. */
+    HIKEBOX_HELD_ALREADY = 52
 };
 
 /* What a status says, in a few words, as "there is no ticket"; of a number that is no status "no such status". The text ends
@@ -163,12 +180,22 @@ const char *hikebox_status_text(hikebox_status status);
 const char *hikebox_version(void);
 
 /* The handles. */
-typedef struct { void *held; } hikebox_policy;
-typedef struct { void *held; } hikebox_pass;
-typedef struct { void *held; } hikebox_retry;
+typedef struct {
+    void *held;
+} hikebox_policy;
+typedef struct {
+    void *held;
+} hikebox_pass;
+typedef struct {
+    void *held;
+} hikebox_retry;
+typedef struct {
+    void *held;
+} hikebox_leased;
 
 /* A handle that holds nothing. */
-#define HIKEBOX_INIT { NULL }
+#define HIKEBOX_INIT                                                                                                   \
+    { NULL }
 
 /* ---- Policies ---------------------------------------------------------------------------------------------------- */
 
@@ -195,8 +222,8 @@ HIKEBOX_CHECKED hikebox_status hikebox_policy_read(const char *json, size_t leng
  * UTF-8 with no zero byte after them, are written to `text`, which has room for `capacity`, and their number to `length`.
  * HIKEBOX_NO_MEMORY; _NO_ROOM, and then `length` is the room that is needed.
  */
-HIKEBOX_CHECKED hikebox_status hikebox_policy_fault(const char *json, size_t json_length, char *text,
-                                                    size_t capacity, size_t *length);
+HIKEBOX_CHECKED hikebox_status hikebox_policy_fault(const char *json, size_t json_length, char *text, size_t capacity,
+                                                    size_t *length);
 
 /*
  * Puts the same policy into `other`, as for another thread: both handles have it, and it is not copied. A policy never
@@ -213,8 +240,9 @@ HIKEBOX_CHECKED hikebox_status hikebox_policy_share(hikebox_policy *policy, hike
  * _NOT_A_POLICY: no node has this name with so many numbers and policies; _OUT_OF_RANGE; _TOO_DEEP; _TOO_MANY; _NO_MEMORY,
  * at any point.
  */
-HIKEBOX_CHECKED hikebox_status hikebox_policy_node(const char *name, size_t length, const uint64_t *numbers, size_t count,
-                                                   hikebox_policy *first, hikebox_policy *second, hikebox_policy *made);
+HIKEBOX_CHECKED hikebox_status hikebox_policy_node(const char *name, size_t length, const uint64_t *numbers,
+                                                   size_t count, hikebox_policy *first, hikebox_policy *second,
+                                                   hikebox_policy *made);
 
 /*
  * The policy as JSON without spaces, which hikebox_policy_read reads as the same policy. Its bytes, with no zero byte after
@@ -287,7 +315,8 @@ hikebox_status hikebox_policy_free(hikebox_policy *policy);
  *
  * A quota cuts time into windows of `period` milliseconds, which begin at its multiples. In each it gives out at most
  * `reserve` tickets, and `share` thousandths of a ticket for each request that was counted in it so far, rounded down;
- * never more than HIKEBOX_MOST_TICKETS. What a window has left is lost with it, unless the quota carries. The program
+ * never more than HIKEBOX_MOST_TICKETS. A ticket that comes back, by hikebox_pass_hand_back, is given out once more: so the
+ * draws of a window are at most that, and one for each ticket that was handed back in it. What a window has left is lost with it, unless the quota carries. The program
  * counts each request once, before its first run, by hikebox_pass_deposit.
  *
  * Where a quota carries, each window may draw first, once, what the one before left of its share: the share of its
@@ -375,7 +404,8 @@ HIKEBOX_CHECKED hikebox_status hikebox_pass_join(hikebox_pass *pass, hikebox_pas
  * _LIMIT_TOO_LARGE; _FIXED, also of a quota and of nothing. */
 HIKEBOX_CHECKED hikebox_status hikebox_pass_raise(hikebox_pass *pass, uint64_t to, uint64_t *limit);
 
-/* How many tickets were drawn with this pass, and with those joined into it. HIKEBOX_EMPTY; _WRONG_KIND. */
+/* How many tickets were drawn with this pass, and with those joined into it, and were not handed back: 0 where each of 1,000
+ * came back. HIKEBOX_EMPTY; _WRONG_KIND. */
 HIKEBOX_CHECKED hikebox_status hikebox_pass_count(hikebox_pass *pass, uint64_t *tickets);
 
 /* What is known of a window of a quota. */
@@ -384,7 +414,7 @@ typedef struct {
     uint64_t window;
     /* The requests that were counted in it. */
     uint64_t asked;
-    /* The tickets of its own that it has given out. */
+    /* The tickets of its own that it has given out, without those that were handed back. */
     uint64_t given;
     /* The tickets that it may yet give for the requests counted, and those carried to it. */
     uint64_t left;
@@ -398,8 +428,8 @@ typedef struct {
 HIKEBOX_CHECKED hikebox_status hikebox_pass_seen(hikebox_pass *pass, uint64_t now, hikebox_usage *usage);
 
 /*
- * Closes the budget or the quota, where this pass has all its parts: frees it and writes how many tickets were drawn of it,
- * exactly; of a quota in all windows. It takes no memory. HIKEBOX_EMPTY; _WRONG_KIND; _PASSES_OUT, exactly where the pass
+ * Closes the budget or the quota, where this pass has all its parts: frees it and writes how many tickets were drawn of it
+ * and not handed back, exactly; of a quota in all windows. It takes no memory. HIKEBOX_EMPTY; _WRONG_KIND; _PASSES_OUT, exactly where the pass
  * has fewer parts: another is held, by a handle or a retry, or was freed. Then this one goes on as before. A pass of
  * nothing is always closed, and its own tickets are written.
  */
@@ -420,8 +450,8 @@ HIKEBOX_CHECKED hikebox_status hikebox_quota_allows(uint64_t reserve, uint64_t s
 /*
  * Processes share a budget or a quota by a store that keeps three numbers of it: a file, a server, a row of a table. A
  * process that needs tickets leases a range of them, by one step of the store: it reads its numbers, hands them to one of
- * the calls below, and keeps what they are then, with no other step between. Then the process draws from its range, by a
- * budget that has so many tickets.
+ * the two calls below, and keeps what they are then, with no other step between. It hands the range to a leased pass, and
+ * draws from that without the store.
  *
  * However the steps of all processes follow one another: each number of a window is in at most one range, and, where
  * all name the same limit or terms, the ranges of a window have together at most as many tickets as it may give for the
@@ -468,6 +498,101 @@ HIKEBOX_CHECKED hikebox_status hikebox_lease_of_budget(uint64_t limit, const hik
 HIKEBOX_CHECKED hikebox_status hikebox_lease_of_quota(uint64_t reserve, uint64_t share, const hikebox_asking *asking,
                                                       hikebox_stored *stored, hikebox_range *range);
 
+/*
+ * A leased pass is what one thread or process has of a budget or a quota that a store keeps: tickets of one window. Some are
+ * at hand, and may be drawn until the window ends. Others are out: they were drawn, and each may come back once while the pass
+ * is in their window. It has no clock, no store and no lock. The program asks the store, hands over what it answered, and
+ * serves each pass from one thread at a time.
+ *
+ *     status = hikebox_leased_draw(&leased, now(), &ticket, &again);
+ *     if (status == HIKEBOX_LEASE_WANTED) {
+ *         grant = ask_the_store();                          in its step: hikebox_leased_tell and hikebox_lease_of_quota
+ *         hikebox_leased_granted(&leased, &grant);          or, where it failed: hikebox_leased_leave_alone
+ *         status = hikebox_leased_draw(&leased, now(), &ticket, &again);
+ *     }
+ *
+ * Whatever a store answers, and however often an answer is handed over: a pass draws each number of a window at most once more
+ * than it was handed back, and draws none once the window is over. Over all passes of a limit, where each range comes from the
+ * store or from hikebox_leased_lend: each number is drawn at most once more than it was handed back, and, where all name the
+ * same limit or terms, the tickets drawn in a window are at most as many as it may give for the requests that the store was
+ * told, and one for each that was handed back. Answers that are lost or late cost tickets, and break nothing.
+ *
+ * A pass keeps 1,024 spans of the numbers that are out, those that follow one another in one: a ticket of an earlier span
+ * does not come back, and a range that begins before the end of such a span is not taken. A forked child begins a pass anew:
+ * two that go on with one pass's tickets would draw them twice.
+ *
+ * A retry does not draw by a leased pass, since it would have to wait for the store within a poll. The program gives it a pass
+ * of nothing, and draws by hand where a poll that reported HIKEBOX_LOST goes on: without a ticket it cancels the retry.
+ */
+
+/* A ticket of a leased pass: its window, and its number there. */
+typedef struct {
+    uint64_t window;
+    uint64_t number;
+} hikebox_ticket;
+
+/* What a store granted: `tickets` numbers of a window from `first` on, or none, and the moment at which the window ends, by
+ * the program's clock: HIKEBOX_FAR where there are no windows. */
+typedef struct {
+    uint64_t window;
+    uint64_t first;
+    uint64_t tickets;
+    uint64_t until;
+} hikebox_grant;
+
+/*
+ * Puts a leased pass that holds nothing into `leased`. `period` is how long the store's windows are, or 0 where there are
+ * none; it says how finely requests are counted, by sixteenths of a window. HIKEBOX_FULL; _TOO_LARGE; _NO_MEMORY.
+ */
+HIKEBOX_CHECKED hikebox_status hikebox_leased_new(uint64_t period, hikebox_leased *leased);
+
+/*
+ * Draws a ticket at the moment `now`, first of those that came back. HIKEBOX_TOO_LARGE; _EMPTY; _WRONG_KIND; _LEASE_WANTED:
+ * none is at hand, or the window is over, and the store may be asked; _NO_TICKET: the same, and the store is left alone until
+ * the moment that is written to `again`; _NO_MEMORY.
+ */
+HIKEBOX_CHECKED hikebox_status hikebox_leased_draw(hikebox_leased *leased, uint64_t now, hikebox_ticket *ticket,
+                                                   uint64_t *again);
+
+/*
+ * Takes what the store granted. A range of the pass's window comes to what it has, and of the window the earliest end counts
+ * that was said. With one of a later window the pass comes to that, and has nothing of the earlier one any more. Where there
+ * are tickets the store may be asked as soon as they are used up, and where there are none once the window is over.
+ * HIKEBOX_TOO_LARGE, of `until`; _EMPTY; _WRONG_KIND; _TOO_LARGE, of first + tickets past 2^64 - 1; _BACKWARDS: it is of a
+ * window before the pass's, and its tickets are lost; _HELD_ALREADY; _NO_MEMORY.
+ */
+HIKEBOX_CHECKED hikebox_status hikebox_leased_granted(hikebox_leased *leased, const hikebox_grant *grant);
+
+/* Leaves the store alone until this moment, as after a failure of it: a draw that wants a lease is _NO_TICKET until then. 0
+ * ends that. HIKEBOX_TOO_LARGE; _EMPTY; _WRONG_KIND. */
+HIKEBOX_CHECKED hikebox_status hikebox_leased_leave_alone(hikebox_leased *leased, uint64_t until);
+
+/* Hands a ticket back that was drawn with this pass and not used: it may be drawn again, while its window lasts.
+ * HIKEBOX_EMPTY; _WRONG_KIND; _NOT_OUT; _NO_MEMORY, and then it is still out. */
+HIKEBOX_CHECKED hikebox_status hikebox_leased_hand_back(hikebox_leased *leased, const hikebox_ticket *ticket);
+
+/* Counts so many requests at the moment `now`, to be told to the store. HIKEBOX_TOO_LARGE; _EMPTY; _WRONG_KIND; _NO_MEMORY. */
+HIKEBOX_CHECKED hikebox_status hikebox_leased_deposit(hikebox_leased *leased, uint64_t now, uint64_t requests);
+
+/*
+ * Writes how many requests to tell the store, whose present window began at the moment `since`: those that were counted from
+ * then on, save the first of them where they were counted together with some of before; at most 2^64 - 1. None that was counted
+ * so far is told again, also where the store then fails. HIKEBOX_TOO_LARGE; _EMPTY; _WRONG_KIND.
+ */
+HIKEBOX_CHECKED hikebox_status hikebox_leased_tell(hikebox_leased *leased, uint64_t since, uint64_t *requests);
+
+/* Writes how many tickets of all windows were drawn with this pass and not handed back, how many are at hand, and how many
+ * requests were counted and not told. HIKEBOX_EMPTY; _WRONG_KIND. */
+HIKEBOX_CHECKED hikebox_status hikebox_leased_seen(hikebox_leased *leased, uint64_t *drawn, uint64_t *at_hand,
+                                                   uint64_t *untold);
+
+/* Gives up to `tickets` of those at hand, of one range, to another pass of the same limit, which takes what is written to
+ * `grant` by hikebox_leased_granted. HIKEBOX_EMPTY; _WRONG_KIND; _NO_TICKET: none is at hand, or `tickets` is 0. */
+HIKEBOX_CHECKED hikebox_status hikebox_leased_lend(hikebox_leased *leased, uint64_t tickets, hikebox_grant *grant);
+
+/* Frees the pass, with what it has. HIKEBOX_EMPTY; _WRONG_KIND. */
+hikebox_status hikebox_leased_free(hikebox_leased *leased);
+
 /* ---- Retries ----------------------------------------------------------------------------------------------------- */
 
 /* How a run went, as the program reports it. */
@@ -504,7 +629,8 @@ enum {
     /* It could not go on: there was no memory, or the clock went back. */
     HIKEBOX_ENDED_NO_MEMORY = 5,
     HIKEBOX_ENDED_BACKWARDS = 7,
-    /* The last run failed, and the policy goes on with a start that is past the deadline. */
+    /* The last run failed and the policy goes on, but the next run would begin past the deadline: the start planned is
+     * later, or the retry was polled only after it. */
     HIKEBOX_ENDED_DEADLINE = 8
 };
 
@@ -532,9 +658,12 @@ typedef struct {
  * of its runs: there may be any number of failures, and it takes no more memory for them (save where an output of the
  * policy grows, as that of `gather`).
  *
- * `deadline` is a moment, past which it has no run wait, or HIKEBOX_NO_DEADLINE: where the policy plans a later start, the
- * retry is over, as HIKEBOX_ENDED_DEADLINE, and draws no ticket for it; a start at the deadline is in time. The first run
- * is made in any case, and so is one for which the program wakes late.
+ * `deadline` is a moment, or HIKEBOX_NO_DEADLINE. The first run is made in any case, and each later one begins at the
+ * deadline or before it. Where the policy plans a later start, the retry is over, as HIKEBOX_ENDED_DEADLINE, and draws
+ * no ticket for it. Where the program wakes too late for a planned start, the next poll ends the retry in the same way.
+ * It drew a ticket for the run that is not made: of a quota, hikebox_retry_end and then hikebox_pass_hand_back return
+ * it, as after a cancelled retry; a budget takes no ticket back. The retry of a late poll has one ticket for each
+ * failure (`granted` equals `runs`), and one whose policy planned too late a start has one fewer.
  *
  * HIKEBOX_TOO_LARGE, of the deadline; _FULL; _EMPTY, of either; _WRONG_KIND, of the policy; _NO_MEMORY; _WRONG_KIND, of the
  * pass; _TOO_MANY_PASSES.
@@ -547,7 +676,8 @@ HIKEBOX_CHECKED hikebox_status hikebox_retry_new(hikebox_policy *policy, hikebox
  * or HIKEBOX_LOST the run under way ends so, with this code; it succeeded and the retry is over, or it failed,
  * and the policy is stepped with the code as its input; where that goes on a ticket is drawn, and with one the
  * retry waits for the start planned, or runs at once where that is now. With HIKEBOX_NO_REPORT the code is
- * ignored, and a run begins where none is under way and `now` is not before the moment waited for. On a
+ * ignored, and a run begins where none is under way and `now` is not before the moment waited for; past the
+ * deadline the retry is over instead, with HIKEBOX_ENDED_DEADLINE, unless no run was made yet. On a
  * retry that is over nothing changes. HIKEBOX_TOO_LARGE, of the moment; _NO_SUCH_REPORT; _TOO_LARGE, of the code;
  * _EMPTY; _WRONG_KIND; _NO_RUN. Where there is no memory or the clock went back the answer is HIKEBOX_OK, and the
  * retry is over.
@@ -625,7 +755,7 @@ typedef struct {
 } hikebox_storm;
 
 /* 800 requests a second for a minute, on a peer that does 1,000 and is away from 10 to 20 s. */
-#define HIKEBOX_STORM \
+#define HIKEBOX_STORM                                                                                                  \
     { 800, 1, 60, 1000, 500, 5000, 10000, 20000, 0, 0, 0, 1000, 120000, 16777216, 0, HIKEBOX_ON_NOTHING, 0, 0, 0, 1 }
 
 /* A window of a storm. */

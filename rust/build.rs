@@ -1,28 +1,59 @@
-//! Links the engine, `libhikebox.a`: from the folder that `HIKEBOX_LIB_DIR` names, or else from `dist/` of the
-//! repository. And tells the crate whether this compiler has async closures (1.85 and later).
+//! Links the engine, `libhikebox.a`: from the folder that `HIKEBOX_LIB_DIR` names, or else the one of the target in
+//! `lib/`. And tells the crate whether this compiler has `IntoFuture` (1.64 and
+//! later) and async closures (1.85 and later).
 
 use std::env;
 use std::path::PathBuf;
-use std::process::Command;
+use std::process::{exit, Command};
+
+/// The processors that `lib/` has an engine for.
+const PROCESSORS: [&str; 2] = ["x86_64", "aarch64"];
 
 fn main() {
     println!("cargo:rerun-if-env-changed=HIKEBOX_LIB_DIR");
-    let folder = env::var_os("HIKEBOX_LIB_DIR").map_or_else(
-        || PathBuf::from(env!("CARGO_MANIFEST_DIR")).join("../dist"),
-        PathBuf::from,
-    );
+    let folder = env::var_os("HIKEBOX_LIB_DIR").map_or_else(folder_of_target, PathBuf::from);
     let library = folder.join("libhikebox.a");
+    if !library.is_file() {
+        refuse(&format!("the engine is missing: no {}", library.display()));
+    }
     println!("cargo:rerun-if-changed={}", library.display());
     println!("cargo:rustc-link-search=native={}", folder.display());
     println!("cargo:rustc-link-lib=static=hikebox");
 
     let minor = compiler_minor().unwrap_or(0);
     if minor >= 80 {
-        println!("cargo:rustc-check-cfg=cfg(hikebox_async_closures)");
+        println!("cargo:rustc-check-cfg=cfg(hikebox_async_closures, hikebox_into_future)");
+    }
+    if minor >= 64 {
+        println!("cargo:rustc-cfg=hikebox_into_future");
     }
     if minor >= 85 {
         println!("cargo:rustc-cfg=hikebox_async_closures");
     }
+}
+
+/// The folder of the engine for the target that is compiled for.
+fn folder_of_target() -> PathBuf {
+    let of_target = |name: &str| env::var(format!("CARGO_CFG_TARGET_{name}")).unwrap_or_default();
+    let (processor, system, width) = (of_target("ARCH"), of_target("OS"), of_target("POINTER_WIDTH"));
+    let is_supported =
+        PROCESSORS.contains(&&*processor) && system == "linux" && width == "64" && of_target("ENDIAN") == "little";
+    if !is_supported {
+        refuse(&format!(
+            "expected 64-bit Linux on {}, got {} on {}; for another target set HIKEBOX_LIB_DIR to a folder with a \
+             libhikebox.a of your own",
+            PROCESSORS.join(" or "),
+            system,
+            env::var("TARGET").unwrap_or(processor)
+        ));
+    }
+    PathBuf::from(env::var_os("CARGO_MANIFEST_DIR").unwrap_or_default()).join("lib").join(processor)
+}
+
+/// Ends the build with one sentence.
+fn refuse(sentence: &str) -> ! {
+    eprintln!("hikebox: {sentence}");
+    exit(1)
 }
 
 /// 85 of `rustc 1.85.0 (..)`.

@@ -1,5 +1,5 @@
-"""Makes the manual pages: `manual.py DIST FOLDER` writes hikebox.3, which is what hikebox.h says, and zsched.1, which is
-what the program's help says."""
+"""Makes the manual pages: `manual.py HEADER FOLDER [ZSCHED]` writes hikebox.3, which is what hikebox.h says, and
+zsched.1, which is what that program's help says."""
 
 import pathlib
 import re
@@ -35,10 +35,18 @@ def comment(text):
 
 
 def header_page(text, version):
-    page = [f'.TH HIKEBOX 3 "" "hikebox {version}" "Hikebox"', ".SH NAME",
-            "hikebox \\- retry policies, retry budgets and quotas, and retries", ".SH SYNOPSIS",
-            ".nf", "#include <hikebox.h>", ".PP", "cc program.c $(pkg\\-config \\-\\-cflags \\-\\-libs hikebox)", ".fi",
-            ".SH DESCRIPTION"]
+    page = [
+        f'.TH HIKEBOX 3 "" "hikebox {version}" "Hikebox"',
+        ".SH NAME",
+        "hikebox \\- retry policies, retry budgets and quotas, and retries",
+        ".SH SYNOPSIS",
+        ".nf",
+        "#include <hikebox.h>",
+        ".PP",
+        "cc program.c $(pkg\\-config \\-\\-cflags \\-\\-libs hikebox)",
+        ".fi",
+        ".SH DESCRIPTION",
+    ]
     body = re.sub(r"(?m)^#(?:ifdef __cplusplus\n.*\n#endif|ifndef HIKEBOX_H|define HIKEBOX_H$|include .*)\n?", "", text)
     body = re.sub(r"#endif\s*\Z", "", body)
     for at, (said, declared) in enumerate(re.findall(r"(?ms)^/\*(.*?)\*/\n?(.*?)(?=^/\*|\Z)", body)):
@@ -56,8 +64,8 @@ STATUSES = """\
 0  what was asked for is done
 2  a bad command line; a second line on standard error says why
 3  a text that is no plan or no jobs, or too long; a second line says where, and what is wanted there
-4  what can't be read or written; a second line says which stream, and why. Nothing is said where nobody reads the output
-5  no memory
+4  what can't be read or written; a second line says which stream, and why. Nothing is said where nobody reads the
+output 5  no memory
 6  of pool: a job was not over, cancelled or broken; of storm: it was cut
 7  of pool: a worker was not started
 8  of pool: jobs were mixed up
@@ -69,10 +77,18 @@ def program_page(zsched, version):
         return subprocess.run([zsched, *words, "--help"], capture_output=True, text=True, check=True).stdout
 
     whole = help_of()
-    page = [f'.TH ZSCHED 1 "" "hikebox {version}" "Hikebox"', ".SH NAME",
-            "zsched \\- runs recurrence schedules on a virtual clock", ".SH SYNOPSIS", *verbatim("zsched COMMAND [OPTIONS] [FILE]"),
-            ".SH DESCRIPTION", *verbatim(whole)]
-    for command in re.findall(r"(?m)^  ([a-z]+) ", whole[whole.index("Commands:"):whole.index("\n\n", whole.index("Commands:"))]):
+    page = [
+        f'.TH ZSCHED 1 "" "hikebox {version}" "Hikebox"',
+        ".SH NAME",
+        "zsched \\- runs recurrence schedules on a virtual clock",
+        ".SH SYNOPSIS",
+        *verbatim("zsched COMMAND [OPTIONS] [FILE]"),
+        ".SH DESCRIPTION",
+        *verbatim(whole),
+    ]
+    for command in re.findall(
+        r"(?m)^  ([a-z]+) ", whole[whole.index("Commands:") : whole.index("\n\n", whole.index("Commands:"))]
+    ):
         if command != "help":
             page += [f".SH {command.upper()}", *verbatim(help_of(command))]
     page += [".SH EXIT STATUS", *verbatim(STATUSES)]
@@ -80,11 +96,12 @@ def program_page(zsched, version):
 
 
 def main():
-    dist, folder = map(pathlib.Path, sys.argv[1:])
-    text = (dist / "hikebox.h").read_text()
+    header, folder, *programs = map(pathlib.Path, sys.argv[1:])
+    text = header.read_text()
     version = re.search(r'HIKEBOX_VERSION "(.*)"', text)[1]
     (folder / "hikebox.3").write_text(header_page(text, version))
-    (folder / "zsched.1").write_text(program_page(dist / "zsched", version))
+    for program in programs:
+        (folder / "zsched.1").write_text(program_page(program, version))
 
 
 main()

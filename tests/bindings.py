@@ -1,5 +1,6 @@
 #!/usr/bin/env python3
-"""Compares the constants and structs of rust/src/engine.rs with include/hikebox.h: each constant has the header's number,
+"""Compares the constants and structs of rust/src/engine.rs with include/hikebox.h: each constant has the header's
+number,
 and each struct that crosses the border the header's fields. Its functions are made from the header by bin/bindings.
 """
 
@@ -8,12 +9,32 @@ import re
 import sys
 
 TOP = pathlib.Path(__file__).resolve().parent.parent
-NUMBERS = {"uint64_t": "u64", "uint32_t": "u32", "uint8_t": "u8", "char": "u8", "size_t": "usize", "bool": "bool",
-           "hikebox_status": "u32"}
+NUMBERS = {
+    "uint64_t": "u64",
+    "uint32_t": "u32",
+    "uint8_t": "u8",
+    "char": "u8",
+    "size_t": "usize",
+    "bool": "bool",
+    "hikebox_status": "u32",
+}
 #: The structs of the header, and what Rust calls them.
-STRUCTS = {"place": "Place", "course": "Course", "event": "Event", "line": "Line", "next": "Next", "usage": "Used",
-           "storm": "Storm", "window": "Window", "totals": "Totals", "stored": "Stored", "asking": "Asking",
-           "range": "Range"}
+STRUCTS = {
+    "place": "Place",
+    "course": "Course",
+    "event": "Event",
+    "line": "Line",
+    "next": "Next",
+    "usage": "Used",
+    "storm": "Storm",
+    "window": "Window",
+    "totals": "Totals",
+    "stored": "Stored",
+    "asking": "Asking",
+    "range": "Range",
+    "ticket": "Ticket",
+    "grant": "Grant",
+}
 #: Constants of Rust that are not named as the header's.
 NAMES = {"FAR": "HIKEBOX_FAR", "MOST_TICKETS": "HIKEBOX_MOST_TICKETS"}
 
@@ -75,8 +96,11 @@ def main():
         if not found:
             differences.append(f"no {what} was found")
         compared += len(found)
-        differences += [f"{what} {name}: the header has {wanted.get(name)}, Rust {found[name]}"
-                        for name in found if found[name] != wanted.get(name)]
+        differences += [
+            f"{what} {name}: the header has {wanted.get(name)}, Rust {found[name]}"
+            for name in found
+            if found[name] != wanted.get(name)
+        ]
     if differences:
         sys.exit("rust/src/engine.rs: " + "\nrust/src/engine.rs: ".join(differences))
     print(f"tests/bindings.py: {compared} declarations of Rust are the header's")

@@ -1,6 +1,6 @@
 #!/usr/bin/env python3
-"""Looks at `zsched storm`: storms that were worked out by hand, the numbers of docs/STORMS.md, and 500 random storms, each
-byte for byte as tests/storms.py plays it by the rules alone.
+"""Looks at `zsched storm`: storms that were worked out by hand, the numbers of docs/STORMS.md, and 500 random storms,
+each byte for byte as tests/storms.py plays it by the rules alone.
 
     tests/check_storms.py [COUNT [SEED]]
 
@@ -79,7 +79,8 @@ WORKED = [
         "what its client gave up is done all the same: the retry waits behind it, and is late too",
         {"recurs": 1},
         {"rate": 1, "seconds": 1, "capacity": 10, "patience": 60, "window": 60, "outage": NONE},
-        # Taken at 0 and at 60, each is 100 ms of work, done by 100 and by 200; at the windows' ends less than a call is left.
+        # Taken at 0 and at 60, each is 100 ms of work, done by 100 and by 200; at the windows' ends less than a call
+        # is left.
         [[0, 1, 0, 0, 0, 0, 0, 0, 0], [60, 0, 0, 1, 0, 0, 0, 1, 0], [120, 0, 0, 0, 0, 0, 0, 1, 0]],
         {"lost": 1, "calls": 2, "hundredths": 200, "most_calls": 1, "most_from": 0, "p50": None, "recovered": None},
     ),
@@ -95,7 +96,16 @@ WORKED = [
         {"meet": [{"recurs": 1}, {"spaced": 1}]},
         {"rate": 2, "seconds": 1, "window": 500, "outage": "500..501"},
         [[0, 1, 1, 0, 1, 0, 0, 0, 0], [500, 1, 1, 1, 1, 1, 0, 0, 0]],
-        {"won": 2, "calls": 3, "hundredths": 150, "most_calls": 2, "most_from": 500, "p50": 1, "p99": 2, "recovered": None},
+        {
+            "won": 2,
+            "calls": 3,
+            "hundredths": 150,
+            "most_calls": 2,
+            "most_from": 500,
+            "p50": 1,
+            "p99": 2,
+            "recovered": None,
+        },
     ),
     Case(
         "a brown-out that begins in the midst of a call",
@@ -134,7 +144,7 @@ WORKED = [
         {"lost": 1, "p50": None, "recovered": None},
     ),
     Case(
-        "until in the midst: the third request is none of the storm's, and tickets of retries that come too late stay given",
+        "until in the midst: the third request is none of the storm's, and late retries' tickets stay given",
         {"spaced": 1000},
         {"rate": 1, "seconds": 3, "until": 1500, "outage": "0..2000", "budget": 10},
         [[0, 1, 0, 0, 0, 1, 0, 0, 0], [1000, 1, 0, 1, 0, 2, 0, 0, 0]],
@@ -177,7 +187,15 @@ EIGHT = {"meet": [{"recurs": 8}, BACK_OFF]}
 FULL = {"meet": [{"recurs": 8}, {"jitter": [0, 0, 1000, BACK_OFF]}]}
 HALF = {"meet": [{"recurs": 8}, {"jitter": [0, 500, 1000, BACK_OFF]}]}
 TENTH = {"quota": "10/100/1000"}
-HERD = {"rate": 10_000, "together": 10_000, "seconds": 1, "capacity": 1000, "patience": 1000, "queue": 500, "outage": NONE}
+HERD = {
+    "rate": 10_000,
+    "together": 10_000,
+    "seconds": 1,
+    "capacity": 1000,
+    "patience": 1000,
+    "queue": 500,
+    "outage": NONE,
+}
 BROWN_OUT = {"outage": NONE, "slow": "10000..20000@50"}
 
 #: The numbers that another program by the same rules gave.
@@ -221,7 +239,11 @@ def looks_at(program: List[str]) -> List[str]:
         got = told(program, plan, options)
         if got["windows"] != windows:
             wrong.append(f"{name}: windows {got['windows']}, wanted {windows}")
-        wrong += [f"{name}: {key} {got['totals'][key]}, wanted {value}" for key, value in totals.items() if got["totals"][key] != value]
+        wrong += [
+            f"{name}: {key} {got['totals'][key]}, wanted {value}"
+            for key, value in totals.items()
+            if got["totals"][key] != value
+        ]
     return wrong
 
 
@@ -231,8 +253,14 @@ def looks_at_numbers(program: List[str]) -> List[str]:
         given = pool.starmap(told, [(program, plan, options) for plan, options, _ in KNOWN])
         back = pool.starmap(told, [(program, plan, options) for plan, options in COMES_BACK])
     for (plan, options, totals), got in zip(KNOWN, given):
-        wrong += [f"{plan} {options}: {key} {got['totals'][key]}, wanted {value}" for key, value in totals.items() if got["totals"][key] != value]
-    wrong += [f"{case}: it doesn't come back" for case, got in zip(COMES_BACK, back) if got["totals"]["recovered"] is None]
+        wrong += [
+            f"{plan} {options}: {key} {got['totals'][key]}, wanted {value}"
+            for key, value in totals.items()
+            if got["totals"][key] != value
+        ]
+    wrong += [
+        f"{case}: it doesn't come back" for case, got in zip(COMES_BACK, back) if got["totals"]["recovered"] is None
+    ]
     within = given[8]["totals"]["slowest"]
     if within > 12_000:
         wrong.append(f"the herd with half to whole of the delay: the last is won after {within} ms")
@@ -283,10 +311,23 @@ def looks_at_words(program: List[str]) -> List[str]:
     return wrong
 
 
-#: A storm as it is told without JSON, with bars and without.
-LINES = """\
-  from  requests  won  retries  succeeded  refused  shed  late  waiting%s
-     0         1    1        1          1        1     0     0        0%s
+#: The windows of a storm, without bars, and with bars in lines that are 80 and 72 columns wide.
+PLAIN = """\
+  from  requests  won  retries  succeeded  refused  shed  late  waiting
+     0         1    1        1          1        1     0     0        0
+"""
+BARS = """\
+  won %  from ms  requests  retries  failed  waiting  # request, + retry
+    100        0         1        1       1        0  #############+++++++++++++
+                                                      0                  2 calls
+"""
+NARROW = """\
+  won %  from ms  requests  retries  failed  waiting  # request, + retry
+    100        0         1        1       1        0  #########+++++++++
+                                                      0          2 calls
+"""
+#: What the same storm comes to.
+COMES_TO = """\
 1 requests: 1 won, 0 lost, 0 denied a retry, 0 left open
 2 calls, 2.00 for each request; the most in a window are 2, from 0 ms
 1 tickets of 9 given
@@ -320,8 +361,9 @@ def looks_at_lines(program: List[str]) -> List[str]:
         (Path(folder) / "b.json").write_text('{"meet":[{"recurs":1},{"spaced":10}]}')
         storm = [*program, "--rate", "1", "--seconds", "1", "--outage", "0..5"]
         for words, wanted in [
-            (["--budget", "9", "--plain", "b.json"], LINES % ("", "")),
-            (["--budget", "9", "b.json"], LINES % ("  # request, + retry", "  ######++++++")),
+            (["--budget", "9", "--plain", "b.json"], PLAIN + COMES_TO),
+            (["--budget", "9", "b.json"], BARS + COMES_TO),
+            (["--budget", "9", "--width", "72", "b.json"], NARROW + COMES_TO),
             (["a.json", "--compare", "b.json"], TABLE),
         ]:
             done = subprocess.run([*storm, *words], capture_output=True, text=True, cwd=folder)
@@ -331,10 +373,15 @@ def looks_at_lines(program: List[str]) -> List[str]:
 
 
 def some_storm(rng: random.Random) -> Tuple[Any, Dict[str, Any]]:
-    """A random policy with the options of a storm. One that looks back far, which the definitions play slowly, is cut early."""
+    """A random policy with the options of a storm. One that looks back far, which the definitions play slowly, is
+    cut early."""
     if rng.random() < 0.6:
-        delay = rng.choice([{"spaced": rng.randrange(1, 400)}, {"exponential": [rng.randrange(1, 100), 2]}, BACK_OFF, {"linear": 30}])
-        delay = rng.choice([delay, {"jitter": [rng.randrange(4), 0, 1000, delay]}, {"decorrelated": [0, 20, 3000, 2000]}])
+        delay = rng.choice(
+            [{"spaced": rng.randrange(1, 400)}, {"exponential": [rng.randrange(1, 100), 2]}, BACK_OFF, {"linear": 30}]
+        )
+        delay = rng.choice(
+            [delay, {"jitter": [rng.randrange(4), 0, 1000, delay]}, {"decorrelated": [0, 20, 3000, 2000]}]
+        )
         plan: Any = {"meet": [{"recurs": rng.randrange(9)}, delay]}
         calls = rng.choice([1500, 1500, 4000])
     else:
@@ -343,7 +390,13 @@ def some_storm(rng: random.Random) -> Tuple[Any, Dict[str, Any]]:
     seconds = rng.choice([1, 2, 5])
     rate = rng.choice([1, 3, 40, 90, 150, 333, 800])
     capacity = max(1, rate * rng.choice([30, 80, 100, 125, 300]) // 100)
-    options: Dict[str, Any] = {"rate": rate, "together": together, "seconds": seconds, "capacity": capacity, "calls": calls}
+    options: Dict[str, Any] = {
+        "rate": rate,
+        "together": together,
+        "seconds": seconds,
+        "capacity": capacity,
+        "calls": calls,
+    }
     options["patience"] = rng.choice([1, 5, 60, 500, 3000])
     options["queue"] = rng.choice([0, 1, 2, 30, 5000])
     options["outage"] = _span(rng, seconds)
@@ -391,8 +444,13 @@ def main() -> int:
     for line in wrong[:20]:
         print(f"tests/check_storms.py: {line[:2000]}", file=sys.stderr)
     if not wrong:
-        compared = f"{count} random storms are played alike" if knows else "zsched knows no storms, and was not looked at"
-        print(f"tests/check_storms.py: {len(WORKED)} storms by hand and {len(KNOWN) + len(COMES_BACK)} that are known are right, {compared}")
+        compared = (
+            f"{count} random storms are played alike" if knows else "zsched knows no storms, and was not looked at"
+        )
+        print(
+            f"tests/check_storms.py: {len(WORKED)} storms by hand and "
+            f"{len(KNOWN) + len(COMES_BACK)} that are known are right, {compared}"
+        )
     return 1 if wrong else 0
 
 

@@ -18,12 +18,15 @@ void holds_at(const char *file, int line, bool holds);
 
 void read_input(void);
 hikebox_status read_policy(const char *json, hikebox_policy *policy);
-hikebox_status make_node(const char *name, const uint64_t *numbers, size_t count, hikebox_policy *first, hikebox_policy *second,
-                         hikebox_policy *made);
+hikebox_status make_node(const char *name, const uint64_t *numbers, size_t count, hikebox_policy *first,
+                         hikebox_policy *second, hikebox_policy *made);
 
 // The tests of policies.c, each as its word says.
 int plan(char **words);
 int nodes(void);
 int policies(void);
 int courses(void);
+
+// Those of leases.c.
+int leased(void);
 #endif

@@ -22,7 +22,8 @@ copy() {
   mkdir "$tree/dist"
   cp "$zsched" "$tree/dist/zsched"
   : >"$tree/dist/libhikebox.so"
-  (cd "$tree" && bin/digest zsched libhikebox.a libhikebox.so hikebox.h hikebox.whl) >"$work/SOURCES"
+  (cd "$tree" && bin/digest zsched libhikebox.a libhikebox.so hikebox.h hikebox.whl \
+    aarch64/libhikebox.a aarch64/libhikebox.so aarch64/hikebox.whl) >"$work/SOURCES"
   cp "$work/SOURCES" "$tree/dist/SOURCES"
   cd "$tree"
 }
@@ -77,17 +78,19 @@ bin/bindings: c/texts.c is not what the header says: run bin/bindings' "$changed
 
 # Which files of dist/ a change makes old.
 changes() {
-  local library=$'libhikebox.a\nlibhikebox.so\nhikebox.whl'
+  local wheels=$'hikebox.whl\naarch64/hikebox.whl' other=$'aarch64/libhikebox.a\naarch64/libhikebox.so\naarch64/hikebox.whl' library
+  library=$'libhikebox.a\nlibhikebox.so\nhikebox.whl\n'$other
   makes_old '' true
-  makes_old 'hikebox.whl' append python/src/hikebox/lab/lab.js
-  makes_old 'hikebox.whl' append python/src/hikebox/retrying.py
-  makes_old 'hikebox.whl' append python/setup.cfg
+  makes_old "$wheels" append python/src/hikebox/lab/lab.js
+  makes_old "$wheels" append python/src/hikebox/retrying.py
+  makes_old "$wheels" append python/build_backend.py
   makes_old 'hikebox.h' append include/hikebox.h
   makes_old "$library" append c/texts.c
+  makes_old "$other" append c/heap.c
   makes_old 'zsched' append crates/sched_cli/src/lib.rt
   makes_old 'zsched' rm crates/sched_cli/src/lib.rt
   makes_old "$library" append crates/hikebox_c/src/lib.rt
-  makes_old $'libhikebox.so\nhikebox.whl' append bin/hikebox.map
+  makes_old $'libhikebox.so\nhikebox.whl\naarch64/libhikebox.so\naarch64/hikebox.whl' append bin/hikebox.map
   makes_old $'zsched\n'"$library" append crates/sched_time/src/lib.rt
   makes_old $'zsched\n'"$library" touch crates/sched_time/src/new.rt
   makes_old 'zsched' replace 's/^zsched: /zsched: sched_effect /' crates.txt
@@ -127,6 +130,16 @@ runs_zsched() {
   wants 0 "$want" "$old" bin/zsched plan "$plan"
   cp "$top/crates/sched_cli/src/lib.rt" crates/sched_cli/src/lib.rt
   wants 0 "$want" '' bin/zsched plan "$plan"
+
+  # A program that this machine can't run, as one whose loader is older, is refused in a sentence.
+  mv dist/zsched "$work/zsched"
+  printf '#!/none\n' >dist/zsched
+  chmod +x dist/zsched
+  rm -rf out
+  wants 2 '' "bin/zsched: expected x86-64 with glibc 2.34 or later, as Debian 12 has, got $(uname -m) with $(getconf GNU_LIBC_VERSION); the libraries and the packages for Python and Rust need no more than README.md says" \
+    bin/zsched plan "$plan"
+  mv "$work/zsched" dist/zsched
+  rm -rf out
 
   # Where nothing can be noted, it runs too.
   rm -rf out
@@ -254,12 +267,14 @@ runs_tests() {
   mkdir "$work/tmp"
   wants 0 $'passed  blocks\n1 passed, 0 failed' '' sh -c 'TMPDIR="$1" bin/test blocks | sed "/^bin.test: /d; s/^passed  blocks .*/passed  blocks/"' sh "$work/tmp"
   printf '#!/bin/sh\nsetsid sh -c "echo \\$\\$ >%s; exec sleep 1000" &\nsleep 0.2\n' "$work/id" >tests/blocks.sh
+  # shellcheck disable=SC2065
   TMPDIR=$work/tmp bin/test blocks >"$work/out" 2>&1 && failed=1
   tried=$((tried + 1))
   grep -q 'it left a process: .* sleep 1000' "$work/out" && ! is_alive "$(cat "$work/id")" ||
     { echo "tests/commands.sh: bin/test and a part that leaves a process: $(cat "$work/out")" >&2; failed=1; }
   printf '#!/bin/sh\necho $$ >%s\nsleep 1000\n' "$work/id" >tests/blocks.sh
   rm "$work/id"
+  # shellcheck disable=SC2065,SC2265
   TMPDIR=$work/tmp bin/test blocks >"$work/out" 2>&1 &
   process=$!
   until [ -s "$work/id" ]; do sleep 0.1; done

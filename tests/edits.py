@@ -5,9 +5,9 @@ The first line of each edit says which promise it breaks, with the group that th
 `# limit: A plan is at most 32 nodes deep, and a deeper one is refused.`
 
     tests/edits.py          prints the list
-    tests/edits.py --check  compares it with the list in docs/TESTING.md, and looks whether every edit
-                            has such a line and can be applied; it fails with a line for each fault
-    tests/edits.py --write  puts it into docs/TESTING.md
+    tests/edits.py --check  compares it with docs/reports/wrong-bodies.md, and checks that every edit has
+                            such a line and can be applied; it fails with a line for each fault
+    tests/edits.py --write  writes docs/reports/wrong-bodies.md
 """
 
 import argparse
@@ -18,10 +18,14 @@ import sys
 from dataclasses import dataclass
 
 TOP = pathlib.Path(__file__).resolve().parent.parent
-PAGE = TOP / "docs" / "TESTING.md"
-BEGIN = "<!-- The list that tests/edits.py prints. -->"
-END = "<!-- The end of that list. -->"
-MOST_EDITS = 190
+PAGE = TOP / "docs" / "reports" / "wrong-bodies.md"
+MAX_EDITS = 210
+
+HEAD = """# Wrong bodies
+
+Every wrong body that the prover must refuse, by the promise that it breaks. `tests/edits.py --write` makes this page
+from the first lines of `crates/*/must-fail/*.edit`; [TESTING.md](../TESTING.md#wrong-bodies) says what they are for.
+"""
 
 # The groups of promises, and the heading of each in the list.
 GROUPS = {
@@ -118,44 +122,38 @@ def listed(edits: list[Edit]) -> str:
     lines: list[str] = []
     for group, heading in GROUPS.items():
         rows = [edit.row() for edit in edits if edit.group == group]
-        lines += [f"### {heading}", "", *rows, ""]
+        lines += [f"## {heading}", "", *rows, ""]
     return "\n".join(lines).strip() + "\n"
 
 
-def parts_of_page() -> tuple[str, str, str]:
-    """The page before the list, the list, and the page after it."""
-    page = PAGE.read_text(encoding="utf-8")
-    if page.count(BEGIN) != 1 or page.count(END) != 1:
-        raise SystemExit(f"tests/edits.py: {PAGE.relative_to(TOP)} has no list between the lines {BEGIN!r} and {END!r}")
-    before, _, rest = page.partition(BEGIN)
-    middle, _, after = rest.partition(END)
-    return before, middle.strip(), after
+def page_of(edits: list[Edit]) -> str:
+    """The whole page."""
+    return f"{HEAD}\n{listed(edits)}"
 
 
 def faults_of(edits: list[Edit]) -> list[str]:
-    """What is wrong with all edits together, and with the list in the page."""
+    """What is wrong with all edits together, and with the page."""
     faults: list[str] = []
-    if len(edits) > MOST_EDITS:
-        faults.append(f"there are {len(edits)} edits, and at most {MOST_EDITS} are wanted")
+    if len(edits) > MAX_EDITS:
+        faults.append(f"expected at most {MAX_EDITS} edits, got {len(edits)}")
     first: dict[str, Edit] = {}
     for edit in edits:
         other = first.setdefault(edit.promise, edit)
         if other is not edit:
             faults.append(f"{edit.crate}/{edit.name} breaks the promise of {other.crate}/{other.name}: one is enough")
-    wanted, found = listed(edits).splitlines(), parts_of_page()[1].splitlines()
-    faults += difflib.unified_diff(found, wanted, "docs/TESTING.md", "tests/edits.py", lineterm="", n=0)
+    expected, found = page_of(edits).splitlines(), PAGE.read_text(encoding="utf-8").splitlines()
+    faults += difflib.unified_diff(found, expected, str(PAGE.relative_to(TOP)), "tests/edits.py", lineterm="", n=0)
     return faults
 
 
 def main() -> int:
     parser = argparse.ArgumentParser(description="Prints the promises that the wrong bodies break, as a list.")
-    parser.add_argument("--check", action="store_true", help="compare the list with the one in docs/TESTING.md")
-    parser.add_argument("--write", action="store_true", help="put the list into docs/TESTING.md")
+    parser.add_argument("--check", action="store_true", help="compare the list with the page")
+    parser.add_argument("--write", action="store_true", help="write the page")
     asked = parser.parse_args()
     edits, faults = read_edits()
     if asked.write:
-        before, _, after = parts_of_page()
-        PAGE.write_text(f"{before}{BEGIN}\n\n{listed(edits)}\n{END}{after}", encoding="utf-8")
+        PAGE.write_text(page_of(edits), encoding="utf-8")
     elif asked.check:
         faults += faults_of(edits)
     else:

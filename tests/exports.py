@@ -1,6 +1,8 @@
-"""Compares the calls that include/hikebox.h declares with those that crates/hikebox_c exports: their names, and of each the
-types of its parameters in order. A handle's type is a struct of one pointer, whichever kind it is of. The export of
-crates/sched_storm_call makes the call of its name there and nothing else, and has its parameters and clauses, word for word."""
+"""Compares the calls that include/hikebox.h declares with those that crates/hikebox_c exports: their names, and of each
+the types of its parameters in order. A handle's type is a struct of one pointer, whichever kind it is of. The export of
+crates/sched_storm_call makes the call of its name there and nothing else, and has its parameters and clauses, word for
+word."""
+
 import pathlib
 import re
 import sys
@@ -26,6 +28,10 @@ RATTLE = {
     "&Asking": ["const hikebox_asking *"],
     "&mut Stored": ["hikebox_stored *"],
     "&mut Range": ["hikebox_range *"],
+    "&Ticket": ["const hikebox_ticket *"],
+    "&mut Ticket": ["hikebox_ticket *"],
+    "&Granted": ["const hikebox_grant *"],
+    "&mut Granted": ["hikebox_grant *"],
     "u64": ["uint64_t"],
     "u32": ["uint32_t"],
     "bool": ["bool"],
@@ -44,6 +50,8 @@ STRUCTS = {
     "Asking": "hikebox_asking",
     "Stored": "hikebox_stored",
     "Range": "hikebox_range",
+    "Ticket": "hikebox_ticket",
+    "Granted": "hikebox_grant",
 }
 #: The crate whose calls are exported as they are.
 CALLS = ("sched_storm_call",)
@@ -64,7 +72,7 @@ def declared():
         for parameter in parameters.split(","):
             kind, _, array = re.fullmatch(r"\s*(.*?[\s*])(\w+)(\[\d+\])?\s*", parameter, re.S).groups()
             kind = " ".join((kind + ("*" if array else "")).replace("*", " * ").split())
-            types.append(re.sub(r"hikebox_(policy|pass|retry) \*", "handle *", kind))
+            types.append(re.sub(r"hikebox_(policy|pass|retry|leased) \*", "handle *", kind))
         calls[name] = types
     return calls
 
@@ -72,7 +80,9 @@ def declared():
 def exported():
     calls = {}
     for file in sorted((TOP / "crates/hikebox_c/src").glob("*.rt")):
-        for name, parameters in re.findall(r'pub extern "C" fn (\w+)\(([^)]*)\) -> u32', without_comments(file.read_text())):
+        for name, parameters in re.findall(
+            r'pub extern "C" fn (\w+)\(([^)]*)\) -> u32', without_comments(file.read_text())
+        ):
             types = []
             for parameter in re.split(r",\s*(?=\w+:)", parameters.strip().rstrip(",")):
                 kind = parameter.partition(": ")[2]
@@ -107,7 +117,9 @@ def structs():
     replies = "".join(without_comments(file.read_text()) for file in files)
     for rattle, c in STRUCTS.items():
         here = re.search(r"typedef struct \{([^}]*)\} " + c + ";", header).group(1)
-        there = re.search(r"#\[repr\(C\)\]\s*#\[derive\([^)]*\)\]\s*pub struct " + rattle + r" \{([^}]*)\}", replies).group(1)
+        there = re.search(
+            r"#\[repr\(C\)\]\s*#\[derive\([^)]*\)\]\s*pub struct " + rattle + r" \{([^}]*)\}", replies
+        ).group(1)
         is_c = [(kind + array, name) for kind, name, array in re.findall(r"(\w+) (\w+)((?:\[\d+\])?);", here)]
         is_rattle = [(FIELDS.get(kind, kind), name) for name, kind in re.findall(r"pub (\w+): (\[.*?\]|\w+)", there)]
         yield c, is_c, is_rattle
@@ -115,7 +127,11 @@ def structs():
 
 def main():
     is_c, is_rattle = declared(), exported()
-    wrong = [f"{name}: declared {is_c.get(name)}, exported {is_rattle.get(name)}" for name in sorted({*is_c, *is_rattle}) if is_c.get(name) != is_rattle.get(name)]
+    wrong = [
+        f"{name}: declared {is_c.get(name)}, exported {is_rattle.get(name)}"
+        for name in sorted({*is_c, *is_rattle})
+        if is_c.get(name) != is_rattle.get(name)
+    ]
     wrong += [f"{name}: declared {here}, written {there}" for name, here, there in structs() if here != there]
     wrong += [f"{name}: exported {here}, called {there}" for name, here, there in passed_on()]
     for line in wrong:

@@ -23,6 +23,17 @@ status=0
 "$top/bin/install" --perfix x 2>"$work/err" || status=$?
 [ "$status" = 2 ] && grep -q perfix "$work/err" || wrong "a word that there is not: $status"
 
+# For another machine: its libraries, and nothing that runs here.
+"$top/bin/install" --target aarch64 --prefix "$work/other" >/dev/null
+for file in libhikebox.a libhikebox.so; do
+  readelf -h "$work/other/lib/$file" | grep -q 'Machine: *AArch64' || wrong "$file for aarch64 is for another machine"
+done
+[ ! -e "$work/other/bin" ] && [ -e "$work/other/share/man/man3/hikebox.3" ] || wrong "what is installed for aarch64: $(ls -R "$work/other")"
+status=0
+"$top/bin/install" --target riscv64 --prefix "$work/none" 2>"$work/err" || status=$?
+[ "$status" = 2 ] && [ "$(cat "$work/err")" = 'bin/install: expected the target x86_64 or aarch64, got riscv64' ] && [ ! -e "$work/none" ] ||
+  wrong "a target that there is not: $status, $(cat "$work/err")"
+
 # The library by its names.
 soname=$(readelf -d "$prefix/lib/libhikebox.so" | sed -n 's/.*SONAME.*\[\(.*\)\]/\1/p')
 [ "$soname" = "libhikebox.so.$major" ] && [ -e "$prefix/lib/$soname" ] || wrong "the soname is $soname"
@@ -81,9 +92,13 @@ offers zsched --v
 offers zsched plan --st
 offers zsched pool --
 cd "$1/lib/pkgconfig" && offers zsched check hike
+offers zsched storm --scenario ''
+offers zsched storm --scenario = her
+offers zsched storm --rate ''
+offers zsched storm --compare hike
 EOF
 options=$("$prefix/bin/zsched" pool --help | sed -n 's/^ *\(-h, \)\{0,1\}\(--[a-z]*\).*/\2/p' | tr '\n' ' ')
-printf 'plan pool\n--version\n--steps\n%s\nhikebox.pc\n' "${options% }" >"$work/want"
+printf 'plan pool\n--version\n--steps\n%s\nhikebox.pc\noutage herd brown-out\nherd\n\nhikebox.pc\n' "${options% }" >"$work/want"
 PATH=$prefix/bin:$PATH bash --norc "$work/bash" "$prefix" >"$work/out" && cmp -s "$work/out" "$work/want" || wrong "bash: $(cat "$work/out")"
 [ "$(wc -w <<<"$options")" -ge 5 ] || wrong "zsched pool has the options $options"
 
@@ -93,13 +108,20 @@ autoload -Uz compinit && compinit -D -u
 [[ $_comps[zsched] = _zsched ]] || exit 1
 autoload +X -Uz _zsched
 compadd() { print -r -- ${(P)2}; }
+compset() { :; }
 _files() { print files; }
+_message() { print "message $1"; }
 offers() { local -a words=("$@"); local CURRENT=$#; _zsched; }
 offers zsched p
 offers zsched pool --
 offers zsched check ''
+offers zsched storm --scenario ''
+offers zsched storm --scenario=h
+offers zsched storm --rate ''
+offers zsched storm --compare ''
 EOF
-printf 'plan pool storm check help --help --version\n%s\nfiles\n' "${options% }" >"$work/want"
+printf 'plan pool storm check help --help --version\n%s\nfiles\noutage herd brown-out\noutage herd brown-out\nmessage N\nfiles\n' \
+  "${options% }" >"$work/want"
 PATH=$prefix/bin:$PATH zsh -f "$work/zsh" "$prefix" >"$work/out" && cmp -s "$work/out" "$work/want" || wrong "zsh: $(cat "$work/out")"
 [ "$failed" = 0 ] || exit 1
 echo "tests/install.sh: what is installed is compiled against in two ways, read by man and completed by bash and zsh"

@@ -1,8 +1,8 @@
 #!/usr/bin/python3
-"""Prints a picture of the layers, made from crates.txt: a box for each of its parts, from the top down, with the parts that
-it stands on in its last line; in a box each crate stands on crates of the rows below it, or of other boxes. Tests,
-examples, checks and benchmarks are left out. With --check it fails where docs/DESIGN.md has another picture, and where a
-crate's line in crates.txt does not name the very crates that its files name."""
+"""Prints a picture of the layers, made from crates.txt: a box for each of its parts, from the top down, with the parts
+that it stands on in its last line; in a box each crate stands on crates of the rows below it, or of other boxes. Tests,
+examples, checks and benchmarks are left out. With --check it fails where docs/ARCHITECTURE.md has another picture, and
+where a crate's line in crates.txt does not name the very crates that its files name."""
 
 import re
 import sys
@@ -33,8 +33,8 @@ def parts_of(text: str) -> dict[str, Crates]:
 
 
 def named_by(crate: Path) -> set[str]:
-    """The words of a crate's files that may name another: in Rattle the first of a path, and there and in definitions and
-    proofs the first after `Rattle.`. What stands in a comment names none."""
+    """The words of a crate's files that may name another: in Rattle the first of a path, and there and in definitions
+    and proofs the first after `Rattle.`. What stands in a comment names none."""
     found: set[str] = set()
     for folder in ("src", "specs", "proofs"):
         for path in (crate / folder).rglob("*"):
@@ -47,7 +47,8 @@ def named_by(crate: Path) -> set[str]:
 
 
 def faults_of(text: str) -> list[str]:
-    """What is wrong with crates.txt: a crate stands on one that its files don't name, or they name one that it lacks."""
+    """What is wrong with crates.txt: a crate stands on one that its files don't name, or they name one that it
+    lacks."""
     lines = [line.partition(":") for line in text.splitlines() if line and not line.startswith("#")]
     lower = {words.split()[0]: names.split() for words, _, names in lines}
     known = lower.keys() | {other for names in lower.values() for other in names}
@@ -75,7 +76,9 @@ def edge(left: str, words: str, right: str) -> str:
 
 def picture_of(parts: dict[str, Crates]) -> str:
     """The boxes of all parts, highest first."""
-    lines = []
+    lines = [edge("┌", "Packages and programs", "┐")]
+    lines.append("│ python/  rust/  C programs, by include/hikebox.h".ljust(WIDTH - 1) + "│")
+    lines.append(edge("└", f"stands on: {list(parts)[-1]}", "┘"))
     for heading, crates in reversed(parts.items()):
         below = {name for lower in crates.values() for name in lower}
         stands_on = [other for other, names in parts.items() if other != heading and below & names.keys()]
@@ -91,12 +94,12 @@ def main() -> None:
     picture = picture_of(parts_of(text))
     if sys.argv[1:] != ["--check"]:
         print(picture)
-    elif f"```text\n{picture}\n```" not in (TOP / "docs/DESIGN.md").read_text():
-        sys.exit("tests/layers.py: docs/DESIGN.md has another picture than crates.txt: paste what tests/layers.py prints")
+    elif f"```text\n{picture}\n```" not in (TOP / "docs/ARCHITECTURE.md").read_text():
+        sys.exit("tests/layers.py: docs/ARCHITECTURE.md has another picture: paste what tests/layers.py prints")
     elif faults := faults_of(text):
         sys.exit("\n".join(f"tests/layers.py: crates.txt: {fault}" for fault in faults))
     else:
-        print("tests/layers.py: the picture in docs/DESIGN.md is that of crates.txt, which names what each crate's files do")
+        print("tests/layers.py: the picture in docs/ARCHITECTURE.md is that of crates.txt, which names what files do")
 
 
 if __name__ == "__main__":

@@ -24,13 +24,22 @@ zsched=$dist/zsched
 python3 "$top/tests/exports.py" || failed=1
 "$top/bin/bindings" --check || failed=1
 flags=(-std=gnu11 -Wall -Wextra -Werror -O1 "-I$dist" -pthread)
-cc "${flags[@]}" -o "$work/linked" "$top/tests/library.c" "$top/tests/policies.c" "$dist/libhikebox.a"
+cc "${flags[@]}" -o "$work/linked" "$top/tests/library.c" "$top/tests/policies.c" "$top/tests/leases.c" "$dist/libhikebox.a"
 "$top/bin/install" --prefix "$work/home/.local" >"$work/out"
-cc "${flags[@]}" -o "$work/loaded" "$top/tests/library.c" "$top/tests/policies.c" "-L$dist" "-Wl,-rpath,$work/home/.local/lib" -lhikebox
+cc "${flags[@]}" -o "$work/loaded" "$top/tests/library.c" "$top/tests/policies.c" "$top/tests/leases.c" "-L$dist" "-Wl,-rpath,$work/home/.local/lib" -lhikebox
 cc "${flags[@]}" -o "$work/retry" "$top/examples/c/retry.c" "$dist/libhikebox.a"
-exported=$(nm -D --defined-only "$dist/libhikebox.so" | awk '{ print $NF }' | LC_ALL=C sort)
+exported=$(nm -D --defined-only "$dist/libhikebox.so" | awk '$2 == "T" { print $NF }' | LC_ALL=C sort)
+shown=$(nm --defined-only "$dist/libhikebox.a" 2>/dev/null | awk '$2 ~ /^[A-Z]$/ { print $3 }' | LC_ALL=C sort)
 declared=$(sed -nE 's/^(.* )?(hikebox_status |const char \*)(hikebox_[a-z_]*)\(.*/\3/p' "$top/include/hikebox.h" | LC_ALL=C sort)
-[ "$exported" = "$declared" ] || wrong "libhikebox.so has other calls than hikebox.h"
+[ "$exported" = "$(sed 's/$/@@HIKEBOX_1.0/' <<<"$declared")" ] || wrong "libhikebox.so has other calls than hikebox.h"
+[ "$shown" = "$declared" ] || wrong "libhikebox.a shows other names than the calls of hikebox.h"
+
+# Beside another library that Rattle built, here the same one by other names, with all of both in one program.
+# shellcheck disable=SC2046
+objcopy $(sed 's/hikebox_\(.*\)/--redefine-sym hikebox_\1=other_\1/' <<<"$declared") "$dist/libhikebox.a" "$work/libother.a"
+printf '#include <stdio.h>\nconst char *hikebox_version(void), *other_version(void);\nint main(void) { return puts(hikebox_version()) < 0 || puts(other_version()) < 0; }\n' >"$work/two.c"
+cc -o "$work/two" "$work/two.c" -Wl,--whole-archive "$dist/libhikebox.a" "$work/libother.a" -Wl,--no-whole-archive &&
+  [ "$("$work/two" | sort -u)" = "$(<"$top/VERSION")" ] || wrong "libhikebox.a can't be linked beside another library of Rattle"
 
 # The versions of glibc that README.md names.
 for pair in libhikebox.so=14 zsched=34; do
@@ -70,8 +79,8 @@ done
   printf 'return 0;\n}\nint program(hikebox_policy policy);\nint program(hikebox_policy policy) {\n'
   block 4
   printf 'return 0;\n}\nhikebox_stored load(int file);\nvoid store(int file, const hikebox_stored *stored);\n'
-  printf 'uint64_t clock_of(int file);\nint lease(int file, uint64_t told, hikebox_pass pass);\n'
-  printf 'int lease(int file, uint64_t told, hikebox_pass pass) {\n'
+  printf 'uint64_t clock_of(int file);\nint lease(int file, hikebox_leased leased);\n'
+  printf 'int lease(int file, hikebox_leased leased) {\n'
   block 5
   printf 'return 0;\n}\n'
 } >"$work/page.c"
@@ -92,6 +101,16 @@ cc "${flags[@]}" -o "$work/storm" "$top/examples/c/storm.c" "$dist/libhikebox.a"
 printf 'no limit: 365567 calls for 48000 requests in 81 windows, never recovered\na quota: 48900 calls for 48000 requests in 60 windows, recovered at 20000 ms\n' >"$work/want"
 "$work/storm" >"$work/out" && cmp -s "$work/out" "$work/want" || wrong "examples/c/storm.c: $(cat "$work/out")"
 
+# A budget in a file: eight processes draw its 1,000 tickets, each once. A file that is cut off grants nothing.
+cc "${flags[@]}" -o "$work/lease" "$top/examples/c/lease.c" "$dist/libhikebox.a"
+"$work/lease" "$work/counts" new || wrong "examples/c/lease.c makes no file"
+for words in 1 2 3 4 5 6 7 8; do "$work/lease" "$work/counts" 1000 >"$work/drawn.$words" & done
+wait
+sort -n "$work"/drawn.* | cmp -s - <(seq 0 999) || wrong "examples/c/lease.c: $(cat "$work"/drawn.* | wc -l) tickets"
+: >"$work/counts"
+! "$work/lease" "$work/counts" 1 >"$work/out" 2>&1 && [ "$(cat "$work/out")" = 'expected 24 bytes of counts, got less' ] ||
+  wrong "examples/c/lease.c draws of a file that is cut off: $(cat "$work/out")"
+
 # A loop of poll(): it hears a line while it waits, and connects once something listens; with nothing there it tells the fault.
 cc "${flags[@]}" -o "$work/poll" "$top/examples/c/poll.c" "$dist/libhikebox.a"
 printf 'heard a line\nconnected after retries\n' >"$work/want"
@@ -102,6 +121,7 @@ print(listener.getsockname()[1], flush=True)
 time.sleep(0.2)
 listener.listen()
 listener.accept()'; }
+# shellcheck disable=SC2154
 server=$listener_PID
 read -r port <&"${listener[0]}"
 printf 'a line\n' | "$work/poll" "$port" >"$work/out" && cmp -s "$work/out" "$work/want" || wrong "examples/c/poll.c: $(cat "$work/out")"
@@ -153,12 +173,14 @@ ends 0 '{"recurs":3}' '[{"lost":9}]' lost:9
 ends 5 '{"recurs":0}' '[{"won":1}]' won:1
 ends 5 '"forever"' '[{"lost":1},{"lost":2},{"lost":3},{"won":4}]' lost:1 lost:2 lost:3 won:4
 
+mapfile -t groups < <("$work/linked" groups)
+[ ${#groups[@]} -gt 10 ] || wrong "there are ${#groups[@]} groups of tests"
 for program in linked loaded; do
-  for words in handles budgets deadlines quotas leases faults nodes policies courses lasting shares storms; do
+  for words in "${groups[@]}"; do
     "$work/$program" "$words" || wrong "$program $words"
   done
   "$work/$program" draw 16 10000000 || wrong "$program draw"
-  for words in handles budgets deadlines quotas leases faults nodes policies courses shares storms calls 'draw 4 20000'; do
+  for words in "${groups[@]/lasting/calls}" 'draw 4 20000'; do
     # shellcheck disable=SC2086
     valgrind --quiet --leak-check=full --show-leak-kinds=all --error-exitcode=9 "$work/$program" $words >"$work/out" ||
       wrong "valgrind $program $words"

@@ -1,12 +1,13 @@
 #!/usr/bin/env python3
-"""Each link of the pages, to a file of the repository or to a heading, leads somewhere; and README.md has at most 90 lines."""
+"""Each link of the pages, to a file of the repository or to a heading, leads somewhere; and README.md has at most 90
+lines."""
 
 import pathlib
 import re
 import sys
 
 TOP = pathlib.Path(__file__).resolve().parent.parent
-PAGES = [*TOP.glob("*.md"), *TOP.glob("docs/*.md"), TOP / "rust/README.md", TOP / "python/README.md"]
+PAGES = [*TOP.glob("*.md"), *TOP.glob("docs/**/*.md"), TOP / "rust/README.md", TOP / "python/README.md"]
 
 
 def prose(page):

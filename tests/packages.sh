@@ -1,6 +1,7 @@
 #!/usr/bin/env bash
-# tests/packages.sh PACKAGE..: installs those of these packages of Debian that are missing; who is not root is told the command
-# that does it. tests/packages.sh --missing PACKAGE..: prints the missing ones. Where there is no dpkg none is looked for.
+# tests/packages.sh PACKAGE..: says which of these packages of Debian are missing and how large they are, and installs
+# them; who is not root gets the command that does it. tests/packages.sh --missing PACKAGE..: prints the missing ones.
+# Where there is no dpkg none is looked for.
 set -euo pipefail
 
 # missing PACKAGE..: prints those that are not installed
@@ -9,6 +10,15 @@ missing() {
     awk -v wanted="$*" '
       $2 == "installed" { has[$1] }
       END { count = split(wanted, names, " "); for (at = 1; at <= count; at++) if (!(names[at] in has)) print names[at] }'
+}
+
+# Says what is missing, and what apt says that it takes; before the first `apt-get update` that is not known.
+tell_missing() {
+  local size
+  size=$(LC_ALL=C apt-get install --assume-no --no-install-recommends -o Debug::NoLocking=1 "${names[@]}" 2>/dev/null </dev/null |
+    sed -n 's/^Need to get \(.*\) of archives\.$/\1 to fetch/p; s/^After this operation, \(.*\) of additional .*/\1 on the disk/p' |
+    paste -s -d ',' | sed 's/,/, /') || true
+  echo "tests/packages.sh: ${#names[@]} packages are missing${size:+ ($size)}: ${names[*]}" >&2
 }
 
 only_asks=false
@@ -25,16 +35,26 @@ mapfile -t names < <(missing "$@")
 [ ${#names[@]} -gt 0 ] || exit 0
 install=(apt-get install -y --no-install-recommends "${names[@]}")
 if [ "$(id -u)" != 0 ]; then
-  echo "apt-get update && ${install[*]}" >&2
+  tell_missing
+  as_root=
+  if command -v sudo >/dev/null; then as_root='sudo '; else echo 'tests/packages.sh: as root:' >&2; fi
+  echo "${as_root}apt-get update && $as_root${install[*]}" >&2
   exit 1
 fi
-echo "tests/packages.sh: installing ${names[*]}" >&2
 log=$(mktemp)
 trap 'rm -f "$log"' EXIT
 # (RUNLEVEL keeps a server that is installed from being started)
 export RUNLEVEL=1 DEBIAN_FRONTEND=noninteractive
-if ! { apt-get update && "${install[@]}"; } >"$log" 2>&1 </dev/null 9<&-; then
-  tail -n 20 "$log" >&2
-  echo "tests/packages.sh: can't be installed: ${names[*]}" >&2
-  exit 1
-fi
+
+# try COMMAND..: runs it; what it wrote is shown where it fails
+try() {
+  "$@" >"$log" 2>&1 </dev/null 9<&- || {
+    tail -n 20 "$log" >&2
+    echo "tests/packages.sh: can't be installed: ${names[*]}" >&2
+    exit 1
+  }
+}
+
+try apt-get update
+tell_missing
+try "${install[@]}"

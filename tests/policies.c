@@ -1,8 +1,8 @@
 // Policies, as a C program has them: their courses, their nodes, and what is written and told of them.
 #include "checks.h"
 
-hikebox_status make_node(const char *name, const uint64_t *numbers, size_t count, hikebox_policy *first, hikebox_policy *second,
-                         hikebox_policy *made) {
+hikebox_status make_node(const char *name, const uint64_t *numbers, size_t count, hikebox_policy *first,
+                         hikebox_policy *second, hikebox_policy *made) {
     return hikebox_policy_node(name, strlen(name), numbers, count, first, second, made);
 }
 
@@ -34,7 +34,8 @@ static void seed_words(uint64_t seed, hikebox_event *events, size_t count) {
     uint64_t low = mixed(&seed), high = mixed(&seed);
     uint32_t state[4] = {(uint32_t)low, (uint32_t)(low >> 32), (uint32_t)high, (uint32_t)(high >> 32)};
     for (size_t at = 0; at < count; at++)
-        for (int lane = 0; lane < 4; lane++) events[at].words[lane] = next_word(state);
+        for (int lane = 0; lane < 4; lane++)
+            events[at].words[lane] = next_word(state);
 }
 
 // The policy once more, as it is written.
@@ -57,11 +58,14 @@ int plan(char **words) {
     hikebox_course course = {strtoull(words[0], 0, 10), strtoull(words[1], 0, 10), strtoull(words[2], 0, 10)};
     hikebox_policy policy = HIKEBOX_INIT;
     size_t given = 0, count, length, needed, bytes;
-    for (char *next = words[3]; *next; next += *next == ',') events[given++].input = strtoull(next, &next, 10);
+    for (char *next = words[3]; *next; next += *next == ',')
+        events[given++].input = strtoull(next, &next, 10);
     for (size_t at = 0; at < given; at++)
-        for (int lane = 0; lane < 4; lane++) events[at].words[lane] = (uint32_t)strtoull(words[4], 0, 10);
+        for (int lane = 0; lane < 4; lane++)
+            events[at].words[lane] = (uint32_t)strtoull(words[4], 0, 10);
     if (!strncmp(words[4], "seed:", 5)) {
-        for (; given < course.steps; given++) events[given].input = events[given - 1].input;
+        for (; given < course.steps; given++)
+            events[given].input = events[given - 1].input;
         seed_words(strtoull(words[4] + 5, 0, 10), events, given);
     }
     read_input();
@@ -70,12 +74,15 @@ int plan(char **words) {
     read_again(&policy);
     wants(hikebox_policy_course(&policy, &course, events, given, lines, 0, &needed, text, 0, &bytes),
           course.steps ? HIKEBOX_NO_ROOM : HIKEBOX_OK);
-    wants(hikebox_policy_course(&policy, &course, events, given, lines, needed, &count, text, bytes, &length), HIKEBOX_OK);
+    wants(hikebox_policy_course(&policy, &course, events, given, lines, needed, &count, text, bytes, &length),
+          HIKEBOX_OK);
     holds(count == needed && length == bytes);
     for (size_t at = 0, from = 0; at < count; from = lines[at++].text_to) {
         printf("%llu: %.*s", (unsigned long long)lines[at].moment, (int)(lines[at].text_to - from), text + from);
-        if (lines[at].goes_on) printf(" next %llu\n", (unsigned long long)lines[at].start);
-        else printf(" done\n");
+        if (lines[at].goes_on)
+            printf(" next %llu\n", (unsigned long long)lines[at].start);
+        else
+            printf(" done\n");
     }
     wants(hikebox_policy_free(&policy), HIKEBOX_OK);
     return wrong;
@@ -92,10 +99,12 @@ static void put_over(const char *name, hikebox_policy *policy, hikebox_policy *s
 
 // Policies that are as deep, and as large, as a policy may be.
 static void largest_nodes(hikebox_policy *leaf) {
-    hikebox_policy deep = HIKEBOX_INIT, large = HIKEBOX_INIT, half = HIKEBOX_INIT, none = HIKEBOX_INIT, spare = HIKEBOX_INIT;
+    hikebox_policy deep = HIKEBOX_INIT, large = HIKEBOX_INIT, half = HIKEBOX_INIT, none = HIKEBOX_INIT,
+                   spare = HIKEBOX_INIT;
     uint64_t number = 0, has, depth, most;
     wants(hikebox_policy_share(leaf, &deep), HIKEBOX_OK);
-    for (int level = 1; level < 32; level++) put_over("nothing", &deep, &none);
+    for (int level = 1; level < 32; level++)
+        put_over("nothing", &deep, &none);
     wants(make_node("nothing", &number, 0, &deep, &none, &spare), HIKEBOX_TOO_DEEP);
     wants(hikebox_policy_size(&deep, &has, &depth, &most), HIKEBOX_OK);
     holds(has == 32 && depth == 32);
@@ -211,8 +220,10 @@ static void refuses(hikebox_policy *policy, hikebox_course course, const hikebox
 
 // A course worked out by hand, and each refusal in the order of the header.
 int courses(void) {
-    static const hikebox_event events[3] = {{7, {0, 0, 0, 0}}, {9, {0, 0, 0, UINT32_MAX}}, {HIKEBOX_FAR + 1, {0, 0, 0, 0}}};
-    static const char json[] = "{\"meet\":[{\"recurs\":2},{\"jitter\":[3,1000,1500,{\"meet\":[\"identity\",{\"spaced\":100}]}]}]}";
+    static const hikebox_event events[3] = {
+        {7, {0, 0, 0, 0}}, {9, {0, 0, 0, UINT32_MAX}}, {HIKEBOX_FAR + 1, {0, 0, 0, 0}}};
+    static const char json[] =
+        "{\"meet\":[{\"recurs\":2},{\"jitter\":[3,1000,1500,{\"meet\":[\"identity\",{\"spaced\":100}]}]}]}";
     static const char wanted[] = "(0, (7, 0))(1, (9, 1))(2, (9, 2))";
     const hikebox_course course = {4096, 5, 20};
     hikebox_policy policy = HIKEBOX_INIT, empty = HIKEBOX_INIT;
@@ -234,7 +245,8 @@ int courses(void) {
     holds(count == 3 && length == 33 && !memcmp(text, wanted, length));
     wants(hikebox_policy_course(&policy, &course, events, 2, lines, 3, &count, text, 33, &length), HIKEBOX_OK);
     // no event is stepped, and none has to be there for that but the one that gives the input
-    wants(hikebox_policy_course(&policy, &(hikebox_course){0, 0, 0}, events, 1, lines, 0, &count, text, 0, &length), HIKEBOX_OK);
+    wants(hikebox_policy_course(&policy, &(hikebox_course){0, 0, 0}, events, 1, lines, 0, &count, text, 0, &length),
+          HIKEBOX_OK);
     holds(count == 0 && length == 0);
     wants(hikebox_budget_fixed(1, &pass), HIKEBOX_OK);
     refuses(&empty, (hikebox_course){4097, 0, 0}, events, 1, HIKEBOX_OUT_OF_RANGE);

@@ -117,7 +117,8 @@ bad "invalid value '18446744073709551616' for '--words <SEED>': number too large
 
 # A text comes from standard input, also by the word -, or from a file, and is the same from each.
 for word in plan pool; do
-  case $word in plan) folder=plans ;; pool) folder=jobs ;; esac
+  folder=plans
+  [ "$word" = plan ] || folder='jobs'
   for file in "$top/$folder"/*.json; do
     cp "$file" "$work/in"
     "$zsched" $word <"$file" >"$work/printed"
@@ -154,28 +155,28 @@ refuses 'not JSON' 'not JSON: line 1, column 1: the text ends too soon' plan
 input '{"recurs":3'
 refuses 'not JSON' 'not JSON: line 1, column 11: the text ends too soon' plan
 input '{"recurs":-1}'
-refuses 'not a plan' 'top: "recurs" is spelt {"recurs":N}, N from 0 to 4611686018427387903; found {"recurs":-1}' plan
+refuses 'not a plan' 'top: expected {"recurs":N}, N from 0 to 4611686018427387903, got {"recurs":-1}' plan
 input '{"exponential":[1]}'
 refuses 'not a plan' \
-  'top: "exponential" is spelt {"exponential":[D,F]}, D from 0 to 4611686018427387903, F from 1 to 1000; found {"exponential":[1]}' \
+  'top: expected {"exponential":[D,F]}, D from 0 to 4611686018427387903, F from 1 to 1000, got {"exponential":[1]}' \
   plan
 input '{"fixed":0}'
-refuses 'number out of range' 'top: "fixed" is spelt {"fixed":D}, D from 1 to 4611686018427387903; found {"fixed":0}' plan
+refuses 'number out of range' 'top: expected {"fixed":D}, D from 1 to 4611686018427387903, got {"fixed":0}' plan
 
 deep='"forever"'
 for _ in $(seq 32); do deep="{\"meet\":[$deep,\"forever\"]}"; done
 printf '%s' "$deep" >"$work/in"
-refuses 'too deep' 'top: a plan is at most 32 deep' plan
+refuses 'too deep' 'top: expected a plan at most 32 deep' plan
 
 deep='"forever"'
 for _ in $(seq 32); do deep="{\"nothing\":$deep}"; done
 printf '%s' "$deep" >"$work/in"
-refuses 'too deep' 'top: a plan is at most 32 deep' plan
+refuses 'too deep' 'top: expected a plan at most 32 deep' plan
 
 wide='"forever"'
 for _ in $(seq 8); do wide="{\"meet\":[$wide,$wide]}"; done
 printf '%s' "$wide" >"$work/in"
-refuses 'too many nodes' 'top: a plan has at most 256 nodes' plan
+refuses 'too many nodes' 'top: expected a plan of at most 256 nodes' plan
 
 cp "$top/jobs/three-calls.json" "$work/in"
 wants 0 'job 0: won 1, granted 2\njob 1: schedule done, failure 8, granted 1\njob 2: won 200, granted 0\ngranted 3 of 100\n' '' pool --workers 2
@@ -262,7 +263,7 @@ bad "the argument '--quota <RESERVE/SHARE%/PERIOD>' cannot be used with '--worke
 run on one thread" pool --quota 1/2/300 --workers 2
 bad .. plan --quota 1/2/300
 input '{}'
-refuses 'not a plan' 'top: jobs are an array, with a job for each item; found {}' pool --quota 1/2/300
+refuses 'not a plan' 'top: expected an array of jobs, got {}' pool --quota 1/2/300
 
 # Of a bad text the first fault is told: the array, the number of jobs, and of each job in turn its members, the number
 # of its runs, each run, and its plan.
@@ -271,45 +272,45 @@ too_deep="{\"plan\":$deep,\"runs\":[{\"won\":1}]}"
 input '['
 refuses 'not JSON' 'not JSON: line 1, column 1: the text ends too soon' pool
 input '{}'
-refuses 'not a plan' 'top: jobs are an array, with a job for each item; found {}' pool
+refuses 'not a plan' 'top: expected an array of jobs, got {}' pool
 input "[$(repeated 4097 7)]"
-refuses 'number out of range' 'top: at most 4096 jobs are wanted, 4097 found' pool
+refuses 'number out of range' 'top: expected at most 4096 jobs, got 4097' pool
 input "[$(repeated 4096 7)]"
-refuses 'not a plan' '[0]: a job is {"plan":PLAN,"runs":[RUN,..]}; found 7' pool
+refuses 'not a plan' '[0]: expected {"plan":PLAN,"runs":[RUN,..]}, got 7' pool
 input '[{"plan":7,"runs":[],"more":1}]'
-refuses 'not a plan' '[0]: a job is {"plan":PLAN,"runs":[RUN,..]}; found {"more":1,"plan":7,"runs":[]}' pool
+refuses 'not a plan' '[0]: expected {"plan":PLAN,"runs":[RUN,..]}, got {"more":1,"plan":7,"runs":[]}' pool
 input '[{"runs":[]}]'
-refuses 'not a plan' '[0]: a job is {"plan":PLAN,"runs":[RUN,..]}; found {"runs":[]}' pool
+refuses 'not a plan' '[0]: expected {"plan":PLAN,"runs":[RUN,..]}, got {"runs":[]}' pool
 input '[{"plan":7,"runs":[]}]'
-refuses 'number out of range' '[0].runs: 1 to 64 runs are wanted, 0 found' pool
+refuses 'number out of range' '[0].runs: expected 1 to 64 runs, got 0' pool
 input "[{\"plan\":7,\"runs\":[$(repeated 65 7)]}]"
-refuses 'number out of range' '[0].runs: 1 to 64 runs are wanted, 65 found' pool
+refuses 'number out of range' '[0].runs: expected 1 to 64 runs, got 65' pool
 input "[{\"plan\":\"forever\",\"runs\":[$(repeated 63 '{"lost":7}'),{\"won\":$((past_far - 1))}]}]"
 wants 0 "job 0: won $((past_far - 1)), granted 63\ngranted 63 of 100\n" '' pool
 input "[{\"plan\":{\"fixed\":0},\"runs\":[{\"won\":1},{\"none\":$past_far}]}]"
 refuses 'not a plan' \
-  '[0].runs[1]: a run is {"won":CODE} or {"lost":CODE}, CODE from 0 to 4611686018427387903; found {"none":4611686018427387904}' \
+  '[0].runs[1]: expected {"won":CODE} or {"lost":CODE}, CODE from 0 to 4611686018427387903, got {"none":4611686018427387904}' \
   pool
 input '[{"plan":{"fixed":0},"runs":[{"lost":1,"won":1}]}]'
 refuses 'not a plan' \
-  '[0].runs[0]: a run is {"won":CODE} or {"lost":CODE}, CODE from 0 to 4611686018427387903; found {"lost":1,"won":1}' \
+  '[0].runs[0]: expected {"won":CODE} or {"lost":CODE}, CODE from 0 to 4611686018427387903, got {"lost":1,"won":1}' \
   pool
 input "[{\"plan\":7,\"runs\":[{\"won\":$past_far},7]}]"
 refuses 'number out of range' \
-  '[0].runs[0]: a run is {"won":CODE} or {"lost":CODE}, CODE from 0 to 4611686018427387903; found {"won":4611686018427387904}' \
+  '[0].runs[0]: expected {"won":CODE} or {"lost":CODE}, CODE from 0 to 4611686018427387903, got {"won":4611686018427387904}' \
   pool
 input '[{"plan":7,"runs":[{"won":1}]}]'
-refuses 'not a plan' '[0].plan: a plan is a string or an object of one member; found 7' pool
+refuses 'not a plan' '[0].plan: expected a plan, a string or an object with one member, got 7' pool
 input '[{"plan":{"fixed":0},"runs":[{"won":1}]}]'
 refuses 'number out of range' \
-  '[0].plan: "fixed" is spelt {"fixed":D}, D from 1 to 4611686018427387903; found {"fixed":0}' \
+  '[0].plan: expected {"fixed":D}, D from 1 to 4611686018427387903, got {"fixed":0}' \
   pool
 input "[$lost,$too_deep,7]"
-refuses 'too deep' '[1].plan: a plan is at most 32 deep' pool
+refuses 'too deep' '[1].plan: expected a plan at most 32 deep' pool
 input "[$lost,7,$too_deep]"
-refuses 'not a plan' '[1]: a job is {"plan":PLAN,"runs":[RUN,..]}; found 7' pool
+refuses 'not a plan' '[1]: expected {"plan":PLAN,"runs":[RUN,..]}, got 7' pool
 input "[{\"plan\":$wide,\"runs\":[{\"won\":1}]}]"
-refuses 'too many nodes' '[0].plan: a plan has at most 256 nodes' pool
+refuses 'too many nodes' '[0].plan: expected a plan of at most 256 nodes' pool
 { printf '[]'; head -c 1048574 /dev/zero | tr '\0' ' '; } >"$work/in"
 wants 0 'granted 0 of 100\n' '' pool
 printf ' ' >>"$work/in"
@@ -336,7 +337,7 @@ wants 3 'not JSON: line 1, column 11: the text ends too soon\n' 'zsched: not JSO
 input '{"recurs":3]'
 wants 3 'not JSON: line 1, column 12: what stands here is not JSON, or is nested more than 127 deep\n' 'zsched: not JSON\n' check
 input '7'
-wants 3 'top: a plan is a string or an object of one member; found 7\n' 'zsched: not a plan\n' check
+wants 3 'top: expected a plan, a string or an object with one member, got 7\n' 'zsched: not a plan\n' check
 input '{"meet":[{"recurs":1},{"cap":[1,{"exponental":[100,2]}]}]}'
 wants 3 'meet[1].cap[1]: no node is called "exponental"; did you mean "exponential"?\n' 'zsched: not a plan\n' check
 for words in and:meet or:join andThen:follow retry:recurs times:recurs constant:spaced upTo:within; do
@@ -344,25 +345,25 @@ for words in and:meet or:join andThen:follow retry:recurs times:recurs constant:
   wants 3 "top: no node is called \"${words%:*}\"; did you mean \"${words#*:}\"?\n" 'zsched: not a plan\n' check
 done
 input '{"exponential":[100,1.5]}'
-more='; found {"exponential":[100,1.5]}; a factor of 1.5 is 1500 in "exponential_milli"'
-wants 3 "top: \"exponential\" is spelt {\"exponential\":[D,F]}, D from 0 to $((past_far - 1)), F from 1 to 1000$more\n" \
+more=', got {"exponential":[100,1.5]}; a factor of 1.5 is 1500 in "exponential_milli"'
+wants 3 "top: expected {\"exponential\":[D,F]}, D from 0 to $((past_far - 1)), F from 1 to 1000$more\n" \
   'zsched: not a plan\n' check
 input '{"first":{"fixed":0}}'
-wants 3 "first: \"fixed\" is spelt {\"fixed\":D}, D from 1 to $((past_far - 1)); found {\"fixed\":0}\n" 'zsched: number out of range\n' check
+wants 3 "first: expected {\"fixed\":D}, D from 1 to $((past_far - 1)), got {\"fixed\":0}\n" 'zsched: number out of range\n' check
 printf '{"first":%s}' "$deep" >"$work/in"
-wants 3 'first: a plan is at most 32 deep\n' 'zsched: too deep\n' check
+wants 3 'first: expected a plan at most 32 deep\n' 'zsched: too deep\n' check
 printf '%s' "$wide" >"$work/in"
-wants 3 'top: a plan has at most 256 nodes\n' 'zsched: too many nodes\n' check
+wants 3 'top: expected a plan of at most 256 nodes\n' 'zsched: too many nodes\n' check
 input "[$lost,$lost,$lost,{\"plan\":7,\"runs\":[]}]"
-wants 3 '[3].runs: 1 to 64 runs are wanted, 0 found\n' 'zsched: number out of range\n' check
+wants 3 '[3].runs: expected 1 to 64 runs, got 0\n' 'zsched: number out of range\n' check
 input "[$lost,7]"
-wants 3 '[1]: a job is {"plan":PLAN,"runs":[RUN,..]}; found 7\n' 'zsched: not a plan\n' check
+wants 3 '[1]: expected {"plan":PLAN,"runs":[RUN,..]}, got 7\n' 'zsched: not a plan\n' check
 input "[{\"plan\":7,\"runs\":[{\"won\":1},{\"won\":$past_far}]}]"
-wants 3 "[0].runs[1]: a run is {\"won\":CODE} or {\"lost\":CODE}, CODE from 0 to $((past_far - 1)); \
-found {\"won\":$past_far}\n" \
+wants 3 "[0].runs[1]: expected {\"won\":CODE} or {\"lost\":CODE}, CODE from 0 to $((past_far - 1)), \
+got {\"won\":$past_far}\n" \
   'zsched: number out of range\n' check
 input "[$lost,{\"plan\":{\"join\":[\"forever\",null]},\"runs\":[{\"won\":1}]}]"
-wants 3 '[1].plan.join[1]: a plan is a string or an object of one member; found null\n' 'zsched: not a plan\n' check
+wants 3 '[1].plan.join[1]: expected a plan, a string or an object with one member, got null\n' 'zsched: not a plan\n' check
 { printf '[]'; head -c 1048575 /dev/zero | tr '\0' ' '; } >"$work/in"
 wants 3 '' 'zsched: input too long\n' check
 
@@ -387,12 +388,12 @@ wants 4 '' "zsched: read failed\n$work/none.json: No such file or directory (os 
 wants 4 '' "zsched: read failed\n$work: Is a directory (os error 21)\n" storm --compare "$work"
 printf '{"fixed":0}' >"$work/bad.json"
 refuses 'number out of range' \
-  "$work/bad.json: top: \"fixed\" is spelt {\"fixed\":D}, D from 1 to 4611686018427387903; found {\"fixed\":0}" \
+  "$work/bad.json: top: expected {\"fixed\":D}, D from 1 to 4611686018427387903, got {\"fixed\":0}" \
   storm $one --compare "$work/one.json" --compare "$work/bad.json"
 head -c 1048577 /dev/zero >"$work/long.json"
 refuses 'input too long' "$work/long.json: more than 1048576 bytes" storm --compare "$work/long.json"
 input 7
-refuses 'not a plan' 'top: a plan is a string or an object of one member; found 7' storm --compare "$work/bad.json"
+refuses 'not a plan' 'top: expected a plan, a string or an object with one member, got 7' storm --compare "$work/bad.json"
 { printf '"forever"'; head -c 1048568 /dev/zero | tr '\0' ' '; } >"$work/in"
 wants 3 '' 'zsched: input too long\n' storm
 bad "invalid value '0' for '--rate <N>': 0 is not in 1..=1000000" storm --rate 0

@@ -22,7 +22,7 @@ tests() {
 
 cd "$top/python"
 # (those that wait most come first)
-longest=(tests/test_leased_quota.py tests/test_cli.py tests/test_leased.py)
+longest=(tests/test_run.py tests/test_http_failing.py tests/test_leased_quota.py tests/test_cli.py tests/test_leased.py tests/test_file_store.py tests/test_interrupted.py)
 for file in "${longest[@]}"; do beside tests "$file"; done
 beside types
 for file in tests/test_*.py src; do

@@ -1,5 +1,5 @@
-"""Prints random policies as JSON, a line each, with options for `zsched plan`: STEPS FROM TOOK INPUT WORD, a tab, the policy.
-The words are the number of policies and a seed; the same words give the same lines."""
+"""Prints random policies as JSON, a line each, with options for `zsched plan`: STEPS FROM TOOK INPUT WORD, a tab, the
+policy. The words are the number of policies and a seed; the same words give the same lines."""
 import json
 import random
 import sys
@@ -16,8 +16,24 @@ def length(rng):
 
 
 def leaf(rng):
-    name = rng.choice(["forever", "elapsed", "identity", "recurs", "spaced", "fixed", "windowed", "linear", "exponential",
-                       "exponential_milli", "fibonacci", "decorrelated", "unfold", "lone"])
+    name = rng.choice(
+        [
+            "forever",
+            "elapsed",
+            "identity",
+            "recurs",
+            "spaced",
+            "fixed",
+            "windowed",
+            "linear",
+            "exponential",
+            "exponential_milli",
+            "fibonacci",
+            "decorrelated",
+            "unfold",
+            "lone",
+        ]
+    )
     if name in ("forever", "elapsed", "identity"):
         return name
     if name == "recurs":
@@ -39,8 +55,28 @@ def leaf(rng):
 def policy(rng, depth):
     if depth == 0 or rng.random() < 0.2:
         return leaf(rng)
-    name = rng.choice(["meet", "join", "follow", "feed", "add", "set", "cap", "add_out", "jitter", "gate", "gather", "first",
-                       "second", "nothing", "within", "ends_by", "renew", "renew_idle"])
+    name = rng.choice(
+        [
+            "meet",
+            "join",
+            "follow",
+            "feed",
+            "add",
+            "set",
+            "cap",
+            "add_out",
+            "jitter",
+            "gate",
+            "gather",
+            "first",
+            "second",
+            "nothing",
+            "within",
+            "ends_by",
+            "renew",
+            "renew_idle",
+        ]
+    )
     part = policy(rng, depth - 1)
     if name in ("meet", "join", "follow", "feed"):
         return {name: [part, policy(rng, depth - 1)]}
@@ -52,8 +88,15 @@ def policy(rng, depth):
         least = rng.choice([0, 500, 900, 1000])
         return {name: [rng.randrange(4), least, least + rng.choice([0, 100, 1000]), part]}
     if name == "gate":
-        return {name: [rng.choice(["input", "output"]), rng.random() < 0.5, rng.choice(["below", "at_least", "equal"]),
-                       number(rng), part]}
+        return {
+            name: [
+                rng.choice(["input", "output"]),
+                rng.random() < 0.5,
+                rng.choice(["below", "at_least", "equal"]),
+                number(rng),
+                part,
+            ]
+        }
     if name == "gather":
         return {name: [rng.choice(["sum", "count", "max", "list"]), part]}
     return {name: part}
@@ -63,8 +106,13 @@ def main():
     count, seed = int(sys.argv[1]), int(sys.argv[2])
     rng = random.Random(seed)
     for _ in range(count):
-        options = [rng.choice([5, 12, 40]), rng.choice([0, 1, 1000, FAR - 50]), rng.choice([0, 1, 30, 1000]),
-                   rng.choice([0, 7, 100, FAR]), rng.choice([0, 1, 2**31, 2**32 - 1, rng.randrange(2**32)])]
+        options = [
+            rng.choice([5, 12, 40]),
+            rng.choice([0, 1, 1000, FAR - 50]),
+            rng.choice([0, 1, 30, 1000]),
+            rng.choice([0, 7, 100, FAR]),
+            rng.choice([0, 1, 2**31, 2**32 - 1, rng.randrange(2**32)]),
+        ]
         print(*options, end="\t")
         print(json.dumps(policy(rng, rng.choice([1, 2, 3, 4])), separators=(",", ":")))
 

@@ -19,7 +19,9 @@ struct object {
     unsigned short count;
 };
 
-enum { LOADED = 1 };
+enum {
+    LOADED = 1
+};
 #define NEXT ((void *)-1L)
 
 void *dlsym(void *handle, const char *name);

@@ -1,7 +1,8 @@
 #!/usr/bin/env python3
-"""Compares the schemas of schemas/ with what `zsched check` says: over the files of plans/ and jobs/, 300 random policies and
-jobs of them, and 600 of these with a part changed. Where the schema takes what the program refuses it has to be one of the
-bounds that a schema can't say: depth, the number of nodes, and of two numbers which is greater."""
+"""Compares the schemas of schemas/ with what `zsched check` says: over the files of plans/ and jobs/, 300 random
+policies and
+jobs of them, and 600 of these with a part changed. Where the schema takes what the program refuses it has to be one of
+the bounds that a schema can't say: depth, the number of nodes, and of two numbers which is greater."""
 
 import copy
 import json
@@ -16,7 +17,22 @@ import jsonschema
 TOP = pathlib.Path(__file__).resolve().parent.parent
 ZSCHED = os.environ.get("HIKEBOX_ZSCHED", str(TOP / "dist/zsched"))
 FAR = 4611686018427387903
-STRANGE = [-1, FAR, FAR + 1, 0, 1.5, True, None, "forever", "none", [], {}, {"fixed": 0}, {"recurs": 1, "spaced": 1}, [1, 2, 3]]
+STRANGE = [
+    -1,
+    FAR,
+    FAR + 1,
+    0,
+    1.5,
+    True,
+    None,
+    "forever",
+    "none",
+    [],
+    {},
+    {"fixed": 0},
+    {"recurs": 1, "spaced": 1},
+    [1, 2, 3],
+]
 #: The nodes with two bounds, and where these stand.
 ORDERED = {"decorrelated": (1, 3), "jitter": (1, 2)}
 
@@ -35,7 +51,9 @@ def refusal(value):
 
 def places(value):
     """Where parts stand in a value: each by what holds it and its index or key."""
-    pairs = list(value.items()) if isinstance(value, dict) else list(enumerate(value)) if isinstance(value, list) else []
+    pairs = (
+        list(value.items()) if isinstance(value, dict) else list(enumerate(value)) if isinstance(value, list) else []
+    )
     for at, part in pairs:
         yield value, at
         yield from places(part)
@@ -80,7 +98,9 @@ def past_a_schema():
 
 def main():
     rng = random.Random(7)
-    printed = subprocess.run([sys.executable, str(TOP / "tests/random_policies.py"), "300", "41"], capture_output=True, text=True, check=True)
+    printed = subprocess.run(
+        [sys.executable, str(TOP / "tests/random_policies.py"), "300", "41"], capture_output=True, text=True, check=True
+    )
     policies = [json.loads(line.split("\t")[1]) for line in printed.stdout.splitlines()]
     policies += [json.loads(file.read_text()) for file in sorted((TOP / "plans").glob("*.json"))]
     jobs = [json.loads(file.read_text()) for file in sorted((TOP / "jobs").glob("*.json"))]
@@ -101,7 +121,10 @@ def main():
             if refused in ("zsched: too deep", "zsched: too many nodes") or is_unordered(value):
                 continue
         if valid == bool(refused):
-            wrong.append(f"{json.dumps(value)}: the schema {'takes' if valid else 'refuses'} it, the program says {refused or 'nothing'}")
+            wrong.append(
+                f"{json.dumps(value)}: the schema {'takes' if valid else 'refuses'} it, "
+                f"the program says {refused or 'nothing'}"
+            )
     for line in wrong[:10]:
         print(f"tests/schemas.py: {line}", file=sys.stderr)
     if wrong or good < 200 or bad < 200 or beyond < 4:

@@ -1,6 +1,6 @@
 #!/usr/bin/env python3
-"""Plays a storm by its rules alone, slowly: `tests/storms.py [OPTION..] FILE` prints what `zsched storm` does with the same
-words, with `--json` or `--csv` byte for byte.
+"""Plays a storm by its rules alone, slowly: `tests/storms.py [OPTION..] FILE` prints what `zsched storm` does with the
+same words, with `--json` or `--csv` byte for byte.
 
 It shares nothing with the engine: policies are asked by the definitions of python/tests/reference.py, a function of the
 whole list of a request's failures, and the random words come from the generator of the Python package.
@@ -319,7 +319,19 @@ def _quota(text: str) -> Tuple[int, int, int]:
     return int(reserve), int(share), int(period)
 
 
-NUMBERS = ("rate", "together", "seconds", "capacity", "patience", "queue", "window", "until", "calls", "words", "budget")
+NUMBERS = (
+    "rate",
+    "together",
+    "seconds",
+    "capacity",
+    "patience",
+    "queue",
+    "window",
+    "until",
+    "calls",
+    "words",
+    "budget",
+)
 READERS = {"outage": _span, "slow": _slow, "quota": _quota}
 
 

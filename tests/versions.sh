@@ -14,7 +14,7 @@ fails() {
 
 "$top/tests/versions.py"
 
-wheel=$("$top/python/build-wheel.sh" "${HIKEBOX_LIBRARY:-$top/dist/libhikebox.so}" "$work")
+wheel=$(HIKEBOX_LIBRARY=${HIKEBOX_LIBRARY:-$top/dist/libhikebox.so} python3 "$top/python/build_backend.py" wheel "$work")
 [[ ${wheel##*/} == "hikebox-$version-"* ]] || fails "the wheel is called ${wheel##*/}"
 python3 -m zipfile -e "$wheel" "$work/wheel"
 told=$work/wheel/hikebox-$version.dist-info
@@ -25,4 +25,5 @@ cmp "$told/LICENSE" "$top/LICENSE" || fails "the wheel has another licence"
 
 grep -qxF 'license = "Apache-2.0"' "$top/rust/Cargo.toml" || fails "the crate does not name its licence"
 cmp "$top/rust/LICENSE" "$top/LICENSE" || fails "the crate has another licence"
+cmp "$top/python/LICENSE" "$top/LICENSE" || fails "the package has another licence"
 echo "tests/versions.sh: the version is $version everywhere, and the licence is in the wheel and in the crate"

@@ -16,7 +16,7 @@ from typing import Any, Dict, List, Optional
 
 ELEMENT = "element-6066-11e4-a52e-4f735466cecf"
 #: Keys that have no sign of their own.
-TAB, CONTROL = "\ue004", "\ue009"
+TAB, CONTROL, DELETE = "\ue004", "\ue009", "\ue017"
 HOME, RIGHT, UP, DOWN = "\ue011", "\ue014", "\ue013", "\ue015"
 
 _OPTIONS = ["--headless=new", "--no-sandbox", "--disable-gpu", "--disable-dev-shm-usage", "--no-first-run"]
@@ -29,20 +29,34 @@ class Browser:
     def __init__(self, width: int = 1280, height: int = 1600) -> None:
         self.folder = tempfile.mkdtemp()
         driver = shutil.which("chromedriver") or "/usr/bin/chromedriver"
-        self.process = subprocess.Popen([driver, "--port=0"], stdout=subprocess.PIPE, stderr=subprocess.DEVNULL, text=True)
+        self.process = subprocess.Popen(
+            [driver, "--port=0"], stdout=subprocess.PIPE, stderr=subprocess.DEVNULL, text=True
+        )
         assert self.process.stdout is not None
-        port = next(found[1] for line in self.process.stdout if (found := re.search(r"started successfully on port (\d+)", line)))
+        port = next(
+            found[1]
+            for line in self.process.stdout
+            if (found := re.search(r"started successfully on port (\d+)", line))
+        )
         self.base = f"http://127.0.0.1:{port}"
         options = [*_OPTIONS, f"--user-data-dir={self.folder}", f"--window-size={width},{height}"]
-        wanted = {"browserName": "chrome", "goog:chromeOptions": {"args": options}, "goog:loggingPrefs": {"performance": "ALL", "browser": "ALL"}}
+        wanted = {
+            "browserName": "chrome",
+            "goog:chromeOptions": {"args": options},
+            "goog:loggingPrefs": {"performance": "ALL", "browser": "ALL"},
+        }
         # (the protocol gives a script 30 seconds where none are named)
         wanted["timeouts"] = {"script": 240_000}
         self.session = ""
-        self.session = "/session/" + self.call("POST", "/session", {"capabilities": {"alwaysMatch": wanted}})["sessionId"]
+        self.session = (
+            "/session/" + self.call("POST", "/session", {"capabilities": {"alwaysMatch": wanted}})["sessionId"]
+        )
 
     def call(self, method: str, path: str, given: Optional[Dict[str, Any]] = None) -> Any:
         body = json.dumps(given or {}).encode() if method == "POST" else None
-        request = urllib.request.Request(self.base + self.session + path, body, {"Content-Type": "application/json"}, method=method)
+        request = urllib.request.Request(
+            self.base + self.session + path, body, {"Content-Type": "application/json"}, method=method
+        )
         try:
             with urllib.request.urlopen(request, timeout=300) as answer:
                 return json.load(answer)["value"]
@@ -77,6 +91,31 @@ class Browser:
             pressed += [{"type": "keyDown", "value": key}, {"type": "keyUp", "value": key}]
         pressed += [{"type": "keyUp", "value": key} for key in held]
         self.call("POST", "/actions", {"actions": [{"type": "key", "id": "keys", "actions": pressed}]})
+
+    def drag(self, identity: str, share: float) -> None:
+        """Drags the knob of a slider by a finger to this share of its length."""
+        script = "const input = document.getElementById(arguments[0]), box = input.getBoundingClientRect();"
+        script += "const at = (input.value - input.min) / (input.max - input.min);"
+        script += "return [box.left, box.width, box.top + box.height / 2, at];"
+        left, wide, y, begins = self.run(script, identity)
+        # (the knob is 16 wide, and its middle goes from 8 to 8 before the end)
+        places = [left + 8 + (wide - 16) * (begins + (share - begins) * part) for part in (0, 0.3, 0.6, 1)]
+        moves: List[Dict[str, Any]] = [
+            {"type": "pointerMove", "duration": 60, "x": round(x), "y": round(y)} for x in places
+        ]
+        pressed = [moves[0], {"type": "pointerDown", "button": 0}, *moves[1:], {"type": "pointerUp", "button": 0}]
+        finger = {"type": "pointer", "id": "finger", "parameters": {"pointerType": "touch"}, "actions": pressed}
+        self.call("POST", "/actions", {"actions": [finger]})
+
+    def tap(self, element: str) -> None:
+        """Taps on an element by a finger."""
+        pressed: List[Dict[str, Any]] = [
+            {"type": "pointerMove", "duration": 0, "x": 0, "y": 0, "origin": {ELEMENT: element}},
+            {"type": "pointerDown", "button": 0},
+            {"type": "pointerUp", "button": 0},
+        ]
+        finger = {"type": "pointer", "id": "finger", "parameters": {"pointerType": "touch"}, "actions": pressed}
+        self.call("POST", "/actions", {"actions": [finger]})
 
     def tab_to(self, identity: str) -> None:
         """Presses Tab until the element of this name has the focus."""
@@ -126,12 +165,16 @@ class Browser:
 
 #: The least contrast of a text of the page with what is below it, and that text.
 CONTRAST = """
-const channel = (value) => { value /= 255; return value <= 0.03928 ? value / 12.92 : Math.pow((value + 0.055) / 1.055, 2.4); };
+const channel = (value) => {
+  value /= 255;
+  return value <= 0.03928 ? value / 12.92 : Math.pow((value + 0.055) / 1.055, 2.4);
+};
 const light = ([r, g, b]) => 0.2126 * channel(r) + 0.7152 * channel(g) + 0.0722 * channel(b);
 const parts = (color) => (color.match(/[\\d.]+/g) || []).map(Number);
 const ground = (element) => {
   for (let at = element; at; at = at.parentElement) {
-    if (at.tagName === "svg") { const below = at.querySelector(".ground"); if (below) return parts(getComputedStyle(below).fill); }
+    const below = at.tagName === "svg" ? at.querySelector(".ground") : null;
+    if (below) return parts(getComputedStyle(below).fill);
     const found = parts(getComputedStyle(at).backgroundColor);
     if (found.length === 3 || found[3] === 1) return found;
   }
@@ -161,12 +204,39 @@ for (const svg of document.querySelectorAll("svg")) {
   const frame = svg.getBoundingClientRect();
   const texts = [...svg.querySelectorAll("text")].map((text) => [text.textContent, text.getBoundingClientRect()]);
   texts.forEach(([words, box], at) => {
-    if (box.left < frame.left - 1 || box.right > frame.right + 1 || box.top < frame.top - 1 || box.bottom > frame.bottom + 1) wrong.push(["out", words]);
+    const isWide = box.left < frame.left - 1 || box.right > frame.right + 1;
+    if (isWide || box.top < frame.top - 1 || box.bottom > frame.bottom + 1) wrong.push(["out", words]);
     for (const [other, place] of texts.slice(at + 1)) {
-      const apart = box.right <= place.left || place.right <= box.left || box.bottom <= place.top + 3 || place.bottom <= box.top + 3;
-      if (!apart) wrong.push([words, other]);
+      const isBeside = box.right <= place.left || place.right <= box.left;
+      if (!isBeside && box.bottom > place.top + 3 && place.bottom > box.top + 3) wrong.push([words, other]);
     }
   });
 }
 return wrong;
+"""
+
+#: How many points of each colour the pictures at these addresses have: a list for each, in the order of the colours.
+COLOURS = """
+const [addresses, colours] = arguments;
+const loaded = (address) => new Promise((done, fails) => {
+  const image = new Image();
+  image.onload = () => done(image);
+  image.onerror = () => fails(new Error("no picture: " + address.slice(0, 60)));
+  image.src = address;
+});
+const counted = (image) => {
+  const canvas = document.createElement("canvas");
+  [canvas.width, canvas.height] = [image.naturalWidth, image.naturalHeight];
+  const context = canvas.getContext("2d");
+  context.drawImage(image, 0, 0);
+  const points = context.getImageData(0, 0, canvas.width, canvas.height).data;
+  const counts = colours.map(() => 0);
+  for (let at = 0; at < points.length; at += 4) {
+    colours.forEach((colour, index) => {
+      if (colour.every((part, channel) => Math.abs(points[at + channel] - part) <= 6)) counts[index] += 1;
+    });
+  }
+  return counts;
+};
+return Promise.all(addresses.map(loaded)).then((images) => images.map(counted));
 """

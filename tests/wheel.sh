@@ -1,28 +1,36 @@
 #!/usr/bin/env bash
-# Builds the wheel twice, to the same bytes, and tries it in a fresh environment of each Python that is found, or of those
-# that HIKEBOX_PYTHONS names; and the wheel of dist/, or of the folder HIKEBOX_LIB_DIR, in one of Debian's.
+# Builds the wheel twice, to the same bytes, and tries it in a fresh environment of each Python that is found, or of
+# those that HIKEBOX_PYTHONS names; and in one of Debian's the wheel of dist/, or of the folder HIKEBOX_LIB_DIR, what
+# pip makes of the package's folder and of a source archive without an index. Each engine runs where the tags of its
+# wheel say.
 set -euo pipefail
 top=$(cd "$(dirname "${BASH_SOURCE[0]}")/.." && pwd)
 folder=${HIKEBOX_LIB_DIR:-$top/dist}
 work=$(mktemp -d)
 trap 'rm -rf "$work"' EXIT
-export PYTHONDONTWRITEBYTECODE=1
+export PYTHONDONTWRITEBYTECODE=1 PIP_NO_INDEX=1 PIP_DISABLE_PIP_VERSION_CHECK=1
+unset PIP_FIND_LINKS HIKEBOX_PLATFORM
+export HIKEBOX_LIBRARY=$folder/libhikebox.so
 
 fails() {
   echo "tests/wheel.sh: $*" >&2
   exit 1
 }
 
-# tries_wheel PYTHON WHEEL: installs the wheel into a fresh environment of this Python, and tries it there
-tries_wheel() {
-  local python=$1 wheel=$2 fresh
+# tries PYTHON WHAT: installs a wheel, a folder or an archive into a fresh environment of this Python, and tries it
+# there
+tries() {
+  local python=$1 fresh
   fresh=$(mktemp -d "$work/fresh.XXXXXX")
   "$python" -m venv --without-pip "$fresh/venv"
-  PIP_NO_INDEX=1 PIP_DISABLE_PIP_VERSION_CHECK=1 "$python" -m pip --python "$fresh/venv/bin/python" install -q "$wheel"
+  "$python" -m pip --python "$fresh/venv/bin/python" install -q "$2"
   (
     cd "$fresh"
     unset HIKEBOX_LIBRARY PYTHONPATH
     venv/bin/python -W error "$top/python/tests/smoke.py" "$fresh/venv"
+    for file in man/man1/hikebox.1 bash-completion/completions/hikebox zsh/site-functions/_hikebox; do
+      [ -s "venv/share/$file" ] || fails "$python has no share/$file"
+    done
     [ "$(venv/bin/hikebox plan --steps 1 'spaced(1)')" = '0: 0 next 1000' ] || fails "hikebox plan of $python"
     [ "$(venv/bin/hikebox storm --seconds 1 --csv 'recurs(0)' | tail -n 1)" = 0,800,800,0,800,0,0,0,0 ] || fails "hikebox storm of $python"
     status=0
@@ -31,9 +39,24 @@ tries_wheel() {
   )
 }
 
-wheel=$("$top/python/build-wheel.sh" "$folder/libhikebox.so" "$work/wheels")
-again=$("$top/python/build-wheel.sh" "$folder/libhikebox.so" "$work/again")
+# has_its_tag WHEEL: the library in it asks for no glibc past the one that the tag names, and for no other library than
+# that
+has_its_tag() {
+  local least latest beside
+  python3 -m zipfile -e "$1" "$work/unpacked"
+  mv "$work/unpacked/hikebox/libhikebox.so" "$work/engine.so"
+  least=$(grep -oE 'manylinux_2_[0-9]+' <<<"$1" | cut -d _ -f 3)
+  latest=$(readelf -V "$work/engine.so" | grep -oE 'GLIBC_2\.[0-9]+' | cut -d . -f 2 | sort -n | tail -n 1)
+  [ -n "$least" ] && [ "$latest" -le "$least" ] || fails "${1##*/} asks for glibc 2.$latest"
+  beside=$(readelf -d "$work/engine.so" | sed -n 's/.*(NEEDED).*\[\(.*\)\]/\1/p' | tr '\n' ' ')
+  [ "$beside" = 'libc.so.6 ' ] || fails "${1##*/} needs $beside"
+}
+
+backend=$top/python/build_backend.py
+wheel=$(/usr/bin/python3 "$backend" wheel "$work/wheels")
+again=$(/usr/bin/python3 "$backend" wheel "$work/again")
 cmp "$wheel" "$again" || fails "two builds of the wheel differ"
+for built in "$folder"/hikebox-*.whl "$folder"/aarch64/hikebox-*.whl; do has_its_tag "$built"; done
 
 tried=' '
 found="/usr/bin/python3.? /usr/bin/python3.?? ${HOME:-}/.pyenv/versions/*/bin/python3"
@@ -43,7 +66,10 @@ for python in /usr/bin/python3 ${HIKEBOX_PYTHONS:-$found}; do
   case $tried in *" $version "*) continue ;; esac
   [ -n "$version" ] || continue
   tried="$tried$version "
-  tries_wheel "$python" "$wheel"
+  tries "$python" "$wheel"
 done
-tries_wheel /usr/bin/python3 "$folder"/hikebox-*.whl
+tries /usr/bin/python3 "$folder"/hikebox-*.whl
+unset HIKEBOX_LIBRARY
+tries /usr/bin/python3 "$top/python"
+tries /usr/bin/python3 "$(/usr/bin/python3 "$backend" sdist "$work/sdist")"
 echo "tests/wheel.sh: $(basename "$wheel") runs by Python$tried"

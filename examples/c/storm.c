@@ -9,7 +9,8 @@
 #include <stdlib.h>
 
 /* At most eight retries, 100, 200, 400.. milliseconds apart, each spread from nothing to the whole. */
-static const char policy_json[] = "{\"meet\":[{\"recurs\":8},{\"jitter\":[0,0,1000,{\"cap\":[10000,{\"exponential\":[100,2]}]}]}]}";
+static const char policy_json[] =
+    "{\"meet\":[{\"recurs\":8},{\"jitter\":[0,0,1000,{\"cap\":[10000,{\"exponential\":[100,2]}]}]}]}";
 
 static void check(hikebox_status status, const char *call) {
     if (status == HIKEBOX_OK) return;

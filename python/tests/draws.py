@@ -3,7 +3,20 @@
 from __future__ import annotations
 
 import threading
-from typing import Callable, List, Optional
+from typing import Any, Callable, List, Optional
+
+from hikebox import Refusal, Ticket
+
+
+def number(drawn: Any) -> Optional[int]:
+    """The number of a ticket in its window, or None of a refusal."""
+    assert isinstance(drawn, (Ticket, Refusal)) and bool(drawn) == isinstance(drawn, Ticket)
+    return drawn.number if isinstance(drawn, Ticket) else None
+
+
+def engines_number(drawn: Any) -> Optional[int]:
+    """The number of a ticket of a quota as the engine has it, with the window in its upper half."""
+    return drawn.window * 2**32 + drawn.number if drawn else None
 
 
 def repeated(call: Callable[[], object], times: int) -> Callable[[], None]:
@@ -18,7 +31,7 @@ def repeated(call: Callable[[], object], times: int) -> Callable[[], None]:
 
 def drawn_by(
     count: int,
-    draw: Callable[[], Optional[int]],
+    draw: Callable[[], Any],
     first: Callable[[], None] = lambda: None,
 ) -> List[List[int]]:
     """What each of so many threads drew until it was refused.
@@ -32,8 +45,8 @@ def drawn_by(
         first()
         ready.wait()
         ticket = draw()
-        while ticket is not None:
-            mine.append(ticket)
+        while ticket:
+            mine.append(ticket.number)
             ticket = draw()
 
     threads = [threading.Thread(target=work, args=(mine,)) for mine in drawn]

@@ -53,7 +53,7 @@ FORMS: Dict[str, Form] = {
     "exponential": _numbers(D=_ANY, F=(1, 1000)),
     "exponential_milli": _numbers(D=_ANY, F=(1, 1000000)),
     "fibonacci": _numbers(D=_ANY),
-    "decorrelated": _numbers(LANE=(0, 3), D=_ANY, F=(1000, 1000000), MOST=_ANY),
+    "decorrelated": _numbers(LANE=(0, 3), D=_ANY, F=(1000, 1000000), MAX=_ANY),
     "unfold": _numbers(S=_ANY, M=_ANY, A=_ANY),
     "lone": _numbers(D=_ANY),
     "meet": _BOTH,
@@ -66,7 +66,7 @@ FORMS: Dict[str, Form] = {
     "set": _delay(0),
     "cap": _delay(0),
     "add_out": _ONE,
-    "jitter": Form(("number", "number", "number", "plan"), ("LANE", "LEAST", "MOST"), ((0, 3), (0, 10000), (0, 10000))),
+    "jitter": Form(("number", "number", "number", "plan"), ("LANE", "MIN", "MAX"), ((0, 3), (0, 10000), (0, 10000))),
     "within": _delay(0),
     "ends_by": _delay(0),
     "renew": _delay(1),
@@ -89,14 +89,14 @@ _CHOICES = {
 }
 _OWN_RANGES = {
     "unfold": f"each from 0 to {FAR}",
-    "decorrelated": f"LANE from 0 to 3, D from 0 to MOST, F from 1000 to 1000000, MOST from D to {FAR}",
-    "jitter": "LANE from 0 to 3, LEAST at most MOST, MOST at most 10000",
+    "decorrelated": f"LANE from 0 to 3, D from 0 to MAX, F from 1000 to 1000000, MAX from D to {FAR}",
+    "jitter": "LANE from 0 to 3, MIN at most MAX, MAX at most 10000",
 }
 
 #: The two numbers of a node of which the first is at most the second.
 _AT_MOST = {"decorrelated": (1, 3), "jitter": (1, 2)}
 
-_WANTED = "a plan is a string or an object of one member"
+_WANTED = "expected a plan, a string or an object with one member"
 
 
 class Found(NamedTuple):
@@ -143,11 +143,11 @@ def _size(value: Any, place: str) -> Tuple[int, int]:
         lesser, greater = _AT_MOST[name]
         in_range = in_range and numbers[lesser] <= numbers[greater]
     if not in_range:
-        raise Wrong(Fault.OUT_OF_RANGE, place, f"{_spelling(name)}; found {_shown(value)}")
+        raise Wrong(Fault.OUT_OF_RANGE, place, f"{_spelling(name)}, got {_shown(value)}")
     if depth > MOST_DEPTH:
-        raise Wrong(Fault.TOO_DEEP, place, f"a plan is at most {MOST_DEPTH} deep")
+        raise Wrong(Fault.TOO_DEEP, place, f"expected a plan at most {MOST_DEPTH} deep")
     if nodes > MOST_NODES:
-        raise Wrong(Fault.TOO_MANY, place, f"a plan has at most {MOST_NODES} nodes")
+        raise Wrong(Fault.TOO_MANY, place, f"expected a plan of at most {MOST_NODES} nodes")
     return nodes, depth
 
 
@@ -158,9 +158,9 @@ def _spelt(value: Any, place: str) -> Tuple[str, List[Any]]:
             return value, []
         raise _named(value, value, place)
     if not isinstance(value, dict):
-        raise Wrong(Fault.NOT_A_PLAN, place, f"{_WANTED}; found {_shown(value)}")
+        raise Wrong(Fault.NOT_A_PLAN, place, f"{_WANTED}, got {_shown(value)}")
     if len(value) != 1:
-        raise Wrong(Fault.NOT_A_PLAN, place, f"{_WANTED}, and this has {len(value)}")
+        raise Wrong(Fault.NOT_A_PLAN, place, f"{_WANTED}, got one with {len(value)}")
     ((name, inner),) = value.items()
     if name not in FORMS:
         raise _named(name, value, place)
@@ -204,7 +204,7 @@ _FOREIGN = {
 def _named(name: str, value: Any, place: str) -> Wrong:
     """The fault of a node of this name that has not its form, or that there is not."""
     if name in NAMES or name in FORMS:
-        return Wrong(Fault.NOT_A_PLAN, place, f"{_spelling(name)}; found {_shown(value)}")
+        return Wrong(Fault.NOT_A_PLAN, place, f"{_spelling(name)}, got {_shown(value)}")
     if name in _FOREIGN:
         return Wrong(Fault.NOT_A_PLAN, place, f'no node is called "{name}"; did you mean "{_FOREIGN[name]}"?')
     near = [(distance, known) for known in _ALL for distance in [_edits(name, known)] if distance <= 2]
@@ -217,7 +217,7 @@ def _named(name: str, value: Any, place: str) -> Wrong:
 def _spelling(name: str) -> str:
     """How the node of this name is spelt."""
     if name in NAMES:
-        return f'"{name}" is spelt "{name}"'
+        return f'expected "{name}"'
     form = FORMS[name]
     letters = iter(form.letters)
     items = ",".join(next(letters) if kind == "number" else _WORDS[kind] for kind in form.kinds)
@@ -226,7 +226,7 @@ def _spelling(name: str) -> str:
     if name in _OWN_RANGES:
         said = [_OWN_RANGES[name]]
     inner = items if len(form.kinds) == 1 else f"[{items}]"
-    return ", ".join([f'"{name}" is spelt {{"{name}":{inner}}}', *said])
+    return ", ".join([f'expected {{"{name}":{inner}}}', *said])
 
 
 def _shown(value: Any) -> str:

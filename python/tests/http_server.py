@@ -1,13 +1,30 @@
-"""A server on loopback that answers what a test says."""
+"""A server on loopback that fails as a test says."""
 
 from __future__ import annotations
 
 import socket
+import struct
+import time
+from dataclasses import dataclass, field
 from http.server import BaseHTTPRequestHandler, ThreadingHTTPServer
-from typing import Any, Callable, Dict, List, Tuple
+from typing import Any, Callable, Dict, List, Optional, Tuple
 
-#: What the server answers: a status and headers; status 0 is a connection that is broken with no answer.
-Answer = Tuple[int, Dict[str, str]]
+
+@dataclass
+class Answer:
+    """What the server does at a request. A status of 0 is a connection that is closed with no answer."""
+
+    status: int
+    headers: Dict[str, str] = field(default_factory=dict)
+    #: The body, where it is not the number of the request; and how much of it is sent before the connection is closed.
+    body: Optional[bytes] = None
+    sends: Optional[int] = None
+    #: Seconds that pass before the answer, and before each byte of its body.
+    after: float = 0.0
+    drips: float = 0.0
+    #: Whether the body has no length, and whether the connection is reset in place of an answer.
+    is_chunked: bool = False
+    resets: bool = False
 
 
 class Server(ThreadingHTTPServer):
@@ -17,6 +34,8 @@ class Server(ThreadingHTTPServer):
         super().__init__(("127.0.0.1", 0), Handler)
         self.answers: List[Answer] = []
         self.requests: List[Tuple[str, str, bytes]] = []
+        #: How many connections were made.
+        self.connections = 0
         #: What is called at each request.
         self.took: Callable[[], None] = _nothing
 
@@ -25,11 +44,24 @@ class Server(ThreadingHTTPServer):
         return f"http://127.0.0.1:{self.server_port}"
 
     def says(self, *answers: Any) -> None:
-        self.answers = []
-        for answer in answers:
-            self.answers.append((answer, {}) if isinstance(answer, int) else answer)
+        """The answers in turn, the last one repeated: statuses, statuses with headers, or `Answer`s."""
+        self.answers = [_answer_of(answer) for answer in answers]
         self.requests = []
+        self.connections = 0
         self.took = _nothing
+
+    def get_request(self) -> Any:
+        self.connections += 1
+        return super().get_request()
+
+    def handle_error(self, request: Any, client_address: Any) -> None:
+        pass  # a client that is gone
+
+
+def _answer_of(answer: Any) -> Answer:
+    if isinstance(answer, Answer):
+        return answer
+    return Answer(answer) if isinstance(answer, int) else Answer(*answer)
 
 
 def _nothing() -> None:
@@ -38,6 +70,7 @@ def _nothing() -> None:
 
 class Handler(BaseHTTPRequestHandler):
     protocol_version = "HTTP/1.1"
+    disable_nagle_algorithm = True
     server: Server
 
     def answer(self) -> None:
@@ -45,20 +78,44 @@ class Handler(BaseHTTPRequestHandler):
         self.server.requests.append((self.command, self.path, body))
         self.server.took()
         answers = self.server.answers
-        status, headers = answers.pop(0) if len(answers) > 1 else answers[0]
-        if status == 0:
-            self.close_connection = True
-            self.connection.shutdown(socket.SHUT_RDWR)
-            return
-        text = f"answer {len(self.server.requests)}".encode()
-        self.send_response(status)
-        for name, value in headers.items():
-            self.send_header(name, value)
-        self.send_header("Content-Length", str(len(text)))
-        self.end_headers()
-        self.wfile.write(text)
+        answer = answers.pop(0) if len(answers) > 1 else answers[0]
+        number = len(self.server.requests)
+        time.sleep(answer.after)
+        if answer.status == 0:
+            self._cuts(answer.resets)
+        else:
+            self._sends(answer, f"answer {number}".encode() if answer.body is None else answer.body)
 
-    do_GET = do_POST = do_PUT = answer
+    def _sends(self, answer: Answer, body: bytes) -> None:
+        self.send_response(answer.status)
+        for name, value in answer.headers.items():
+            self.send_header(name, value)
+        name, value = ("Transfer-Encoding", "chunked") if answer.is_chunked else ("Content-Length", str(len(body)))
+        self.send_header(name, value)
+        self.end_headers()
+        if self.command == "HEAD":
+            return
+        if answer.is_chunked:
+            body = b"%x\r\n%s\r\n0\r\n\r\n" % (len(body), body)
+        if answer.drips:
+            for at in range(len(body)):
+                time.sleep(answer.drips)
+                self.wfile.write(body[at : at + 1])
+        else:
+            self.wfile.write(body if answer.sends is None else body[: answer.sends])
+        if answer.sends is not None:
+            self._cuts(False)
+
+    def _cuts(self, resets: bool) -> None:
+        """Ends the connection in the middle of an answer."""
+        self.close_connection = True
+        if resets:
+            self.connection.setsockopt(socket.SOL_SOCKET, socket.SO_LINGER, struct.pack("ii", 1, 0))
+            self.connection.close()
+        else:
+            self.connection.shutdown(socket.SHUT_RDWR)
+
+    do_GET = do_POST = do_PUT = do_HEAD = answer
 
     def log_message(self, *_: Any) -> None:
         pass

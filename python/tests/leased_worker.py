@@ -95,12 +95,12 @@ def main() -> None:
             pauses.look()
             before = uptime()
             ticket = leased.draw()
-            if ticket is None:
+            if not ticket:
                 if how.get("patient"):
                     time.sleep(0.002)
                     continue
                 return
-            os.write(output, f"{ticket} {before} {uptime()}\n".encode())
+            os.write(output, f"{ticket.number} {before} {uptime()}\n".encode())
             mine += 1
             if mine == most:
                 os.kill(os.getpid(), signal.SIGKILL)

@@ -74,12 +74,12 @@ def main() -> None:
         for _ in range(how.get("each", 0)):
             request()
         ticket = quota.draw()
-        if ticket is None:
+        if not ticket:
             if how.get("patient"):
                 time.sleep(0.002)
                 continue
             break
-        os.write(output, f"ticket {ticket} {store.window if ticket >= 0 else -1}\n".encode())
+        os.write(output, f"ticket {ticket.number} {store.window if ticket.number >= 0 else -1}\n".encode())
         drawn += 1
         if drawn == most:
             os.kill(os.getpid(), signal.SIGKILL)

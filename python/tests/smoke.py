@@ -1,6 +1,7 @@
 """What an installed hikebox is tried with, by any Python with nothing else installed: its examples, and one of each.
 
-    python smoke.py FOLDER    the folder that hikebox has to be installed in
+    python smoke.py FOLDER [--no-lab]    the folder that hikebox has to be installed in; without `hikebox lab`, which
+                                         starts interpreters by their own name
 """
 
 import asyncio
@@ -61,7 +62,8 @@ def main() -> None:
         return "won"
 
     assert asyncio.run(later()) == "won"
-    tries_lab()
+    if "--no-lab" not in sys.argv:
+        tries_lab()
     try:
         hikebox.retry(hikebox.recurs(1))(int)("x")
     except ValueError as error:

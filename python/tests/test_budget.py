@@ -12,7 +12,7 @@ from typing import Any, List, Tuple
 
 import pytest
 
-from draws import drawn_by
+from draws import drawn_by, number
 from hikebox import Budget, BudgetClosed, BudgetError, BudgetInUse, RetryState, Retrying, recurs
 
 
@@ -23,14 +23,14 @@ def granted_and_ending(state: RetryState) -> Tuple[int, str]:
 
 def test_worked_budgets() -> None:
     budget = Budget(2)
-    assert [budget.draw() for _ in range(4)] == [0, 1, None, None]
+    assert [number(budget.draw()) for _ in range(4)] == [0, 1, None, None]
     assert budget.granted == 2 and not budget.closed
     assert budget.close() == 2 == budget.close() == budget.granted
     assert budget.closed
     with pytest.raises(BudgetClosed):
         budget.draw()
     empty = Budget(0)
-    assert empty.draw() is None
+    assert not empty.draw()
     assert empty.close() == 0
     for bad in (-1, 2**32 + 1):
         with pytest.raises(BudgetError):
@@ -44,12 +44,12 @@ def test_worked_budgets() -> None:
 
 def test_a_rising_budget() -> None:
     budget = Budget.rising(1)
-    assert [budget.draw() for _ in range(3)] == [0, None, None]
+    assert [number(budget.draw()) for _ in range(3)] == [0, None, None]
     assert budget.raise_to(4) == 4 == budget.limit
-    assert [budget.draw() for _ in range(5)] == [1, 2, 3, None, None]
+    assert [number(budget.draw()) for _ in range(5)] == [1, 2, 3, None, None]
     assert budget.raise_to(2) == 4
     assert budget.raise_to(5) == 5
-    assert budget.draw() == 4
+    assert number(budget.draw()) == 4
     assert budget.close() == 5
     with pytest.raises(BudgetClosed):
         budget.raise_to(9)
@@ -86,7 +86,7 @@ def test_a_budget_serves_any_number_of_retries() -> None:
         for _ in range(70_000):
             assert retrying(fails) == (1, "SCHEDULE_DONE")
         assert budget.granted == 70_000
-        assert [budget.draw(), budget.draw()] == [70_000, None]
+        assert [number(budget.draw()), number(budget.draw())] == [70_000, None]
         assert retrying(fails) == (0, "BUDGET_REFUSED")
         assert budget.close() == 70_001
 
@@ -97,7 +97,7 @@ def test_a_limit_raised_by_some_gives_as_many_more_whatever_was_refused() -> Non
         assert budget.raise_to(limit) == limit
         drawn = drawn_by(16, budget.draw)
         assert sum(map(len, drawn)) == more
-        assert [budget.draw() for _ in range(1000)] == [None] * 1000
+        assert [number(budget.draw()) for _ in range(1000)] == [None] * 1000
     assert budget.close() == 151
 
 
@@ -141,7 +141,7 @@ def test_a_budget_that_rises_while_threads_draw() -> None:
 
     def work(mine: List[int]) -> None:
         while not stop.is_set():
-            ticket = budget.draw()
+            ticket = number(budget.draw())
             if ticket is not None:
                 mine.append(ticket)
 
@@ -163,7 +163,7 @@ def test_counts_while_others_draw() -> None:
     budget = Budget(50_000)
 
     def work() -> None:
-        while budget.draw() is not None:
+        while budget.draw():
             pass
 
     threads = [threading.Thread(target=work) for _ in range(4)]
@@ -188,12 +188,12 @@ def test_a_forked_child_begins_anew() -> None:
         status = 1
         try:
             retrying = Retrying(recurs(9), budget=budget, fallback=lambda state: state.granted)
-            found = (retrying(int, "3"), retrying(int, "x"), retrying(int, "x"), rising.draw(), budget.close())
+            found = (retrying(int, "3"), retrying(int, "x"), retrying(int, "x"), number(rising.draw()), budget.close())
             status = 0 if found == (3, 2, 0, 0, 2) else 2
         finally:
             os._exit(status)
     assert os.waitstatus_to_exitcode(os.waitpid(child, 0)[1]) == 0
-    assert budget.draw() == 1
+    assert number(budget.draw()) == 1
 
 
 def test_a_child_that_is_forked_in_a_retry_goes_on_with_it() -> None:
@@ -248,12 +248,9 @@ def test_a_closed_budget_says_so_alone() -> None:
     assert caught.value.__context__ is None
 
 
-def test_old_names() -> None:
-    with pytest.warns(DeprecationWarning, match="Budget.granted"):
-        assert Budget(5).count == 0
-    budget = Budget(5)
-    with pytest.raises(TypeError):
-        pickle.dumps(budget)
+def test_it_can_not_be_pickled() -> None:
+    with pytest.raises(TypeError, match="belongs to its process"):
+        pickle.dumps(Budget(5))
 
 
 def test_policies_and_retries_go_on_in_a_forked_child() -> None:

@@ -26,7 +26,9 @@ def hikebox(*words: str, text: Optional[str] = None, **how: Any) -> Tuple[int, s
     """Its status, its output and its errors."""
     command = [sys.executable, "-m", "hikebox", *words]
     given: Any = {"input": text} if text is not None else {"stdin": subprocess.DEVNULL}
-    done = subprocess.run(command, capture_output=True, text=True, env=python_environment(), timeout=30, **given, **how)
+    done = subprocess.run(
+        command, capture_output=True, text=True, env=python_environment(), timeout=120, **given, **how
+    )
     return done.returncode, done.stdout, done.stderr
 
 
@@ -126,7 +128,7 @@ def test_a_deadline_of_all_attempts() -> None:
     # no attempt begins past it: the next one would a minute later
     began = time.monotonic()
     said = hikebox("run", "-v", "--deadline", "50", "--policy", "spaced(60)", "--", "sh", "-c", "exit 3")
-    assert said == (3, "", "hikebox: attempt 1: status 3; the policy was done\n")
+    assert said == (3, "", "hikebox: attempt 1: status 3; the deadline left no time for another attempt\n")
     assert time.monotonic() - began < 50
     assert hikebox("run", *tells[:-1], "exit ${HIKEBOX_SECONDS_LEFT-7}")[0] == 7
     refused = hikebox("run", "--deadline", "0.0004", "--", "true")
@@ -169,9 +171,24 @@ def test_a_quota_over_all_runs(tmp_path: Path) -> None:
     assert runs(tmp_path) == 2 + 3
     damaged = tmp_path / "damaged"
     damaged.write_text("something else")
-    assert hikebox("run", "--quota", f"9/100%/60s@{damaged}", "--", *command)[0] == 7
+    status, _, errors = hikebox("run", "--quota", f"9/100%/60s@{damaged}", "--", *command)
+    assert status == 2 and f"{damaged}: expected a folder, got a file. Counts are kept in a folder now;" in errors
+    for slot in (tmp_path / "quota").glob("*/*"):
+        slot.write_text("something else")
+    status, _, errors = hikebox(*words, *command)
+    assert status == 7 and "expected the slot of 'quota of 1000000000 ms of run'" in errors
     assert runs(tmp_path) == 2 + 3 + 1
-    for bad in ("x", "1/1%/60s", "1/1%@f", "1/x%/60s@f", "-1/1%/60s@f", "1/-1%/60s@f", "1/1%/0s@f", "1/1/60@f", "1/1%/60s@"):
+    for bad in (
+        "x",
+        "1/1%/60s",
+        "1/1%@f",
+        "1/x%/60s@f",
+        "-1/1%/60s@f",
+        "1/-1%/60s@f",
+        "1/1%/0s@f",
+        "1/1/60@f",
+        "1/1%/60s@",
+    ):
         assert hikebox("run", f"--quota={bad}", "--", "false")[0] == 2, bad
     assert hikebox("run", "--quota", quota, "--budget", "1", "--", "false")[0] == 2
 
@@ -269,11 +286,11 @@ def test_plan_beside_zsched() -> None:
 
 
 def test_faults(tmp_path: Path) -> None:
-    recurs = '"recurs" is spelt {"recurs":N}, N from 0 to 4611686018427387903; found {"recurs":-1}'
+    recurs = 'expected {"recurs":N}, N from 0 to 4611686018427387903, got {"recurs":-1}'
     for text, fault, place, hint in (
         ('{"recurs":-1}', "not a plan", "top", recurs),
         ('{"first":{"recurs":-1}}', "not a plan", "first", recurs),
-        ('{"nothing":' * 32 + '"forever"' + "}" * 32, "too deep", "top", "a plan is at most 32 deep"),
+        ('{"nothing":' * 32 + '"forever"' + "}" * 32, "too deep", "top", "expected a plan at most 32 deep"),
     ):
         where = "" if place == "top" else f"{place}: "
         assert hikebox("plan", text=text) == (3, "", f"hikebox: {fault}: {where}{hint}\n")

@@ -86,7 +86,15 @@ def test_a_success_that_is_counted_as_such_costs_no_more() -> None:
     quota = Quota(0, 1, 3600, counts_successes=True)
     retrying = Retrying(recurs(3), budget=quota)
     retrying(succeeds)
-    assert functions(lambda: retrying(succeeds))[1:] == ["run", "_deposit_won", "deposit", "lend", "moment", "deposit", "give_back"]
+    assert functions(lambda: retrying(succeeds))[1:] == [
+        "run",
+        "_deposit_won",
+        "deposit",
+        "lend",
+        "moment",
+        "deposit",
+        "give_back",
+    ]
     assert quota.seen().asked == 2
 
 

@@ -13,12 +13,15 @@ import pytest
 import reference
 
 from hikebox import (
+    AsyncRepeating,
     AsyncRetrying,
     Budget,
     Ending,
     Policy,
     PolicyError,
     Quota,
+    Repeating,
+    ResultRefused,
     Retrying,
     exponential,
     forever,
@@ -29,6 +32,7 @@ from hikebox import (
     retry,
     seconds_left,
     spaced,
+    state_of,
 )
 from hikebox.testing import VirtualClock, no_waits
 
@@ -70,7 +74,7 @@ kinds = pytest.mark.parametrize("kind", ["blocking", "async"])
 @kinds
 def test_no_attempt_is_planned_past_the_deadline_and_no_ticket_is_drawn_for_it(kind: str, clock: VirtualClock) -> None:
     # attempts of 0.03 s fail at 0.03, 0.16 and 0.29, and the next ones would begin at 0.13, 0.26 and 0.39
-    done = Ending.SCHEDULE_DONE
+    done = Ending.DEADLINE
     assert runs(kind, clock, spaced(0.1), 0.03, deadline=0.259) == ([(0, 0.259), (0.13, 0.129)], 1, done)
     clock = VirtualClock(7.0)
     seen = [(7.0, 0.26), (7.13, 0.13), (7.26, 0.0)]
@@ -111,7 +115,198 @@ def test_it_counts_from_the_start_of_the_first_attempt(kind: str, clock: Virtual
     # 0.005 s after 0.24 is 0.245; by `ends_by`, from the first failure, there are attempts up to 0.49
     assert runs(kind, clock, spaced(0.005), 0.24, deadline=0.25)[0] == [(0, 0.25), (0.245, 0.005)]
     assert len(runs(kind, VirtualClock(), spaced(0.005).ends_by(0.25), 0.24)[0]) == 3
-    assert runs(kind, VirtualClock(), forever(), 0.251, deadline=0.25)[1:] == (0, Ending.SCHEDULE_DONE)
+    assert runs(kind, VirtualClock(), forever(), 0.251, deadline=0.25)[1:] == (0, Ending.DEADLINE)
+
+
+# Not only the plan: the moment at which an attempt begins
+
+
+class Late:
+    """A clock whose sleeps take longer than they were asked to, by so many seconds, and a call that fails at once."""
+
+    def __init__(self, late: float, clock: VirtualClock) -> None:
+        self.late = late
+        self.clock = clock
+        self.began: List[float] = []
+
+    def sleep(self, seconds: float) -> None:
+        self.clock.advance(seconds + self.late)
+
+    async def sleep_async(self, seconds: float) -> None:
+        self.sleep(seconds)
+
+    def fails(self, *_: Any) -> None:
+        self.began.append(round(self.clock(), 6))
+        raise ConnectionError(len(self.began))
+
+    async def fails_later(self) -> None:
+        self.fails()
+
+    def hook(self, _: Any) -> None:
+        self.clock.advance(self.late)
+
+
+def ended(kind: str, late: Late, policy: Policy, deadline: float, **how: Any) -> Any:
+    """The exception that a retry raises in the end."""
+    blocks = kind in ("blocking", "loop")
+    how = {"deadline": deadline, "clock": late.clock, "sleep": late.sleep if blocks else late.sleep_async, **how}
+    with pytest.raises(ConnectionError) as caught:
+        if kind == "blocking":
+            Retrying(policy, **how)(late.fails)
+        elif kind == "loop":
+            for attempt in Retrying(policy, **how):
+                with attempt:
+                    late.fails()
+        else:
+            asyncio.run(in_coroutine(kind, late, AsyncRetrying(policy, **how)))
+    return caught.value
+
+
+async def in_coroutine(kind: str, late: Late, retrying: AsyncRetrying) -> None:
+    if kind == "async":
+        await retrying(late.fails_later)
+        return
+    async for attempt in retrying:
+        with attempt:
+            late.fails()
+
+
+every_kind = pytest.mark.parametrize("kind", ["blocking", "async", "loop", "async loop"])
+
+
+@every_kind
+def test_a_sleep_that_takes_too_long_is_followed_by_no_attempt(kind: str, clock: VirtualClock) -> None:
+    late, quota = Late(0.2, clock), Quota(9, 0, 3600, clock=clock)
+    error = ended(kind, late, spaced(0.01), 0.05, budget=quota)
+    assert late.began == [0] and error.args == (1,)
+    state = state_of(error)
+    assert state is not None and state is error.retry_state
+    assert (state.ending, state.attempt_number, state.granted) == (Ending.DEADLINE, 1, 1)
+    assert error.__notes__ == [
+        "hikebox: gave up after 1 attempt in 0.000 s: the deadline left no time for another attempt"
+    ]
+    # the ticket of the attempt that was not made came back
+    assert (quota.seen().given, quota.seen().left, quota.close()) == (0, 9, 0)
+
+
+@every_kind
+@pytest.mark.parametrize("late, began", [(0.039, [0, 0.049]), (0.04, [0, 0.05]), (0.041, [0])])
+def test_an_attempt_at_the_deadline_is_in_time(kind: str, late: float, began: List[float], clock: VirtualClock) -> None:
+    lates = Late(late, clock)
+    ended(kind, lates, spaced(0.01), 0.05)
+    assert lates.began == began
+
+
+@every_kind
+@pytest.mark.parametrize("hook", ["before_sleep", "before", "after"])
+@pytest.mark.parametrize("policy", [forever(), spaced(0.01)], ids=["no wait", "a wait"])
+def test_a_hook_that_takes_too_long_is_followed_by_no_attempt(
+    kind: str, hook: str, policy: Policy, clock: VirtualClock
+) -> None:
+    late, quota = Late(0.03, clock), Quota(9, 0, 3600, clock=clock)
+    sleep = clock.sleep if kind in ("blocking", "loop") else clock.sleep_async
+    error = ended(kind, late, policy, 0.05, budget=quota, sleep=sleep, **{hook: late.hook})
+    state = state_of(error)
+    assert state is not None and state.ending is Ending.DEADLINE
+    assert late.began and all(moment <= 0.05 for moment in late.began[1:])
+    assert state.attempt_number == len(late.began) == error.args[0]
+    assert quota.close() == len(late.began) - 1
+
+
+def test_a_repetition_that_wakes_too_late_gives_its_last_result(clock: VirtualClock) -> None:
+    late = Late(0.2, clock)
+    runs: List[float] = []
+
+    def ticks() -> str:
+        runs.append(clock())
+        return f"tick {len(runs)}"
+
+    async def ticks_later() -> str:
+        return ticks()
+
+    won: List[Any] = []
+    how: Any = {"deadline": 0.05, "clock": clock, "on_success": lambda state: won.append(state.ending)}
+    repeating = Repeating(spaced(0.01), sleep=late.sleep, **how)
+    assert repeating(ticks) == "tick 1"
+    runs.clear()
+    assert repeating.copy(on_success=None)(ticks) == "tick 1"
+    assert asyncio.run(AsyncRepeating(spaced(0.01), sleep=late.sleep_async, **how)(ticks_later)) == "tick 2"
+    assert won == [Ending.DEADLINE] * 2 and repeating.statistics.deadline == 1
+    assert repeating.statistics.by_ending["deadline"] == 1
+
+
+def test_a_repetition_that_is_stopped_while_it_waits_gives_its_last_result() -> None:
+    event = threading.Event()
+    repeating = Repeating(spaced(60), stop=event, before_sleep=lambda state: event.set())
+    assert repeating(lambda: "tick") == "tick" and repeating.statistics.stopped == 1
+
+
+def test_a_fallback_and_a_refused_result_come_of_a_retry_that_wakes_too_late(clock: VirtualClock) -> None:
+    late = Late(0.2, clock)
+    how: Any = {"deadline": 0.05, "clock": clock, "sleep": late.sleep}
+    assert Retrying(spaced(0.01), fallback=lambda state: state.ending, **how)(late.fails) is Ending.DEADLINE
+    with pytest.raises(ResultRefused) as caught:
+        Retrying(spaced(0.01), on_result=lambda result: True, **how)(lambda: "busy")
+    assert caught.value.result == "busy"
+    state = state_of(caught.value)
+    assert state is not None and state.ending is Ending.DEADLINE
+
+
+def test_a_real_sleep_that_takes_too_long_is_followed_by_no_attempt(caplog: Any) -> None:
+    runs: List[float] = []
+
+    def fails() -> None:
+        runs.append(time.monotonic())
+        raise ConnectionError
+
+    with pytest.raises(ConnectionError):
+        Retrying(spaced(0.01), deadline=0.05, sleep=lambda seconds: time.sleep(seconds + 0.2))(fails)
+    assert len(runs) == 1
+    (record,) = [record for record in caplog.records if record.levelname == "WARNING"]
+    assert record.hikebox_ending == "DEADLINE" and "the deadline left no time" in record.getMessage()
+
+
+def test_a_loop_that_is_blocked_too_long_is_followed_by_no_attempt() -> None:
+    runs: List[float] = []
+
+    async def fails() -> None:
+        runs.append(time.monotonic())
+        raise ConnectionError
+
+    async def blocks() -> None:
+        await asyncio.sleep(0)
+        time.sleep(0.3)
+
+    async def main() -> None:
+        await asyncio.gather(AsyncRetrying(spaced(0.02), deadline=0.1)(fails), blocks())
+
+    with pytest.raises(ConnectionError):
+        asyncio.run(main())
+    assert len(runs) == 1
+
+
+def test_of_a_thousand_coroutines_none_begins_an_attempt_late() -> None:
+    read = [0.0]
+    lates: List[float] = []
+
+    def clock() -> float:
+        read[0] = time.monotonic()
+        return read[0]
+
+    async def fails(began: List[float]) -> None:
+        # (by the clock as the retry read it last, so that nothing counts that comes between)
+        began.append(read[0])
+        lates.append(read[0] - began[0])
+        raise ConnectionError
+
+    async def main() -> int:
+        retrying = AsyncRetrying(spaced(0.004), deadline=0.5, clock=clock)
+        ended = await asyncio.gather(*(retrying(fails, []) for _ in range(1000)), return_exceptions=True)
+        assert {type(error) for error in ended} == {ConnectionError}
+        return retrying.statistics.deadline
+
+    assert asyncio.run(main()) == 1000
+    assert len(lates) > 1000 and max(lates) <= 0.5 + 1e-6
 
 
 @kinds
@@ -121,7 +316,7 @@ def test_parts_of_a_millisecond_come_before_it(kind: str, clock: VirtualClock) -
     assert len(runs(kind, VirtualClock(), spaced(0.099), 0.0009, deadline=0.1)[0]) == 2
 
 
-@pytest.mark.parametrize("name", ["at_least", "wait"])
+@pytest.mark.parametrize("name", ["retry_after", "wait"])
 @kinds
 def test_who_asks_for_more_than_is_left_ends_it(name: str, kind: str, clock: VirtualClock) -> None:
     asked: List[float] = []
@@ -133,7 +328,7 @@ def test_who_asks_for_more_than_is_left_ends_it(name: str, kind: str, clock: Vir
     # waits of 0.01 and 0.1, and one of 1 s would end at 1.11
     seen, tickets, ending = runs(kind, clock, recurs(9), 0.0, deadline=1.1, **{name: asks})
     assert [round(moment, 6) for moment, _ in seen] == [0, 0.01, 0.11]
-    assert (tickets, ending, len(asked)) == (2, Ending.SCHEDULE_DONE, 3)
+    assert (tickets, ending, len(asked)) == (2, Ending.DEADLINE, 3)
     asked.clear()
     assert len(runs(kind, VirtualClock(), recurs(3), 0.0, deadline=9999, **{name: asks})[0]) == 4
     # once at each failure
@@ -250,7 +445,7 @@ def test_a_quota_and_other_stores_draw_by_it(clock: VirtualClock) -> None:
     quota = Quota(reserve=1, share=0, per=0.3, clock=clock)
     # failures at 3600.26, .57, .88 and 3601.19, and one more attempt would begin at 3601.49
     seen, _, ending = runs("blocking", clock, spaced(0.3), 0.01, deadline=1.2, budget=quota)
-    assert (len(seen), quota.close(), ending) == (4, 3, Ending.SCHEDULE_DONE)
+    assert (len(seen), quota.close(), ending) == (4, 3, Ending.DEADLINE)
 
     class Store:
         drawn = 0
@@ -281,13 +476,12 @@ def test_a_repetition_and_a_poll_end_by_it(clock: VirtualClock) -> None:
 def test_what_is_given_is_looked_at(clock: VirtualClock) -> None:
     with pytest.raises(PolicyError, match="deadline: 0.0004 s is less than a millisecond"):
         Retrying(recurs(1), deadline=0.0004)
-    with pytest.raises(TypeError, match="deadline: seconds or a timedelta are wanted, not 'soon'"):
+    with pytest.raises(TypeError, match="deadline: expected seconds or a timedelta, got 'soon'"):
         Retrying(recurs(1), deadline="soon")  # type: ignore[arg-type]
     retrying = Retrying(exponential(1), deadline=3, clock=clock, sleep=clock.sleep, fallback=lambda state: clock())
     assert retrying.deadline == 3 and retrying.copy().deadline == 3
     assert retrying(Failing(clock, 0.0)) == 3
-    retrying.deadline = 1
-    assert retrying(Failing(clock, 0.0)) == 4
+    assert retrying.copy(deadline=1)(Failing(clock, 0.0)) == 4
 
 
 def test_a_policy_of_any_size_has_one(clock: VirtualClock) -> None:
@@ -329,3 +523,25 @@ def test_tenacitys_retries_end_by_it() -> None:
         tenacity.retry(stop=stop, wait=wait, reraise=True)(fails)()
     # the first attempt ends at 0.3, the second at 0.6
     assert len(attempts) == 2
+
+
+def test_an_attempt_that_tenacity_begins_late_is_the_last() -> None:
+    tenacity = pytest.importorskip("tenacity")
+    from hikebox.adapters.tenacity import stop_and_wait
+
+    with Budget(9) as budget:
+        stop, wait = stop_and_wait(spaced(0.01), deadline=0.1, budget=budget)
+        attempts: List[float] = []
+
+        def fails() -> None:
+            attempts.append(time.monotonic())
+            raise ConnectionError()
+
+        def sleep(seconds: float) -> None:
+            time.sleep(seconds + 0.2)
+
+        for number in range(3):
+            with pytest.raises(ConnectionError):
+                tenacity.retry(stop=stop, wait=wait, sleep=sleep, reraise=True)(fails)()
+            assert len(attempts) == 2 * (number + 1)
+    assert budget.granted == 3

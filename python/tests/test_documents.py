@@ -43,7 +43,7 @@ def test_each_block_does_what_the_page_says(page: str, tmp_path: Path, monkeypat
     monkeypatch.chdir(TOP)
     names: Dict[str, Any] = {"folder": str(tmp_path)}
     if "import redis" in (TOP / page).read_text():
-        names["redis_port"] = request.getfixturevalue("redis_server")().port
+        monkeypatch.setenv("REDIS_PORT", str(request.getfixturevalue("redis_server")().port))
     printed: Optional[str] = ""
     ran = 0
     for kind, text, line in blocks(page):
@@ -83,7 +83,8 @@ def test_the_first_lines_of_the_readme_work(tmp_path: Path, monkeypatch: Any) ->
     assert run_shell("set -e\n" + shell.replace("/tmp/", f"{tmp_path}/"), tmp_path) == (
         "0: (0, 100) next 100\n100: (1, 200) next 300\n300: (2, 400) next 700\n700: (3, 800) next 1500\nhere at last\n"
     )
-    assert "quota of 60000 ms" in (tmp_path / "retries").read_text()
+    (slot,) = (tmp_path / "retries").glob("*/*")
+    assert b"quota of 60000 ms of run" in slot.read_bytes()
 
 
 def test_every_public_name_is_on_a_page() -> None:

@@ -4,14 +4,16 @@ from __future__ import annotations
 
 import ctypes
 import re
+import subprocess
+import sys
 import threading
 from ctypes import byref, c_size_t, c_uint8, c_uint64
 from typing import Any, Dict, List, Tuple
 
 import pytest
-from conftest import TOP
+from conftest import TOP, python_environment
 
-from hikebox import _engine, _structs
+from hikebox import _engine, _leasing, _structs
 from hikebox._engine import Handle, Pass, PolicyHandle
 from hikebox._machine import Machine
 from hikebox.errors import EngineError
@@ -41,7 +43,9 @@ TYPES: Dict[str, Any] = {
     "hikebox_stored *": (ctypes.POINTER(_structs.Stored),),
     "const hikebox_asking *": (ctypes.POINTER(_structs.Asking),),
     "hikebox_range *": (ctypes.POINTER(_structs.Range),),
-    **{f"hikebox_{kind} *": (ctypes.POINTER(Handle),) for kind in ("policy", "pass", "retry")},
+    **{f"{const}hikebox_ticket *": (ctypes.POINTER(_structs.LeasedTicket),) for const in ("", "const ")},
+    "const hikebox_grant *": (ctypes.POINTER(_structs.Grant),),
+    **{f"hikebox_{kind} *": (ctypes.POINTER(Handle),) for kind in ("policy", "pass", "leased", "retry")},
 }
 
 CTYPES: Dict[str, Any] = {
@@ -60,8 +64,9 @@ def header() -> str:
 
 def test_the_signatures_are_those_of_the_header() -> None:
     declared: Dict[str, Tuple[Any, ...]] = {}
+    signatures = {**_engine.SIGNATURES, **_leasing.SIGNATURES}
     for name, parameters in re.findall(r"hikebox_status (hikebox_\w+)\((.*?)\);", header(), flags=re.S):
-        if name not in _engine.SIGNATURES:
+        if name not in signatures:
             continue
         found: List[Any] = []
         for parameter in parameters.split(","):
@@ -70,7 +75,7 @@ def test_the_signatures_are_those_of_the_header() -> None:
             found.append(TYPES[kind][0])
         declared[name] = tuple(found)
     assert declared
-    for name, kinds in _engine.SIGNATURES.items():
+    for name, kinds in signatures.items():
         assert declared[name] == kinds, name
 
 
@@ -90,6 +95,7 @@ def test_the_structures_are_those_of_the_header() -> None:
     kinds.update({"next": _structs.Next, "usage": _structs.Usage, "storm": _structs.Storm})
     kinds.update({"window": _structs.Window, "totals": _structs.Totals})
     kinds.update({"stored": _structs.Stored, "asking": _structs.Asking, "range": _structs.Range})
+    kinds.update({"ticket": _structs.LeasedTicket, "grant": _structs.Grant})
     for name, kind in kinds.items():
         assert [(field, CTYPES[word]) for word, field in found[f"hikebox_{name}"]] == list(kind._fields_)
 
@@ -105,7 +111,7 @@ def test_the_numbers_are_those_of_the_header() -> None:
     for name in (
         ["OK", "NO_MEMORY", "TOO_LARGE", "NO_ROOM", "NOT_JSON", "NOT_A_POLICY", "OUT_OF_RANGE", "TOO_DEEP", "TOO_MANY"]
         + ["BACKWARDS", "LIMIT_TOO_LARGE", "FIXED", "NO_TICKET", "TOO_MANY_PASSES", "PASSES_OUT", "RACES_LOST"]
-        + ["NOTHING_TO_HAND_BACK"]
+        + ["NOTHING_TO_HAND_BACK", "LEASE_WANTED", "NOT_OUT", "HELD_ALREADY"]
         + ["NO_REPORT", "WON", "LOST", "POLL", "RUN", "WAIT", "OVER", "ON_NOTHING", "ON_BUDGET", "ON_QUOTA"]
     ):
         assert int(numbers[name]) == getattr(_engine, name), name
@@ -119,8 +125,18 @@ def test_the_numbers_are_those_of_the_header() -> None:
         endings["ENDED_CANCELLED"]: Ending.CANCELLED,
         endings["ENDED_NO_MEMORY"]: Ending.NO_MEMORY,
         endings["ENDED_BACKWARDS"]: Ending.CLOCK_WENT_BACK,
-        endings["ENDED_DEADLINE"]: Ending.SCHEDULE_DONE,
+        endings["ENDED_DEADLINE"]: Ending.DEADLINE,
     }
+
+
+def test_an_interpreter_without_what_calls_the_engine_is_told_so() -> None:
+    text = "import ctypes; del ctypes.PyDLL; import hikebox"
+    ran = subprocess.run([sys.executable, "-c", text], env=python_environment(), capture_output=True, text=True)
+    last = ran.stderr.splitlines()[-1]
+    wanted = (
+        f"hikebox runs on CPython: {sys.implementation.name} has no ctypes.PyDLL, by which hikebox calls its engine"
+    )
+    assert (ran.returncode, last) == (1, f"ImportError: {wanted}")
 
 
 def read(text: bytes) -> PolicyHandle:
@@ -229,7 +245,9 @@ def test_threads_share_a_policy() -> None:
             assert machine.begin(policy, drawn)
             polled = machine.poll(0, _engine.NO_REPORT, 0), machine.poll(0, _engine.LOST, 0)
             machine.end(drawn)
-            seen.append((above.size(), policy.json(), policy.course(2, 0, 0, [(0, 0, 0, 0, 0)])[1].start, polled[1][:2]))
+            seen.append(
+                (above.size(), policy.json(), policy.course(2, 0, 0, [(0, 0, 0, 0, 0)])[1].start, polled[1][:2])
+            )
         drawn.close()
 
     threads = [threading.Thread(target=uses) for _ in range(6)]

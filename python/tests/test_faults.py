@@ -18,18 +18,24 @@ MARKS = [
     ("recurs(5) & ⟦spaced()⟧", "spaced() missing 1 required positional argument: 'delay'"),
     ("recurs(5) & ⟦7⟧", None),
     ("recurs(5) + ⟦spaced(1)⟧", None),
-    ('{"meet":[{"recurs":5},{"cap":[1000,⟦{"exponental":[100,2]}⟧]}]}', 'no node is called "exponental"; did you mean "exponential"?'),
+    (
+        '{"meet":[{"recurs":5},{"cap":[1000,⟦{"exponental":[100,2]}⟧]}]}',
+        'no node is called "exponental"; did you mean "exponential"?',
+    ),
     (' {"second": {"meet" : ["forever", ⟦{"recur": 1}⟧ ]}}', 'no node is called "recur"; did you mean "recurs"?'),
-    ('{"gate":["input",true,"equal",3,⟦{"fixed":0}⟧]}', '"fixed" is spelt {"fixed":D}, D from 1 to 4611686018427387903'),
-    (' ⟦{"meet":["forever"]}⟧ ', '"meet" is spelt {"meet":[PLAN,PLAN]}'),
-    ("⟦[1]⟧", "a plan is a string or an object of one member"),
-    ('⟦{"a":1,"b":2}⟧', "a plan is a string or an object of one member, and this has 2"),
+    (
+        '{"gate":["input",true,"equal",3,⟦{"fixed":0}⟧]}',
+        'expected {"fixed":D}, D from 1 to 4611686018427387903',
+    ),
+    (' ⟦{"meet":["forever"]}⟧ ', 'expected {"meet":[PLAN,PLAN]}'),
+    ("⟦[1]⟧", "expected a plan, a string or an object with one member"),
+    ('⟦{"a":1,"b":2}⟧', "expected a plan, a string or an object with one member, got one with 2"),
     ('{"meet":[{"recurs":1},\n {"spaced":1⟦]⟧}', "Expecting ',' delimiter at line 2, column 13"),
     ('{"gather":["süm",⟦"nöne"⟧]}', None),
     ("recurs(5) & (", None),
     ("recurs(5) ⟦&⟧ ", "the expression ends too soon in 'recurs(5) &'"),
     ("recurs(5) ⟦spaced⟧(1)", "invalid syntax"),
-    ("", "an expression, as recurs(3) & exponential(0.1, 2), or JSON is wanted"),
+    ("", "expected an expression, as recurs(3) & exponential(0.1, 2), or JSON"),
     ('{"meet"⟦:⟧ ', "the text ends too soon"),
     ('{"recurs":⟦"3⟧', None),
     ('⟦{"recurs":1e400}⟧', "the number is too large"),
@@ -56,7 +62,9 @@ def test_each_text_has_a_policy_or_a_mark_within_it() -> None:
         text = policy.to_json() if number % 2 else repr(policy)
         assert policy_in(text) == policy
         at = rng.randrange(len(text))
-        spoilt = text[:at] + rng.choice(['"', "x", "", "}", ")", "é", " ", "9" * 30, "\n"]) + text[at + rng.randrange(3) :]
+        spoilt = (
+            text[:at] + rng.choice(['"', "x", "", "}", ")", "é", " ", "9" * 30, "\n"]) + text[at + rng.randrange(3) :]
+        )
         found = policy_in(spoilt)
         assert isinstance(found, Policy) or 0 <= found.begins <= found.ends <= len(spoilt), spoilt
 

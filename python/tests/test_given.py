@@ -1,14 +1,17 @@
-"""What a retry is given: what is refused at once, what may be awaited, what is changed later, and what each thing does."""
+"""What a retry is given: what is refused at once, what may be awaited, and what each thing does."""
 
 from __future__ import annotations
 
+import ast
 import asyncio
 import copy
 import functools
+import gc
 import inspect
 import logging
 import multiprocessing
 import pickle
+import random
 import subprocess
 import sys
 import threading
@@ -32,12 +35,16 @@ from hikebox import (
     before_log,
     before_sleep_log,
     code_of,
+    forever,
     poll_until,
     recurs,
+    repeat,
     retry,
     spaced,
     state_of,
 )
+from hikebox._settings import DEFAULTS, MAX_RETRY_AFTER
+from hikebox.retrying import BaseRetrying
 from hikebox.testing import VirtualClock, no_waits
 
 
@@ -71,26 +78,29 @@ decorated: Any = retry
 repeating: Any = Repeating
 
 REFUSED: List[Any] = [
-    (lambda: plain(recurs(1)).wraps(wins_later), "AsyncRetrying is for these"),
-    (lambda: awaiting(recurs(1)).wraps(wins), "Retrying is for these"),
+    (lambda: plain(recurs(1)).wraps(wins_later), "AsyncRetrying is for those"),
+    (lambda: awaiting(recurs(1)).wraps(wins), "Retrying is for functions"),
     (lambda: plain(recurs(1), sleep=asyncio.sleep), "sleep: .* is a coroutine function"),
-    (lambda: awaiting(recurs(1), sleep=time.sleep), "sleep: time.sleep holds all coroutines up"),
+    (
+        lambda: awaiting(recurs(1), sleep=time.sleep),
+        "sleep: time.sleep blocks all coroutines; expected one that is awaited",
+    ),
     (lambda: plain(recurs(1), before=later), "before: .* is a coroutine function"),
     (lambda: plain(recurs(1), after=[print, later]), "after: .* is a coroutine function"),
     (lambda: plain(recurs(1), on=later), "on: .* is a coroutine function"),
     (lambda: plain(recurs(1), fallback=later), "fallback: .* is a coroutine function"),
-    (lambda: awaiting(recurs(1), at_least=later), "at_least: .* is a coroutine function"),
-    (lambda: plain(recurs(1), on=ValueError()), "on: types of exceptions are wanted: ValueError, and not one"),
-    (lambda: plain(recurs(1), on=str), "on: <class 'str'> is no type of exceptions"),
-    (lambda: plain(recurs(1), on=(OSError, 3)), "on: types of exceptions or functions are wanted, not 3"),
-    (lambda: plain(recurs(1), before=3), "before: a function of the RetryState is wanted"),
-    (lambda: plain(recurs(1), on_success=[3]), "on_success: a function of the RetryState is wanted"),
-    (lambda: plain(recurs(1), fallback="none"), "fallback: a function is wanted, not 'none'"),
-    (lambda: plain(recurs(1), stop=3), "stop: an event, or a function"),
-    (lambda: plain(recurs(1), longest=-1), "longest: a number of seconds is wanted"),
+    (lambda: awaiting(recurs(1), retry_after=later), "retry_after: .* is a coroutine function"),
+    (lambda: plain(recurs(1), on=ValueError()), "on: expected the type ValueError, got an exception of it"),
+    (lambda: plain(recurs(1), on=str), "on: expected exception types or functions, got <class 'str'>"),
+    (lambda: plain(recurs(1), on=(OSError, 3)), "on: expected exception types or functions, got 3"),
+    (lambda: plain(recurs(1), before=3), "before: expected a function of the RetryState, or a list of such, got 3"),
+    (lambda: plain(recurs(1), on_success=[3]), "on_success: expected a function of the RetryState"),
+    (lambda: plain(recurs(1), fallback="none"), "fallback: expected a function, got 'none'"),
+    (lambda: plain(recurs(1), stop=3), "stop: expected an event, or a function"),
+    (lambda: plain(recurs(1), max_retry_after=-1), "max_retry_after: expected a number of seconds"),
     (lambda: poll_until(recurs(1), later)(wins), "accepts: .* is a coroutine function"),
-    (lambda: decorated(wins), r"@retry\(recurs\(3\) & spaced\(1\)\), with parentheses"),
-    (lambda: decorated(recurs(1))(3), "a function is wanted, not 3"),
+    (lambda: decorated(wins), r"retry\(\) expected a policy, got <function wins at .*>: write @retry\(recurs"),
+    (lambda: decorated(recurs(1))(3), "expected a function, got 3"),
 ]
 
 
@@ -107,13 +117,13 @@ def test_a_coroutine_from_a_function_is_refused_and_not_retried() -> None:
         runs.append(1)
         return wins_later()
 
-    with pytest.raises(TypeError, match="AsyncRetrying awaits"):
+    with pytest.raises(TypeError, match="use AsyncRetrying"):
         Retrying(recurs(3))(ask)
-    with pytest.raises(TypeError, match="AsyncRetrying awaits"):
+    with pytest.raises(TypeError, match="use AsyncRetrying"):
         plain(recurs(3))(wins_later)
-    with pytest.raises(TypeError, match="AsyncRetrying awaits"):
+    with pytest.raises(TypeError, match="use AsyncRetrying"):
         plain(recurs(3), before=lambda state: wins_later())(wins)
-    with pytest.raises(TypeError, match="AsyncRetrying awaits"):
+    with pytest.raises(TypeError, match="use AsyncRetrying"):
         poll_until(recurs(3), lambda result: wins_later())(wins)()
     assert runs == [1]
 
@@ -138,7 +148,7 @@ def test_a_function_that_raises_before_it_gives_anything_to_await_is_called_once
         runs.append(1)
         return fails()
 
-    with pytest.raises(TypeError, match="raised before it gave anything to await: a Retrying is") as caught:
+    with pytest.raises(TypeError, match="raised before it returned anything to await: a Retrying is") as caught:
         asyncio.run(AsyncRetrying(recurs(3))(ask))
     assert runs == [1] and isinstance(caught.value.__cause__, OSError)
 
@@ -153,9 +163,9 @@ def test_a_function_that_raises_before_it_gives_anything_to_await_is_called_once
 
 
 def test_what_repeats_is_named() -> None:
-    with pytest.raises(TypeError, match="gave coroutine, which is not awaited here: AsyncRepeating awaits"):
+    with pytest.raises(TypeError, match="returned a coroutine, which is not awaited here: use AsyncRepeating"):
         repeating(recurs(3))(wins_later)
-    with pytest.raises(TypeError, match="gave nothing that is awaited: a Repeating is for functions"):
+    with pytest.raises(TypeError, match="returned nothing to await: a Repeating is for functions"):
         asyncio.run(AsyncRepeating(recurs(3))(wins))  # type: ignore[arg-type]
 
 
@@ -270,7 +280,25 @@ def test_types_and_functions_together() -> None:
 # What is set on a Retrying
 
 
-def test_what_is_set_counts_for_later_calls(clock: VirtualClock) -> None:
+@pytest.mark.parametrize("name", ["policy", *DEFAULTS])
+def test_a_parameter_is_not_set_and_the_error_says_what_to_do(name: str) -> None:
+    @retry(recurs(3) & spaced(60), fallback=lambda state: state.attempt_number)
+    def fetch() -> int:
+        raise OSError(7, "")
+
+    before = fetch.retry.given
+    with pytest.raises(AttributeError) as caught:
+        setattr(fetch.retry, name, None)
+    assert str(caught.value) == (
+        f"a Retrying does not change: make another one by retrying.copy({name}=..), "
+        f"or a function by fn.retry_with({name}=..)"
+    )
+    assert fetch.retry.given == before
+    with pytest.raises(AttributeError):
+        setattr(fetch.retry, "attempts", 3)
+
+
+def test_a_function_with_other_parameters_is_another_one(clock: VirtualClock) -> None:
     runs: List[int] = []
 
     @retry(recurs(3) & spaced(60), clock=clock, sleep=clock.sleep)
@@ -278,44 +306,61 @@ def test_what_is_set_counts_for_later_calls(clock: VirtualClock) -> None:
         runs.append(1)
         raise OSError(7, "")
 
-    with pytest.raises(OSError):
-        fetch()
-    assert len(runs) == 4 and clock.slept == [60.0] * 3
-    fetch.retry.policy = recurs(1) & spaced(1).jittered(0, 1)
-    fetch.retry.random = lambda: 0.25
-    with pytest.raises(OSError):
-        fetch()
-    assert len(runs) == 4 + 2 and clock.slept[3:] == [0.25]
-    fetch.retry.on = KeyError
-    with pytest.raises(OSError):
-        fetch()
-    assert len(runs) == 6 + 1
-    fetch.retry.on = OSError
-    fetch.retry.stop = lambda state: state.attempt_number == 1
-    with pytest.raises(OSError):
-        fetch()
-    assert len(runs) == 7 + 1
-    fetch.retry.stop = None
     slept: List[float] = []
-    fetch.retry.sleep = slept.append
-    fetch.retry.wait = lambda state: 3.0
-    with pytest.raises(OSError):
-        fetch()
-    assert slept == [3.0]
-    assert fetch.retry.statistics.calls == 5
+    changes: List[Dict[str, Any]] = [
+        {"policy": recurs(1) & spaced(1).jittered(0, 1), "random": lambda: 0.25},
+        {"on": KeyError},
+        {"stop": lambda state: state.attempt_number == 2},
+        {"sleep": slept.append, "wait": lambda state: 90.0, "policy": recurs(1)},
+        {},
+    ]
+    for each in changes:
+        with pytest.raises(OSError):
+            fetch.retry_with(**each)()
+    assert len(runs) == 2 + 1 + 2 + 2 + 4
+    assert clock.slept == [0.25, 60.0, 60.0, 60.0, 60.0] and slept == [90.0]
+    assert fetch.retry.statistics.calls == 0
 
 
-def test_what_can_not_be_set_is_refused() -> None:
-    retrying = Retrying(recurs(1))
-    with pytest.raises(AttributeError, match="has no 'attempts': policy, budget, on"):
-        retrying.attempts = 3
-    with pytest.raises(TypeError):
-        retrying.on = 3  # type: ignore[assignment]
-    assert retrying.on is Exception and retrying.policy == recurs(1)
+NAMES: List[Any] = [
+    (lambda: plain(recurs(1), attempts=3), "Retrying()", "attempts", ""),
+    (lambda: awaiting(recurs(1), attempts=3), "AsyncRetrying()", "attempts", ""),
+    (lambda: repeating(recurs(1), max_wait=3), "Repeating()", "max_wait", "; did you mean 'wait'?"),
+    (lambda: decorated(recurs(1), retry_afer=3), "retry()", "retry_afer", "; did you mean 'retry_after'?"),
+    (lambda: repeat(recurs(1), deadlin=3), "repeat()", "deadlin", "; did you mean 'deadline'?"),
+    (lambda: poll_until(recurs(1), bool, on_result=bool), "poll_until()", "on_result", ""),
+    (lambda: plain(recurs(1)).copy(buget=3), "copy()", "buget", "; did you mean 'budget'?"),
+    (lambda: decorated(recurs(1))(wins).retry_with(attempts=3), "retry_with()", "attempts", ""),
+]
+
+
+@pytest.mark.parametrize("call, called, name, hint", NAMES, ids=[called for _, called, _, _ in NAMES])
+def test_an_error_names_what_was_called(call: Callable[[], Any], called: str, name: str, hint: str) -> None:
+    with pytest.raises(TypeError) as caught:
+        call()
+    told = str(caught.value)
+    assert told.startswith(f"{called} got an unexpected keyword argument '{name}'") and told.endswith(hint or "'")
+
+
+def test_a_class_of_ones_own_is_named_too() -> None:
+    class Mine(Retrying):
+        pass
+
+    wrong: Any = Mine
+    with pytest.raises(TypeError, match=r"^Mine\(\) got an unexpected keyword argument 'attempts'$"):
+        wrong(recurs(1), attempts=3)
+    with pytest.raises(TypeError, match="missing 1 required positional argument: 'policy'") as caught:
+        wrong()
+    assert "BaseRetrying" not in str(caught.value)
+    with pytest.raises(TypeError, match="takes 2 positional arguments but 3 were given") as caught:
+        wrong(recurs(1), Budget(1))
+    assert "BaseRetrying" not in str(caught.value)
+    assert inspect.signature(Mine).parameters == inspect.signature(Retrying).parameters
+    assert Mine(recurs(1), on=OSError).on is OSError
 
 
 def test_it_is_copied_and_pickled() -> None:
-    retrying = Retrying(recurs(3), on=OSError, code=code_of, longest=5)
+    retrying = Retrying(recurs(3), on=OSError, code=code_of, max_retry_after=5)
     for other in (copy.copy(retrying), copy.deepcopy(retrying), pickle.loads(pickle.dumps(retrying))):
         assert other.given == retrying.given and other.counts is not retrying.counts
     budget = Budget(1)
@@ -351,7 +396,7 @@ def test_class_methods_and_static_methods() -> None:
     assert client.made("a") == "Client a" and client.runs == 3
     assert client().number("3") == 3
     assert asyncio.run(client.later()) == "Client"
-    with pytest.raises(TypeError, match="with parentheses"):
+    with pytest.raises(TypeError, match="expected a policy"):
         retry(classmethod(lambda cls: None))  # type: ignore[arg-type]
 
 
@@ -371,15 +416,26 @@ def test_a_function_that_raises_stop_iteration() -> None:
 
 
 def test_help_explains_each_parameter() -> None:
-    from hikebox._settings import GIVEN
-
     text = inspect.getdoc(retry) or ""
-    for name in GIVEN:
+    for name in DEFAULTS:
         assert f"`{name}`" in text, name
-    assert "at_least" in str(inspect.signature(retry))
+    assert "retry_after" in str(inspect.signature(retry))
 
 
 # Hooks, waits, stops
+
+
+def test_the_parameters_that_a_type_checker_reads_are_those_that_there_are() -> None:
+    (init,) = [
+        node
+        for node in ast.walk(ast.parse(inspect.getsource(BaseRetrying)))
+        if isinstance(node, ast.FunctionDef) and node.name == "__init__" and node.args.kwonlyargs
+    ]
+    names = [argument.arg for argument in init.args.kwonlyargs]
+    defaults = [ast.unparse(plain) for plain in init.args.kw_defaults if plain is not None]
+    assert names == list(DEFAULTS) and names == list(inspect.signature(Retrying).parameters)[1:]
+    known = {"time": time, "_random": random, "MAX_RETRY_AFTER": MAX_RETRY_AFTER}
+    assert [eval(plain, known) for plain in defaults] == list(DEFAULTS.values())
 
 
 def test_hooks_may_be_lists(clock: VirtualClock) -> None:
@@ -414,7 +470,11 @@ def test_on_success_sees_the_result() -> None:
 
 def test_a_wait_may_be_a_function(clock: VirtualClock) -> None:
     retrying = plain(
-        recurs(3), wait=lambda state: state.attempt_number * 1.5, clock=clock, sleep=clock.sleep, fallback=lambda _: None
+        recurs(3),
+        wait=lambda state: state.attempt_number * 1.5,
+        clock=clock,
+        sleep=clock.sleep,
+        fallback=lambda _: None,
     )
     retrying(fails)
     assert clock.slept == pytest.approx([1.5, 3.0, 4.5])
@@ -437,12 +497,12 @@ def test_a_function_is_asked_once_for_each_wait(clock: VirtualClock) -> None:
     assert state is not None and asked == [1, 2, 3] and state.idle_for == 3.0
 
 
-@pytest.mark.parametrize("name", ["at_least", "wait"])
+@pytest.mark.parametrize("name", ["retry_after", "wait"])
 def test_what_is_asked_for_has_a_bound(name: str, clock: VirtualClock) -> None:
     how: Any = {name: lambda _: 999999999999.0, "clock": clock, "sleep": clock.sleep, "fallback": lambda _: None}
     Retrying(recurs(1), **how)(fails)
-    Retrying(recurs(1), longest=90, **how)(fails)
-    Retrying(recurs(1), longest=None, **how)(fails)
+    Retrying(recurs(1), max_retry_after=90, **how)(fails)
+    Retrying(recurs(1), max_retry_after=None, **how)(fails)
     assert clock.slept == pytest.approx([21600.0, 90.0, 999999999999.0])
     clock.slept.clear()
     plain(recurs(1), **{**how, name: lambda _: float("nan")})(fails)
@@ -476,6 +536,241 @@ def test_an_event_ends_a_wait(kind: Any) -> None:
     assert caught.traceback[-1].name == "fails"
     with pytest.raises(OSError):
         Retrying(spaced(60), stop=event)(fails)
+
+
+@pytest.mark.parametrize("sleep", [time.sleep, lambda seconds: time.sleep(seconds)], ids=["time.sleep", "own"])
+def test_an_event_ends_a_wait_by_a_sleep_that_was_given(sleep: Any) -> None:
+    event = threading.Event()
+    threading.Timer(0.1, event.set).start()
+    began = time.monotonic()
+    retrying = Retrying(spaced(60), stop=event, sleep=sleep, fallback=lambda state: state.ending)
+    assert retrying(fails) is Ending.STOPPED
+    assert 0.09 < time.monotonic() - began < 20
+
+
+def test_a_sleep_beside_an_event_waits_as_long_as_the_policy_says() -> None:
+    slept: List[float] = []
+
+    def sleep(seconds: float) -> None:
+        slept.append(seconds)
+        time.sleep(seconds)
+
+    began = time.monotonic()
+    Retrying(recurs(2) & spaced(0.2), stop=threading.Event(), sleep=sleep, fallback=lambda state: None)(fails)
+    assert 0.4 <= time.monotonic() - began < 20
+    assert len(slept) >= 4 and max(slept) <= 0.05
+
+
+def test_a_sleep_that_takes_no_time_beside_an_event_is_told_the_whole_wait(clock: VirtualClock) -> None:
+    how: Any = {"stop": threading.Event(), "fallback": lambda state: None}
+    Retrying(recurs(2) & spaced(60), clock=clock, sleep=clock.sleep, **how)(fails)
+    assert clock.slept == [60.0, 60.0]
+    slept: List[float] = []
+    Retrying(recurs(1) & spaced(60), sleep=slept.append, **how)(fails)
+    assert sum(slept) == pytest.approx(60, abs=0.1) and len(slept) == 2
+
+
+def test_an_event_of_coroutines_is_refused_by_a_retrying() -> None:
+    async def main() -> None:
+        with pytest.raises(TypeError, match="stop: asyncio.Event is for coroutines; expected an event of threading"):
+            Retrying(recurs(1), stop=asyncio.Event())
+
+    asyncio.run(main())
+    trio = pytest.importorskip("trio")
+    with pytest.raises(TypeError, match="stop: trio.Event is for coroutines; expected an event of threading"):
+        Retrying(recurs(1), stop=trio.Event())
+
+
+class Flag:
+    """An event that can be asked, and not waited for."""
+
+    def __init__(self) -> None:
+        self.began = time.monotonic()
+
+    def is_set(self) -> bool:
+        return time.monotonic() - self.began > 0.1
+
+
+async def own_sleep(seconds: float) -> None:
+    await asyncio.sleep(seconds)
+
+
+@pytest.mark.parametrize("sleep", [None, asyncio.sleep, own_sleep], ids=["none", "asyncio.sleep", "own"])
+@pytest.mark.parametrize("kind", [asyncio.Event, threading.Event, multiprocessing.Event, Flag])
+def test_an_event_ends_a_wait_of_a_coroutine(kind: Any, sleep: Any) -> None:
+    async def main() -> Any:
+        try:
+            event = kind()
+        except OSError:
+            pytest.skip("processes can share no memory on this machine")
+        if kind is not Flag:
+            asyncio.get_running_loop().call_later(0.1, event.set)
+        began = time.monotonic()
+        retrying = AsyncRetrying(spaced(60), stop=event, sleep=sleep, fallback=lambda state: state.ending)
+        endings = await asyncio.wait_for(asyncio.gather(*(retrying(fails_later) for _ in range(20))), 30)
+        assert 0.09 < time.monotonic() - began < 20
+        for later in range(2):
+            # and again, now that it is set
+            assert await retrying(fails_later) is Ending.STOPPED
+        return endings
+
+    assert asyncio.run(main()) == [Ending.STOPPED] * 20
+
+
+@pytest.mark.parametrize("kind", [asyncio.Event, threading.Event])
+def test_a_wait_beside_an_event_that_is_not_set_ends_by_itself(kind: Any) -> None:
+    async def main() -> Any:
+        began = time.monotonic()
+        retrying = AsyncRetrying(recurs(2) & spaced(0.05), stop=kind(), fallback=lambda state: state.ending)
+        assert await retrying(fails_later) is Ending.SCHEDULE_DONE
+        assert 0.1 <= time.monotonic() - began < 20
+        task = asyncio.ensure_future(retrying.copy(policy=spaced(60))(fails_later))
+        await asyncio.sleep(0.05)
+        task.cancel()
+        with pytest.raises(asyncio.CancelledError):
+            await task
+        return [task for task in asyncio.all_tasks() if task is not asyncio.current_task()]
+
+    assert asyncio.run(main()) == []
+
+
+@pytest.mark.parametrize("kind", ["blocking", "threading", "asyncio"])
+def test_an_event_that_is_set_and_cleared_again_lets_no_attempt_begin_early(kind: str) -> None:
+    began: List[float] = []
+
+    def ask() -> None:
+        began.append(time.monotonic())
+        raise OSError
+
+    async def ask_later() -> None:
+        ask()
+
+    async def main(event: Any) -> None:
+        for later in (0.05, 0.1):
+            asyncio.get_running_loop().call_later(later, lambda: (event.set(), event.clear()))
+        await AsyncRetrying(recurs(1) & spaced(0.4), stop=event, fallback=lambda state: None)(ask_later)
+
+    event: Any = asyncio.Event() if kind == "asyncio" else threading.Event()
+    if kind == "blocking":
+        threading.Timer(0.1, lambda: (event.set(), event.clear())).start()
+        Retrying(recurs(1) & spaced(0.4), stop=event, fallback=lambda state: None)(ask)
+    else:
+        asyncio.run(main(event))
+    assert len(began) == 2 and began[1] - began[0] >= 0.399
+
+
+def test_an_error_of_a_sleep_beside_an_event_is_raised() -> None:
+    async def sleep(seconds: float) -> None:
+        await asyncio.sleep(0.01)
+        raise ZeroDivisionError
+
+    kinds: List[Any] = [asyncio.Event, threading.Event]
+    for event in kinds:
+        with pytest.raises(ZeroDivisionError):
+            asyncio.run(AsyncRetrying(spaced(60), sleep=sleep, stop=event())(fails_later))
+
+
+def test_a_program_ends_though_an_event_that_nobody_sets_is_waited_for() -> None:
+    text = """
+import asyncio, threading
+from hikebox import AsyncRetrying, spaced
+
+async def fails():
+    raise OSError
+
+async def main():
+    await asyncio.wait_for(AsyncRetrying(spaced(60), stop=threading.Event())(fails), 0.2)
+
+try:
+    asyncio.run(main())
+except asyncio.TimeoutError:
+    print("over")
+"""
+    began = time.monotonic()
+    ran = subprocess.run(
+        [sys.executable, "-c", text], env=python_environment(), capture_output=True, text=True, timeout=60
+    )
+    assert (ran.stdout, ran.stderr) == ("over\n", "") and time.monotonic() - began < 30
+
+
+@pytest.mark.parametrize("kind", ["trio", "threading", "flag"])
+def test_an_event_ends_a_wait_by_trio(kind: str) -> None:
+    trio = pytest.importorskip("trio")
+
+    async def own(seconds: float) -> None:
+        await trio.sleep(seconds)
+
+    async def main() -> Any:
+        endings: List[Any] = []
+        for sleep in (trio.sleep, own):
+            event = {"trio": trio.Event, "threading": threading.Event, "flag": Flag}[kind]()
+            retrying = AsyncRetrying(spaced(60), sleep=sleep, stop=event, fallback=lambda state: state.ending)
+            with trio.fail_after(20):
+                async with trio.open_nursery() as nursery:
+
+                    async def sets() -> None:
+                        await trio.sleep(0.1)
+                        if kind != "flag":
+                            event.set()
+
+                    nursery.start_soon(sets)
+                    endings.append(await retrying(fails_later))
+        return endings
+
+    assert trio.run(main) == [Ending.STOPPED] * 2
+
+
+def test_an_error_of_a_sleep_beside_an_event_of_trio_is_raised_itself() -> None:
+    trio = pytest.importorskip("trio")
+
+    async def sleep(seconds: float) -> None:
+        await trio.sleep(0.01)
+        raise ZeroDivisionError
+
+    async def main() -> None:
+        await AsyncRetrying(spaced(60), sleep=sleep, stop=trio.Event())(fails_later)
+
+    with pytest.raises(ZeroDivisionError):
+        trio.run(main, strict_exception_groups=True)
+
+
+def test_loops_of_several_threads_wait_for_one_event() -> None:
+    event = threading.Event()
+    retrying = AsyncRetrying(spaced(60), stop=event, fallback=lambda state: state.ending)
+    endings: List[Any] = []
+
+    async def main() -> None:
+        endings.extend(await asyncio.gather(*(retrying(fails_later) for _ in range(50))))
+
+    threads = [threading.Thread(target=lambda: asyncio.run(main())) for _ in range(8)]
+    for thread in threads:
+        thread.start()
+    time.sleep(0.3)
+    event.set()
+    for thread in threads:
+        thread.join(30)
+    assert endings == [Ending.STOPPED] * 400
+
+
+def test_a_timeout_of_trio_ends_a_retry_without_waits() -> None:
+    trio = pytest.importorskip("trio")
+
+    async def main() -> bool:
+        for retrying in (
+            AsyncRetrying(forever(), sleep=trio.sleep),
+            AsyncRetrying(forever(), sleep=VirtualClock().sleep),
+        ):
+            with trio.move_on_after(0.1) as scope:
+                await retrying(fails_later)
+            assert scope.cancelled_caught
+            with trio.move_on_after(0.1) as scope:
+                async for attempt in retrying:
+                    with attempt:
+                        raise OSError
+            assert scope.cancelled_caught
+        return True
+
+    assert trio.run(main)
 
 
 def test_an_event_of_asyncio_ends_a_wait() -> None:
@@ -593,6 +888,93 @@ def test_log_records_have_fields(caplog: Any) -> None:
     assert getattr(ours[1], "hikebox_ending") == "SCHEDULE_DONE" and getattr(ours[1], "hikebox_call") == "fails"
 
 
+class Busy(Exception):
+    pass
+
+
+def busy() -> None:
+    raise Busy("no")
+
+
+ENDS: List[Any] = [
+    (
+        lambda: plain(recurs(1))(busy),
+        "WARNING",
+        "SCHEDULE_DONE",
+        "gave up after 2 attempts in 0.000 s: the policy was done",
+    ),
+    (lambda: plain(recurs(1), budget=Budget(0))(busy), "WARNING", "BUDGET_REFUSED", "gave up after 1 attempt in "),
+    (
+        lambda: plain(recurs(1), fallback=lambda state: None)(busy),
+        "WARNING",
+        "SCHEDULE_DONE",
+        "gave up after 2 attempts",
+    ),
+    (lambda: asyncio.run(awaiting(recurs(1))(busy_later)), "WARNING", "SCHEDULE_DONE", "gave up after 2 attempts"),
+    (lambda: plain(recurs(1), stop=lambda state: True)(busy), "INFO", "STOPPED", "gave up after 1 attempt in "),
+    (lambda: plain(recurs(1), on=OSError)(busy), None, "", ""),
+    (lambda: plain(recurs(1))(wins), None, "", ""),
+]
+
+
+async def busy_later() -> None:
+    raise Busy("no")
+
+
+@pytest.mark.parametrize("call, level, ending, text", ENDS)
+def test_a_retry_that_gives_up_is_logged(call: Any, level: Any, ending: str, text: str, caplog: Any) -> None:
+    caplog.set_level(logging.INFO)
+    try:
+        call()
+    except Busy:
+        pass
+    if level is None:
+        assert caplog.records == []
+        return
+    (record,) = caplog.records
+    assert (record.name, record.levelname, record.hikebox_ending) == ("hikebox", level, ending)
+    told = record.getMessage()
+    assert told.startswith(f"{record.hikebox_call}: {text}") and record.hikebox_call.startswith("busy")
+    assert told.endswith("; the last attempt raised Busy('no')")
+
+
+def test_a_retry_that_gives_up_is_logged_unless_its_logger_is_off(caplog: Any) -> None:
+    caplog.set_level(logging.ERROR, logger="hikebox")
+    with pytest.raises(OSError):
+        Retrying(recurs(1))(fails)
+    assert caplog.records == []
+
+
+def test_an_error_that_can_not_be_shown_is_raised_as_it_is() -> None:
+    class Odd(Exception):
+        def __repr__(self) -> str:
+            raise RuntimeError("no repr")
+
+    def odd() -> None:
+        raise Odd
+
+    with pytest.raises(Odd):
+        Retrying(recurs(1))(odd)
+
+
+def test_a_program_without_logging_is_told_nothing() -> None:
+    text = """
+from hikebox import Retrying, recurs
+Retrying(recurs(1), fallback=lambda state: print(state.ending.name))(int, "no number")
+import logging
+logging.basicConfig(format="%(levelname)s %(name)s %(message)s")
+Retrying(recurs(1), fallback=lambda state: None)(int, "no")
+"""
+    ran = subprocess.run(
+        [sys.executable, "-c", text], env=python_environment(), capture_output=True, text=True, timeout=60
+    )
+    assert ran.stdout == "SCHEDULE_DONE\n"
+    assert ran.stderr.startswith(
+        "WARNING hikebox int: gave up after 2 attempts in 0.000 s: the policy was done; the last"
+    )
+    assert len(ran.stderr.splitlines()) == 1
+
+
 # Time
 
 
@@ -654,8 +1036,7 @@ def test_a_switch_leaves_all_waits_out() -> None:
         assert fetch() > 0
     assert time.monotonic() - began < 30
     slept: List[float] = []
-    fetch.retry.sleep = slept.append
-    fetch()
+    fetch.retry_with(sleep=slept.append)()
     assert slept == pytest.approx([3600] * 3, abs=1)
 
 
@@ -722,6 +1103,88 @@ def test_the_memory_of_many_retries_at_once_is_given_back() -> None:
     )
     # a kilobyte of each is the engine's
     assert int(ran.stdout) < 12_000
+
+
+CANCELLED = """
+import asyncio, gc, resource
+from hikebox import AsyncRetrying, recurs, spaced
+
+async def fails():
+    raise KeyError
+
+async def main(count):
+    retrying = AsyncRetrying(recurs(9) & spaced(60))
+    for _ in range(count):
+        tasks = [asyncio.ensure_future(retrying(fails)) for _ in range(500)]
+        await asyncio.sleep(0)
+        await asyncio.sleep(0)
+        for task in tasks:
+            task.cancel()
+        await asyncio.gather(*tasks, return_exceptions=True)
+    assert retrying.statistics.cancelled == 500 * count
+    gc.collect()
+    return resource.getrusage(resource.RUSAGE_SELF).ru_maxrss
+
+print(asyncio.run(main(10)), asyncio.run(main(40)))
+"""
+
+
+def test_the_engines_retry_of_a_coroutine_that_is_cancelled_while_it_waits_is_freed() -> None:
+    ran = subprocess.run(
+        [sys.executable, "-c", CANCELLED], env=python_environment(), capture_output=True, text=True, check=True
+    )
+    before, after = (int(word) for word in ran.stdout.split())
+    # in kilobytes; 15,000 retries that were lost would be 10,000
+    assert after - before < 2000, ran.stdout
+
+
+def test_a_coroutine_that_waits_leaves_nothing_to_collect() -> None:
+    async def main() -> int:
+        retrying = AsyncRetrying(recurs(3) & spaced(0.001), fallback=lambda state: None)
+        await retrying(fails_later)
+        gc.collect()
+        for _ in range(20):
+            await retrying.copy(fallback=None, on_result=None)(fails_twice())
+        return gc.collect()
+
+    def fails_twice() -> Any:
+        left = [3]
+
+        async def call() -> str:
+            left[0] -= 1
+            if left[0]:
+                raise OSError(7, "scripted")
+            return "won"
+
+        return call
+
+    gc.disable()
+    try:
+        assert asyncio.run(main()) < 20
+    finally:
+        gc.enable()
+
+
+def test_a_cancelled_wait_leaves_no_timer() -> None:
+    async def main() -> List[Any]:
+        loop = asyncio.get_running_loop()
+        handles: List[Any] = []
+        later = loop.call_later
+
+        def notes(*how: Any, **named: Any) -> Any:
+            handles.append(later(*how, **named))
+            return handles[-1]
+
+        setattr(loop, "call_later", notes)
+        task = asyncio.ensure_future(AsyncRetrying(spaced(60))(fails_later))
+        while not handles:
+            await asyncio.sleep(0)
+        task.cancel()
+        with pytest.raises(asyncio.CancelledError):
+            await task
+        return [handle.cancelled() for handle in handles]
+
+    assert asyncio.run(main()) == [True]
 
 
 def test_nothing_is_kept_of_a_retry_that_was_stopped_in_its_wait() -> None:

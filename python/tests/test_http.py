@@ -24,7 +24,9 @@ requests = pytest.importorskip("requests")
 from hikebox.adapters.requests import PolicyAdapter  # noqa: E402
 from hikebox.adapters.urllib3 import PolicyRetry  # noqa: E402
 
+
 def pool(clock: VirtualClock, policy: Any, **how: Any) -> Any:
+    how = {"raise_on_status": False, **how}
     return urllib3.PoolManager(retries=PolicyRetry(policy, clock=clock, sleep=clock.sleep, **how))
 
 
@@ -84,7 +86,7 @@ def test_retry_after_is_a_lower_bound(server: Server, clock: VirtualClock) -> No
         (429, {"Retry-After": "999999999"}),
         200,
     )
-    assert session(clock, recurs(9) & spaced(2), longest=100).get(server.url).status_code == 200
+    assert session(clock, recurs(9) & spaced(2), max_retry_after=100).get(server.url).status_code == 200
     assert clock.slept[:3] == pytest.approx([7, 2, 2], abs=0.01)
     # a date has whole seconds
     assert 59 - (time.time() - began) <= clock.slept[3] <= 60 and clock.slept[4] == 100
@@ -122,7 +124,7 @@ def test_methods_that_must_not_be_repeated(server: Server, clock: VirtualClock) 
         session(clock, recurs(5)).post(server.url, data="a")
     assert len(server.requests) == 1
     server.says(503, 200)
-    allowed = session(clock, recurs(5), allowed_methods=frozenset({"POST"}))
+    allowed = session(clock, recurs(5), methods={"post"})
     assert allowed.post(server.url, data="a").status_code == 200
     assert server.requests == [("POST", "/", b"a")] * 2
 
@@ -200,7 +202,7 @@ def test_requests_that_are_over_are_counted(server: Server, clock: VirtualClock)
     seen: List[Any] = []
     hooks: Any = {
         "on_success": lambda state: seen.append(state.attempt_number),
-        "after": lambda state: seen.append(state.outcome.exception().status),
+        "after": lambda state: seen.append(state.outcome.result().status_code),
     }
     with Budget(10) as budget:
         one = session(clock, recurs(2), budget=budget, **hooks)
@@ -217,15 +219,37 @@ def test_requests_that_are_over_are_counted(server: Server, clock: VirtualClock)
         counted = adapter.statistics
         assert (counted.calls, counted.attempts, counted.won, counted.schedule_done) == (3, 2 + 3 + 1, 2, 1)
         assert counted == adapter.retrying.statistics
-        adapter.retrying.policy = stop()
+        one.mount("http://", PolicyAdapter(stop(), budget=budget))
         server.says(503, 200)
         assert one.get(server.url).status_code == 503
     assert budget.granted == 3
 
 
+def test_no_request_is_made_past_the_deadline_of_a_sleep_that_takes_too_long(
+    server: Server, clock: VirtualClock
+) -> None:
+    def sleeps_too_long(seconds: float) -> None:
+        clock.sleep(seconds + 60)
+
+    server.says(503, 200)
+    with requests.Session() as one:
+        one.trust_env = False
+        adapter = PolicyAdapter(spaced(1), deadline=10, clock=clock, sleep=sleeps_too_long)
+        one.mount("http://", adapter)
+        answer = one.get(server.url)
+    assert (answer.status_code, answer.text, len(server.requests)) == (503, "answer 1", 1)
+    assert adapter.statistics.deadline == 1
+
+    server.says(503, 200)
+    retries = PolicyRetry(spaced(1), deadline=10, clock=clock, sleep=sleeps_too_long)
+    with pytest.raises(urllib3.exceptions.MaxRetryError):
+        urllib3.PoolManager(retries=retries).request("GET", server.url)
+    assert len(server.requests) == 1 and retries.statistics.deadline == 1
+
+
 def test_a_deadline_counts_from_the_requests_beginning(server: Server, clock: VirtualClock) -> None:
     with Budget(100) as budget:
-        for deadline, attempts in ((None, 3), (2.5, 3), (2.4, 2)):
+        for deadline, attempts in ((None, 3), (2.75, 3), (2.4, 2)):
             made = session(clock, recurs(2) & spaced(1), budget=budget, deadline=deadline)
             for _ in range(2):
                 server.says(503)
@@ -244,19 +268,14 @@ def test_a_deadline_counts_from_the_requests_beginning(server: Server, clock: Vi
 def test_a_session_is_copied_and_pickled(server: Server) -> None:
     one = requests.Session()
     one.trust_env = False
-    one.mount("http://", PolicyAdapter(recurs(3), on_status={500}, longest=5))
+    one.mount("http://", PolicyAdapter(recurs(3), on_status={500}, max_retry_after=5))
     for other in (copy.copy(one), copy.deepcopy(one), pickle.loads(pickle.dumps(one))):
         server.says(500, 500, 200)
         assert other.get(server.url).status_code == 200
-        assert other.get_adapter(server.url).retrying.longest == 5
+        assert other.get_adapter(server.url).retrying.max_retry_after == 5
     budget = Budget(1)
     with_budget = copy.deepcopy(PolicyAdapter(recurs(3), budget=budget))
     assert with_budget.retrying is not None and with_budget.retrying.budget is budget
-
-
-def test_an_old_name_of_an_adapter() -> None:
-    with pytest.warns(DeprecationWarning, match="longest"):
-        assert getattr(PolicyRetry(recurs(1), longest_retry_after=7).retrying, "longest") == 7
 
 
 def test_a_retry_without_a_policy_is_urllib3s_own(server: Server) -> None:
@@ -288,7 +307,7 @@ def test_retry_after_for_calls_of_ones_own(server: Server, clock: VirtualClock) 
 
     server.says((503, {"Retry-After": "7"}), (404, {}), 200)
     policy = (recurs(5) & spaced(1)).while_input(at_least=500)
-    retrying = Retrying(policy, on=requests.RequestException, at_least=retry_after, clock=clock, sleep=clock.sleep)
+    retrying = Retrying(policy, on=requests.RequestException, retry_after=retry_after, clock=clock, sleep=clock.sleep)
     with pytest.raises(requests.HTTPError) as caught:
         retrying(ask)
     assert caught.value.response.status_code == 404

@@ -95,20 +95,42 @@ def test_the_last_response_is_given_whole(kind: str, server: Server, clock: Virt
 def test_retry_after_is_a_lower_bound(kind: str, server: Server, clock: VirtualClock) -> None:
     answers: Any = [(503, {"Retry-After": text}) for text in ("7", "1", "soon", "999999999999")]
     server.says(*answers, 200)
-    client = Client(kind, clock, recurs(9) & spaced(2), longest=100)
+    client = Client(kind, clock, recurs(9) & spaced(2), max_retry_after=100)
     assert client.request("GET", server.url).status == 200
     assert clock.slept == pytest.approx([7, 2, 2, 100])
 
 
 @KINDS
-def test_a_response_that_asks_for_too_much_time_is_given_at_once(kind: str, server: Server, clock: VirtualClock) -> None:
+def test_the_last_response_is_there_though_the_deadline_passed_in_a_wait(
+    kind: str, server: Server, clock: VirtualClock
+) -> None:
+    def sleeps_too_long(seconds: float) -> None:
+        clock.sleep(seconds + 60)
+
+    async def sleeps_too_long_later(seconds: float) -> None:
+        sleeps_too_long(seconds)
+
+    sleep: Any = sleeps_too_long if kind == "httpx" else sleeps_too_long_later
+    for stop in (None, lambda state: state.upcoming_sleep > 0):
+        server.says(503, 200)
+        client = Client(kind, clock, spaced(1), deadline=None if stop else 10, sleep=sleep, stop=stop)
+        answer = client.request("GET", server.url)
+        assert (answer.status, answer.text, len(server.requests)) == (503, "answer 1", 1)
+        counted = client.retrying.statistics
+        assert (counted.deadline, counted.stopped) == ((0, 1) if stop else (1, 0))
+
+
+@KINDS
+def test_a_response_that_asks_for_too_much_time_is_given_at_once(
+    kind: str, server: Server, clock: VirtualClock
+) -> None:
     server.says((503, {"Retry-After": "2"}), (503, {"Retry-After": "2"}), 200)
     client = Client(kind, clock, recurs(9), deadline=3.5)
     # after a wait of 2 s, 2 more would be too late
     answer = client.request("GET", server.url)
     assert (answer.status, answer.text) == (503, "answer 2")
     assert clock.slept == pytest.approx([2])
-    assert client.retrying.statistics.schedule_done == 1
+    assert client.retrying.statistics.deadline == 1
 
 
 @KINDS

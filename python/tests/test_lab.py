@@ -9,6 +9,7 @@ import json
 import os
 import re
 import resource
+import shlex
 import signal
 import socket
 import subprocess
@@ -25,7 +26,7 @@ from hikebox import Policy, Quota, recurs, storm
 from hikebox._lab import Lab
 from hikebox._lab_cookbook import COOKBOOK
 from hikebox._lab_players import BrokenOff, Players
-from hikebox._storm_code import in_python
+from hikebox._storm_code import in_command, in_python, in_scenario
 from hikebox._storm_terms import SCENARIOS, Parameters, Slow, Span
 from hikebox.quota import Terms
 
@@ -75,7 +76,12 @@ def post(lab: Lab, name: str, asked: Any) -> Answer:
 
 
 def storm_of(*sides: Tuple[str, str], page: str = "p", **given: Any) -> Dict[str, Any]:
-    return {"page": page, "sides": [{"text": text, "limit": limit} for text, limit in sides], "storm": given, "width": 500}
+    return {
+        "page": page,
+        "sides": [{"text": text, "limit": limit} for text, limit in sides],
+        "storm": given,
+        "width": 500,
+    }
 
 
 # Whom it answers
@@ -93,7 +99,9 @@ def test_each_run_has_another_token() -> None:
         each.server_close()
 
 
-@pytest.mark.parametrize("path", ["/", "/x/", "/{token}", "/{token}x/", "/{half}/", "/favicon.ico", "/%2e/{token}/", "/../{token}/"])
+@pytest.mark.parametrize(
+    "path", ["/", "/x/", "/{token}", "/{token}x/", "/{half}/", "/favicon.ico", "/%2e/{token}/", "/../{token}/"]
+)
 def test_a_wrong_token_is_forbidden(lab: Lab, path: str) -> None:
     path = path.format(token=lab.token, half=lab.token[:12])
     for method in ("GET", "POST"):
@@ -102,13 +110,18 @@ def test_a_wrong_token_is_forbidden(lab: Lab, path: str) -> None:
         assert lab.token not in answer.text
 
 
-@pytest.mark.parametrize("host", ["evil.example", "127.0.0.1", "127.0.0.1:1", "localhost", "evil.example:{port}", "[::1]:{port}"])
+@pytest.mark.parametrize(
+    "host", ["evil.example", "127.0.0.1", "127.0.0.1:1", "localhost", "evil.example:{port}", "[::1]:{port}"]
+)
 def test_another_host_is_forbidden(lab: Lab, host: str) -> None:
     answer = ask(lab, "GET", f"/{lab.token}/", Host=host.format(port=lab.port))
     assert answer.status == 403 and "own machine" in answer.text
 
 
-@pytest.mark.parametrize("origin", ["https://evil.example", "null", "http://127.0.0.1", "https://127.0.0.1:{port}", "http://localhost.evil:{port}"])
+@pytest.mark.parametrize(
+    "origin",
+    ["https://evil.example", "null", "http://127.0.0.1", "https://127.0.0.1:{port}", "http://localhost.evil:{port}"],
+)
 def test_another_origin_is_forbidden(lab: Lab, origin: str) -> None:
     for method, name in (("GET", ""), ("POST", "start")):
         assert ask(lab, method, f"/{lab.token}/{name}", b"{}", Origin=origin.format(port=lab.port)).status == 403
@@ -181,9 +194,12 @@ def test_the_page_has_its_parts_from_here_alone(lab: Lab) -> None:
 def test_it_begins_with_the_stories_and_the_cookbook(lab: Lab) -> None:
     told = post(lab, "start", {}).json()
     assert told["cookbook"] == [list(entry) for entry in COOKBOOK]
-    assert told["stories"]["herd"]["outage"] == [0, 0] and told["stories"]["brown-out"]["slow"] == [10_000, 20_000, 50]
-    assert set(told["stories"]) == set(SCENARIOS)
+    assert list(told["stories"]) == ["quota", "retries", "jitter", "back-off", "deadline"]
+    assert told["stories"]["jitter"]["storm"]["outage"] == [0, 0]
+    assert told["stories"]["retries"]["storm"]["slow"] == [10_000, 20_000, 50]
+    assert told["stories"]["quota"]["sides"] == [{"text": FULL, "limit": ""}, {"text": FULL, "limit": "10/10%/1s"}]
     assert told["ranges"]["rate"] == [1, 1_000_000]
+    assert list(told["along"]) == ["rate", "capacity", "outage", "patience", "queue", "share"]
 
 
 def test_the_cookbook_has_the_policies_of_the_pages() -> None:
@@ -216,10 +232,38 @@ def test_storms_are_shown_side_by_side(lab: Lab) -> None:
     told = post(lab, "storm", storm_of((FULL, ""), (FULL, "10/10%/1s"), ("recurs(", ""), ("recurs(0)", "x"))).json()
     first, second, *none = told["sides"]
     assert none == [None, None]
+    assert first["brief"] == "18.4 % of 48,000 requests succeeded, not back by the end; 7.62 calls for each"
+    assert second["brief"] == "83.3 % of 48,000 requests succeeded, back at 20 s; 1.02 calls for each"
     assert first["lines"][1].startswith("365,567 calls, 7.62 for each request")
-    assert second["lines"][1].startswith("48,900 calls, 1.02 for each request")
-    assert ">10,000<" in first["picture"] and ">10,000<" in second["picture"]
+    assert all(f">{words}<" in told["picture"] for words in ("A: no limit", "B: quota 10/10%/1s", "18.4 % succeeded"))
+    assert ">calls begun<" in told["picture"]
     assert first["json"] == Policy.parse(FULL).to_json()
+    brief = post(lab, "storm", {**storm_of((FULL, ""), (FULL, "5")), "is_brief": True}).json()
+    assert ">calls begun<" not in brief["picture"] and ">B: budget of 5<" in brief["picture"]
+    assert post(lab, "storm", storm_of(("", ""), ("", ""))).json() == {
+        "sides": [None, None],
+        "picture": "",
+        "scenario": "",
+    }
+
+
+def test_a_sweep_is_of_the_sides_that_are_there(lab: Lab) -> None:
+    asked = storm_of(("recurs(", ""), ("recurs(1)", "5"), seconds=1, rate=100, capacity=50)
+    for name, ends in [("rate", (">50<", ">200<")), ("capacity", (">20<", ">100<")), ("share", (">0<", ">40<"))]:
+        told = post(lab, "sweep", {**asked, "along": name}).json()
+        assert told["said"] == "" and ">B<" in told["picture"] and ">A<" not in told["picture"]
+        assert all(end in told["picture"] for end in ends), name
+    told = post(lab, "sweep", {**storm_of(("recurs(1)", ""), seconds=1, outage=[5, 5]), "along": "outage"}).json()
+    assert told == {"picture": "", "said": "There is nothing to play along length of the outage, in seconds."}
+    # 1,048,576 requests are the most of a storm, so no rate is played above 17,476.
+    told = post(lab, "sweep", {**storm_of(("recurs(0)", ""), seconds=60, rate=12_000), "along": "rate"}).json()
+    assert told["said"] == "" and ">5,000<" in told["picture"] and ">15,000<" in told["picture"]
+    assert ">20,000<" not in told["picture"]
+    told = post(lab, "sweep", {**storm_of(("recurs(0)", ""), seconds=60, rate=20_000), "along": "capacity"}).json()
+    assert told["fault"]["name"] == "rate" and "1048576" in told["fault"]["said"]
+    for wrong in ({**asked, "along": "words"}, {**asked, "along": 5}, asked):
+        assert post(lab, "sweep", wrong).status == 400
+    assert post(lab, "storm", {**asked, "along": "rate"}).status == 400
 
 
 def test_a_parameter_out_of_range_is_named(lab: Lab) -> None:
@@ -233,7 +277,10 @@ PROGRAMS: List[Tuple[str, Parameters]] = [
     (FULL, Parameters()),
     ("forever()", Parameters(seconds=1, calls=500, words=7, outage=Span(0, 0), until=1500)),
     ("recurs(3)", SCENARIOS["herd"]._replace(tickets=100)),
-    ('unfold(1, 2, 3).gather("max").then(milliseconds_free) | fixed(1)'.replace("milliseconds_free", "lone(0.25)"), Parameters(seconds=2)),
+    (
+        'unfold(1, 2, 3).gather("max").then(milliseconds_free) | fixed(1)'.replace("milliseconds_free", "lone(0.25)"),
+        Parameters(seconds=2),
+    ),
     ("recurs(3)", SCENARIOS["brown-out"]._replace(tickets=Terms(10, 100, 1000), patience=250, window=500, rate=400)),
     ("recurs(1) & spaced(milliseconds(4611686018427387903))", Parameters(seconds=1, slow=Slow(1, 2, 29))),
 ]
@@ -248,6 +295,24 @@ def test_the_program_in_python_plays_the_storm_of_the_page(spelt: str, parameter
     with contextlib.redirect_stdout(told):
         exec(in_python(policy, parameters), {})
     assert told.getvalue() == f"{play(policy, parameters)}\n"
+
+
+@pytest.mark.parametrize("spelt, parameters", PROGRAMS, ids=[spelt for spelt, _ in PROGRAMS])
+def test_the_command_and_the_scenario_play_the_storm_of_the_page(
+    spelt: str, parameters: Parameters, tmp_path: Path, capsys: pytest.CaptureFixture[str]
+) -> None:
+    from hikebox._cli import main
+    from hikebox.storm import play
+
+    played = play(Policy.parse(spelt), parameters)
+    words = shlex.split(in_command(played.policy, parameters))
+    status = 6 if played.totals.cut else 0
+    assert words[:2] == ["hikebox", "storm"] and main([*words[1:], "--json"]) == status
+    assert capsys.readouterr().out == f"{played.to_json()}\n"
+    file = tmp_path / "scenario.json"
+    file.write_text(in_scenario([played]))
+    assert main(["storm", "--scenario", str(file), "--json"]) == status
+    assert capsys.readouterr().out == f"{played.to_json()}\n"
 
 
 # How long it works
@@ -275,7 +340,9 @@ def test_ten_storms_of_a_million_requests_at_once_leave_it_answering(lab: Lab) -
 
 def test_the_next_storm_of_a_page_breaks_the_one_before_off(lab: Lab) -> None:
     broken: List[Answer] = []
-    thread = threading.Thread(target=lambda: broken.append(post(lab, "storm", {"page": "q", "sides": [LONG_SIDE], "storm": LONG})))
+    thread = threading.Thread(
+        target=lambda: broken.append(post(lab, "storm", {"page": "q", "sides": [LONG_SIDE], "storm": LONG}))
+    )
     thread.start()
     comes_to(lambda: bool(children()))
     assert post(lab, "storm", storm_of(("recurs(0)", ""), page="q", seconds=1)).status == 200
@@ -298,7 +365,10 @@ def children() -> List[int]:
     for told in processes_of(os.getpid()):
         number = int(told.split()[0])
         with contextlib.suppress(OSError):
-            states = [(task / "stat").read_text().rpartition(")")[2].split()[0] for task in Path(f"/proc/{number}/task").iterdir()]
+            states = [
+                (task / "stat").read_text().rpartition(")")[2].split()[0]
+                for task in Path(f"/proc/{number}/task").iterdir()
+            ]
             if "R" in states:
                 found.append(number)
     return found
@@ -407,18 +477,28 @@ def test_a_reader_that_goes_away_does_not_end_it() -> None:
     assert (*process.communicate(timeout=_PATIENCE), process.returncode) == ("", "", 0)
 
 
-def test_the_browser_is_opened_where_one_is_named(tmp_path: Path) -> None:
+def test_the_browser_is_opened_and_no_command_line_has_the_secret(tmp_path: Path) -> None:
     browser = tmp_path / "browser"
-    browser.write_text(f'#!/bin/sh\necho "$1" > {tmp_path}/opened.new; mv {tmp_path}/opened.new {tmp_path}/opened\n')
+    seen = f"tr '\\0' ' ' < /proc/$$/cmdline > {tmp_path}/opened.new; mv {tmp_path}/opened.new {tmp_path}/opened"
+    browser.write_text(f"#!/bin/sh\n{seen}\n")
     browser.chmod(0o755)
-    process = start("http://127.0.0.1:9/old/#story=herd&a=recurs%283%29 `x`", BROWSER=f"{browser} %s")
+    process = start('http://127.0.0.1:9/old/#story=jitter&a=recurs%283%29 `x`"<', BROWSER=f"{browser} %s")
     assert process.stdout is not None
     address = process.stdout.readline()[len("hikebox lab: ") :].split(" (")[0]
-    assert address.endswith("/#story=herd&a=recurs%283%29%20%60x%60")
+    assert address.endswith("/#story=jitter&a=recurs%283%29%20%60x%60%22%3C")
     comes_to((tmp_path / "opened").exists)
+    command = (tmp_path / "opened").read_text()
+    token = address.split("/")[3]
+    assert token not in command
+    # It is led to the page by a file in a folder that nobody else can enter.
+    found = re.search(r"file://(\S+)", command)
+    assert found is not None
+    door = Path(found[1])
+    assert door.parent.stat().st_mode & 0o777 == 0o700
+    assert f'content="0; url={address.replace("&", "&amp;")}"' in door.read_text()
     process.send_signal(signal.SIGINT)
     process.communicate(timeout=_PATIENCE)
-    assert (tmp_path / "opened").read_text() == f"{address}\n"
+    assert not door.parent.exists()
 
 
 def test_a_port_that_is_taken_is_told() -> None:

@@ -15,7 +15,7 @@ from typing import Any, Dict, List, Tuple
 import pytest
 from conftest import HERE, python_environment
 
-from draws import drawn_by
+from draws import drawn_by, number
 from hikebox import AsyncRetrying, BudgetError, Ending, Retrying, StoreError, StoreLost, recurs, spaced, state_of
 from hikebox.leased import FileStore, Leased, Range, RedisStore
 
@@ -89,14 +89,14 @@ def test_a_budget_in_a_file(tmp_path: Path) -> None:
     store = FileStore(tmp_path / "counts")
     first = Leased(store, "a", limit=10, lease=4)
     second = Leased(FileStore(tmp_path / "counts"), "a", limit=10, lease=4)
-    assert [first.draw() for _ in range(5)] == [0, 1, 2, 3, 4]
-    assert [second.draw() for _ in range(4)] == [8, 9, None, None]
-    assert [first.draw() for _ in range(5)] == [5, 6, 7, None, None]
+    assert [number(first.draw()) for _ in range(5)] == [0, 1, 2, 3, 4]
+    assert [number(second.draw()) for _ in range(4)] == [8, 9, None, None]
+    assert [number(first.draw()) for _ in range(5)] == [5, 6, 7, None, None]
     assert (first.granted, second.granted) == (8, 2)
-    assert Leased(store, "b", limit=1).draw() == 0
-    assert Leased(store, "a", limit=10).draw() is None
-    assert Leased(store, "a", limit=11).draw() == 10
-    assert Leased(store, "none", limit=0).draw() is None
+    assert number(Leased(store, "b", limit=1).draw()) == 0
+    assert not Leased(store, "a", limit=10).draw()
+    assert number(Leased(store, "a", limit=11).draw()) == 10
+    assert not Leased(store, "none", limit=0).draw()
 
 
 def test_parameters() -> None:
@@ -111,31 +111,17 @@ def test_parameters() -> None:
         pickle.dumps(leased)
 
 
-def test_old_names() -> None:
-    store = FileStore("/nowhere/counts")
-    with pytest.warns(DeprecationWarning, match="period= is called per= now"):
-        leased = Leased(store, "a", 5, period=60)
-    assert leased.per == 60.0
-    with pytest.warns(DeprecationWarning, match="reserve= is called spare= now"):
-        leased = Leased(store, "a", 5, reserve=3)
-    assert leased.spare == 3 and leased.per is None
-    with pytest.warns(DeprecationWarning, match="Leased.reserve is called Leased.spare now"):
-        assert leased.reserve == 3
-    with pytest.raises(TypeError, match="one of per and period"):
-        Leased(store, "a", 5, per=60, period=60)
-
-
 def test_windows_of_a_file(tmp_path: Path, monkeypatch: Any) -> None:
     now = [0.0]
-    monkeypatch.setattr("hikebox._file_store.uptime", lambda: now[0])
+    monkeypatch.setattr("hikebox._file_store.shared_uptime", lambda: round(now[0] * 10**9))
     store = FileStore(tmp_path / "counts")
     first, second = (Leased(store, "a", limit=3, per=0.2, clock=lambda: now[0]) for _ in range(2))
     for window in (35, 36, 37, 39, 50):
         now[0] = window * 0.2 + 0.001
-        assert [first.draw(), second.draw(), first.draw()] == [0, 1, 2]
-        assert [second.draw(), first.draw()] == [None, None]
+        assert [number(first.draw()), number(second.draw()), number(first.draw())] == [0, 1, 2]
+        assert [number(second.draw()), number(first.draw())] == [None, None]
         now[0] = window * 0.2 + 0.199
-        assert [second.draw(), first.draw()] == [None, None]
+        assert [number(second.draw()), number(first.draw())] == [None, None]
 
 
 def test_windows_of_a_file_go_by_the_machines_uptime(tmp_path: Path) -> None:
@@ -148,7 +134,7 @@ def test_windows_of_a_file_go_by_the_machines_uptime(tmp_path: Path) -> None:
     until = time.monotonic() + 60
     while len(counted) < 6 and time.monotonic() < until:
         for budget in budgets:
-            before, ticket = window(), budget.draw()
+            before, ticket = window(), number(budget.draw())
             # a ticket that was drawn while a window ended is left out
             if ticket is not None and before == window():
                 counted.setdefault(before, []).append(ticket)
@@ -173,57 +159,57 @@ class Stub:
 
 def test_a_lease_is_not_drawn_from_past_its_moment() -> None:
     now = [0.0]
-    store = Stub((0, 5, 10.0), (0, 5, 20.0))
+    store = Stub((0, 5, 10.0, 0), (0, 5, 20.0, 1))
     leased = Leased(store, "a", 5, per=10, clock=lambda: now[0])
-    assert [leased.draw(), leased.draw()] == [0, 1]
+    assert [number(leased.draw()), number(leased.draw())] == [0, 1]
     now[0] = 10.0
-    assert leased.draw() == 0 and store.asked == 2
+    assert number(leased.draw()) == 0 and store.asked == 2
     assert leased.granted == 3
 
 
 def test_a_store_that_has_nothing_is_not_asked_again_before_its_moment() -> None:
     now = [0.0]
-    store = Stub((0, 0, 10.0), (0, 5, 20.0))
+    store = Stub((0, 0, 10.0, 0), (0, 5, 20.0, 1))
     leased = Leased(store, "a", 5, per=10, clock=lambda: now[0])
-    assert [leased.draw() for _ in range(5)] == [None] * 5 and store.asked == 1
+    assert [number(leased.draw()) for _ in range(5)] == [None] * 5 and store.asked == 1
     now[0] = 10.0
-    assert leased.draw() == 0
+    assert number(leased.draw()) == 0
     spent = Stub((5, 0, None))
     leased = Leased(spent, "a", 5)
-    assert [leased.draw() for _ in range(5)] == [None] * 5 and spent.asked == 1
+    assert [number(leased.draw()) for _ in range(5)] == [None] * 5 and spent.asked == 1
 
 
 def test_leases_that_are_over_when_they_come() -> None:
-    store = Stub((0, 5, 1.0))
+    store = Stub((0, 5, 1.0, 0), (0, 5, 1.1, 1), (0, 5, 1.2, 2))
     leased = Leased(store, "a", 5, per=1, clock=lambda: 2.0)
-    assert leased.draw() is None and store.asked == 3
-    assert leased.draw() is None and store.asked == 3
+    assert not leased.draw() and store.asked == 3
+    assert not leased.draw() and store.asked == 3
 
 
 def test_a_store_that_can_not_be_reached_grants_nothing_or_the_reserve(caplog: Any) -> None:
     now = [0.0]
     store = Stub((0, 2, None), StoreError("gone"), StoreError("gone"), (2, 1, None), StoreError("gone"))
     leased = Leased(store, "a", 100, lease=2, spare=2, clock=lambda: now[0])
-    assert [leased.draw() for _ in range(6)] == [0, 1, -1, -2, None, None]
+    assert [number(leased.draw()) for _ in range(6)] == [0, 1, -1, -2, None, None]
     assert store.asked == 2
     now[0] = 1.0
-    assert leased.draw() is None and store.asked == 3
+    assert not leased.draw() and store.asked == 3
     now[0] = 2.0
-    assert [leased.draw(), leased.draw()] == [2, None]
+    assert [number(leased.draw()), number(leased.draw())] == [2, None]
     assert leased.granted == 5
     assert [record.getMessage() for record in caplog.records] == [
         "a: gone; it grants nothing until it can be reached"
     ] * 2
     nothing = Leased(Stub(StoreError("gone")), "a", 100)
-    assert nothing.draw() is None and nothing.granted == 0
+    assert not nothing.draw() and nothing.granted == 0
 
 
 def test_the_reserve_of_a_period() -> None:
     now = [0.0]
     leased = Leased(Stub(StoreError("gone")), "a", 9, per=10, spare=1, clock=lambda: now[0])
-    assert [leased.draw(), leased.draw()] == [-1, None]
+    assert [number(leased.draw()), number(leased.draw())] == [-1, None]
     now[0] = 10.0
-    assert [leased.draw(), leased.draw()] == [-1, None]
+    assert [number(leased.draw()), number(leased.draw())] == [-1, None]
     assert leased.granted == 2
 
 
@@ -284,66 +270,12 @@ def test_threads_draw_each_ticket_once(tmp_path: Path) -> None:
 
 def test_a_forked_child_has_leases_of_its_own(tmp_path: Path) -> None:
     leased = Leased(FileStore(tmp_path / "counts"), "a", limit=100, lease=10)
-    assert leased.draw() == 0
+    assert number(leased.draw()) == 0
     child = os.fork()
     if child == 0:
-        os._exit(0 if (leased.draw(), leased.granted) == (10, 1) else 1)
+        os._exit(0 if (number(leased.draw()), leased.granted) == (10, 1) else 1)
     assert os.waitstatus_to_exitcode(os.waitpid(child, 0)[1]) == 0
-    assert leased.draw() == 1
-
-
-# Files that are not as they should be
-
-
-def test_a_damaged_file_grants_nothing(tmp_path: Path) -> None:
-    path = tmp_path / "counts"
-    store = FileStore(path)
-    assert store.take("a", 5, 100, None, time.monotonic) == Range(0, 5, None)
-    whole = path.read_bytes()
-    for text in (whole[:-1], whole.replace(b"5]", b"1]"), b"hello", b"\0" * 40, whole[:8]):
-        path.write_bytes(text)
-        with pytest.raises(StoreLost):
-            store.take("a", 5, 100, None, time.monotonic)
-        assert Leased(store, "a", 100).draw() is None
-    path.write_bytes(whole + b" more")
-    assert store.take("a", 5, 100, None, time.monotonic) == Range(5, 5, None)
-
-
-def test_a_file_that_can_not_be_opened(tmp_path: Path) -> None:
-    for path in (tmp_path, tmp_path / "none" / "counts"):
-        with pytest.raises(StoreError):
-            FileStore(path).take("a", 1, 1, None, time.monotonic)
-
-
-def test_a_lock_that_is_not_given_up(tmp_path: Path) -> None:
-    import fcntl
-
-    path = tmp_path / "counts"
-    with open(path, "w") as file:
-        fcntl.flock(file, fcntl.LOCK_EX)
-        with pytest.raises(StoreError, match="lock"):
-            FileStore(path, patience=0.05).take("a", 1, 1, None, time.monotonic)
-    assert FileStore(path).take("a", 1, 1, None, time.monotonic).tickets == 1
-
-
-def test_a_later_window_in_the_file_grants_nothing(tmp_path: Path) -> None:
-    from hikebox import _file_store as module
-
-    path = tmp_path / "counts"
-    store = FileStore(path)
-    assert store.take("a", 1, 9, 1000, time.monotonic).tickets == 1
-    file = os.open(path, os.O_RDWR)
-    counts = module.read_counts(file, str(path))
-    ((key, (window, _)),) = counts.items()
-    assert key == "windows of 1000 ms of a"
-    boot, number = window.split()
-    counts[key] = [f"{boot} {int(number) + 100}", 1]
-    module.write_counts(file, counts)
-    assert store.take("a", 1, 9, 1000, time.monotonic).tickets == 0
-    counts[key] = [f"another-boot {int(number) + 100}", 9]
-    module.write_counts(file, counts)
-    assert store.take("a", 1, 9, 1000, time.monotonic)[:2] == (0, 1)
-    os.close(file)
+    assert number(leased.draw()) == 1
 
 
 # Many processes, a file
@@ -397,7 +329,8 @@ def test_processes_killed_at_any_moment(workers: Workers, tmp_path: Path) -> Non
 
 
 def since_1970() -> int:
-    """By how many milliseconds a server's clock is ahead of the uptime of its machine: the closest of many looks at both."""
+    """By how many milliseconds a server's clock is ahead of the uptime of its machine: the closest of many looks at
+    both."""
     looks = []
     for _ in range(20):
         began = time.clock_gettime(time.CLOCK_BOOTTIME)
@@ -412,9 +345,10 @@ DIFFER = 2
 
 
 def in_windows(workers: Workers, folder: Path, limit: int, period: int, offset: int = 0) -> None:
-    """Lets processes that heed the file `stop` draw until three windows were drawn nearly whole. No window has more tickets
-    than the limit of those that were drawn in it for sure; and of a whole window nearly all are drawn, where the machine
-    held no process up."""
+    """Lets processes that heed the file `stop` draw until three windows were drawn nearly whole. No window has more
+    tickets
+    than the limit of those that were drawn in it for sure; and of a whole window nearly all are drawn, where the
+    machine held no process up."""
 
     def by_windows() -> Dict[int, List[bool]]:
         found: Dict[int, List[bool]] = {}
@@ -433,9 +367,7 @@ def in_windows(workers: Workers, folder: Path, limit: int, period: int, offset: 
     assert all(sum(draws) <= limit for draws in by_window.values())
     held_up = [((began + offset) // period, (ended + offset) // period) for began, ended in workers.pauses()]
     whole = [
-        window
-        for window in sorted(by_window)[1:-1]
-        if not any(began <= window <= ended for began, ended in held_up)
+        window for window in sorted(by_window)[1:-1] if not any(began <= window <= ended for began, ended in held_up)
     ]
     assert sum(len(by_window[window]) for window in whole) >= 0.9 * limit * len(whole)
 
@@ -454,19 +386,19 @@ def test_a_budget_in_redis(redis_server: Any) -> None:
     server = redis_server()
     store = RedisStore(server.client())
     leased = Leased(store, "a", limit=10, lease=4)
-    assert leased.draw() is None
+    assert not leased.draw()
     with pytest.raises(StoreLost, match="begin"):
         store.take("a", 4, 10, None, time.monotonic)
     store.begin("a")
     leased = Leased(store, "a", limit=10, lease=4)
     other = Leased(RedisStore(server.client()), "a", limit=10, lease=4)
-    assert [leased.draw() for _ in range(5)] == [0, 1, 2, 3, 4]
-    assert [other.draw() for _ in range(3)] == [8, 9, None]
+    assert [number(leased.draw()) for _ in range(5)] == [0, 1, 2, 3, 4]
+    assert [number(other.draw()) for _ in range(3)] == [8, 9, None]
     store.forget("a")
     with pytest.raises(StoreLost):
         store.take("a", 1, 100, None, time.monotonic)
     store.begin("a")
-    assert Leased(store, "a", limit=10).draw() == 0
+    assert number(Leased(store, "a", limit=10).draw()) == 0
     # a count that was evicted
     server.client().delete("hikebox:{a}")
     with pytest.raises(StoreLost):
@@ -479,7 +411,7 @@ def test_a_client_that_decodes_answers(redis_server: Any) -> None:
     server = redis_server()
     store = RedisStore(redis.Redis(host="127.0.0.1", port=server.port, decode_responses=True))
     store.begin("a")
-    assert Leased(store, "a", limit=10).draw() == 0
+    assert number(Leased(store, "a", limit=10).draw()) == 0
 
 
 def test_a_redis_that_was_started_anew_grants_nothing(redis_server: Any) -> None:

@@ -17,11 +17,10 @@ from typing import Any, Counter as Counts, Dict, List, Optional, Tuple
 import pytest
 from conftest import HERE, python_environment
 
-from draws import drawn_by, repeated
-from hikebox import AsyncRetrying, Ending, Retrying, StoreError, StoreLost, TermsError, Usage, recurs, spaced, state_of
+from draws import drawn_by, number, repeated
+from hikebox import AsyncRetrying, Ending, Retrying, StoreError, TermsError, Usage, recurs, spaced, state_of
 from hikebox._engine import MOST_TICKETS
 from hikebox._leasing import Stored, lease_of_quota
-from hikebox._requests import Requests
 from hikebox.leased import FileStore, Leased, LeasedQuota, QuotaRange, RedisStore
 from hikebox.quota import Terms
 
@@ -101,38 +100,38 @@ def test_a_quota_in_a_file(tmp_path: Path) -> None:
     store = FileStore(tmp_path / "counts")
     first = LeasedQuota(store, "a", 4, 0.5, LONG, lease=2)
     second = LeasedQuota(FileStore(tmp_path / "counts"), "a", 4, 0.5, LONG, lease=2)
-    assert [first.draw() for _ in range(3)] == [0, 1, 2]
-    assert second.draw() is None
-    assert [first.draw() for _ in range(2)] == [3, None]
+    assert [number(first.draw()) for _ in range(3)] == [0, 1, 2]
+    assert not second.draw()
+    assert [number(first.draw()) for _ in range(2)] == [3, None]
     # two requests of each are worth a ticket of each; the first to ask is granted what both give
     for _ in range(3):
         first.deposit()
-    assert first.draw() is None
+    assert not first.draw()
     first.deposit()
-    assert [first.draw() for _ in range(3)] == [4, 5, None]
+    assert [number(first.draw()) for _ in range(3)] == [4, 5, None]
     for _ in range(4):
         second.deposit()
-    assert first.draw() is None
-    assert [second.draw() for _ in range(3)] == [6, 7, None]
+    assert not first.draw()
+    assert [number(second.draw()) for _ in range(3)] == [6, 7, None]
     assert (first.granted, second.granted) == (6, 2)
     # beside a budget of the same name
-    assert Leased(store, "a", limit=10).draw() == 0
-    assert Leased(store, "a", limit=10, per=LONG).draw() == 0
-    assert LeasedQuota(store, "b", 1, 0, LONG).draw() == 0
-    assert LeasedQuota(store, "a", 4, 0.5, 10 * LONG).draw() == 0
+    assert number(Leased(store, "a", limit=10).draw()) == 0
+    assert number(Leased(store, "a", limit=10, per=LONG).draw()) == 0
+    assert number(LeasedQuota(store, "b", 1, 0, LONG).draw()) == 0
+    assert number(LeasedQuota(store, "a", 4, 0.5, 10 * LONG).draw()) == 0
 
 
 def test_what_was_seen_is_told_and_others_draw_on_it(tmp_path: Path) -> None:
     store = FileStore(tmp_path / "counts")
     busy, failing = LeasedQuota(store, "a", 0, 0.2, LONG), LeasedQuota(store, "a", 0, 0.2, LONG)
-    assert failing.draw() is None
+    assert not failing.draw()
     for _ in range(10):
         busy.deposit()
     usage = busy.seen()
     assert usage == Usage(window=usage.window, asked=10, given=0, left=2) == busy.seen()
     assert usage.window == int(time.clock_gettime(time.CLOCK_BOOTTIME) // LONG)
     assert failing.seen() == usage
-    assert [failing.draw() for _ in range(3)] == [0, 1, None]
+    assert [number(failing.draw()) for _ in range(3)] == [0, 1, None]
     assert busy.seen() == Usage(usage.window, asked=10, given=2, left=0)
 
 
@@ -142,9 +141,9 @@ def test_a_lease_is_a_sixty_fourth_of_what_is_allowed(tmp_path: Path) -> None:
     other = LeasedQuota(store, "a", 640, 1, LONG)
     for _ in range(1280):
         quota.deposit()
-    assert quota.draw() == 0 and other.draw() == 10
+    assert number(quota.draw()) == 0 and number(other.draw()) == 10
     # of 1,920 that are allowed from here on
-    assert [quota.draw() for _ in range(10)] == [*range(1, 10), 20]
+    assert [number(quota.draw()) for _ in range(10)] == [*range(1, 10), 20]
     assert other.seen().given == 50
 
 
@@ -163,28 +162,9 @@ def test_terms() -> None:
         pickle.dumps(quota)
 
 
-def test_requests_by_slices_of_a_window() -> None:
-    requests = Requests(16.0)
-    for now in (100.0, 100.5, 101.25, 103.75):
-        requests.add(now)
-    assert requests.count == 4
-    # the slice that began at 100 may have requests from before 100.25
-    assert requests.take(100.25) == 2
-    assert requests.count == 0 and requests.take(100.25) == 0
-    # from now on slices are counted from 100.25
-    for now in (116.125, 116.25, 117.125, 117.25):
-        requests.add(now)
-    assert requests.take(116.25) == 3
-    # what is older than a period is no request of a present window
-    requests.add(200.0)
-    requests.add(208.0)
-    requests.add(216.5)
-    assert requests.count == 2
-
-
 class Stub:
-    """A store that answers what the test says: first, tickets, until and asked; or raises it. It asks for the requests
-    since the moment that `since` names, where it does."""
+    """A store that answers what the test says: first, tickets, until and asked; or raises it. Window 7 ends at 10. It
+    asks for the requests since the moment that `since` names, where it does."""
 
     def __init__(self, *answers: Any, since: Optional[float] = None) -> None:
         self.answers = list(answers)
@@ -202,16 +182,16 @@ class Stub:
         if isinstance(answer, Exception):
             raise answer
         first, tickets, until, requests = answer
-        return QuotaRange(first, tickets, until, 7, requests)
+        return QuotaRange(first, tickets, until, 6 + int(until // 10), requests)
 
 
 def test_a_lease_is_not_drawn_from_past_its_window() -> None:
     now = [0.0]
     store = Stub((0, 5, 10.0, 0), (0, 5, 20.0, 0))
     quota = LeasedQuota(store, "a", 5, 0, 10, clock=lambda: now[0])
-    assert [quota.draw(), quota.draw()] == [0, 1]
+    assert [number(quota.draw()), number(quota.draw())] == [0, 1]
     now[0] = 10.0
-    assert quota.draw() == 0 and store.asked == 2
+    assert number(quota.draw()) == 0 and store.asked == 2
     assert quota.granted == 3
 
 
@@ -219,27 +199,27 @@ def test_when_a_store_that_had_none_left_is_asked_again() -> None:
     now = [0.0]
     store = Stub((5, 0, 10.0, 0))
     quota = LeasedQuota(store, "a", 5, 0.5, 10, lease=3, clock=lambda: now[0])
-    assert [quota.draw() for _ in range(5)] == [None] * 5 and store.asked == 1
+    assert [number(quota.draw()) for _ in range(5)] == [None] * 5 and store.asked == 1
     # once its requests are worth a lease
     for _ in range(5):
         quota.deposit()
-    assert quota.draw() is None and store.asked == 1
+    assert not quota.draw() and store.asked == 1
     quota.deposit()
-    assert quota.draw() is None and store.asked == 2
+    assert not quota.draw() and store.asked == 2
     # or after a second, since others may have told theirs
     store.since = 0.0
     now[0] = 0.99
-    assert quota.draw() is None and store.asked == 3
-    assert quota.draw() is None and store.asked == 3
+    assert not quota.draw() and store.asked == 3
+    assert not quota.draw() and store.asked == 3
     now[0] = 2.0
-    assert quota.draw() is None and store.asked == 4
+    assert not quota.draw() and store.asked == 4
     # or when the window ends
     now[0] = 9.5
-    assert quota.draw() is None and store.asked == 5
+    assert not quota.draw() and store.asked == 5
     now[0] = 9.9
-    assert quota.draw() is None and store.asked == 5
+    assert not quota.draw() and store.asked == 5
     now[0] = 10.0
-    assert quota.draw() is None and store.asked == 6
+    assert not quota.draw() and store.asked == 6
     assert store.told == [6, 0, 0, 0]
     # without a share the end of the window is all that there is to wait for
     spent = Stub((5, 0, 10.0, 0))
@@ -248,7 +228,7 @@ def test_when_a_store_that_had_none_left_is_asked_again() -> None:
     for moment in range(10):
         now[0] = float(moment)
         quota.deposit()
-        assert quota.draw() is None and spent.asked == 1
+        assert not quota.draw() and spent.asked == 1
 
 
 def test_a_quota_goes_on_after_an_empty_answer(tmp_path: Path) -> None:
@@ -259,7 +239,7 @@ def test_a_quota_goes_on_after_an_empty_answer(tmp_path: Path) -> None:
     for _ in range(2595):
         now[0] += 0.01
         quota.deposit()
-        granted += quota.draw() is not None
+        granted += bool(quota.draw())
     # the reserve of 30, and a fifth of 2,595; the requests since it was asked last are worth less than a lease of 20
     assert 549 - 20 < granted <= 549
 
@@ -273,10 +253,10 @@ def test_a_store_that_lost_its_count_is_told_once(caplog: Any) -> None:
     store = Lost((0, 0, 10.0, 0), (0, 0, 10.0, 0), (0, 0, 10.0, 0), (0, 2, 20.0, 0))
     quota = LeasedQuota(store, "a", 5, 0.5, 10, spare=9, clock=lambda: now[0])
     for now[0] in (0.0, 5.0):
-        assert quota.draw() is None
+        assert not quota.draw()
     assert quota.seen() == Usage(7, 0, 0, 0, lost=True)
     now[0] = 10.0
-    assert [quota.draw() for _ in range(2)] == [0, 1]
+    assert [number(quota.draw()) for _ in range(2)] == [0, 1]
     assert [record.getMessage() for record in caplog.records] == [
         "a: the store may have lost its count of this window, and grants nothing of it"
     ]
@@ -287,17 +267,17 @@ def test_a_store_that_can_not_be_reached_grants_nothing_or_what_is_spared(caplog
     gone = StoreError("gone")
     store = Stub((0, 2, 10.0, 0), gone, gone, (2, 1, 10.0, 0), gone, since=0.0)
     quota = LeasedQuota(store, "a", 100, 1, 10, lease=2, spare=2, clock=lambda: now[0])
-    assert [quota.draw() for _ in range(6)] == [0, 1, -1, -2, None, None]
+    assert [number(quota.draw()) for _ in range(6)] == [0, 1, -1, -2, None, None]
     assert store.asked == 2
     for _ in range(100):
         quota.deposit()
-    assert quota.draw() is None and store.asked == 2
+    assert not quota.draw() and store.asked == 2
     now[0] = 1.0
-    assert quota.draw() is None and store.asked == 3
+    assert not quota.draw() and store.asked == 3
     now[0] = 2.0
-    assert [quota.draw(), quota.draw()] == [2, None]
+    assert [number(quota.draw()), number(quota.draw())] == [2, None]
     now[0] = 10.0
-    assert quota.draw() == -1
+    assert number(quota.draw()) == -1
     assert quota.granted == 6
     # requests that were told to a store that did not answer are not told again
     assert store.told == [0, 0, 100, 0, 0, 0]
@@ -305,7 +285,7 @@ def test_a_store_that_can_not_be_reached_grants_nothing_or_what_is_spared(caplog
         "a: gone; it grants nothing until it can be reached"
     ] * 2
     nothing = LeasedQuota(Stub(StoreError("gone")), "a", 100, 1, 10)
-    assert nothing.draw() is None and nothing.granted == 0
+    assert not nothing.draw() and nothing.granted == 0
     with pytest.raises(StoreError):
         nothing.seen()
 
@@ -313,10 +293,10 @@ def test_a_store_that_can_not_be_reached_grants_nothing_or_what_is_spared(caplog
 def test_requests_are_not_worth_asking_a_store_that_can_not_be_reached() -> None:
     store = Stub((0, 0, 10.0, 0), StoreError("gone"))
     quota = LeasedQuota(store, "a", 0, 1000, 10, clock=lambda: 0.0)
-    assert quota.draw() is None and store.asked == 1
+    assert not quota.draw() and store.asked == 1
     for asked in (2, 2, 2):
         quota.deposit()
-        assert quota.draw() is None and store.asked == asked
+        assert not quota.draw() and store.asked == asked
 
 
 def test_retries_draw_on_it_and_calls_are_its_requests(tmp_path: Path) -> None:
@@ -357,23 +337,23 @@ def test_threads_draw_each_ticket_once(tmp_path: Path) -> None:
 
 def test_a_forked_child_has_leases_and_requests_of_its_own(tmp_path: Path) -> None:
     quota = LeasedQuota(FileStore(tmp_path / "counts"), "a", 100, 1, LONG, lease=10)
-    assert quota.draw() == 0
+    assert number(quota.draw()) == 0
     quota.deposit()
     child = os.fork()
     if child == 0:
         status = 1
         try:
-            found = (quota.draw(), quota.granted, quota.seen().asked)
+            found = (number(quota.draw()), quota.granted, quota.seen().asked)
             status = 0 if found == (10, 1, 0) else 2
         finally:
             os._exit(status)
     assert os.waitstatus_to_exitcode(os.waitpid(child, 0)[1]) == 0
-    assert quota.draw() == 1 and quota.seen().asked == 1
+    assert number(quota.draw()) == 1 and quota.seen().asked == 1
 
 
 def test_windows_of_a_file(tmp_path: Path, monkeypatch: Any) -> None:
     now = [0.0]
-    monkeypatch.setattr("hikebox._file_store.uptime", lambda: now[0])
+    monkeypatch.setattr("hikebox._file_store.shared_uptime", lambda: round(now[0] * 10**9))
     store = FileStore(tmp_path / "counts")
     quota = LeasedQuota(store, "a", 2, 0.5, 0.4, lease=1, again_after=0.01, clock=lambda: now[0])
     for window in (35, 36, 37, 39, 50):
@@ -381,9 +361,9 @@ def test_windows_of_a_file(tmp_path: Path, monkeypatch: Any) -> None:
         for _ in range(6):
             quota.deposit()
         # two, and three for the six requests
-        assert [quota.draw() for _ in range(6)] == [0, 1, 2, 3, 4, None]
+        assert [number(quota.draw()) for _ in range(6)] == [0, 1, 2, 3, 4, None]
         now[0] = window * 0.4 + 0.399
-        assert quota.draw() is None
+        assert not quota.draw()
 
 
 def test_windows_of_a_file_go_by_the_machines_uptime(tmp_path: Path) -> None:
@@ -400,7 +380,7 @@ def test_windows_of_a_file_go_by_the_machines_uptime(tmp_path: Path) -> None:
         if made[window] < 6:
             quota.deposit()
             made[window] += 1
-        ticket = quota.draw()
+        ticket = number(quota.draw())
         if ticket is None:
             time.sleep(0.005)
         elif window == present():
@@ -408,44 +388,6 @@ def test_windows_of_a_file_go_by_the_machines_uptime(tmp_path: Path) -> None:
     # a ticket that was drawn while a window ended is left out
     assert all(tickets == sorted(set(tickets)) and tickets[-1] < 5 for tickets in by_window.values())
     assert sum(tickets == [0, 1, 2, 3, 4] for tickets in by_window.values()) == 4
-
-
-def test_a_damaged_file_grants_nothing(tmp_path: Path) -> None:
-    path = tmp_path / "counts"
-    quota = LeasedQuota(FileStore(path), "a", 10, 1, LONG, lease=1)
-    assert quota.draw() == 0
-    whole = path.read_bytes()
-    path.write_bytes(whole[:-1])
-    assert quota.draw() is None
-    with pytest.raises(StoreLost):
-        quota.seen()
-    path.write_bytes(whole)
-    assert quota.seen().given == 1 and quota.draw() == 1
-
-
-def test_a_later_window_in_the_file_grants_nothing(tmp_path: Path) -> None:
-    from hikebox import _file_store
-
-    path = tmp_path / "counts"
-    store = FileStore(path)
-    assert LeasedQuota(store, "a", 9, 0, 1000).draw() == 0
-    file = os.open(path, os.O_RDWR)
-    counts = _file_store.read_counts(file, str(path))
-    ((key, (window, given, asked)),) = counts.items()
-    assert (key, given, asked) == ("quota of 1000000 ms of a", 1, 0)
-    boot, number = window.split()
-    counts[key] = [f"{boot} {int(number) + 100}", 1, 5]
-    _file_store.write_counts(file, counts)
-    assert LeasedQuota(store, "a", 9, 0, 1000).draw() is None
-    assert LeasedQuota(store, "a", 9, 0, 1000).seen() == Usage(int(number), 0, 0, 0, lost=True)
-    counts[key] = [f"another-boot {int(number) + 100}", 9, 5]
-    _file_store.write_counts(file, counts)
-    assert LeasedQuota(store, "a", 9, 0, 1000).seen() == Usage(int(number), 0, 0, 9)
-    counts[key] = [window, -1, 5]
-    _file_store.write_counts(file, counts)
-    with pytest.raises(StoreLost):
-        LeasedQuota(store, "a", 9, 0, 1000).seen()
-    os.close(file)
 
 
 # Many processes, a file
@@ -488,8 +430,8 @@ def test_processes_killed_at_points_of_a_lease_of_a_file(workers: Workers, tmp_p
 
 def check_windows(workers: Workers, folder: Path, reserve: int, share: float, offset: int = 0) -> None:
     """Lets processes that heed the file `stop` draw until of three windows of half a second most of what they allow was
-    drawn. In no window a ticket is drawn twice, or one past what the requests allow that were told; and of whole windows
-    most of what they allow is drawn, where the machine held no process up."""
+    drawn. In no window a ticket is drawn twice, or one past what the requests allow that were told; and of whole
+    windows most of what they allow is drawn, where the machine held no process up."""
 
     def allowed(told: Counts[int], window: int) -> int:
         return reserve + int(share * 1000) * told[window] // 1000
@@ -500,7 +442,9 @@ def check_windows(workers: Workers, folder: Path, reserve: int, share: float, of
         assert time.monotonic() < until
         time.sleep(0.1)
         told = workers.sums("told")
-        full = sum(len(drawn) >= 0.8 * allowed(told, window) for window, drawn in workers.tickets().items() if window >= 0)
+        full = sum(
+            len(drawn) >= 0.8 * allowed(told, window) for window, drawn in workers.tickets().items() if window >= 0
+        )
     (folder / "stop").touch()
     workers.wait()
     told, by_window = workers.sums("told"), workers.tickets()
@@ -510,9 +454,7 @@ def check_windows(workers: Workers, folder: Path, reserve: int, share: float, of
         assert len(set(tickets)) == len(tickets) and max(tickets) < allowed(told, window)
     held_up = [((began + offset) // 500, (ended + offset) // 500) for began, ended in workers.notes("paused")]
     whole = [
-        window
-        for window in sorted(by_window)[1:-1]
-        if not any(began <= window <= ended for began, ended in held_up)
+        window for window in sorted(by_window)[1:-1] if not any(began <= window <= ended for began, ended in held_up)
     ]
     assert sum(len(by_window[window]) for window in whole) >= 0.8 * sum(allowed(told, window) for window in whole)
 
@@ -538,7 +480,7 @@ def test_a_quota_in_redis(redis_server: Any) -> None:
     server = redis_server()
     store = RedisStore(server.client())
     # no ticket of a window that may have begun before the server did
-    assert LeasedQuota(store, "a", 9, 1, 60).draw() is None
+    assert not LeasedQuota(store, "a", 9, 1, 60).draw()
     assert server.client().keys("*") == []
     time.sleep(3.2)
     first = LeasedQuota(store, "a", 4, 0.5, 3, lease=2, again_after=0.01)
@@ -546,8 +488,8 @@ def test_a_quota_in_redis(redis_server: Any) -> None:
     second = LeasedQuota(RedisStore(decoding), "a", 4, 0.5, 3, lease=2, again_after=0.01)
     while time.time() % 3 > 0.1:
         time.sleep(0.01)
-    assert [first.draw() for _ in range(2)] == [0, 1]
-    assert [second.draw() for _ in range(3)] == [2, 3, None]
+    assert [number(first.draw()) for _ in range(2)] == [0, 1]
+    assert [number(second.draw()) for _ in range(3)] == [2, 3, None]
     for _ in range(3):
         first.deposit()
         second.deposit()
@@ -555,15 +497,18 @@ def test_a_quota_in_redis(redis_server: Any) -> None:
     usage = first.seen()
     assert usage == Usage(window=usage.window, asked=6, given=4, left=3)
     assert usage.window == int(time.time() // 3)
-    assert [first.draw(), second.draw(), first.draw()] == [4, 6, 5]
+    assert [number(first.draw()), number(second.draw()), number(first.draw())] == [4, 6, 5]
     (key,) = server.client().keys("*")
     assert key == b"hikebox:{a}:quota:3000:%d" % usage.window
     assert 3000 < server.client().pttl(key) <= 6000
     assert server.client().hgetall(key) == {b"asked": b"6", b"given": b"7"}
+    drawn = first.draw()
     while time.time() // 3 == usage.window:
-        assert first.draw() is None
+        assert not drawn
         time.sleep(0.05)
-    assert first.draw() == 0
+        drawn = first.draw()
+    # (the window may have ended since it was drawn, or just before)
+    assert number(drawn or first.draw()) == 0
 
 
 def test_the_script_rounds_as_a_quota_does(redis_server: Any) -> None:
@@ -589,7 +534,8 @@ def test_the_script_rounds_as_a_quota_does(redis_server: Any) -> None:
 
 
 def test_the_script_grants_what_the_step_of_a_lease_does(redis_server: Any) -> None:
-    """Leases of a window, one after another, by the script and by the engine: random ones, with numbers of each size."""
+    """Leases of a window, one after another, by the script and by the engine: random ones, with numbers of each
+    size."""
     from hikebox import _redis_store
 
     client = redis_server().client()

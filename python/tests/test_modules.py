@@ -29,8 +29,9 @@ def declared(tree: ast.AST) -> Iterator[str]:
             yield node.value
 
 
-#: Members of libraries and of the language that have no other name.
+#: Members of libraries and of the language that have no other name: of argparse, of requests and of urllib3, too.
 THEIRS = {"_replace", "_exit", "_asdict", "_fields"}
+THEIRS |= {"_actions", "_body_position"}
 
 
 @pytest.mark.parametrize("path", MODULES, ids=[path.stem for path in MODULES])
@@ -38,9 +39,9 @@ def test_no_module_reads_anothers_underscored_members(path: Path) -> None:
     tree = ast.parse(path.read_text())
     own: Set[str] = set(declared(tree))
     read = {node.attr for node in ast.walk(tree) if isinstance(node, ast.Attribute) and is_private(node.attr)}
-    taken = {
-        alias.name for node in ast.walk(tree) if isinstance(node, ast.ImportFrom) for alias in node.names
-    } - {path.stem for path in MODULES}
+    taken = {alias.name for node in ast.walk(tree) if isinstance(node, ast.ImportFrom) for alias in node.names} - {
+        path.stem for path in MODULES
+    }
     assert {name for name in read if name not in own} - THEIRS == set()
     assert {name for name in taken if is_private(name)} == set()
 

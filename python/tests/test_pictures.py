@@ -8,16 +8,18 @@ import shlex
 import subprocess
 import sys
 import xml.etree.ElementTree as ElementTree
+from dataclasses import replace
 from pathlib import Path
 from typing import Any, List, Tuple
 
 import pytest
 from conftest import TOP, python_environment
 
-from hikebox import Quota, Storm, StormError, exponential, recurs, spaced, storm
-from hikebox._cli import _parser, _played, main
+from hikebox import Quota, Storm, StormError, decorrelated, exponential, fixed, recurs, spaced, storm, windowed
+from hikebox._cli import _parser, _policy, main
 from hikebox._plan_picture import plan_picture
-from hikebox._storm_options import parameters_of
+from hikebox._storm_command import wanted_of
+from hikebox._storm_cores import play_all
 from hikebox._storm_picture import storm_picture
 from hikebox._storm_terms import RANGES
 from hikebox.quota import Terms
@@ -43,9 +45,10 @@ def boxes(root: Any) -> List[Tuple[float, float, float, float]]:
     """About where each text stands: left, top, right, bottom."""
     found = []
     for part in root.iter(SVG + "text"):
-        x, y, wide = float(part.get("x")), float(part.get("y")), 6.0 * len(part.text or "")
-        left = {"start": x, "middle": x - wide / 2, "end": x - wide}[part.get("text-anchor")]
-        found.append((left, y - 9, left + wide, y + 2))
+        size = float(part.get("font-size", 12)) / 12
+        x, y, wide = float(part.get("x")), float(part.get("y")), 6.0 * size * len(part.text or "")
+        left = {"start": x, "middle": x - wide / 2, "end": x - wide}[part.get("text-anchor", "start")]
+        found.append((left, y - 9 * size, left + wide, y + 2))
     return found
 
 
@@ -60,7 +63,7 @@ def looks_at_texts(root: Any) -> None:
             assert apart, (texts(root)[index], texts(root)[placed.index(other)])
 
 
-@pytest.mark.parametrize("width", [360, 760])
+@pytest.mark.parametrize("width", [320, 360, 760])
 def test_a_plan_has_a_row_a_call_its_band_and_the_wait_after_it(width: int) -> None:
     root = parsed(plan_picture(BACK_OFF, width=width))
     words = texts(root)
@@ -79,10 +82,40 @@ def test_a_plan_has_a_row_a_call_its_band_and_the_wait_after_it(width: int) -> N
     looks_at_texts(root)
 
 
-def test_a_plan_without_jitter_has_no_band() -> None:
-    root = parsed(plan_picture(recurs(2) & spaced(0.1)))
-    assert len([part for part in root.iter(SVG + "rect") if part.get("class") == "band"]) == 1  # the legend's
-    assert "time in milliseconds" in texts(root)
+def test_the_legend_of_a_plan_names_what_is_in_the_picture() -> None:
+    legends = ("a call begins", "where jitter can put it", "it takes 300 ms")
+    for policy, took, wanted in [
+        (recurs(2) & spaced(0.1), 0.0, legends[:1]),
+        (BACK_OFF, 0.0, legends[:2]),
+        (recurs(2) & spaced(0.1), 0.3, (legends[0], legends[2])),
+    ]:
+        words = texts(parsed(plan_picture(policy, took=took)))
+        assert tuple(word for word in legends if word in words) == wanted
+    assert "time in milliseconds" in texts(parsed(plan_picture(recurs(2) & spaced(0.1))))
+
+
+@pytest.mark.parametrize("width", [320, 760])
+def test_several_plans_stand_on_one_axis(width: int) -> None:
+    root = parsed(plan_picture(fixed(1), windowed(1), took=1.3, steps=4, width=width))
+    looks_at_texts(root)
+    assert [word for word in texts(root) if word in ("fixed(1)", "windowed(1)")] == ["fixed(1)", "windowed(1)"]
+    # Calls that take 1.3 s: `fixed` goes on at once, and `windowed` at the next full second.
+    waits = [word for word in texts(root) if word.startswith("Waits")]
+    assert waits == ["Waits 1 s"] + ["Waits 0 ms"] * 3 + ["Waits 1 s"] + ["Waits 700 ms"] * 3
+    bars = painted(root, "requests")
+    unit = float(bars[0].get("width")) / 1.3
+    left = float(bars[0].get("x")) - unit
+    begins = [round((float(bar.get("x")) - left) / unit, 1) for bar in bars]
+    assert begins == [1.0, 2.3, 3.6, 1.0, 3.0, 5.0]
+
+
+def test_the_program_plans_several_policies(capsys: pytest.CaptureFixture[str]) -> None:
+    assert main(["plan", "--steps", "2", "--took", "1300", "fixed(1)", "windowed(1)"]) == 0
+    wanted = "fixed(1)\n0: 0 next 1000\n2300: 1 next 2300\nwindowed(1)\n0: 0 next 1000\n2300: 1 next 3000\n"
+    assert capsys.readouterr().out == wanted
+    assert main(["plan", "--words", "7", "--steps", "3", repr(BACK_OFF), repr(BACK_OFF)]) == 0
+    lines = capsys.readouterr().out.splitlines()
+    assert lines[:4] == lines[4:]
 
 
 def test_the_program_writes_the_picture_of_a_plan(tmp_path: Path) -> None:
@@ -123,88 +156,186 @@ def test_the_cookbook_has_a_picture_of_each_policy(tmp_path: Path, monkeypatch: 
 # Storms
 
 FULL = recurs(8) & exponential(0.1, 2).cap(10).jittered(0, 1)
+BACK = recurs(8) & exponential(0.1, 2).cap(10)
 HERD: Any = {"rate": 10_000, "together": 10_000, "seconds": 1, "patience": 1, "queue": 500, "outage": None}
 
 
 def painted(root: Any, kind: str) -> List[Any]:
     """The parts of a picture of this paint, without the legend's."""
     mark = root.find(f"{SVG}title").get("id")[:-1]
-    wanted = {"b": f"url(#{mark}b)", "d": f"url(#{mark}d)"}.get(kind)
-    found = [part for part in root.iter() if (part.get("fill") == wanted if wanted else kind in (part.get("class") or "").split())]
-    return [part for part in found if part.get("width") != "22.0" and "h22" not in part.get("d", "")]
+    wanted = f"url(#{mark}{kind})" if kind in ("retries", "failed") else None
+    drawn = [part for part in root.iter() if part.tag in (SVG + "path", SVG + "rect", SVG + "circle")]
+    found = [part for part in drawn if (part.get("fill") == wanted if wanted else part.get("class") == kind)]
+    patterns = {part for pattern in root.iter(SVG + "pattern") for part in pattern}
+    return [
+        part
+        for part in found
+        if part not in patterns and part.get("width") != "22.0" and "h22" not in part.get("d", "")
+    ]
 
 
-def heights(path: str, bottom: float) -> List[float]:
-    """How high the steps of an area's top are, from left to right."""
-    (forth,) = [run.split("Z")[0] for run in path.split("M")[1:]] if path.count("M") == 1 else [path]
-    steps = [bottom - float(part.split("H")[0]) for part in forth.split("V")[1:]]
+def heights(path: str) -> List[float]:
+    """How high the steps of the top of an area that stands on a straight line are, from left to right."""
+    (run,) = path.split("M")[1:]
+    bottom = float(run.split("V")[0].split(" ")[1])
+    steps = [bottom - float(part.split("H")[0]) for part in run.split("Z")[0].split("V")[1:]]
     return steps[: len(steps) // 2]
 
 
-@pytest.mark.parametrize("width", [360, 760])
-def test_a_storm_has_what_begins_and_what_ends_by_time(width: int) -> None:
+@pytest.mark.parametrize("width", [320, 360, 760])
+def test_a_storm_has_its_verdict_and_its_load(width: int) -> None:
     root = parsed(storm(recurs(3)).svg(width=width))
     looks_at_texts(root)
     words = texts(root)
-    assert {"Calls begun per second", "Calls ended per second", "seconds since the first request"} <= set(words)
-    assert {"requests", "retries", "calls that succeed", "calls that fail", "what the peer can do"} <= set(words)
-    assert "the peer is away from 10 to 20 s" in words
-    assert [len(painted(root, kind)) for kind in ("a", "b", "c", "d", "bound")] == [1, 1, 1, 1, 2]
-    # 800 requests a second for a minute, of 4,000 that there is room for in 84 units; 2,400 retries stand upon them
-    # from 10 to 20 s.
-    (requests,), (retries,) = painted(root, "a"), painted(root, "b")
-    bottom = float(requests.get("d").split(" ")[1].split("V")[0])
-    assert heights(requests.get("d"), bottom) == pytest.approx([16.8] * 60, abs=0.06)
-    assert heights(retries.get("d"), bottom) == pytest.approx([67.2] * 10, abs=0.06)
+    assert {"requests/s", "calls begun", "seconds since the first request"} <= set(words)
+    assert {"succeeded", "failed", "first calls", "retries", "capacity", "peer away 10–20 s"} <= set(words)
+    # 8,000 of 48,000 requests come in the outage, and fail; three retries at once are over before the peer is back.
+    assert {"no limit", "83.3 % succeeded", "back at 20 s", "recurs(3)"} <= set(words)
+    (won,), (failed,) = painted(root, "won"), painted(root, "failed")
+    # The scale of 72 units ends at 1.2 times the 800 requests a second.
+    assert won.get("d").count("M") == 2 and failed.get("d").count("M") == 1
+    assert heights(failed.get("d")) == pytest.approx([60.0] * 10, abs=0.06)
+    # 3,200 calls a second in the outage are 3.2 times the capacity, of 4 that have 52 units.
+    (requests,), (retries,) = painted(root, "requests"), painted(root, "retries")
+    assert heights(requests.get("d")) == pytest.approx([10.4] * 60, abs=0.06)
+    assert heights(retries.get("d")) == pytest.approx([31.2] * 10, abs=0.06)
     description = next(part.text or "" for part in root if part.tag == SVG + "desc")
     assert "is away from 10 s to 20 s" in description and "1.50 for each request" in description
 
 
 @pytest.mark.parametrize("width", [320, 360, 760, 1400])
-def test_storms_stand_on_the_same_axes(width: int) -> None:
-    first, second = storm(FULL), storm(FULL, budget=Quota(10, 0.1, 1))
-    root = parsed(first.svg(second, width=width))
+def test_storms_stand_on_the_same_scales(width: int) -> None:
+    root = parsed(storm(FULL).svg(storm(FULL, budget=Quota(10, 0.1, 1)), width=width))
     looks_at_texts(root)
-    assert [words for words in texts(root) if words.startswith("Calls begun")] == ["Calls begun per second"] * 2
-    lines = {part.get("d").split("V")[0].split("H")[0] for part in painted(root, "bound")}
-    assert len(lines) == 4
-    alone, beside = parsed(storm_picture([second])), parsed(storm_picture([second], [first]))
-    assert "1,000" in texts(alone) and "10,000" in texts(beside)
+    words = texts(root)
+    # What is equal stands once, and a title says what differs.
+    assert words.count("no limit") == 1 and words.count("quota 10/10%/1s") == 1
+    assert {"18.4 % succeeded", "not back by the end", "83.3 % succeeded", "back at 20 s"} <= set(words)
+    assert words.count("800") == 2 and words.count("4×") == 2
+    # 8,476 calls in a second are cut off at four times the capacity.
+    assert [word for word in words if word.startswith("cut")] == ["cut: up to 8.5×"]
+    assert len(painted(root, "cut")) == 1
+    bounds = [part.get("d") for part in painted(root, "bound")]
+    assert len(bounds) == 2
+    tops = [float(part.get("d").split("M")[1].split(" ")[1].split("V")[0]) for part in painted(root, "mark")]
+    assert len(tops) == 1
 
 
-@pytest.mark.parametrize("width", [360, 760])
+def test_a_high_load_alone_is_not_cut() -> None:
+    words = texts(parsed(storm(FULL).svg()))
+    assert "10×" in words and not [word for word in words if word.startswith("cut")]
+
+
+def test_titles_say_what_differs() -> None:
+    quota = storm(BACK, budget=Quota(10, 0.1, 1))
+    for others, wanted in [
+        ([storm(BACK), quota], ["no limit", "quota 10/10%/1s"]),
+        (
+            [storm(BACK, seconds=3, outage=(1, 2)), storm(recurs(1), seconds=3, outage=(1, 2))],
+            [repr(BACK), "recurs(1)"],
+        ),
+        ([storm(BACK, rate=500), storm(BACK, rate=1000)], ["rate 500", "rate 1,000"]),
+        ([storm(BACK, outage=(10, 12)), storm(BACK)], ["outage 10000..12000", "outage 10000..20000"]),
+        ([storm(BACK), storm(recurs(1), budget=5)], [f"{BACK!r}, no limit", "recurs(1), budget of 5"]),
+        ([storm(BACK)], ["no limit"]),
+    ]:
+        from hikebox._storm_heads import names_of
+
+        assert [name.replace("\u00a0", " ") for name in names_of(others)] == wanted
+    titled = texts(parsed(storm(BACK).svg(quota, title="Eight retries")))
+    assert "Eight retries" in titled and repr(BACK).replace(", ", ",\u00a0") not in titled
+
+
+def test_shares_are_whole_only_where_all_or_none_succeeded() -> None:
+    from hikebox._storm_words import share_text
+
+    def share(won: int, requests: int) -> str:
+        return share_text(replace(storm(recurs(0), seconds=1).totals, won=won, requests=requests))
+
+    told = [share(*each) for each in [(0, 0), (0, 9), (9, 9), (1, 100_000), (99_999, 100_000), (9885, 10_000), (1, 3)]]
+    assert told == ["0 %", "0 %", "100 %", "0.1 %", "99.9 %", "98.8 %", "33.3 %"]
+
+
+@pytest.mark.parametrize("width", [320, 760])
+def test_reasons_of_failures_are_told_apart_where_that_is_wanted(width: int) -> None:
+    plain, quota = storm(FULL), storm(FULL, budget=Quota(10, 0.1, 1))
+    root = parsed(plain.svg(quota, width=width, detail=True))
+    looks_at_texts(root)
+    words = texts(root)
+    assert {"failed, refused", "shed", "timed out", "7,997 denied"} <= set(words)
+    assert quota.totals.denied == 7997
+    assert len(painted(root, "shed")) == 1 and len(painted(root, "late")) == 1
+    without = texts(parsed(plain.svg(quota, width=width)))
+    assert not {"shed", "timed out", "7,997 denied"} & set(without)
+
+
+@pytest.mark.parametrize("width", [320, 360, 760])
 def test_a_brown_out_bends_what_the_peer_can_do(width: int) -> None:
     root = parsed(storm(recurs(3), outage=(12, 15), slow=(10, 20, 0.5)).svg(width=width))
     looks_at_texts(root)
-    assert {"the peer is away from 12 to 15 s", "it works at 50 % from 10 to 20 s"} <= set(texts(root))
-    assert [part.get("d").count("V") for part in painted(root, "bound")] == [2, 2]
+    assert {"peer away 12–15 s", "peer at 50 % 10–20 s"} <= set(texts(root))
+    assert [part.get("d").count("V") for part in painted(root, "bound")] == [2]
     assert (len(painted(root, "away")), len(painted(root, "shade"))) == (2, 2)
 
 
-def test_a_herd_has_no_shade(tmp_path: Path) -> None:
-    root = parsed(storm(FULL, **HERD).svg())
-    assert not painted(root, "away") and not painted(root, "shade")
+@pytest.mark.parametrize("width", [320, 760])
+def test_the_requests_of_a_herd_are_summed_up(width: int) -> None:
+    drawn = [storm(policy, window=0.5, **HERD) for policy in (BACK, FULL)]
+    root = parsed(drawn[0].svg(drawn[1], width=width))
+    looks_at_texts(root)
+    words = texts(root)
+    assert "requests so far" in words and "requests/s" not in words
+    assert {"37.0 % succeeded", "98.8 % succeeded"} <= set(words)
+    # There was nothing to recover from.
+    assert not [word for word in words if "back" in word] and not painted(root, "away") and not painted(root, "shade")
+    won = painted(root, "won")[0].get("d")
+    # 3,700 of 10,000 in the end, of which 12,000 have 72 units.
+    assert heights(won)[-1] == pytest.approx(3700 * 72 / 12_000, abs=0.06)
 
 
-@pytest.mark.parametrize("width", [360, 760])
+def test_a_legend_names_what_is_in_the_picture() -> None:
+    words = texts(parsed(storm(recurs(0), outage=None).svg()))
+    assert {"succeeded", "first calls"} <= set(words) and not {"failed", "retries"} & set(words)
+    assert "100 % succeeded" in words
+
+
+@pytest.mark.parametrize("width", [280, 320, 360, 760])
 def test_large_numbers_and_many_windows_have_room(width: int) -> None:
     many = storm(recurs(60_000), rate=1000, seconds=2, outage=(0, 5), until=60, window=0.001, calls=1_000_000)
-    picture = many.svg(width=width)
+    picture = many.svg(width=width, detail=True)
     looks_at_texts(parsed(picture))
     long = storm(spaced(1), rate=1, seconds=1, window=0.001, until=65.536, outage=(0, 3600)).svg(width=width)
     looks_at_texts(parsed(long))
     assert len(long) < 60_000
 
 
+def test_a_title_is_text_whatever_it_has() -> None:
+    signs = "<script>&\x00\x1b\ud800\ufffe]]>"
+    root = parsed(storm(recurs(0), seconds=1).svg(title=signs))
+    assert "<script>&\ufffd\ufffd\ufffd\ufffd]]>" in texts(root)
+
+
+def test_colours_stand_at_the_shapes() -> None:
+    # Viewers outside of browsers know no variables, and paint black what has no colour.
+    for picture in (storm(FULL).svg(detail=True), plan_picture(BACK_OFF, took=0.1)):
+        assert "var(" not in picture
+        root = parsed(picture)
+        for part in root.iter():
+            if part.tag in (SVG + "path", SVG + "rect", SVG + "circle", SVG + "text"):
+                assert part.get("fill") or part.get("class") == "hatch", part.attrib
+                assert part.get("fill") != "none" or part.get("stroke"), part.attrib
+
+
 def test_a_width_out_of_range_is_refused(tmp_path: Path, capsys: pytest.CaptureFixture[str]) -> None:
     for width in (0, 279, 4001):
         with pytest.raises(StormError, match=f"width: {width} is not from 280 to 4000"):
             storm(recurs(0)).svg(width=width)
-    for command in ("plan", "storm"):
-        with pytest.raises(SystemExit) as caught:
-            main([command, "--width", "279", "--svg", str(tmp_path / "x.svg"), "recurs(0)"])
-        assert caught.value.code == 2
-        assert capsys.readouterr().err.endswith("argument --width: '279' is not a number from 280 to 4000\n")
+    with pytest.raises(SystemExit) as caught:
+        main(["plan", "--width", "279", "--svg", str(tmp_path / "x.svg"), "recurs(0)"])
+    assert caught.value.code == 2
+    assert capsys.readouterr().err.endswith("argument --width: '279' is not a number from 280 to 4000\n")
+    assert main(["storm", "--width", "279", "--svg", str(tmp_path / "x.svg"), "recurs(0)"]) == 2
+    assert capsys.readouterr().err == "hikebox: width: 279 is not from 280 to 4000\n"
 
 
 def test_a_notebook_shows_the_picture() -> None:
@@ -219,7 +350,16 @@ def test_a_long_policy_keeps_to_three_lines() -> None:
         long = long | recurs(times)
     root = parsed(storm(long, seconds=1).svg(width=360))
     looks_at_texts(root)
-    assert len([part for part in root.iter(SVG + "text") if part.get("class") == "head"]) == 3
+    assert (
+        len(
+            [
+                part
+                for part in root.iter(SVG + "text")
+                if part.get("class") == "head" and "retr" not in (part.text or "")
+            ]
+        )
+        == 5
+    )
 
 
 def test_the_program_writes_the_picture_of_storms(tmp_path: Path) -> None:
@@ -238,14 +378,20 @@ def test_the_page_on_storms_has_the_pictures_of_its_commands(tmp_path: Path, mon
     shown = set(re.findall(r"\]\((pictures/[\w-]+\.svg)\)", page))
     commands = commands_of(STORMS, "storm")
     assert {words[words.index("--svg") + 1] for words in commands} == {f"docs/{name}" for name in shown}
-    assert {file.name for file in (TOP / "docs" / "pictures").glob("storm*.svg")} == {name.split("/")[1] for name in shown}
+    assert {file.name for file in (TOP / "docs" / "pictures").glob("storm*.svg")} == {
+        name.split("/")[1] for name in shown
+    }
     for words in commands:
         looks_at_picture(words, tmp_path, monkeypatch)
 
 
 def test_the_page_on_storms_has_the_numbers_that_its_commands_print(capsys: pytest.CaptureFixture[str]) -> None:
-    found = re.findall(r"^```sh\n(hikebox storm [^\n]*)\n```\n\n```text\n(.*?)^```$", (TOP / "docs" / STORMS).read_text(), flags=re.M | re.S)
-    assert len(found) == 2
+    found = re.findall(
+        r"^```sh\n(hikebox storm [^\n]*)\n```\n\n```text\n(.*?)^```$",
+        (TOP / "docs" / STORMS).read_text(),
+        flags=re.M | re.S,
+    )
+    assert len(found) == 3
     for command, printed in found:
         assert main(shlex.split(command)[1:]) == 0
         assert capsys.readouterr().out == printed
@@ -266,15 +412,16 @@ def zsched_prints(played: Storm) -> str:
     return subprocess.run(command, input=played.policy.to_json(), stdout=subprocess.PIPE, check=True, text=True).stdout
 
 
-def test_the_storms_of_the_page_on_storms_are_those_that_zsched_prints() -> None:
+def test_the_storms_of_the_page_on_storms_are_those_that_zsched_prints(monkeypatch: pytest.MonkeyPatch) -> None:
+    monkeypatch.chdir(TOP)
     program = os.environ.get("HIKEBOX_ZSCHED")
     if not program or subprocess.run([program, "storm", "--help"], capture_output=True).returncode:
         pytest.skip("HIKEBOX_ZSCHED names no zsched with storms")
     commands = re.findall(r"^hikebox (storm [^\n]*)$", (TOP / "docs" / STORMS).read_text(), flags=re.M)
-    assert len(commands) == 8
+    assert len(commands) == 12
     for command in commands:
         given = _parser().parse_args(shlex.split(command))
-        for played in _played(given, parameters_of(given)):
+        for played in play_all(wanted_of(given, _policy).storms):
             assert zsched_prints(played) == f"{played.to_json()}\n", (command, played)
 
 
@@ -286,7 +433,25 @@ def test_what_the_page_on_storms_says_of_its_storms_is_so() -> None:
     assert (won[2].slowest_ms or 0) <= 12_000
     brown: Any = {"outage": None, "slow": (10, 20, 0.5)}
     assert storm(recurs(0), **brown).totals.recovered_ms == 33_000 and "(from 33 s on)" in page
-    assert storm(recurs(3), budget=Quota(10, 0.1, 1), **brown).totals.recovered_ms == 50_000 and "recover after 50 s" in page
+    assert (
+        storm(recurs(3), budget=Quota(10, 0.1, 1), **brown).totals.recovered_ms == 50_000 and "recover at 50 s" in page
+    )
     spent = storm(back_off.jittered(0, 1), budget=5000)
     assert spent.totals.tickets == 5000 and spent.totals.recovered_ms == 20_000 and "used up within the outage" in page
     assert sum(row.retries for row in spent.rows[:20]) == 5000
+    busy = storm(back_off, rate=1500, budget=Quota(10, 0.1, 1))
+    assert max(row.retries for row in busy.rows) == 257 and "257 begin in one" in page
+
+
+def test_what_the_page_on_storms_says_of_its_sweeps_is_so() -> None:
+    page = (TOP / "docs" / STORMS).read_text()
+    base: Any = {**HERD, "window": 0.5}
+    waits = [exponential(0.1, 2).cap(10), exponential(0.1, 2).cap(10).jittered(0, 1)]
+    waits += [exponential(0.1, 2).cap(10).jittered(0.5, 1), decorrelated(0.1, 10, 3)]
+    plain, *jittered = [storm(recurs(100) & wait, **base).totals for wait in waits]
+    assert (plain.won, round(plain.calls_per_request, 1)) == (5200, 9.4) and "only 5,200 succeed" in page
+    assert "by 9.4 calls for each" in page and "within 18 seconds, by 6.5 to 7.1 calls" in page
+    assert all(each.won == 10_000 and (each.slowest_ms or 0) < 18_000 for each in jittered)
+    assert [min(each.hundredths for each in jittered), max(each.hundredths for each in jittered)] == [654, 706]
+    shares = [100 * storm(FULL, rate=rate).totals.won / (rate * 60) for rate in (300, 400)]
+    assert [int(share) for share in shares] == [98, 22] and "from 98 to 22 % between 300 and 400" in page

@@ -156,7 +156,7 @@ def test_random_policies_are_written_and_read_as_they_are() -> None:
         nodes = list(hikebox._nodes.walk(tree))
         picks = {own[0] for name, own in nodes if name in ("jitter", "decorrelated")}
         codes = any(name == "identity" or (name == "gate" and own[0] == "input") for name, own in nodes)
-        assert policy.plan.reads == (sorted(picks), codes)
+        assert policy.reads == built.reads == (frozenset(picks), codes)
         assert policy.nodes == len(nodes)
 
 
@@ -168,11 +168,75 @@ def test_what_a_builder_is_refused_is_told_as_of_the_text() -> None:
         under.nothing()
     with pytest.raises(PolicyError) as read:
         Policy.from_dict({"nothing": under.to_dict()})
-    assert (built.value.fault, built.value.place, built.value.hint) == (Fault.TOO_DEEP, read.value.place, read.value.hint)
+    assert (built.value.fault, built.value.place, built.value.hint) == (
+        Fault.TOO_DEEP,
+        read.value.place,
+        read.value.hint,
+    )
     # what is over words is read, and refused as well
     with pytest.raises(PolicyError) as built:
         under.gather("sum")
     assert built.value.fault is Fault.TOO_DEEP
+
+
+#: What stands at the borders of durations, of whole numbers and of ratios.
+DURATIONS: List[Any] = [0, 0.001, 1, milliseconds(1), milliseconds(FAR), milliseconds(FAR - 1), FAR // 1000]
+NUMBERS = [0, 1, 1000, 1001, 1_000_000, 2**31, 2**32 - 1, FAR]
+RATIOS: List[Any] = [0, 0.001, 0.8, 1, 1.2, 9.999, 10]
+FACTORS: List[Any] = [0.001, 0.5, 1, 1.001, 1.5, 2, 999.999, 1000]
+
+BORDERS: List[Callable[[Callable[[List[Any]], Any]], Policy]] = [
+    lambda of: recurs(of(NUMBERS)),
+    lambda of: spaced(of(DURATIONS)),
+    lambda of: fixed(of(DURATIONS)),
+    lambda of: windowed(of(DURATIONS)),
+    lambda of: linear(of(DURATIONS)),
+    lambda of: fibonacci(of(DURATIONS)),
+    lambda of: lone(of(DURATIONS)),
+    lambda of: exponential(of(DURATIONS), of(FACTORS)),
+    lambda of: exponential_milli(of(DURATIONS), of(NUMBERS)),
+    lambda of: decorrelated(of(DURATIONS), of(DURATIONS), of(FACTORS), lane=of([0, 3])),
+    lambda of: unfold(of(NUMBERS), of(NUMBERS), of(NUMBERS)),
+    lambda of: spaced(1).cap(of(DURATIONS)).add_delay(of(DURATIONS)).set_delay(of(DURATIONS)),
+    lambda of: spaced(1).jittered(of(RATIOS), of(RATIOS), lane=of([0, 3])),
+    lambda of: spaced(1).up_to(of(DURATIONS)).ends_by(of(DURATIONS)),
+    lambda of: spaced(1).renew(of(DURATIONS)).renew_idle(of(DURATIONS)),
+    lambda of: spaced(1).while_input(below=of(NUMBERS)).until_output(at_least=of(NUMBERS)),
+]
+
+
+def test_the_engine_takes_each_policy_that_a_builder_gives() -> None:
+    rng = random.Random(6)
+    made = refused = 0
+    for _ in range(200):
+        for build in BORDERS:
+            try:
+                policy = build(rng.choice)
+            except PolicyError:
+                refused += 1
+                continue
+            # (the engine is told of it here at the earliest)
+            assert Policy.from_json(policy.to_json()) == policy
+            made += 1
+    assert made > 2000 and refused > 50
+
+
+def test_a_policy_is_refused_when_it_is_built_and_not_when_it_is_used() -> None:
+    wide = recurs(1)
+    for _ in range(7):
+        wide = wide & wide
+    assert (wide.nodes, wide.depth) == (255, 8)
+    wide = wide.cap(1)
+    builds: List[Callable[[], Policy]] = [
+        lambda: wide.nothing(),
+        lambda: wide & recurs(1),
+        lambda: recurs(1).then(wide),
+        lambda: wide.gather("sum"),
+    ]
+    for build in builds:
+        with pytest.raises(PolicyError) as caught:
+            build()
+        assert caught.value.fault is Fault.TOO_MANY
 
 
 def test_a_policy_may_stand_twice_in_another() -> None:
@@ -360,38 +424,38 @@ HINTS = [
     ('"never"', 'no node is called "never"'),
     ('"für immer"', 'no node is called "für immer"'),
     (json.dumps("x" * 1000), f'no node is called "{"x" * 1000}"'),
-    ('"recurs"', '"recurs" is spelt {"recurs":N}, N from 0 to 4611686018427387903; found "recurs"'),
-    ('{"forever":1}', '"forever" is spelt "forever"; found {"forever":1}'),
-    ('{"meet":[{"recurs":3}]}', '"meet" is spelt {"meet":[PLAN,PLAN]}; found {"meet":[{"recurs":3}]}'),
-    ("7", "a plan is a string or an object of one member; found 7"),
-    ('["für immer"]', 'a plan is a string or an object of one member; found ["für immer"]'),
-    (json.dumps(["x" * 58]), f'a plan is a string or an object of one member; found ["{"x" * 58}..'),
-    (json.dumps(["ü" * 56]), f'a plan is a string or an object of one member; found ["{"ü" * 56}"]'),
-    ("{}", "a plan is a string or an object of one member, and this has 0"),
+    ('"recurs"', 'expected {"recurs":N}, N from 0 to 4611686018427387903, got "recurs"'),
+    ('{"forever":1}', 'expected "forever", got {"forever":1}'),
+    ('{"meet":[{"recurs":3}]}', 'expected {"meet":[PLAN,PLAN]}, got {"meet":[{"recurs":3}]}'),
+    ("7", "expected a plan, a string or an object with one member, got 7"),
+    ('["für immer"]', 'expected a plan, a string or an object with one member, got ["für immer"]'),
+    (json.dumps(["x" * 58]), f'expected a plan, a string or an object with one member, got ["{"x" * 58}..'),
+    (json.dumps(["ü" * 56]), f'expected a plan, a string or an object with one member, got ["{"ü" * 56}"]'),
+    ("{}", "expected a plan, a string or an object with one member, got one with 0"),
     (
         '{"renew":[0,"forever"]}',
-        '"renew" is spelt {"renew":[D,PLAN]}, D from 1 to 4611686018427387903; found {"renew":[0,"forever"]}',
+        'expected {"renew":[D,PLAN]}, D from 1 to 4611686018427387903, got {"renew":[0,"forever"]}',
     ),
-    ('{"unfold":1}', '"unfold" is spelt {"unfold":[S,M,A]}, each from 0 to 4611686018427387903; found {"unfold":1}'),
+    ('{"unfold":1}', 'expected {"unfold":[S,M,A]}, each from 0 to 4611686018427387903, got {"unfold":1}'),
     (
         '{"gate":1}',
-        '"gate" is spelt {"gate":[SIDE,WANT,TEST,N,PLAN]}, SIDE "input" or "output", WANT true or false, '
-        'TEST "below", "at_least" or "equal", N from 0 to 4611686018427387903; found {"gate":1}',
+        'expected {"gate":[SIDE,WANT,TEST,N,PLAN]}, SIDE "input" or "output", WANT true or false, '
+        'TEST "below", "at_least" or "equal", N from 0 to 4611686018427387903, got {"gate":1}',
     ),
     (
         '{"gather":1}',
-        '"gather" is spelt {"gather":[KIND,PLAN]}, KIND "sum", "count", "max" or "list"; found {"gather":1}',
+        'expected {"gather":[KIND,PLAN]}, KIND "sum", "count", "max" or "list", got {"gather":1}',
     ),
-    ('{"ends_by":1}', '"ends_by" is spelt {"ends_by":[D,PLAN]}, D from 0 to 4611686018427387903; found {"ends_by":1}'),
+    ('{"ends_by":1}', 'expected {"ends_by":[D,PLAN]}, D from 0 to 4611686018427387903, got {"ends_by":1}'),
     (
         '{"decorrelated":1}',
-        '"decorrelated" is spelt {"decorrelated":[LANE,D,F,MOST]}, LANE from 0 to 3, D from 0 to MOST, '
-        'F from 1000 to 1000000, MOST from D to 4611686018427387903; found {"decorrelated":1}',
+        'expected {"decorrelated":[LANE,D,F,MAX]}, LANE from 0 to 3, D from 0 to MAX, '
+        'F from 1000 to 1000000, MAX from D to 4611686018427387903, got {"decorrelated":1}',
     ),
     (
         '{"jitter":1}',
-        '"jitter" is spelt {"jitter":[LANE,LEAST,MOST,PLAN]}, LANE from 0 to 3, LEAST at most MOST, MOST at most 10000; '
-        'found {"jitter":1}',
+        'expected {"jitter":[LANE,MIN,MAX,PLAN]}, LANE from 0 to 3, MIN at most MAX, '
+        'MAX at most 10000, got {"jitter":1}',
     ),
 ]
 
@@ -533,7 +597,7 @@ SPOKEN: List[Tuple[Callable[[], Policy], str]] = [
     (lambda: exponential(1, 1001), "exponential: a factor: 1001 is not from 1 to 1000"),
     (lambda: spaced(1).jittered(1.2, 0.8), "jittered(1.2, 0.8): the range is empty"),
     (lambda: spaced(1).jittered(lane=4), "jittered: a lane: 4 is not from 0 to 3"),
-    (lambda: spaced(1).gather("sums"), "gather: one of sum, count, max, list is wanted, not 'sums'"),
+    (lambda: spaced(1).gather("sums"), "gather: expected one of sum, count, max, list, got 'sums'"),
 ]
 
 

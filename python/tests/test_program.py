@@ -6,6 +6,7 @@ import fcntl
 import os
 import pty
 import random
+import re
 import signal
 import struct
 import subprocess
@@ -171,20 +172,62 @@ def unread(pipe: int) -> int:
 
 
 def test_control_c_that_is_ignored_stays_ignored() -> None:
-    program = "import signal, hikebox_program; print(signal.getsignal(signal.SIGINT) == signal.SIG_IGN)"
+    program = """
+import atexit, signal, sys, hikebox_program
+atexit.register(lambda: print(signal.getsignal(signal.SIGINT) == signal.SIG_IGN))
+sys.argv = ["hikebox", "check", "recurs(1)"]
+hikebox_program.main()
+"""
     script = f"trap '' INT; exec {sys.executable} -c '{program}'"
     done = subprocess.run(["sh", "-c", script], env=python_environment(), capture_output=True, text=True, timeout=20)
-    assert done.stdout == "True\n"
+    assert done.stdout.endswith("\nTrue\n")
+
+
+def test_only_the_program_has_its_signals() -> None:
+    program = (
+        "import signal; before = signal.getsignal(13), signal.getsignal(2); import hikebox_program, hikebox._cli; "
+    )
+    program += "print(before == (signal.getsignal(13), signal.getsignal(2)))"
+    done = subprocess.run([sys.executable, "-c", program], env=python_environment(), capture_output=True, timeout=60)
+    assert done.stdout == b"True\n"
+
+
+# Words that are wrong
+
+
+def test_the_nearest_word_is_named() -> None:
+    for words, command, said in (
+        (["rnu", "--", "true"], "", "there is no command 'rnu'; did you mean run?"),
+        (["xyzzy"], "", "there is no command 'xyzzy'"),
+        (["run", "--polcy", "recurs(1)", "--", "true"], " run", "there is no option --polcy; did you mean --policy?"),
+        (["run", "--polcy=recurs(1)", "--", "true"], " run", "there is no option --polcy; did you mean --policy?"),
+        (["plan", "--xyzzy"], " plan", "there is no option --xyzzy"),
+        (["check", "recurs(1)", "recurs(2)"], " check", "unexpected word 'recurs(2)'"),
+        (["--versoin", "plan", "recurs(1)"], "", "there is no option --versoin; did you mean --version?"),
+    ):
+        status, output, errors = hikebox(*words)
+        assert (status, output) == (2, "") and errors.endswith(f"hikebox{command}: error: {said}\n"), (words, errors)
+
+
+def test_options_are_not_abbreviated(tmp_path: Path) -> None:
+    for words in (["run", "--poli", "recurs(1)", "--"], ["run", "--verb", "--"], ["run", "--time=3", "--"]):
+        status, _, errors = hikebox(*words, "touch", str(tmp_path / "ran"))
+        assert status == 2 and "there is no option" in errors
+    assert hikebox("plan", "--step", "1", "recurs(1)")[0] == 2 and not (tmp_path / "ran").exists()
+    # what the command takes is its own
+    assert hikebox("run", "--", "sh", "-c", 'echo "$@"', "sh", "--poli", "-q") == (0, "--poli -q\n", "")
+    assert hikebox("run", "echo", "--verb", "-x") == (0, "--verb -x\n", "")
 
 
 # A store that can't be reached
 
 
 def test_a_store_that_can_not_be_reached_is_told_once() -> None:
-    said = "hikebox: run: /nowhere/f: No such file or directory; it grants nothing until it can be reached\n"
-    for option in ("--budget=5@/nowhere/f", "--quota=5/10%/60s@/nowhere/f"):
+    said = r"hikebox: run: /dev/null/f\S*: Not a directory; it grants nothing until it can be reached\n"
+    for option in ("--budget=5@/dev/null/f", "--quota=5/10%/60s@/dev/null/f"):
         words = ["run", option, "--policy", "recurs(3)", "--", "sh", "-c", "exit 7"]
-        assert hikebox(*words) == (7, "", said)
+        status, output, errors = hikebox(*words)
+        assert (status, output) == (7, "") and re.fullmatch(said, errors), errors
 
 
 # A terminal

@@ -13,7 +13,7 @@ from typing import Any, List, Tuple
 
 import pytest
 
-from draws import drawn_by, repeated
+from draws import drawn_by, engines_number as number, repeated
 from hikebox import (
     AsyncRetrying,
     BudgetClosed,
@@ -71,71 +71,71 @@ KINDS = pytest.mark.parametrize("kind", ["call", "coroutine"])
 def test_worked_windows(clock: VirtualClock) -> None:
     quota = Quota(2, 0.4, 10, clock=clock)
     clock.advance(30)
-    assert [quota.draw() for _ in range(3)] == [3 * WINDOW, 3 * WINDOW + 1, None]
+    assert [number(quota.draw()) for _ in range(3)] == [3 * WINDOW, 3 * WINDOW + 1, None]
     for _ in range(4):
         quota.deposit()
     # 2 and 0.4 for each of four requests: 3.6
     assert quota.seen() == Usage(window=3, asked=4, given=2, left=1)
-    assert [quota.draw() for _ in range(2)] == [3 * WINDOW + 2, None]
+    assert [number(quota.draw()) for _ in range(2)] == [3 * WINDOW + 2, None]
     quota.deposit()
-    assert [quota.draw() for _ in range(2)] == [3 * WINDOW + 3, None]
+    assert [number(quota.draw()) for _ in range(2)] == [3 * WINDOW + 3, None]
     clock.advance(9.999)
-    assert quota.draw() is None and quota.seen().next == 40
+    assert not quota.draw() and quota.seen().next == 40
     clock.advance(0.001)
     assert quota.seen() == Usage(window=4, asked=0, given=0, left=2)
-    assert [quota.draw() for _ in range(3)] == [4 * WINDOW, 4 * WINDOW + 1, None]
+    assert [number(quota.draw()) for _ in range(3)] == [4 * WINDOW, 4 * WINDOW + 1, None]
     assert quota.granted == 6 == quota.close() == quota.granted
 
 
 def test_a_quota_without_a_share_or_a_reserve(clock: VirtualClock) -> None:
     quota = Quota(1, 0, 1, clock=clock)
     quota.deposit()
-    assert [quota.draw() for _ in range(2)] == [0, None]
+    assert [number(quota.draw()) for _ in range(2)] == [0, None]
     quota = Quota(0, 1000, 1, clock=clock)
-    assert quota.draw() is None
+    assert not quota.draw()
     quota.deposit()
-    assert [quota.draw() is not None for _ in range(1001)] == [True] * 1000 + [False]
+    assert [bool(quota.draw()) for _ in range(1001)] == [True] * 1000 + [False]
     quota = Quota(0, 0.001, 1, clock=clock)
     for _ in range(999):
         quota.deposit()
-    assert quota.draw() is None
+    assert not quota.draw()
     quota.deposit()
-    assert quota.draw() == 0
+    assert number(quota.draw()) == 0
 
 
 def test_a_clock_that_goes_back_or_far_ahead(clock: VirtualClock) -> None:
     now = [100.0]
     quota = Quota(2, 0, 1, clock=lambda: now[0])
-    assert quota.draw() == 0
+    assert number(quota.draw()) == 0
     now[0] = 5.0
-    assert [quota.draw() for _ in range(2)] == [1, None]
+    assert [number(quota.draw()) for _ in range(2)] == [1, None]
     # an hour ahead, for one call
     now[0] = 3701.0
-    assert quota.draw() == 3601 * WINDOW
+    assert number(quota.draw()) == 3601 * WINDOW
     now[0] = 200.0
-    assert [quota.draw() for _ in range(2)] == [3601 * WINDOW + 1, None]
+    assert [number(quota.draw()) for _ in range(2)] == [3601 * WINDOW + 1, None]
     assert quota.seen() == Usage(window=3601, asked=0, given=2, left=0) and quota.seen().next == 3702
     now[0] = 3702.0
-    assert quota.draw() == 3602 * WINDOW
+    assert number(quota.draw()) == 3602 * WINDOW
     now[0] = -1.0
-    assert quota.draw() == 3602 * WINDOW + 1
+    assert number(quota.draw()) == 3602 * WINDOW + 1
 
 
 def test_an_idle_week_gives_one_reserve(clock: VirtualClock) -> None:
     quota = Quota(10, 0, 1, clock=clock)
     clock.advance(7 * 86_400)
-    assert [quota.draw() for _ in range(200)] == [604_800 * WINDOW + n for n in range(10)] + [None] * 190
+    assert [number(quota.draw()) for _ in range(200)] == [604_800 * WINDOW + n for n in range(10)] + [None] * 190
 
 
 def test_moments_since_1970_by_the_shortest_windows() -> None:
     clock = VirtualClock(1_700_000_000)
     quota = Quota(1, 0, 0.1, clock=clock)
-    assert [quota.draw() for _ in range(2)] == [0, None]
+    assert [number(quota.draw()) for _ in range(2)] == [0, None]
     clock.advance(0.125)
-    assert [quota.draw() for _ in range(2)] == [WINDOW, None]
+    assert [number(quota.draw()) for _ in range(2)] == [WINDOW, None]
     # some nine years later
     clock.advance(299_999_999.75)
-    assert quota.draw() == 2_999_999_998 * WINDOW
+    assert number(quota.draw()) == 2_999_999_998 * WINDOW
 
 
 def test_terms() -> None:
@@ -146,7 +146,7 @@ def test_terms() -> None:
     assert Quota(0, 0.0006, 1).share == 0.001
     assert Quota(0, 1 / 3, 1).share == 0.333
     longest = Quota(1, 0, milliseconds(2**62 - 1))
-    assert longest.draw() == 0
+    assert number(longest.draw()) == 0
     quota.close()
     assert repr(quota) == "<Quota(10, 0.25, per=60), closed at 0>"
 
@@ -290,20 +290,21 @@ def test_a_quota_serves_any_number_of_retries(clock: VirtualClock) -> None:
     assert quota.close() == 70_000
 
 
-def test_a_pass_with_one_part_left_is_exchanged(clock: VirtualClock) -> None:
-    quota = Quota(10, 0, 60, clock=clock)
-    assert quota.draw() == 0
-    whole = quota.passes.lend()
-    single = whole.split()
-    assert single is not None and single.split() is None
-    quota.passes.give_back(single)
-    quota.passes._out += 1
-    retrying = Retrying(recurs(2), budget=quota, clock=clock, fallback=granted_and_ending)
-    assert retrying(fails) == (2, "SCHEDULE_DONE")
-    with pytest.raises(BudgetInUse):
-        quota.close()
-    quota.passes.give_back(whole)
-    assert quota.close() == 3
+def test_retries_that_end_elsewhere_than_they_began_use_no_pass_up(clock: VirtualClock) -> None:
+    quota = Quota(2**32, 0, 3600, clock=clock)
+    retrying = Retrying(recurs(1), budget=quota, clock=clock)
+    for _ in range(300):
+        begun = [iter(retrying) for _ in range(40)]
+        for attempts in begun:
+            with next(attempts):
+                raise KeyError()
+        with pytest.raises(BudgetInUse):
+            quota.close()
+        ends = threading.Thread(target=begun.clear)
+        ends.start()
+        ends.join()
+        del attempts
+    assert quota.draw() and quota.close() == 1
 
 
 # Threads
@@ -330,12 +331,12 @@ def test_8_threads_over_200_windows_with_deposits_beside() -> None:
             ready.wait()
             for _ in range(5):
                 quota.deposit()
-                ticket = quota.draw()
+                ticket = number(quota.draw())
                 if ticket is not None:
                     mine.append(ticket)
             ready.wait()
             while True:
-                ticket = quota.draw()
+                ticket = number(quota.draw())
                 if ticket is None:
                     break
                 mine.append(ticket)
@@ -370,10 +371,10 @@ def test_8_threads_draw_in_different_windows_at_once() -> None:
         ready.wait()
         for window in range(first, first + 300):
             mine.now = window + 0.5
-            ticket = quota.draw()
+            ticket = number(quota.draw())
             while ticket is not None:
                 drawn[first].append(ticket)
-                ticket = quota.draw()
+                ticket = number(quota.draw())
 
     threads = [threading.Thread(target=work, args=(first,)) for first in range(8)]
     for thread in threads:
@@ -438,7 +439,7 @@ def test_coroutines_share_a_quota_and_one_that_is_cancelled_gives_its_tickets_ri
 
 def test_as_a_context(clock: VirtualClock) -> None:
     with Quota(3, 0, 60, clock=clock) as quota:
-        assert quota.draw() == 0
+        assert number(quota.draw()) == 0
     assert quota.closed and quota.granted == 1 == quota.close()
     with pytest.raises(BudgetClosed):
         quota.draw()
@@ -465,7 +466,7 @@ def test_counts_while_others_draw(clock: VirtualClock) -> None:
     quota = Quota(20_000, 0, 60, clock=clock)
 
     def work() -> None:
-        while quota.draw() is not None:
+        while quota.draw():
             pass
 
     threads = [threading.Thread(target=work) for _ in range(4)]
@@ -481,7 +482,7 @@ def test_counts_while_others_draw(clock: VirtualClock) -> None:
 def test_a_forked_child_begins_anew() -> None:
     quota = Quota(2, 0.5, 3600)
     quota.deposit()
-    assert quota.draw() is not None
+    assert bool(quota.draw())
     child = os.fork()
     if child == 0:
         status = 1

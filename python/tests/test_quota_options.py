@@ -12,6 +12,7 @@ from typing import Any, Callable, List
 
 import pytest
 
+from draws import engines_number
 from hikebox import (
     AsyncRetrying,
     Budget,
@@ -19,9 +20,11 @@ from hikebox import (
     BudgetInUse,
     Ending,
     Quota,
+    RefusalReason,
     Repeating,
     Retrying,
     TermsError,
+    TicketError,
     Usage,
     recurs,
     spaced,
@@ -33,6 +36,11 @@ WINDOW = 2**32
 
 #: A window that no test sees the end of.
 LONG = 1_000_000.0
+
+
+def number(drawn: Any) -> Any:
+    """The number of a ticket as the engine has it; of a leased one as it is in its window."""
+    return drawn.number if drawn and drawn.window is None else engines_number(drawn)
 
 
 def answers_of(*answers: Any) -> Callable[[], Any]:
@@ -82,19 +90,19 @@ def test_several_requests_are_counted_at_once(kind: str, tmp_path: Path, clock: 
     quota.deposit(0)
     usage = quota.seen()
     assert (usage.asked, usage.left) == (6, 3)
-    assert [quota.draw() for _ in range(4)] == [0, 1, 2, None]
+    assert [number(quota.draw()) for _ in range(4)] == [0, 1, 2, None]
     for wrong in (-1, 2**32 + 1):
         with pytest.raises(TermsError, match=f"from 0 to 4294967296 requests are counted at once, not {wrong}"):
             quota.deposit(wrong)
     for other in (1.5, "2", None):
-        with pytest.raises(TypeError, match="a whole number of requests is wanted"):
+        with pytest.raises(TypeError, match="expected a whole number of requests"):
             quota.deposit(other)
     assert quota.seen().asked == 6
 
 
 def test_requests_past_what_a_window_counts_open_the_next_one(clock: VirtualClock) -> None:
     quota = Quota(1, 1, 10, clock=clock)
-    assert quota.draw() == 0
+    assert number(quota.draw()) == 0
     quota.deposit(2**32)
     quota.deposit(2)
     assert quota.seen() == Usage(window=1, asked=2, given=0, left=3) and quota.seen().next == 20
@@ -106,16 +114,16 @@ def test_requests_past_what_a_window_counts_open_the_next_one(clock: VirtualCloc
 def test_terms_that_are_changed_count_for_the_next_draw(clock: VirtualClock) -> None:
     quota = Quota(2, 0, 10, clock=clock)
     quota.deposit(10)
-    assert [quota.draw() for _ in range(3)] == [0, 1, None]
+    assert [number(quota.draw()) for _ in range(3)] == [0, 1, None]
     quota.set_terms(share=0.25)
     assert quota.seen() == Usage(window=0, asked=10, given=2, left=2)
-    assert [quota.draw() for _ in range(3)] == [2, 3, None]
+    assert [number(quota.draw()) for _ in range(3)] == [2, 3, None]
     quota.set_terms(1, 0)
     # what was given stays given, and there is no more
     assert quota.seen() == Usage(window=0, asked=10, given=4, left=0)
-    assert quota.draw() is None
+    assert not quota.draw()
     clock.advance(10)
-    assert [quota.draw() for _ in range(2)] == [WINDOW, None]
+    assert [number(quota.draw()) for _ in range(2)] == [WINDOW, None]
     quota.set_terms(reserve=3)
     assert (quota.terms, quota.reserve, quota.share, quota.per) == ((3, 0, 10_000), 3, 0.0, 10.0)
     assert repr(quota) == "<Quota(3, 0, per=10)>"
@@ -137,7 +145,7 @@ def test_terms_that_are_refused_change_nothing(clock: VirtualClock) -> None:
     with pytest.raises(TypeError):
         quota.set_terms(reserve=1.0)  # type: ignore[arg-type]
     assert quota.terms == (2, 500, 10_000)
-    assert [quota.draw() for _ in range(3)] == [0, 1, None]
+    assert [number(quota.draw()) for _ in range(3)] == [0, 1, None]
 
 
 def test_terms_are_changed_under_threads_that_draw(clock: VirtualClock) -> None:
@@ -146,9 +154,8 @@ def test_terms_are_changed_under_threads_that_draw(clock: VirtualClock) -> None:
 
     def work() -> None:
         for _ in range(2000):
-            ticket = quota.draw()
-            if ticket is not None:
-                drawn.append(ticket)
+            if quota.draw():
+                drawn.append(1)
 
     threads = [threading.Thread(target=work) for _ in range(4)]
     for thread in threads:
@@ -157,7 +164,7 @@ def test_terms_are_changed_under_threads_that_draw(clock: VirtualClock) -> None:
         quota.set_terms(reserve=reserve)
     for thread in threads:
         thread.join()
-    while quota.draw() is not None:
+    while quota.draw():
         drawn.append(0)
     assert len(drawn) == 1000 == quota.close()
 
@@ -188,27 +195,27 @@ def test_a_forked_child_hands_none_of_its_parents_tickets_back(kind: str, tmp_pa
             attempts = iter(())
             gc.collect()
             # of a quota of the process the child has its own, and a lease is of the store's
-            found: Any = ([quota.hand_back(), quota.draw(), quota.draw()], quota.granted)
-            own: Any = ([False, 0, None], 1)
-            status = 0 if found == (([False, None, None], 0) if kind == "leased" else own) else 2
+            found: Any = ([number(quota.draw()), number(quota.draw())], quota.granted)
+            own: Any = ([0, None], 1)
+            status = 0 if found == (([None, None], 0) if kind == "leased" else own) else 2
         finally:
             os._exit(status)
     assert os.waitstatus_to_exitcode(os.waitpid(child, 0)[1]) == 0
     attempts = iter(())
     gc.collect()
-    assert quota.granted == 0 and quota.draw() is not None
+    assert quota.granted == 0 and bool(quota.draw())
 
 
 def test_terms_of_leases(tmp_path: Path) -> None:
     store = FileStore(tmp_path / "counts")
     first, second = (LeasedQuota(store, "a", 2, 0, LONG, lease=1) for _ in range(2))
-    assert [first.draw(), second.draw(), first.draw(), second.draw()] == [0, 1, None, None]
+    assert [number(each.draw()) for each in (first, second, first, second)] == [0, 1, None, None]
     first.set_terms(reserve=3)
     # a window gives what the most generous terms that were named in it allow
-    assert (second.draw(), first.draw(), first.draw()) == (None, 2, None)
+    assert (number(second.draw()), number(first.draw()), number(first.draw())) == (None, 2, None)
     first.deposit(4)
     first.set_terms(share=0.5)
-    assert [first.draw() for _ in range(3)] == [3, 4, None]
+    assert [number(first.draw()) for _ in range(3)] == [3, 4, None]
     with pytest.raises(TermsError):
         first.set_terms(reserve=-1)
     assert first.terms == (3, 500, 1_000_000_000)
@@ -220,31 +227,163 @@ def test_terms_of_leases(tmp_path: Path) -> None:
 @KINDS
 def test_a_ticket_that_is_handed_back_is_drawn_again(kind: str, tmp_path: Path, clock: VirtualClock) -> None:
     quota = made(kind, tmp_path, 2, 0, clock)
-    assert not quota.hand_back()
-    assert [quota.draw() is not None for _ in range(3)] == [True, True, False]
-    assert quota.hand_back() and not quota.hand_back()
+    first, second, none = [quota.draw() for _ in range(3)]
+    assert (bool(first), bool(second), bool(none)) == (True, True, False)
+    second.hand_back()
     assert quota.granted == 1
-    assert [quota.draw() is not None for _ in range(2)] == [True, False]
+    again = quota.draw()
+    assert again and not quota.draw()
     assert quota.granted == 2
+    # in any order, by the ticket or by the quota
+    quota.hand_back(first)
+    again.hand_back()
+    assert quota.granted == 0
+    assert [bool(quota.draw()) for _ in range(3)] == [True, True, False]
+
+
+@KINDS
+def test_a_ticket_is_handed_back_once_and_by_its_quota_alone(kind: str, tmp_path: Path, clock: VirtualClock) -> None:
+    quota, other = made(kind, tmp_path, 3, 0, clock), made(kind, tmp_path / "other", 3, 0, clock)
+    ticket = quota.draw()
+    with pytest.raises(TicketError, match="expected a ticket of .*, got one of .*"):
+        other.hand_back(ticket)
+    ticket.hand_back()
+    for again in (ticket.hand_back, lambda: quota.hand_back(ticket)):
+        with pytest.raises(TicketError, match="expected a ticket that is out, got <Ticket 0.*>, which was handed back"):
+            again()
+    # a later one with the same number is not its own
+    later = quota.draw()
+    with pytest.raises(ValueError):
+        ticket.hand_back()
+    assert quota.granted == 1
+    later.hand_back()
+    assert [bool(quota.draw()) for _ in range(4)] == [True, True, True, False]
+    with pytest.raises(AttributeError):
+        quota.draw().hand_back()
+    for wrong in (0, None, quota.draw()):
+        with pytest.raises(TypeError, match="expected a Ticket, got "):
+            quota.hand_back(wrong)
+
+
+@KINDS
+def test_a_ticket_that_a_retry_used_does_not_come_back(kind: str, tmp_path: Path, clock: VirtualClock) -> None:
+    quota = made(kind, tmp_path, 2, 0, clock)
+    ticket = quota.draw()
+    with pytest.raises(KeyError):
+        Retrying(recurs(1), budget=quota, clock=clock)(fails)
+    assert quota.granted == 2
+    ticket.hand_back()
+    assert quota.granted == 1
+    with pytest.raises(TicketError):
+        ticket.hand_back()
+    assert [bool(quota.draw()) for _ in range(2)] == [True, False]
+
+
+@KINDS
+def test_threads_hand_one_ticket_back_once(kind: str, tmp_path: Path, clock: VirtualClock) -> None:
+    quota = made(kind, tmp_path, 8, 0, clock)
+    for _ in range(200):
+        tickets = [quota.draw() for _ in range(3)]
+        refused: List[int] = []
+        ready = threading.Barrier(4)
+
+        def work() -> None:
+            ready.wait()
+            for ticket in tickets:
+                try:
+                    ticket.hand_back()
+                except TicketError:
+                    refused.append(1)
+
+        threads = [threading.Thread(target=work) for _ in range(4)]
+        for thread in threads:
+            thread.start()
+        for thread in threads:
+            thread.join()
+        assert len(refused) == 9 and quota.granted == 0
+
+
+def test_a_ticket_of_the_process_before_a_fork_does_not_come_back(clock: VirtualClock) -> None:
+    quota = Quota(2, 0, LONG, clock=clock)
+    ticket = quota.draw()
+    assert ticket
+    child = os.fork()
+    if child == 0:
+        status = 1
+        try:
+            with pytest.raises(TicketError, match="before the fork"):
+                ticket.hand_back()
+            status = 0 if quota.granted == 0 else 2
+        finally:
+            os._exit(status)
+    assert os.waitstatus_to_exitcode(os.waitpid(child, 0)[1]) == 0
+    ticket.hand_back()
+    assert quota.close() == 0
+
+
+def test_tickets_of_a_quota_that_was_closed(clock: VirtualClock) -> None:
+    quota = Quota(5, 0, LONG, clock=clock)
+    ticket = quota.draw()
+    assert ticket and quota.close() == 1
+    with pytest.raises(BudgetClosed):
+        ticket.hand_back()
+    with pytest.raises(BudgetClosed):
+        quota.draw()
+
+
+def test_tickets(clock: VirtualClock) -> None:
+    budget, quota = Budget(1), Quota(1, 0, 10, clock=clock)
+    clock.advance(30)
+    drawn: Any = budget.draw()
+    assert bool(drawn) and (drawn.number, drawn.window, repr(drawn)) == (0, None, "<Ticket 0>")
+    with pytest.raises(TicketError, match="expected a ticket of a quota, got <Ticket 0> of a budget"):
+        drawn.hand_back()
+    with pytest.raises(TicketError):
+        budget.hand_back(drawn)
+    drawn = quota.draw()
+    assert bool(drawn) and (drawn.number, drawn.window, repr(drawn)) == (0, 3, "<Ticket 0 of window 3>")
+    refused: Any = budget.draw()
+    assert not refused and (refused.reason, refused.again_at) == (RefusalReason.USED_UP, None)
+    assert repr(refused) == "<Refusal: used up>"
+    refused = quota.draw()
+    assert not refused and (refused.reason, refused.again_at, refused.error) == (RefusalReason.USED_UP, 40.0, None)
+    assert repr(refused) == "<Refusal: used up until 40.000>"
+
+
+def test_many_tickets_at_once(clock: VirtualClock) -> None:
+    quota = Quota(20_000, 0, LONG, clock=clock)
+    tickets = [quota.draw() for _ in range(20_000)]
+    assert not quota.draw() and quota.granted == 20_000
+    for ticket in tickets[::2]:
+        assert ticket
+        ticket.hand_back()
+    assert quota.granted == 10_000
+    del tickets, ticket
+    again = [quota.draw() for _ in range(10_001)]
+    assert sum(map(bool, again)) == 10_000
+    assert quota.close() == 20_000
 
 
 def test_a_ticket_of_a_window_that_is_over_comes_back_for_nothing(clock: VirtualClock) -> None:
     quota = Quota(1, 0, 10, clock=clock)
-    assert quota.draw() == 0
+    ticket = quota.draw()
+    assert ticket and number(ticket) == 0
     clock.advance(10)
-    assert quota.hand_back() and quota.granted == 0
-    assert [quota.draw() for _ in range(2)] == [WINDOW, None]
+    ticket.hand_back()
+    assert quota.granted == 0
+    assert [number(quota.draw()) for _ in range(2)] == [WINDOW, None]
     assert quota.close() == 1
 
 
 def test_a_leased_ticket_of_a_window_that_is_over_is_not_drawn_again(tmp_path: Path) -> None:
     clock = VirtualClock()
     quota = LeasedQuota(FileStore(tmp_path / "counts"), "a", 2, 0, LONG, lease=2, clock=clock)
-    assert [quota.draw(), quota.draw()] == [0, 1]
-    assert quota.hand_back()
+    first, second = quota.draw(), quota.draw()
+    assert first and second and (first.number, second.number) == (0, 1)
+    second.hand_back()
     clock.advance(2 * LONG)
     # (the store goes by the machine's clock, and has none left in its window)
-    assert quota.draw() is None and quota.granted == 1
+    assert not quota.draw() and quota.granted == 1
 
 
 def waits_are_broken_off(_: float) -> None:
@@ -315,7 +454,7 @@ def test_a_retry_that_ends_while_it_waits_hands_its_ticket_back(
     gc.collect()
     # its first retry was made, and its second was not
     assert quota.granted == 1
-    assert [quota.draw() is not None for _ in range(2)] == [True, False]
+    assert [bool(quota.draw()) for _ in range(2)] == [True, False]
 
 
 @KINDS
@@ -329,15 +468,16 @@ def test_a_retry_that_ends_in_its_attempt_has_used_its_ticket(kind: str, tmp_pat
     for retries in (1, 9):
         with pytest.raises(KeyError):
             Retrying(recurs(retries), budget=quota, clock=clock)(fails)
-    assert quota.granted == 5 and quota.draw() is None
+    assert quota.granted == 5 and not quota.draw()
 
 
 def test_a_retry_that_ends_at_once_where_it_waits_for_nothing(clock: VirtualClock) -> None:
     # the engine has begun its next attempt already, and nobody made it
     quota = Quota(1, 0, LONG, clock=clock)
     with pytest.raises(KeyboardInterrupt):
-        Retrying(recurs(9), budget=quota, clock=clock, before_sleep=waits_are_broken_off)(fails)  # type: ignore[arg-type]
-    assert quota.granted == 0 and quota.draw() is not None
+        broken_off: Any = waits_are_broken_off
+        Retrying(recurs(9), budget=quota, clock=clock, before_sleep=broken_off)(fails)
+    assert quota.granted == 0 and bool(quota.draw())
 
 
 def test_a_budgets_tickets_do_not_come_back(clock: VirtualClock) -> None:
@@ -388,7 +528,7 @@ def test_a_call_that_succeeds_hands_its_last_ticket_back(
         call_by(way, recurs(1), answers_of(KeyError(), KeyError()), budget=quota, clock=clock)
     assert call_by(way, recurs(1), answers_of(7), budget=quota, clock=clock) == 7
     assert quota.granted == 2
-    assert [quota.draw() is not None for _ in range(2)] == [True, False]
+    assert [bool(quota.draw()) for _ in range(2)] == [True, False]
 
 
 @KINDS
@@ -506,28 +646,28 @@ def test_threads_whose_retries_hand_back_and_draw(kind: str, tmp_path: Path) -> 
 def test_what_a_window_leaves_of_its_share_is_drawn_once_in_the_next(clock: VirtualClock) -> None:
     quota = Quota(0, 1, 10, clock=clock, carries=True)
     quota.deposit(5)
-    assert [quota.draw() for _ in range(2)] == [0, 1]
+    assert [number(quota.draw()) for _ in range(2)] == [0, 1]
     clock.advance(10)
     quota.deposit(2)
     # three of the five, which are drawn first, and the window's own two
     assert quota.seen() == Usage(window=1, asked=2, given=0, left=5)
-    assert [quota.draw() for _ in range(3)] == [WINDOW - 3, WINDOW - 2, WINDOW - 1]
+    assert [number(quota.draw()) for _ in range(3)] == [WINDOW - 3, WINDOW - 2, WINDOW - 1]
     assert quota.seen() == Usage(window=1, asked=2, given=0, left=2)
-    assert [quota.draw() for _ in range(3)] == [WINDOW, WINDOW + 1, None]
+    assert [number(quota.draw()) for _ in range(3)] == [WINDOW, WINDOW + 1, None]
     clock.advance(10)
     assert quota.seen() == Usage(window=2, asked=0, given=0, left=0)
-    assert quota.draw() is None and quota.close() == 7
+    assert not quota.draw() and quota.close() == 7
 
 
 def test_what_was_carried_is_not_carried_on(clock: VirtualClock) -> None:
     quota = Quota(0, 1, 10, clock=clock, carries=True)
     quota.deposit(5)
     clock.advance(10)
-    assert quota.draw() == WINDOW - 5
+    assert number(quota.draw()) == WINDOW - 5
     quota.deposit(2)
     # window 2 has the two requests of window 1, and nothing of the four tickets that were left there of window 0
     clock.advance(10)
-    assert [quota.draw() for _ in range(3)] == [2 * WINDOW - 2, 2 * WINDOW - 1, None]
+    assert [number(quota.draw()) for _ in range(3)] == [2 * WINDOW - 2, 2 * WINDOW - 1, None]
     assert quota.close() == 3
 
 
@@ -535,9 +675,9 @@ def test_nothing_is_carried_without_the_option_or_past_an_idle_window(clock: Vir
     for carries, idle, drawn in ((False, 10, 0), (True, 10, 3), (True, 20, 0)):
         quota = Quota(0, 1, 10, clock=clock, carries=carries)
         quota.deposit(5)
-        assert [quota.draw() is not None for _ in range(2)] == [True, True]
+        assert [bool(quota.draw()) for _ in range(2)] == [True, True]
         clock.advance(idle)
-        assert sum(quota.draw() is not None for _ in range(9)) == drawn
+        assert sum(bool(quota.draw()) for _ in range(9)) == drawn
         assert quota.close() == 2 + drawn
 
 
@@ -547,10 +687,10 @@ def test_a_reserve_is_not_carried(clock: VirtualClock) -> None:
     assert quota.seen().left == 5
     clock.advance(10)
     assert quota.seen() == Usage(window=1, asked=0, given=0, left=5)
-    assert [quota.draw() for _ in range(3)] == [WINDOW - 2, WINDOW - 1, WINDOW]
+    assert [number(quota.draw()) for _ in range(3)] == [WINDOW - 2, WINDOW - 1, WINDOW]
     # the two of window 1 that are left are of its reserve
     clock.advance(10)
-    assert [quota.draw() for _ in range(4)] == [2 * WINDOW, 2 * WINDOW + 1, 2 * WINDOW + 2, None]
+    assert [number(quota.draw()) for _ in range(4)] == [2 * WINDOW, 2 * WINDOW + 1, 2 * WINDOW + 2, None]
     # a window has half of its numbers for its own tickets
     assert Quota(2**32, 0, 10, clock=clock, carries=True).seen().left == 2**31
 
@@ -558,13 +698,15 @@ def test_a_reserve_is_not_carried(clock: VirtualClock) -> None:
 def test_a_ticket_that_is_handed_back_counts_as_given_for_the_next_window(clock: VirtualClock) -> None:
     quota = Quota(0, 0.5, 10, clock=clock, carries=True)
     quota.deposit(10)
-    assert [quota.draw() for _ in range(3)] == [0, 1, 2]
-    assert quota.hand_back()
+    tickets = [quota.draw() for _ in range(3)]
+    assert [number(ticket) for ticket in tickets] == [0, 1, 2] and tickets[0]
+    tickets[0].hand_back()
     clock.advance(10)
-    assert quota.draw() == WINDOW - 2
+    ticket = quota.draw()
+    assert ticket and number(ticket) == WINDOW - 2
     # one that was carried is given up
-    assert quota.hand_back()
-    assert [quota.draw() for _ in range(2)] == [WINDOW - 1, None]
+    ticket.hand_back()
+    assert [number(quota.draw()) for _ in range(2)] == [WINDOW - 1, None]
     assert quota.close() == 3
 
 
@@ -574,9 +716,9 @@ def test_terms_that_are_changed_before_the_first_draw_of_a_window(clock: Virtual
     clock.advance(10)
     assert quota.seen().left == 5
     quota.set_terms(share=0.2)
-    assert (quota.draw(), quota.seen().left) == (WINDOW - 2, 1)
+    assert (number(quota.draw()), quota.seen().left) == (WINDOW - 2, 1)
     quota.set_terms(share=1)
-    assert [quota.draw() for _ in range(2)] == [WINDOW - 1, None]
+    assert [number(quota.draw()) for _ in range(2)] == [WINDOW - 1, None]
 
 
 @pytest.mark.parametrize("carries, granted", [(False, 1), (True, 2)])
@@ -602,9 +744,9 @@ def test_a_forked_child_carries_what_is_its_own(clock: VirtualClock) -> None:
         try:
             quota.deposit(2)
             clock.advance(10)
-            status = 0 if [quota.draw() is not None for _ in range(3)] == [True, True, False] else 2
+            status = 0 if [bool(quota.draw()) for _ in range(3)] == [True, True, False] else 2
         finally:
             os._exit(status)
     assert os.waitstatus_to_exitcode(os.waitpid(child, 0)[1]) == 0
     clock.advance(10)
-    assert sum(quota.draw() is not None for _ in range(9)) == 5
+    assert sum(bool(quota.draw()) for _ in range(9)) == 5

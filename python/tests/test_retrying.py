@@ -209,7 +209,7 @@ def test_the_policy_is_given_the_code_of_the_failure(kind: str, clock: VirtualCl
     assert caught.value.errno == 404 and call.runs == 3
     call = Scripted(1, 2, "won")
     assert made(kind, identity().until_output(at_least=20), clock, code=lambda error: error.errno * 7)(call) == "won"
-    with pytest.raises(ValueError, match="a code is"):
+    with pytest.raises(ValueError, match="code: expected a whole number from 0 to"):
         made(kind, policy, clock, code=lambda error: -1)(Scripted(503))
 
 
@@ -217,7 +217,7 @@ def test_the_policy_is_given_the_code_of_the_failure(kind: str, clock: VirtualCl
 def test_the_wait_may_have_a_lower_bound(kind: str, clock: VirtualClock) -> None:
     bounds = iter([5.0, None, 0.1])
     call = Scripted(7, 7, 7, "won")
-    assert made(kind, spaced(1), clock, at_least=lambda error: next(bounds))(call) == "won"
+    assert made(kind, spaced(1), clock, retry_after=lambda error: next(bounds))(call) == "won"
     assert clock.slept == [5.0, 1.0, 1.0]
 
 

@@ -45,14 +45,28 @@ STORMS = [
     Parameters(),
     SCENARIOS["herd"]._replace(tickets=100),
     SCENARIOS["brown-out"]._replace(tickets=Terms(10, 100, 1000), patience=250, window=500, rate=400),
-    Parameters(seconds=1, calls=500, words=7, outage=Span(5, 700), slow=Slow(1, 2, 29), until=1500, capacity=9, queue=7, together=3),
+    Parameters(
+        seconds=1,
+        calls=500,
+        words=7,
+        outage=Span(5, 700),
+        slow=Slow(1, 2, 29),
+        until=1500,
+        capacity=9,
+        queue=7,
+        together=3,
+    ),
 ]
 
 
 def policies() -> List[Policy]:
     rng = random.Random(7)
     some: List[Any] = [reference.some_plan(rng, rng.randrange(2, 12)) for _ in range(40)]
-    known = [*map(Policy.from_json, NODES), *(Policy.parse(spelt) for _, spelt in COOKBOOK), *map(Policy.from_dict, some)]
+    known = [
+        *map(Policy.from_json, NODES),
+        *(Policy.parse(spelt) for _, spelt in COOKBOOK),
+        *map(Policy.from_dict, some),
+    ]
     return list(dict.fromkeys(known))
 
 

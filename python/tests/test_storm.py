@@ -20,8 +20,8 @@ import pytest
 from conftest import TOP, heed_signals, python_environment
 
 from hikebox import Budget, Policy, Quota, Storm, StormError, exponential, milliseconds, recurs, spaced, storm
-from hikebox._storm_options import parameters_of, tickets_of
-from hikebox._storm_terms import Parameters, Slow, Span
+from hikebox._storm_options import limits_of, parameters_of, tickets_of
+from hikebox._storm_terms import SCENARIOS, Parameters, Slow, Span
 from hikebox.errors import BudgetError
 from hikebox.quota import Terms
 from hikebox.storm import play
@@ -85,7 +85,9 @@ def test_the_storm_that_never_ends_and_the_one_that_a_quota_ends() -> None:
 def test_times_are_those_of_the_package() -> None:
     by_seconds = storm(recurs(1), patience=0.25, outage=(1, 2.5), slow=(2, 3, 0.29), window=0.5, until=4, seconds=3)
     spans: Any = {"outage": (milliseconds(1000), 2.5), "slow": (timedelta(seconds=2), 3, 0.29)}
-    by_others = storm(recurs(1), patience=milliseconds(250), window=milliseconds(500), until=timedelta(seconds=4), seconds=3, **spans)
+    by_others = storm(
+        recurs(1), patience=milliseconds(250), window=milliseconds(500), until=timedelta(seconds=4), seconds=3, **spans
+    )
     assert by_seconds == by_others
     assert by_seconds.parameters == Parameters(
         seconds=3, patience=250, outage=Span(1000, 2500), slow=Slow(2000, 3000, 29), window=500, until=4000
@@ -143,7 +145,15 @@ def test_what_is_out_of_range_is_named(given: Dict[str, Any], line: str) -> None
 
 @pytest.mark.parametrize(
     "given",
-    [{"rate": 1.5}, {"rate": True}, {"patience": "1"}, {"outage": 5}, {"outage": (1, 2, 3)}, {"slow": (1, 2)}, {"slow": (1, 2, "x")}]
+    [
+        {"rate": 1.5},
+        {"rate": True},
+        {"patience": "1"},
+        {"outage": 5},
+        {"outage": (1, 2, 3)},
+        {"slow": (1, 2)},
+        {"slow": (1, 2, "x")},
+    ]
     + [{"budget": 1.5}, {"window": None}],
     ids=str,
 )
@@ -178,11 +188,11 @@ def test_it_is_told_as_a_table_and_in_words() -> None:
             "2,400 requests: 1,600 won, 800 lost, 0 denied a retry, 0 left open",
             "4,000 calls, 1.67 for each request; the most in a window 2,400, from 1 s on",
             "Won half within 1 ms, 99 in 100 within 1 ms, the slowest after 1 ms",
-            "Recovered at once",
+            "Back at 2 s",
         ]
     )
     brief = repr(storm(recurs(2), seconds=3, outage=(1, 2)))
-    assert brief == "<Storm of 2400 requests, 4000 calls, recovered at 2000 ms: recurs(2)>"
+    assert brief == "<Storm of 2400 requests, 1600 succeeded, 4000 calls, back at 2000 ms: recurs(2)>"
 
 
 def test_matplotlib_draws_it() -> None:
@@ -192,7 +202,14 @@ def test_matplotlib_draws_it() -> None:
     axes = drawn.plot()
     assert axes.get_xlabel() == "seconds since the first request" and axes.get_ylabel() == "calls per second"
     names = axes.get_legend_handles_labels()[1]
-    assert {"requests", "retries", "calls that succeed", "the peer is away", "it works at 50 %", "what the peer can do"} == set(names)
+    assert {
+        "requests",
+        "retries",
+        "calls that succeed",
+        "the peer is away",
+        "it works at 50 %",
+        "what the peer can do",
+    } == set(names)
     assert axes.get_legend() is not None and axes.get_xlim()[1] == len(drawn.rows)
     high, low = matplotlib.pyplot.figure().subplots(2, 1, sharex=True)
     assert drawn.plot(high) is high and storm(recurs(0)).plot(low) is low
@@ -229,7 +246,7 @@ def test_the_program_has_totals_side_by_side() -> None:
     assert (status, errors) == (0, "")
     lines = told.splitlines()
     assert lines[0] == "1: recurs(0), no limit"
-    assert lines[3] == f"4: {FULL!r}, a quota: 10 and 10 % of the requests in each 1 s"
+    assert lines[3] == f"4: {FULL!r}, quota 10/10%/1s"
     assert [line.split() for line in lines if line.startswith(("for each", "recovered"))] == [
         ["for", "each", "1.00", "1.00", "7.62", "1.02"],
         ["recovered", "ms", "20000", "20000", "never", "20000"],
@@ -239,7 +256,9 @@ def test_the_program_has_totals_side_by_side() -> None:
 def test_a_policy_to_compare_is_one_more() -> None:
     options = ["--seconds", "3", "--outage", "1000..2000"]
     beside = hikebox(*options, "recurs(2)", "recurs(0)", "spaced(1)")
-    assert beside[0] == 0 and hikebox(*options, "recurs(2)", "--compare", "recurs(0)", "--compare", "spaced(1)") == beside
+    assert (
+        beside[0] == 0 and hikebox(*options, "recurs(2)", "--compare", "recurs(0)", "--compare", "spaced(1)") == beside
+    )
     assert hikebox(*options, "--compare", "recurs(0)", "--compare", "spaced(1)", text='{"recurs":2}') == beside
 
 
@@ -247,6 +266,9 @@ def test_a_cut_storm_has_a_status_of_its_own() -> None:
     status, told, errors = hikebox("--calls", "100", "--json", "recurs(3)")
     assert (status, errors) == (6, "hikebox: not finished\n")
     assert json.loads(told)["totals"]["cut"] is True
+
+
+NAMES = "rate, clients, together, seconds, capacity, queue, patience, outage, share, reserve, budget"
 
 
 @pytest.mark.parametrize(
@@ -272,12 +294,28 @@ def test_a_cut_storm_has_a_status_of_its_own() -> None:
         (["--window", "1"], "window: 120000 ms by windows of 1 ms are 120001 lines, and a report has at most 65537"),
         (["--budget", "4294967297"], "argument --budget: '4294967297' is not a number from 0 to 4294967296"),
         (["--quota", "1/1%/0s"], "argument --quota: the window of a quota is at least 100 ms long, not 0.0"),
-        (["--budget", "1", "--quota", "1/1%/1s"], "argument --quota: not allowed with argument --budget"),
+        (["--csv", "--budget", "1", "--quota", "1/1%/1s"], "storm: --csv and --json are of one storm, or of a sweep"),
         (["--csv", "--json"], "argument --json: not allowed with argument --csv"),
-        (["--csv", "recurs(1)", "recurs(2)"], "storm: --csv and --json are of one policy"),
-        (["--json", "--compare", "recurs(2)"], "storm: --csv and --json are of one policy"),
-        (["--width", "4001"], "argument --width: '4001' is not a number from 280 to 4000"),
-        (["--scenario", "x"], "argument --scenario: invalid choice: 'x' (choose from 'brown-out', 'herd', 'outage')"),
+        (["--csv", "recurs(1)", "recurs(2)"], "storm: --csv and --json are of one storm, or of a sweep"),
+        (["--json", "--compare", "recurs(2)"], "storm: --csv and --json are of one storm, or of a sweep"),
+        (["--width", "4001"], "argument --width: '4001' is not a number from 72 to 4000"),
+        (["--width", "100"], "width: it is of --bars, or of a picture"),
+        (["--measure", "calls"], "measure: it is of a sweep"),
+        (["--bars", "--sweep", "rate=1,2"], "storm: --bars is of storms, not of a sweep or a border"),
+        (["--detail"], "detail: it is of a picture of storms"),
+        (["--find", "retries", "recurs(1)", "recurs(2)"], "storm: --find is of one storm, not 2"),
+        (["--find", "quota", "--csv"], "storm: --find prints text or --json"),
+        (
+            ["--sweep", "rats=1,2"],
+            f"sweep: expected NAME=FROM..TO/COUNT or NAME=A,B,C, got 'rats=1,2'; NAME is {NAMES}",
+        ),
+        (["--sweep", "rate"], f"sweep: expected NAME=FROM..TO/COUNT or NAME=A,B,C, got 'rate'; NAME is {NAMES}"),
+        (["--sweep", "rate=5..1/3"], "sweep: expected FROM below TO and a COUNT from 2 to 64, got '5..1/3'"),
+        (["--sweep", "rate=1..5/65"], "sweep: expected FROM below TO and a COUNT from 2 to 64, got '1..5/65'"),
+        (["--sweep", "rate=1,x"], "sweep: expected a whole number, got 'x'"),
+        (["--sweep", "rate=2,1"], "sweep: expected 1 to 64 values, each greater than the one before, got [2, 1]"),
+        (["--sweep", "share=0.25"], "sweep: expected a number with at most one decimal, got '0.25'"),
+        (["--name", "a", "--name", "b"], "name: expected as many names as storms, 1, got 2"),
     ],
     ids=str,
 )
@@ -285,6 +323,87 @@ def test_a_bad_command_line_is_told_before_the_policy_is_read(words: List[str], 
     status, told, errors = hikebox(*words, text="no policy")
     assert (status, told) == (2, "")
     assert errors.splitlines()[-1] in (f"hikebox storm: error: {line}", f"hikebox: {line}")
+
+
+#: Three windows of 100 requests, of which the ones in the midst are refused three times each. Bars are 26 columns long.
+BARS = """\
+  won %  from ms  requests  retries  failed  waiting  # request, + retry
+    100        0       100        0       0        0  #########
+      0     1000       100      200     300        0  #########+++++++++++++++++
+    100     2000       100        0       0        0  #########
+                                                      0                300 calls
+"""
+
+
+def test_bars_have_the_verdict_first_and_their_scale_last() -> None:
+    options = ["--rate", "100", "--seconds", "3", "--outage", "1000..2000", "--bars"]
+    status, told, errors = hikebox(*options, "recurs(2)")
+    assert (status, errors) == (0, "")
+    assert told.startswith(BARS) and max(map(len, told.splitlines())) == 80
+    assert told[len(BARS) :].startswith("300 requests: 200 won, 100 lost")
+    # All storms of a run have one scale: 300 of 600 calls are 13 of 26 columns.
+    _, told, _ = hikebox(*options, "recurs(2)", "recurs(5)")
+    bars = [line[54:] for line in told.splitlines() if line.startswith(" ") and "1000  " in line]
+    assert bars == ["#####" + "+" * 8, "#####" + "+" * 21]
+    assert [line.strip() for line in told.splitlines() if "600 calls" in line] == ["0" + "600 calls".rjust(25)]
+    _, told, _ = hikebox(*options, "--width", "120", "recurs(2)")
+    assert max(map(len, told.splitlines())) == 120
+    for width in ("71", "1001"):
+        assert hikebox(*options, "--width", width, "recurs(2)")[0] == 2
+
+
+def test_bars_are_those_of_zsched() -> None:
+    program = os.environ.get("HIKEBOX_ZSCHED")
+    if (
+        not program
+        or "--width" not in subprocess.run([program, "storm", "--help"], capture_output=True, text=True).stdout
+    ):
+        pytest.skip("HIKEBOX_ZSCHED names no zsched with --width")
+    for words in (["--quota", "10/10%/1s"], ["--slow", "5000..9000@10"]):
+        command = [program, "storm", *words, "--seconds", "20", "-"]
+        done = subprocess.run(command, input=FULL.to_json(), capture_output=True, text=True, check=True)
+        _, told, _ = hikebox(*words, "--seconds", "20", "--bars", repr(FULL))
+        shared = told.split(" calls\n")[0]
+        assert done.stdout.startswith(f"{shared} calls\n")
+
+
+def test_a_terminal_has_colours_where_they_are_wanted() -> None:
+    import pty
+
+    def printed(**variables: str) -> str:
+        above, below = pty.openpty()
+        command = [
+            sys.executable,
+            "-m",
+            "hikebox",
+            "storm",
+            "--bars",
+            "--seconds",
+            "3",
+            "--outage",
+            "1000..2000",
+            "recurs(2)",
+        ]
+        environment = {**python_environment(), "TERM": "xterm", **variables}
+        with subprocess.Popen(command, stdout=below, stderr=subprocess.DEVNULL, env=environment) as process:
+            os.close(below)
+            told = b""
+            while True:
+                try:
+                    more = os.read(above, 1 << 16)
+                except OSError:
+                    break
+                if not more:
+                    break
+                told += more
+            process.wait(timeout=60)
+        os.close(above)
+        return told.decode()
+
+    told = printed()
+    assert "\033[32m    100\033[0m" in told and "\033[31m      0\033[0m" in told and "\033[33m+" in told
+    assert "\033" not in printed(NO_COLOR="1") and "\033" not in printed(TERM="dumb")
+    assert "\033" not in hikebox("--bars", "--seconds", "3", "--outage", "1000..2000", "recurs(2)")[1]
 
 
 def test_want_of_memory_is_told(monkeypatch: pytest.MonkeyPatch, capsys: pytest.CaptureFixture[str]) -> None:
@@ -303,7 +422,9 @@ def test_a_storm_too_large_for_the_memory_is_told() -> None:
     words = ["--rate", "17000", "--capacity", "1", "--queue", "0", "recurs(1) & spaced(30)"]
     command = [sys.executable, "-m", "hikebox", "storm", *words]
     how: Any = {"capture_output": True, "text": True, "env": python_environment()}
-    done = subprocess.run(command, preexec_fn=lambda: resource.setrlimit(resource.RLIMIT_AS, (200 << 20, 200 << 20)), **how)
+    done = subprocess.run(
+        command, preexec_fn=lambda: resource.setrlimit(resource.RLIMIT_AS, (200 << 20, 200 << 20)), **how
+    )
     assert (done.returncode, done.stdout, done.stderr) == (5, "", "hikebox: no memory\n")
 
 
@@ -314,7 +435,18 @@ def spent_by(process: int) -> float:
 
 
 def test_an_interrupt_ends_it_in_the_midst_of_a_storm() -> None:
-    words = ["storm", "--rate", "17000", "--capacity", "1", "--queue", "0", "--calls", str(2**32), "recurs(10000) & spaced(0.01)"]
+    words = [
+        "storm",
+        "--rate",
+        "17000",
+        "--capacity",
+        "1",
+        "--queue",
+        "0",
+        "--calls",
+        str(2**32),
+        "recurs(10000) & spaced(0.01)",
+    ]
     command = [sys.executable, "-m", "hikebox", *words]
     process = subprocess.Popen(command, stdout=subprocess.PIPE, env=python_environment(), preexec_fn=heed_signals)
     # (its start takes some tenths of a second of the processor, and the storm minutes)
@@ -329,7 +461,11 @@ def test_a_bad_policy_is_told() -> None:
     assert hikebox(text="{}")[0] == 3
     assert hikebox("recurs(3")[0] == 3
     assert hikebox("no/such/file")[0] == 4
-    assert hikebox("recurs(-1)") == (3, "", "hikebox: number out of range: recurs: -1 is not from 0 to 4611686018427387903\n")
+    assert hikebox("recurs(-1)") == (
+        3,
+        "",
+        "hikebox: number out of range: recurs: -1 is not from 0 to 4611686018427387903\n",
+    )
 
 
 def test_a_quota_without_units_is_told_what_it_would_be() -> None:
@@ -342,14 +478,24 @@ def test_a_quota_without_units_is_told_what_it_would_be() -> None:
         tickets_of("4294967297")
 
 
-def test_the_options_begin_with_the_story(tmp_path: Path) -> None:
+def test_a_scenario_that_is_none_is_told() -> None:
+    told = "hikebox: scenario: expected brown-out, herd, outage or a file, got 'x': No such file or directory\n"
+    assert hikebox("--scenario", "x", text="no policy") == (3, "", told)
+
+
+def test_the_options_begin_with_the_story() -> None:
     import argparse
 
     from hikebox._storm_options import add_storm_options
 
     parser = argparse.ArgumentParser()
     add_storm_options(parser)
-    herd = parameters_of(parser.parse_args(["--scenario", "herd", "--queue", "7", "--budget", "5"]))
-    assert herd == Parameters(10_000, 10_000, 1, 1000, 1000, 7, Span(0, 0), tickets=5)
-    brown = parameters_of(parser.parse_args(["--scenario", "brown-out", "--quota", "1/0.5%/100ms"]))
-    assert brown == Parameters(outage=Span(0, 0), slow=Slow(10_000, 20_000, 50), tickets=Terms(1, 5, 100))
+    given = parser.parse_args(["--scenario", "herd", "--queue", "7", "--budget", "5", "--quota", "1/0.5%/100ms"])
+    assert parameters_of(given, SCENARIOS[given.scenario]) == Parameters(10_000, 10_000, 1, 1000, 1000, 7, Span(0, 0))
+    assert limits_of(given) == [5, Terms(1, 5, 100)]
+    brown = parser.parse_args(["--scenario", "brown-out", "--quota", "1/0.5%/100ms", "--without"])
+    assert parameters_of(brown, SCENARIOS[brown.scenario]) == Parameters(
+        outage=Span(0, 0), slow=Slow(10_000, 20_000, 50)
+    )
+    assert limits_of(brown) == [None, Terms(1, 5, 100)]
+    assert limits_of(parser.parse_args([])) == [None]

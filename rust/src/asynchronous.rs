@@ -18,22 +18,22 @@ pub trait AsyncSleep {
     type Sleeping: Future<Output = ()>;
 
     /// A future that is ready after so long, or later.
-    fn sleep(&mut self, wait: Duration) -> Self::Sleeping;
+    fn sleep(&self, wait: Duration) -> Self::Sleeping;
 }
 
 #[cfg(feature = "tokio")]
 impl AsyncSleep for SystemSleep {
     type Sleeping = ::tokio::time::Sleep;
 
-    fn sleep(&mut self, wait: Duration) -> Self::Sleeping {
+    fn sleep(&self, wait: Duration) -> Self::Sleeping {
         ::tokio::time::sleep(wait)
     }
 }
 
-impl<F: FnMut(Duration) -> S, S: Future<Output = ()>> AsyncSleep for F {
+impl<F: Fn(Duration) -> S, S: Future<Output = ()>> AsyncSleep for F {
     type Sleeping = S;
 
-    fn sleep(&mut self, wait: Duration) -> S {
+    fn sleep(&self, wait: Duration) -> S {
         self(wait)
     }
 }
@@ -57,7 +57,10 @@ macro_rules! until_it_succeeds {
             if !wait.is_zero() {
                 $retrying.host.sleep.sleep(wait).await;
             }
-            $attempt = $retrying.next(&mut course, $attempt).map_err(|cause| RetryError::Broken(cause, error))?;
+            $attempt = match $retrying.next(&mut course, $attempt) {
+                Ok(attempt) => attempt,
+                Err(ended) => return Err(course.error(ended, error)),
+            };
         }
     }};
 }
@@ -164,13 +167,13 @@ retryable!(F: [AsyncFnMut() -> Result<T, E>] [] []);
 #[cfg(not(hikebox_async_closures))]
 retryable!(F: [FnMut() -> P] [, P] [P: Future<Output = Result<T, E>>]);
 
-impl<E, H: Hooked<E>, K: FnMut() -> Instant, S: AsyncSleep, R: Random> Retrying<'_, E, (), H, Host<K, S, R>> {
+impl<E, H: Hooked<E>, K: Fn() -> Instant, S: AsyncSleep, R: Random> Retrying<'_, E, (), H, Host<K, S, R>> {
     /// [`Retrying::call`] for futures. Without the feature `tokio` it wants a [`Retrying::sleep`] of the runtime.
     ///
     /// # Errors
     ///
     /// [`RetryError`] keeps the last error of the call.
-    pub async fn call_async<T, P>(&mut self, mut call: impl FnMut() -> P) -> Result<T, RetryError<E>>
+    pub async fn call_async<T, P>(&self, mut call: impl FnMut() -> P) -> Result<T, RetryError<E>>
     where
         P: Future<Output = Result<T, E>>,
     {
@@ -188,14 +191,14 @@ impl<E, H: Hooked<E>, K: FnMut() -> Instant, S: AsyncSleep, R: Random> Retrying<
     /// use tokio::time::{timeout, Instant};
     ///
     /// let (policy, began): (Policy, _) = (r#"{"spaced":100}"#.parse()?, Instant::now());
-    /// let mut retrying = Retrying::new(&policy, &Unlimited).deadline(Duration::from_secs(2));
+    /// let retrying = Retrying::new(&policy, &Unlimited).deadline(Duration::from_secs(2));
     /// let answer = retrying
     ///     .call_async_with(|attempt| async move {
     ///         let left = attempt.left().unwrap_or(Duration::MAX);
     ///         timeout(left.min(Duration::from_millis(1500)), pending::<()>()).await
     ///     })
     ///     .await;
-    /// assert!(matches!(answer, Err(RetryError::ScheduleDone(_))));
+    /// assert!(matches!(answer, Err(RetryError::Deadline(_))));
     /// // a run of 1500 ms, a wait of 100 and a run of 400
     /// assert_eq!(began.elapsed(), Duration::from_secs(2));
     /// # Ok::<(), hikebox::PolicyError>(())
@@ -205,7 +208,7 @@ impl<E, H: Hooked<E>, K: FnMut() -> Instant, S: AsyncSleep, R: Random> Retrying<
     /// # Errors
     ///
     /// [`RetryError`] keeps the last error of the call.
-    pub async fn call_async_with<T, P>(&mut self, mut call: impl FnMut(Attempt) -> P) -> Result<T, RetryError<E>>
+    pub async fn call_async_with<T, P>(&self, mut call: impl FnMut(Attempt) -> P) -> Result<T, RetryError<E>>
     where
         P: Future<Output = Result<T, E>>,
     {
@@ -238,15 +241,12 @@ impl<E, H: Hooked<E>, K: FnMut() -> Instant, S: AsyncSleep, R: Random> Retrying<
     ///
     /// [`RetryError`] keeps the last error of the call.
     #[cfg(hikebox_async_closures)]
-    pub async fn call_async_mut<T>(
-        &mut self,
-        mut call: impl AsyncFnMut() -> Result<T, E>,
-    ) -> Result<T, RetryError<E>> {
+    pub async fn call_async_mut<T>(&self, mut call: impl AsyncFnMut() -> Result<T, E>) -> Result<T, RetryError<E>> {
         until_it_succeeds!(self, _attempt => call())
     }
 }
 
-impl<E, F, H: Hooked<E>, K: FnMut() -> Instant, S: AsyncSleep, R: Random> Retrying<'_, E, Async<F>, H, Host<K, S, R>> {
+impl<E, F, H: Hooked<E>, K: Fn() -> Instant, S: AsyncSleep, R: Random> Retrying<'_, E, Async<F>, H, Host<K, S, R>> {
     /// Runs the call until it succeeds. Between runs the task waits.
     ///
     /// # Errors
@@ -257,7 +257,7 @@ impl<E, F, H: Hooked<E>, K: FnMut() -> Instant, S: AsyncSleep, R: Random> Retryi
         F: FnMut() -> P,
         P: Future<Output = Result<T, E>>,
     {
-        let (mut retrying, Async(call)) = self.parted();
+        let (retrying, Async(call)) = self.parted();
         retrying.call_async(call).await
     }
 
@@ -271,7 +271,44 @@ impl<E, F, H: Hooked<E>, K: FnMut() -> Instant, S: AsyncSleep, R: Random> Retryi
     where
         F: AsyncFnMut() -> Result<T, E>,
     {
-        let (mut retrying, Async(call)) = self.parted();
+        let (retrying, Async(call)) = self.parted();
         retrying.call_async_mut(call).await
+    }
+}
+
+/// A future that owns all that it needs is awaited without [`Retrying::run`]: it is [`Send`], and takes memory of its own.
+///
+/// ```
+/// use hikebox::{Budget, Policy, Retryable};
+///
+/// async fn fetch() -> Result<u32, std::io::Error> {
+///     Ok(200)
+/// }
+///
+/// # #[cfg(feature = "tokio")]
+/// # tokio::runtime::Builder::new_current_thread().enable_time().build().unwrap().block_on(async {
+/// let (policy, budget): (Policy, _) = (r#"{"recurs":3}"#.parse()?, Budget::new(10)?);
+/// assert_eq!(fetch.retry(&policy).budget(&budget).await?, 200);
+/// # Ok::<(), Box<dyn std::error::Error>>(())
+/// # }).unwrap();
+/// ```
+#[cfg(hikebox_into_future)]
+impl<'a, T, E, F, P, H, K, S, R> std::future::IntoFuture for Retrying<'a, E, Async<F>, H, Host<K, S, R>>
+where
+    T: Send + 'a,
+    E: Send + 'a,
+    F: FnMut() -> P + Send + 'a,
+    P: Future<Output = Result<T, E>> + Send + 'a,
+    H: Hooked<E> + Send + Sync + 'a,
+    K: Fn() -> Instant + Send + Sync + 'a,
+    S: AsyncSleep + Send + Sync + 'a,
+    S::Sleeping: Send,
+    R: Random + Send + Sync + 'a,
+{
+    type Output = Result<T, RetryError<E>>;
+    type IntoFuture = std::pin::Pin<Box<dyn Future<Output = Self::Output> + Send + 'a>>;
+
+    fn into_future(self) -> Self::IntoFuture {
+        Box::pin(self.run())
     }
 }

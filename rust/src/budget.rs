@@ -1,8 +1,11 @@
 //! Budgets of retries.
 
 use crate::engine::{Handle, PassKind, Status};
+use crate::system::{generation, PerProcess};
+use crate::ticket::{Drawer, NoTicket, Ticket};
 use std::error::Error;
 use std::fmt;
+use std::sync::atomic::{AtomicU64, Ordering};
 use std::sync::{Arc, Mutex, MutexGuard, PoisonError};
 
 /// A number of tickets that all threads of a program share: a retry needs one, and no ticket is drawn twice. It is
@@ -13,19 +16,26 @@ use std::sync::{Arc, Mutex, MutexGuard, PoisonError};
 ///
 /// let budget = Budget::new(2)?;
 /// let mut pass = budget.pass()?;
-/// assert!(pass.draw().is_some());
-/// assert!(pass.draw().is_some());
-/// assert!(pass.draw().is_none());
+/// assert_eq!(pass.draw()?.number(), 0);
+/// assert_eq!(pass.draw()?.number(), 1);
+/// assert!(pass.draw().is_err());
 /// drop(pass);
 /// assert_eq!(budget.close().ok(), Some(2));
-/// # Ok::<(), hikebox::BudgetError>(())
+/// # Ok::<(), Box<dyn std::error::Error>>(())
 /// ```
 ///
-/// It makes as many passes and retries as are wanted: a pass that is given back gives its part of the budget back.
+/// It makes as many passes and retries as are wanted: a pass that is given back gives its part of the budget back. It
+/// belongs to its process: a forked child has one of its own, with nothing drawn.
 #[derive(Clone)]
 pub struct Budget {
+    shared: Arc<Shared>,
+}
+
+struct Shared {
+    limit: AtomicU64,
+    rises: bool,
     /// The first pass, which others are split off and joined into.
-    root: Arc<Mutex<Handle<PassKind>>>,
+    root: PerProcess<Mutex<Handle<PassKind>>>,
 }
 
 /// The right to draw tickets of a [`Budget`], for one thread at a time. Dropped, it is given back with its tickets.
@@ -35,6 +45,8 @@ pub struct Pass {
     handle: Option<Handle<PassKind>>,
     budget: Budget,
     tickets: u64,
+    /// The process that it is of.
+    generation: u64,
 }
 
 /// Why a call on a budget or a quota is refused.
@@ -53,6 +65,11 @@ pub enum BudgetError {
     PeriodTooShort,
     /// The window is longer than 2^62 - 1 milliseconds.
     PeriodTooLong,
+    /// The name of a `Leased` or a `LeasedQuota` is empty, or longer than 255 bytes.
+    NameLength {
+        /// How long it is.
+        bytes: usize,
+    },
     /// More than 2^42 passes are alive.
     TooManyPasses,
     /// Memory is wanting.
@@ -61,8 +78,12 @@ pub enum BudgetError {
 
 impl Budget {
     /// A budget of `limit` tickets, at most 4,294,967,296.
+    ///
+    /// # Errors
+    ///
+    /// [`BudgetError::LimitTooLarge`], or [`BudgetError::NoMemory`].
     pub fn new(limit: u64) -> Result<Self, BudgetError> {
-        Self::of(Handle::fixed(limit))
+        Self::made(limit, false)
     }
 
     /// A budget of `limit` tickets that [`Budget::raise`] may raise. A draw that is refused uses no ticket up, so a
@@ -73,39 +94,62 @@ impl Budget {
     ///
     /// let budget = Budget::rising(0)?;
     /// let mut pass = budget.pass()?;
-    /// assert!(pass.draw().is_none());
+    /// assert!(pass.draw().is_err());
     /// assert_eq!(budget.raise(5)?, 5);
-    /// assert!(pass.draw().is_some());
-    /// # Ok::<(), hikebox::BudgetError>(())
+    /// assert!(pass.draw().is_ok());
+    /// # Ok::<(), Box<dyn std::error::Error>>(())
     /// ```
+    ///
+    /// # Errors
+    ///
+    /// [`BudgetError::LimitTooLarge`], or [`BudgetError::NoMemory`].
     pub fn rising(limit: u64) -> Result<Self, BudgetError> {
-        Self::of(Handle::rising(limit))
+        Self::made(limit, true)
     }
 
     /// Raises the limit to `to`, where it is below that, and answers the limit.
+    ///
+    /// # Errors
+    ///
+    /// [`BudgetError::Fixed`] of one that was made by [`Budget::new`], or [`BudgetError::LimitTooLarge`].
     pub fn raise(&self, to: u64) -> Result<u64, BudgetError> {
-        self.lock().raise(to).map_err(BudgetError::of)
+        let mut root = self.lock();
+        let limit = root.raise(to).map_err(BudgetError::of)?;
+        self.shared.limit.store(limit, Ordering::Relaxed);
+        Ok(limit)
     }
 
     /// A pass of the budget, for a thread that draws by itself.
+    ///
+    /// # Errors
+    ///
+    /// [`BudgetError::TooManyPasses`], or [`BudgetError::NoMemory`].
     pub fn pass(&self) -> Result<Pass, BudgetError> {
         let part = self.lock().split().map_err(BudgetError::of)?;
-        Ok(Pass { handle: Some(part), budget: self.clone(), tickets: 0 })
+        Ok(Pass { handle: Some(part), budget: self.clone(), tickets: 0, generation: generation() })
     }
 
     /// How many tickets were granted to retries that have ended and to passes that were given back.
+    #[must_use]
     pub fn granted(&self) -> u64 {
         self.lock().count()
     }
 
     /// Closes the budget, where no other clone of it, no pass and no retry is alive, and answers how many tickets were
     /// drawn of it; otherwise the budget comes back.
+    ///
+    /// # Errors
+    ///
+    /// The budget itself.
     pub fn close(self) -> Result<u64, Self> {
-        let mut root = match Arc::try_unwrap(self.root) {
-            Ok(root) => root.into_inner().unwrap_or_else(PoisonError::into_inner),
-            Err(root) => return Err(Self { root }),
+        let Shared { limit, rises, root } = Arc::try_unwrap(self.shared).map_err(|shared| Self { shared })?;
+        let mut root = match root.into_inner() {
+            Some(root) => root.into_inner().unwrap_or_else(PoisonError::into_inner),
+            // (in a forked child that drew none)
+            None => return Ok(0),
         };
-        root.close().map_err(|_| Self { root: Arc::new(Mutex::new(root)) })
+        root.close()
+            .map_err(|_| Self { shared: Arc::new(Shared { limit, rises, root: PerProcess::new(Mutex::new(root)) }) })
     }
 
     /// Lends the first pass to one call.
@@ -114,11 +158,23 @@ impl Budget {
     }
 
     fn lock(&self) -> MutexGuard<'_, Handle<PassKind>> {
-        self.root.lock().unwrap_or_else(PoisonError::into_inner)
+        let Shared { limit, rises, root } = &*self.shared;
+        let anew = || Mutex::new(root_of(limit.load(Ordering::Relaxed), *rises).expect("memory for a budget"));
+        root.get(anew).lock().unwrap_or_else(PoisonError::into_inner)
     }
 
-    fn of(root: Result<Handle<PassKind>, Status>) -> Result<Self, BudgetError> {
-        Ok(Self { root: Arc::new(Mutex::new(root.map_err(BudgetError::of)?)) })
+    fn made(limit: u64, rises: bool) -> Result<Self, BudgetError> {
+        let root = PerProcess::new(Mutex::new(root_of(limit, rises).map_err(BudgetError::of)?));
+        Ok(Self { shared: Arc::new(Shared { limit: AtomicU64::new(limit), rises, root }) })
+    }
+}
+
+/// The first pass of a budget.
+fn root_of(limit: u64, rises: bool) -> Result<Handle<PassKind>, Status> {
+    if rises {
+        Handle::rising(limit)
+    } else {
+        Handle::fixed(limit)
     }
 }
 
@@ -129,33 +185,46 @@ impl fmt::Debug for Budget {
 }
 
 impl Pass {
-    /// A ticket that no other draw got, or `None` where none is left: of a budget that keeps its limit for good, of one
-    /// that may rise until it is raised. A draw takes no lock and no memory, and never waits.
-    #[must_use = "the ticket is drawn, if there is one"]
-    pub fn draw(&mut self) -> Option<u64> {
-        let pass = self.handle.as_mut().expect("a pass has its handle until it is dropped");
-        match pass.draw(0) {
-            Ok(ticket) => {
+    /// A ticket that no other draw got. A draw takes no lock and no memory, and never waits.
+    ///
+    /// # Errors
+    ///
+    /// [`NoTicket::UsedUp`]: of a budget that keeps its limit for good, of one that may rise until it is raised.
+    pub fn draw(&mut self) -> Result<Ticket, NoTicket> {
+        match self.handle().draw(0) {
+            Ok(number) => {
                 self.tickets += 1;
-                Some(ticket)
+                Ok(Ticket::drawn(Drawer::BUDGET, 0, number))
             }
             Err(status) => {
                 debug_assert_eq!(status, Status::NoTicket);
-                None
+                Err(NoTicket::used_up())
             }
         }
     }
 
     /// How many tickets it drew.
+    #[must_use]
     pub fn count(&self) -> u64 {
         self.tickets
+    }
+
+    /// The pass of this process: in a forked child a new one, with nothing drawn.
+    fn handle(&mut self) -> &mut Handle<PassKind> {
+        if self.generation != generation() {
+            std::mem::forget(self.handle.take());
+            *self = self.budget.pass().expect("memory for a pass");
+        }
+        self.handle.as_mut().expect("a pass has its handle until it is dropped")
     }
 }
 
 impl Drop for Pass {
     fn drop(&mut self) {
-        if let Some(handle) = self.handle.take() {
-            self.budget.lock().join(handle);
+        match self.handle.take() {
+            Some(handle) if self.generation == generation() => self.budget.lock().join(handle),
+            // (in a forked child it is the parent's)
+            handle => std::mem::forget(handle),
         }
     }
 }
@@ -179,6 +248,7 @@ impl BudgetError {
 impl fmt::Display for BudgetError {
     fn fmt(&self, f: &mut fmt::Formatter<'_>) -> fmt::Result {
         f.write_str(match self {
+            Self::NameLength { bytes } => return write!(f, "expected a name of 1 to 255 bytes, got {bytes}"),
             Self::LimitTooLarge => "the limit is above 4294967296",
             Self::Fixed => "the budget keeps its limit",
             Self::ReserveTooLarge => "the reserve is above 4294967296 retries a window",

@@ -6,6 +6,7 @@ use crate::error::RetryError;
 use crate::grants::DrawnOn;
 use crate::machine::{Cause, Ended, Machine, Report};
 use crate::policy::Policy;
+use crate::ticket::Ticket;
 use std::time::{Duration, Instant};
 
 /// What a retry goes by.
@@ -46,9 +47,9 @@ struct Begun {
     latest: u64,
     /// When the next run is due, where the engine has not begun it yet.
     due: Option<u64>,
-    /// Whether it has a deadline. Moments are rounded up then, so that a run which is due by it in whole milliseconds is
-    /// so by the clock.
-    rounds_up: bool,
+    /// How long after the first run began the last one may begin. Where it has one, moments are rounded up, so that a run
+    /// which is due by it in whole milliseconds is so by the clock.
+    deadline: Option<Duration>,
 }
 
 /// The random words of a step at which the schedule is not asked.
@@ -71,7 +72,7 @@ impl Course {
         let passed = self.passed(lost.now);
         let asked = lost.asked.unwrap_or(Duration::ZERO);
         if !asked.is_zero() && terms.deadline.map_or(false, |deadline| passed.saturating_add(asked) > deadline) {
-            return Err(Ended::ScheduleDone);
+            return Err(Ended::Deadline);
         }
         let begun = match &mut self.begun {
             Some(begun) => begun,
@@ -88,20 +89,24 @@ impl Course {
 
     /// The run under way succeeded, and ends the retry: the ticket of the last retry, of a store.
     #[inline]
-    pub(crate) fn won(&mut self) -> Option<u64> {
+    pub(crate) fn won(&mut self) -> Option<Ticket> {
         self.begun.as_mut().and_then(|begun| begun.machine.succeeded())
     }
 
-    /// Begins the run that was waited for: in the engine, too, where that did not at the failure before.
-    pub(crate) fn resume(&mut self, clock: impl FnOnce() -> Instant) -> Result<(), Cause> {
+    /// Begins the run that was waited for: in the engine, too, where that did not at the failure before. Past the deadline
+    /// the retry is over. `None` is answered where nobody had to look at the clock.
+    pub(crate) fn resume(&mut self, clock: impl FnOnce() -> Instant) -> Result<Option<Instant>, Ended> {
         let began = self.began;
         match &mut self.begun {
-            Some(begun) if begun.due.is_some() => begun.resume(clock().saturating_duration_since(began)),
+            Some(begun) if begun.due.is_some() || begun.deadline.is_some() => {
+                let now = clock();
+                begun.resume(now.saturating_duration_since(began)).map(|()| Some(now))
+            }
             Some(begun) => {
                 begun.machine.set_waits(false);
-                Ok(())
+                Ok(None)
             }
-            None => Ok(()),
+            None => Ok(None),
         }
     }
 
@@ -115,6 +120,7 @@ impl Course {
                 None => RetryError::Broken(cause, error),
             },
             Ended::ScheduleDone => RetryError::ScheduleDone(error),
+            Ended::Deadline => RetryError::Deadline(error),
             Ended::Won | Ended::Cancelled => RetryError::NotRetried(error),
         }
     }
@@ -124,29 +130,43 @@ impl Begun {
     /// A retry whose first run began then.
     fn new(terms: Terms<'_>, began: Instant) -> Result<Self, Ended> {
         let origin = terms.budget.origin(began);
-        let after = |deadline| origin.saturating_add(whole_millis(deadline)).min(FAR);
-        let machine = Machine::on(terms.policy, terms.budget.source(), terms.deadline.map_or(NO_DEADLINE, after));
+        let deadline = terms.deadline.map(|deadline| Duration::from_millis(whole_millis(deadline)));
+        let until = deadline.map_or(NO_DEADLINE, |deadline| origin.saturating_add(whole_millis(deadline)).min(FAR));
+        let machine = Machine::on(terms.policy, terms.budget.source(), until);
         // (for want of passes 2^42 of them would have to be alive)
         let machine = machine.map_err(|_| Ended::Broken(Cause::NoMemory))?;
-        let mut begun = Self { machine, origin, latest: origin, due: None, rounds_up: terms.deadline.is_some() };
+        let mut begun = Self { machine, origin, latest: origin, due: None, deadline };
         begun.step(Duration::ZERO, None, &NO_WORDS)?;
         Ok(begun)
     }
 
-    /// Begins the run that is due. A clock that did not move while it was waited is taken to have moved.
-    fn resume(&mut self, passed: Duration) -> Result<(), Cause> {
-        self.latest = self.latest.max(self.due.take().unwrap_or(0));
-        match self.step(passed, None, &NO_WORDS) {
-            Err(Ended::Broken(cause)) => Err(cause),
-            _ => Ok(()),
+    /// Begins the run that is due, or that the engine has begun and an error had wait. A clock that did not move while it
+    /// was waited is taken to have moved.
+    fn resume(&mut self, passed: Duration) -> Result<(), Ended> {
+        let due = self.due.take();
+        if self.deadline.map_or(false, |deadline| passed > deadline) {
+            self.machine.set_waits(true);
+            self.machine.cancel();
+            return Err(Ended::Deadline);
         }
+        match due {
+            Some(due) => {
+                self.latest = self.latest.max(due);
+                self.step(passed, None, &NO_WORDS)?;
+            }
+            None => self.machine.set_waits(false),
+        }
+        Ok(())
     }
 
     /// A step so long after the first run began, and not before the latest: when the next run is due, or `None` where it
     /// is under way.
     fn step(&mut self, passed: Duration, report: Option<Report>, words: &[u32; 4]) -> Result<Option<u64>, Ended> {
-        let rounding = if self.rounds_up { Duration::from_nanos(999_999) } else { Duration::ZERO };
-        let now = self.origin.saturating_add(whole_millis(passed.saturating_add(rounding))).min(FAR);
+        let passed = match self.deadline {
+            Some(_) => passed.saturating_add(Duration::from_nanos(999_999)),
+            None => passed,
+        };
+        let now = self.origin.saturating_add(whole_millis(passed)).min(FAR);
         self.latest = self.latest.max(now);
         self.machine.step_at(self.latest, report, words)
     }

@@ -97,6 +97,26 @@ pub(crate) struct Range {
     pub(crate) tickets: u64,
 }
 
+/// A ticket of a leased pass.
+#[cfg(feature = "leased")]
+#[repr(C)]
+#[derive(Clone, Copy, Debug, Default)]
+pub(crate) struct Ticket {
+    pub(crate) window: u64,
+    pub(crate) number: u64,
+}
+
+/// What a store granted.
+#[cfg(feature = "leased")]
+#[repr(C)]
+#[derive(Clone, Copy, Debug, Default)]
+pub(crate) struct Grant {
+    pub(crate) window: u64,
+    pub(crate) first: u64,
+    pub(crate) tickets: u64,
+    pub(crate) until: u64,
+}
+
 #[repr(C)]
 #[derive(Clone, Copy, Debug)]
 pub(crate) struct Storm {
@@ -176,6 +196,14 @@ const PERIOD_TOO_SHORT: u32 = 37;
 const RACES_LOST: u32 = 38;
 const NOTHING_TO_HAND_BACK: u32 = 43;
 const TOO_MANY_REQUESTS: u32 = 44;
+#[cfg(feature = "leased")]
+const BACKWARDS: u32 = 20;
+#[cfg(feature = "leased")]
+const LEASE_WANTED: u32 = 50;
+#[cfg(feature = "leased")]
+const NOT_OUT: u32 = 51;
+#[cfg(feature = "leased")]
+const HELD_ALREADY: u32 = 52;
 
 pub(crate) const NO_REPORT: u32 = 0;
 pub(crate) const WON: u32 = 1;
@@ -207,6 +235,8 @@ pub(crate) const MOST_STEPS: u64 = 4096;
 #[cfg(feature = "leased")]
 pub(crate) const MOST_TICKETS: u64 = 1 << 32;
 
+// (bin/bindings writes these from the header)
+#[rustfmt::skip]
 extern "C" {
     fn hikebox_policy_read(json: *const u8, length: usize, policy: *mut Raw, place: *mut Place) -> u32;
     fn hikebox_policy_fault(
@@ -288,6 +318,25 @@ extern "C" {
         stored: *mut Stored,
         range: *mut Range,
     ) -> u32;
+
+    #[cfg(feature = "leased")]
+    fn hikebox_leased_new(period: u64, leased: *mut Raw) -> u32;
+    #[cfg(feature = "leased")]
+    fn hikebox_leased_draw(leased: *mut Raw, now: u64, ticket: *mut Ticket, again: *mut u64) -> u32;
+    #[cfg(feature = "leased")]
+    fn hikebox_leased_granted(leased: *mut Raw, grant: *const Grant) -> u32;
+    #[cfg(feature = "leased")]
+    fn hikebox_leased_leave_alone(leased: *mut Raw, until: u64) -> u32;
+    #[cfg(feature = "leased")]
+    fn hikebox_leased_hand_back(leased: *mut Raw, ticket: *const Ticket) -> u32;
+    #[cfg(feature = "leased")]
+    fn hikebox_leased_deposit(leased: *mut Raw, now: u64, requests: u64) -> u32;
+    #[cfg(feature = "leased")]
+    fn hikebox_leased_tell(leased: *mut Raw, since: u64, requests: *mut u64) -> u32;
+    #[cfg(feature = "leased")]
+    fn hikebox_leased_seen(leased: *mut Raw, drawn: *mut u64, at_hand: *mut u64, untold: *mut u64) -> u32;
+    #[cfg(feature = "leased")]
+    fn hikebox_leased_free(leased: *mut Raw) -> u32;
 
     fn hikebox_storm_play(
         policy: *mut Raw,
@@ -379,6 +428,9 @@ pub(crate) enum PolicyKind {}
 pub(crate) enum PassKind {}
 #[derive(Debug)]
 pub(crate) enum RetryKind {}
+#[cfg(feature = "leased")]
+#[derive(Debug)]
+pub(crate) enum LeasedKind {}
 
 impl Kind for PolicyKind {
     const FREE: unsafe extern "C" fn(*mut Raw) -> u32 = hikebox_policy_free;
@@ -390,6 +442,11 @@ impl Kind for PassKind {
 
 impl Kind for RetryKind {
     const FREE: unsafe extern "C" fn(*mut Raw) -> u32 = hikebox_retry_free;
+}
+
+#[cfg(feature = "leased")]
+impl Kind for LeasedKind {
+    const FREE: unsafe extern "C" fn(*mut Raw) -> u32 = hikebox_leased_free;
 }
 
 /// A handle of one kind, which frees what it holds when it is dropped.
@@ -425,9 +482,7 @@ impl Handle<PolicyKind> {
     /// The policy that the text spells, or its first fault, and where that is if the text is not JSON.
     pub(crate) fn read(json: &str) -> Result<Self, (Status, Place)> {
         let mut place = Place::default();
-        let read = Self::filled(|policy| unsafe {
-            hikebox_policy_read(json.as_ptr(), json.len(), policy, &mut place)
-        });
+        let read = Self::filled(|policy| unsafe { hikebox_policy_read(json.as_ptr(), json.len(), policy, &mut place) });
         read.map_err(|status| (status, place))
     }
 
@@ -634,6 +689,95 @@ impl Handle<RetryKind> {
     }
 }
 
+/// What a draw of a leased pass answers.
+#[cfg(feature = "leased")]
+pub(crate) enum Drawn {
+    Ticket(Ticket),
+    /// None is at hand, and the store may be asked.
+    LeaseWanted,
+    /// None is at hand, and the store is left alone until this moment.
+    NotBefore(u64),
+    NoMemory,
+}
+
+/// What becomes of a range that a store granted.
+#[cfg(feature = "leased")]
+#[derive(Debug, PartialEq, Eq)]
+pub(crate) enum Taken {
+    Yes,
+    /// It is of a window that is over, or there is no memory for it: its tickets are lost.
+    Lost,
+    /// The pass has, or had, some of its numbers.
+    HeldAlready,
+}
+
+#[cfg(feature = "leased")]
+impl Handle<LeasedKind> {
+    /// A leased pass that holds nothing, of a store whose windows are so many milliseconds long, or which has none.
+    pub(crate) fn leased(period: Option<u64>) -> Result<Self, Status> {
+        Self::filled(|leased| unsafe { hikebox_leased_new(period.unwrap_or(0).min(FAR), leased) })
+    }
+
+    pub(crate) fn draw(&mut self, now: u64) -> Drawn {
+        let (mut ticket, mut again) = (Ticket::default(), 0);
+        match unsafe { hikebox_leased_draw(self.raw(), now, &mut ticket, &mut again) } {
+            OK => Drawn::Ticket(ticket),
+            LEASE_WANTED => Drawn::LeaseWanted,
+            NO_TICKET => Drawn::NotBefore(again),
+            status => {
+                debug_assert_eq!(status, NO_MEMORY);
+                Drawn::NoMemory
+            }
+        }
+    }
+
+    pub(crate) fn granted(&mut self, grant: &Grant) -> Taken {
+        match unsafe { hikebox_leased_granted(self.raw(), grant) } {
+            OK => Taken::Yes,
+            HELD_ALREADY => Taken::HeldAlready,
+            status => {
+                debug_assert!([BACKWARDS, NO_MEMORY].contains(&status));
+                Taken::Lost
+            }
+        }
+    }
+
+    /// Leaves the store alone until this moment; 0 where it may be asked.
+    pub(crate) fn leave_alone(&mut self, until: u64) {
+        let status = unsafe { hikebox_leased_leave_alone(self.raw(), until.min(FAR)) };
+        debug_assert_eq!(status, OK);
+    }
+
+    /// Takes a ticket back, where it is out, and says whether it was.
+    pub(crate) fn hand_back(&mut self, ticket: Ticket) -> bool {
+        let status = unsafe { hikebox_leased_hand_back(self.raw(), &ticket) };
+        debug_assert!([OK, NOT_OUT, NO_MEMORY].contains(&status));
+        status == OK
+    }
+
+    /// Counts so many requests. (Where there is no memory for that, none is counted.)
+    pub(crate) fn deposit(&mut self, now: u64, requests: u64) {
+        let status = unsafe { hikebox_leased_deposit(self.raw(), now, requests) };
+        debug_assert!([OK, NO_MEMORY].contains(&status));
+    }
+
+    /// The requests since this moment that are to be told the store: none is answered again.
+    pub(crate) fn tell(&mut self, since: u64) -> u64 {
+        let mut requests = 0;
+        let status = unsafe { hikebox_leased_tell(self.raw(), since.min(FAR), &mut requests) };
+        debug_assert_eq!(status, OK);
+        requests
+    }
+
+    /// The requests that were not told.
+    pub(crate) fn untold(&mut self) -> u64 {
+        let (mut drawn, mut at_hand, mut untold) = (0, 0, 0);
+        let status = unsafe { hikebox_leased_seen(self.raw(), &mut drawn, &mut at_hand, &mut untold) };
+        debug_assert_eq!(status, OK);
+        untold
+    }
+}
+
 impl<K: Kind> Drop for Handle<K> {
     fn drop(&mut self) {
         if !self.raw.held.is_null() {
@@ -669,29 +813,4 @@ pub(crate) fn quota_allows(reserve: u64, share: u64, asked: u64) -> u64 {
     let status = unsafe { hikebox_quota_allows(reserve, share, asked, &mut tickets) };
     debug_assert_eq!(status, OK);
     tickets
-}
-
-/// Takes the file's lock, which goes when the file is closed, where no other process has it.
-#[cfg(feature = "leased")]
-pub(crate) fn try_lock(file: &std::fs::File) -> std::io::Result<()> {
-    use std::os::unix::io::AsRawFd;
-    // SAFETY: the descriptor is that of an open file.
-    match unsafe { libc::flock(file.as_raw_fd(), libc::LOCK_EX | libc::LOCK_NB) } {
-        0 => Ok(()),
-        _ => Err(std::io::Error::last_os_error()),
-    }
-}
-
-/// How long ago the machine started, also while it slept. Nobody can set this clock.
-#[cfg(feature = "leased")]
-pub(crate) fn uptime() -> std::io::Result<std::time::Duration> {
-    let mut time = std::mem::MaybeUninit::<libc::timespec>::uninit();
-    // SAFETY: the call writes the time to the place that it is handed, and it is read only where it answers 0.
-    let time = unsafe {
-        if libc::clock_gettime(libc::CLOCK_BOOTTIME, time.as_mut_ptr()) != 0 {
-            return Err(std::io::Error::last_os_error());
-        }
-        time.assume_init()
-    };
-    Ok(std::time::Duration::new(u64::try_from(time.tv_sec).unwrap_or(0), u32::try_from(time.tv_nsec).unwrap_or(0)))
 }

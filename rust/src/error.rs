@@ -1,7 +1,7 @@
 //! How a retry ends without a value.
 
-use crate::grants::StoreFailure;
 use crate::machine::Cause;
+use crate::ticket::StoreFailure;
 use std::error::Error;
 use std::fmt;
 
@@ -13,8 +13,10 @@ use std::fmt;
 #[derive(Clone, Debug, PartialEq, Eq, Hash)]
 #[non_exhaustive]
 pub enum RetryError<E> {
-    /// The call failed, and the schedule does not go on, or not before the deadline.
+    /// The call failed, and the schedule does not go on.
     ScheduleDone(E),
+    /// The call failed, and the next run would begin past the deadline.
+    Deadline(E),
     /// The call failed, the schedule goes on, and the budget or the quota has no ticket.
     BudgetRefused(E),
     /// The call failed with an error that is not to be retried.
@@ -30,6 +32,7 @@ impl<E> RetryError<E> {
     pub fn last(&self) -> &E {
         match self {
             Self::ScheduleDone(error)
+            | Self::Deadline(error)
             | Self::BudgetRefused(error)
             | Self::NotRetried(error)
             | Self::StoreFailed(_, error)
@@ -41,6 +44,7 @@ impl<E> RetryError<E> {
     pub fn into_last(self) -> E {
         match self {
             Self::ScheduleDone(error)
+            | Self::Deadline(error)
             | Self::BudgetRefused(error)
             | Self::NotRetried(error)
             | Self::StoreFailed(_, error)
@@ -54,6 +58,7 @@ impl<E: fmt::Display> fmt::Display for RetryError<E> {
     fn fmt(&self, f: &mut fmt::Formatter<'_>) -> fmt::Result {
         match self {
             Self::ScheduleDone(error) => write!(f, "{error:#} (the schedule was done)"),
+            Self::Deadline(error) => write!(f, "{error:#} (the deadline leaves no time for a retry)"),
             Self::BudgetRefused(error) => write!(f, "{error:#} (the retry budget had no ticket)"),
             Self::NotRetried(error) => write!(f, "{error:#} (not an error to be retried)"),
             Self::StoreFailed(store, error) => write!(f, "{error:#} (the store of retry tickets failed: {store})"),

@@ -3,8 +3,10 @@
 use crate::budget::Budget;
 #[cfg(feature = "tower")]
 use crate::clock::now;
+#[cfg(feature = "leased")]
+use crate::leased::{Leased, LeasedQuota};
 use crate::quota::Quota;
-use std::error::Error;
+use crate::ticket::{NoTicket, Ticket};
 use std::fmt;
 use std::sync::Arc;
 use std::time::Instant;
@@ -35,31 +37,74 @@ pub trait Grants: DrawnOn {}
 impl Grants for Budget {}
 impl Grants for Quota {}
 impl Grants for Unlimited {}
+impl Grants for AnyBudget {}
 impl<S: Tickets + 'static> Grants for Arc<S> {}
+
+/// Whatever retries draw on, for a budget that is chosen when the program runs.
+///
+/// ```
+/// use hikebox::{retry, AnyBudget, Budget, Policy, Quota, RetryError};
+/// use std::time::Duration;
+///
+/// fn configured(kind: &str) -> Result<AnyBudget, hikebox::BudgetError> {
+///     Ok(match kind {
+///         "batch" => Budget::new(0)?.into(),
+///         "service" => Quota::new(1, 0.0, Duration::from_secs(60))?.into(),
+///         _ => AnyBudget::Unlimited,
+///     })
+/// }
+///
+/// let policy: Policy = r#"{"recurs":2}"#.parse()?;
+/// for (kind, runs) in [("batch", 1), ("service", 2), ("none", 3)] {
+///     let mut ran = 0;
+///     let _: Result<(), RetryError<()>> = retry(&policy, &configured(kind)?, || { ran += 1; Err(()) });
+///     assert_eq!(ran, runs);
+/// }
+/// # Ok::<(), Box<dyn std::error::Error>>(())
+/// ```
+#[derive(Clone, Debug, Default)]
+#[non_exhaustive]
+pub enum AnyBudget {
+    /// None.
+    #[default]
+    Unlimited,
+    /// A budget.
+    Budget(Budget),
+    /// A quota.
+    Quota(Quota),
+    /// A budget that processes share.
+    #[cfg(feature = "leased")]
+    Leased(Leased),
+    /// A quota that processes share.
+    #[cfg(feature = "leased")]
+    LeasedQuota(LeasedQuota),
+}
 
 /// No budget: each retry that the schedule goes on to is granted.
 #[derive(Clone, Copy, Debug, Default, PartialEq, Eq, Hash)]
 pub struct Unlimited;
 
 /// A store of tickets outside of the engine, as a table of a database (with the feature `leased`, `Leased` and
-/// `LeasedQuota` are such, by a file). An `Arc` of it is given to whatever retries:
+/// `LeasedQuota` are such, by a folder). An `Arc` of it is given to whatever retries:
 ///
 /// ```
-/// use hikebox::{retry, Policy, RetryError, Tickets};
-/// use std::error::Error;
-/// use std::sync::atomic::{AtomicI64, Ordering};
+/// use hikebox::{retry, NoTicket, Policy, RetryError, Ticket, Tickets};
+/// use std::sync::atomic::{AtomicU64, Ordering};
 /// use std::sync::Arc;
 ///
-/// struct Counter(AtomicI64);
+/// struct Counter(AtomicU64);
 ///
 /// impl Tickets for Counter {
-///     fn draw(&self) -> Result<bool, Box<dyn Error + Send + Sync>> {
-///         Ok(self.0.fetch_sub(1, Ordering::SeqCst) > 0)
+///     fn draw(&self) -> Result<Ticket, NoTicket> {
+///         match self.0.fetch_add(1, Ordering::Relaxed) {
+///             number @ 0..=1 => Ok(Ticket::new(number)),
+///             _ => Err(NoTicket::used_up()),
+///         }
 ///     }
 /// }
 ///
 /// let policy: Policy = r#"{"recurs":5}"#.parse()?;
-/// let store = Arc::new(Counter(AtomicI64::new(2)));
+/// let store = Arc::new(Counter(AtomicU64::new(0)));
 /// let mut runs = 0;
 /// let answer = retry(&policy, &store, || { runs += 1; Err::<(), _>("busy") });
 /// assert_eq!(answer, Err(RetryError::BudgetRefused("busy")));
@@ -73,73 +118,26 @@ pub trait Tickets: Send + Sync {
     /// Counts a request, before its first run. Unless it is said, nothing is counted.
     fn deposit(&self) {}
 
-    /// Draws a ticket for one retry, and says whether there was one.
+    /// Draws a ticket for one retry.
     ///
     /// # Errors
     ///
-    /// What keeps it from knowing. The retry is not made then, and ends as
-    /// [`RetryError::StoreFailed`](crate::RetryError::StoreFailed).
-    fn draw(&self) -> Result<bool, Box<dyn Error + Send + Sync>>;
+    /// [`NoTicket::UsedUp`] where there is none: the retry ends as
+    /// [`RetryError::BudgetRefused`](crate::RetryError::BudgetRefused). [`NoTicket::failed`] where the store can't know: it
+    /// ends as [`RetryError::StoreFailed`](crate::RetryError::StoreFailed).
+    fn draw(&self) -> Result<Ticket, NoTicket>;
 
-    /// The same with a number of the store's own, by which it knows a ticket that comes back. Unless it is said, each is 0.
-    ///
-    /// # Errors
-    ///
-    /// As of [`Tickets::draw`].
-    fn draw_numbered(&self) -> Result<Option<u64>, Box<dyn Error + Send + Sync>> {
-        Ok(if self.draw()? { Some(0) } else { None })
-    }
-
-    /// Takes the ticket of this number back: its retry was cancelled, or dropped, while it waited. Unless it is said, the
-    /// ticket stays drawn.
-    fn hand_back(&self, _ticket: u64) {}
+    /// Takes a ticket back: its retry was cancelled, dropped, or over by its deadline, before its run began. Unless it is
+    /// said, the ticket stays drawn.
+    fn hand_back(&self, _ticket: Ticket) {}
 
     /// Hears of a call that succeeded: of one that was retried with the ticket of the last retry, which a store may take
     /// back. Unless it is said, nothing is done.
-    fn succeeded(&self, _last: Option<u64>) {}
-}
-
-/// The error of a store of [`Tickets`]. Clones are the same failure, and equal.
-#[derive(Clone, Debug)]
-pub struct StoreFailure(Arc<dyn Error + Send + Sync>);
-
-impl StoreFailure {
-    pub(crate) fn new(error: Box<dyn Error + Send + Sync>) -> Self {
-        Self(error.into())
-    }
-
-    /// The error, as the store gave it.
-    pub fn get(&self) -> &(dyn Error + Send + Sync + 'static) {
-        &*self.0
-    }
-
-    fn address(&self) -> *const () {
-        Arc::as_ptr(&self.0).cast()
-    }
-}
-
-impl PartialEq for StoreFailure {
-    fn eq(&self, other: &Self) -> bool {
-        self.address() == other.address()
-    }
-}
-
-impl Eq for StoreFailure {}
-
-impl std::hash::Hash for StoreFailure {
-    fn hash<H: std::hash::Hasher>(&self, state: &mut H) {
-        self.address().hash(state);
-    }
-}
-
-impl fmt::Display for StoreFailure {
-    fn fmt(&self, f: &mut fmt::Formatter<'_>) -> fmt::Result {
-        self.0.fmt(f)
-    }
+    fn succeeded(&self, _last: Option<Ticket>) {}
 }
 
 mod sealed {
-    use super::{Instant, Source};
+    use super::{Instant, Source, Ticket};
 
     /// What a retry draws on, and by which clock.
     pub trait DrawnOn: Send + Sync + 'static {
@@ -155,7 +153,7 @@ mod sealed {
         }
 
         /// A request has succeeded, of a store with the ticket of its last retry: one that counts successes counts it.
-        fn count_success(&self, _last: Option<u64>, _clock: &mut dyn FnMut() -> Instant) {}
+        fn count_success(&self, _last: Option<Ticket>, _clock: &dyn Fn() -> Instant) {}
 
         /// Moment 0 of a retry that began then, in milliseconds: of a quota it is the one on the quota's clock.
         fn origin(&self, _began: Instant) -> u64 {
@@ -179,28 +177,38 @@ pub enum Source {
 impl Source {
     /// A request is made now. The clock is looked at only where that matters.
     pub(crate) fn count_request_now(&self) {
-        if let Self::Quota(quota) = self {
-            if !quota.counts_successes() {
-                quota.deposit_by_clock(now());
-            }
-        } else if let Self::Store(store) = self {
-            store.deposit();
+        match self {
+            Self::Quota(quota) if !quota.counts_successes() => quota.deposit_by_clock(now()),
+            Self::Store(store) => store.deposit(),
+            Self::Budget(_) | Self::Quota(_) | Self::Unlimited => (),
         }
     }
 
     /// A request has succeeded now.
-    pub(crate) fn count_success_now(&self, last: Option<u64>) {
-        match self {
-            Self::Quota(quota) if quota.counts_successes() => quota.deposit(),
-            Self::Store(store) => store.succeeded(last),
-            Self::Budget(_) | Self::Quota(_) | Self::Unlimited => (),
-        }
+    pub(crate) fn count_success_now(&self, last: Option<Ticket>) {
+        self.count_success(last, &now);
     }
 }
 
 impl DrawnOn for Source {
     fn source(&self) -> Source {
         self.clone()
+    }
+
+    fn count_request(&self, now: Instant) {
+        match self {
+            Self::Quota(quota) => quota.count_request(now),
+            Self::Store(store) => store.deposit(),
+            Self::Budget(_) | Self::Unlimited => (),
+        }
+    }
+
+    fn count_success(&self, last: Option<Ticket>, clock: &dyn Fn() -> Instant) {
+        match self {
+            Self::Quota(quota) => quota.count_success(last, clock),
+            Self::Store(store) => store.succeeded(last),
+            Self::Budget(_) | Self::Unlimited => (),
+        }
     }
 
     fn hears_of_successes(&self) -> bool {
@@ -240,7 +248,7 @@ impl DrawnOn for Quota {
         self.counts_successes() || self.returns_tickets()
     }
 
-    fn count_success(&self, _last: Option<u64>, clock: &mut dyn FnMut() -> Instant) {
+    fn count_success(&self, _last: Option<Ticket>, clock: &dyn Fn() -> Instant) {
         if self.counts_successes() {
             self.deposit_by_clock(clock());
         }
@@ -264,8 +272,77 @@ impl<S: Tickets + 'static> DrawnOn for Arc<S> {
         true
     }
 
-    fn count_success(&self, last: Option<u64>, _clock: &mut dyn FnMut() -> Instant) {
+    fn count_success(&self, last: Option<Ticket>, _clock: &dyn Fn() -> Instant) {
         self.succeeded(last);
+    }
+}
+
+impl AnyBudget {
+    fn get(&self) -> &dyn DrawnOn {
+        match self {
+            Self::Unlimited => &Unlimited,
+            Self::Budget(budget) => budget,
+            Self::Quota(quota) => quota,
+            #[cfg(feature = "leased")]
+            Self::Leased(budget) => budget,
+            #[cfg(feature = "leased")]
+            Self::LeasedQuota(quota) => quota,
+        }
+    }
+}
+
+impl DrawnOn for AnyBudget {
+    fn source(&self) -> Source {
+        self.get().source()
+    }
+
+    fn count_request(&self, now: Instant) {
+        self.get().count_request(now);
+    }
+
+    fn hears_of_successes(&self) -> bool {
+        self.get().hears_of_successes()
+    }
+
+    fn count_success(&self, last: Option<Ticket>, clock: &dyn Fn() -> Instant) {
+        self.get().count_success(last, clock);
+    }
+
+    fn origin(&self, began: Instant) -> u64 {
+        self.get().origin(began)
+    }
+}
+
+/// The variant of each kind.
+macro_rules! any_budget {
+    ($($(#[$gate:meta])? $kind:ident),+) => {$(
+        $(#[$gate])?
+        impl From<$kind> for AnyBudget {
+            fn from(budget: $kind) -> Self {
+                Self::$kind(budget)
+            }
+        }
+    )+};
+}
+
+any_budget!(
+    Budget,
+    Quota,
+    #[cfg(feature = "leased")]
+    Leased,
+    #[cfg(feature = "leased")]
+    LeasedQuota
+);
+
+impl From<Unlimited> for AnyBudget {
+    fn from(_: Unlimited) -> Self {
+        Self::Unlimited
+    }
+}
+
+impl<B: Into<AnyBudget>> From<Option<B>> for AnyBudget {
+    fn from(budget: Option<B>) -> Self {
+        budget.map_or(Self::Unlimited, Into::into)
     }
 }
 

@@ -26,13 +26,13 @@ pub struct SystemWords;
 /// A way to block for some time: any function of a [`Duration`].
 pub trait Sleep {
     /// Blocks for so long, or longer.
-    fn sleep(&mut self, wait: Duration);
+    fn sleep(&self, wait: Duration);
 }
 
 /// Random words: any function that makes four.
 pub trait Random {
     /// The next four.
-    fn draw(&mut self) -> [u32; 4];
+    fn draw(&self) -> [u32; 4];
 }
 
 impl SystemHost {
@@ -42,25 +42,25 @@ impl SystemHost {
 }
 
 impl Sleep for SystemSleep {
-    fn sleep(&mut self, wait: Duration) {
+    fn sleep(&self, wait: Duration) {
         thread::sleep(wait);
     }
 }
 
-impl<F: FnMut(Duration)> Sleep for F {
-    fn sleep(&mut self, wait: Duration) {
+impl<F: Fn(Duration)> Sleep for F {
+    fn sleep(&self, wait: Duration) {
         self(wait);
     }
 }
 
 impl Random for SystemWords {
-    fn draw(&mut self) -> [u32; 4] {
+    fn draw(&self) -> [u32; 4] {
         words::next()
     }
 }
 
-impl<F: FnMut() -> [u32; 4]> Random for F {
-    fn draw(&mut self) -> [u32; 4] {
+impl<F: Fn() -> [u32; 4]> Random for F {
+    fn draw(&self) -> [u32; 4] {
         self()
     }
 }

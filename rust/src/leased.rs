@@ -1,73 +1,78 @@
-//! Budgets and quotas that the processes of a machine share: tickets in ranges from a file that counts.
+//! Budgets and quotas that the processes of a machine share: tickets in ranges from a folder that counts.
 
-use crate::budget::{Budget, BudgetError, Pass};
-use crate::engine::{lease_of_budget, lease_of_quota, uptime, Asking, Range, Stored, MOST_TICKETS};
+use crate::budget::BudgetError;
+use crate::engine::{lease_of_budget, lease_of_quota, Asking, Range, Stored, MOST_TICKETS};
 use crate::grants::{DrawnOn, Grants, Source, Tickets};
-use crate::quota::{thousandths, Terms, Usage, Uses};
-use crate::store::{window_at, CountFile, StoreError, Window};
-use std::error::Error;
+use crate::leasing::{Answer, Share, Tell, AGAIN_AFTER};
+use crate::quota::{thousandths, AtomicTerms, Terms, Usage, Uses};
+use crate::store::{Folder, Key, StoreError};
+use crate::ticket::{NoTicket, Ticket};
+use crate::uptime::Window;
 use std::path::Path;
-use std::sync::{Arc, Mutex, MutexGuard, PoisonError};
+use std::sync::Arc;
 use std::time::{Duration, Instant};
 
-/// A budget that all processes with the same file and name share, Python's (`hikebox.Leased`) too. Threads may share
+/// A budget that all processes with the same folder and name share, Python's (`hikebox.Leased`) too. Threads may share
 /// it; it is cheap to clone, and all clones draw from one lease.
 ///
-/// A process leases a range of tickets by one change of the file under its lock, which is written to the disk before it
-/// is granted, and then draws from the range by a [`Budget`] of its own. So each ticket is in one lease, and is drawn
-/// once. What is left of a lease when its process ends is lost.
+/// A process leases a range of tickets by one change of a file of the folder under its lock, which is on the disk before
+/// it is granted, and then draws from the range. So each ticket is in one lease, and is drawn once. What is left of a
+/// lease when its process ends is lost.
 ///
 /// ```
 /// use hikebox::Leased;
 ///
-/// # let file = std::env::temp_dir().join(format!("hikebox-doc-{}", std::process::id()));
-/// # let _ = std::fs::remove_file(&file);
-/// let first = Leased::new(&file, "nightly", 100).lease(10);
-/// let second = Leased::new(&file, "nightly", 100).lease(10);
-/// assert_eq!(first.draw()?, Some(0));
-/// assert_eq!(second.draw()?, Some(10));
-/// assert_eq!(first.draw()?, Some(1));
-/// # std::fs::remove_file(&file)?;
+/// # let folder = std::env::temp_dir().join(format!("hikebox-doc-{}", std::process::id()));
+/// # let _ = std::fs::remove_dir_all(&folder);
+/// let first = Leased::new(&folder, "nightly", 100)?.lease(10);
+/// let second = Leased::new(&folder, "nightly", 100)?.lease(10);
+/// assert_eq!(first.draw()?.number(), 0);
+/// assert_eq!(second.draw()?.number(), 10);
+/// assert_eq!(first.draw()?.number(), 1);
+/// # std::fs::remove_dir_all(&folder)?;
 /// # Ok::<(), Box<dyn std::error::Error>>(())
 /// ```
 #[derive(Clone, Debug)]
 pub struct Leased {
-    file: CountFile,
+    folder: Folder,
     name: String,
+    key: Key,
     limit: u64,
-    period: Option<Duration>,
     lease: u64,
-    held: Arc<Held>,
+    again_after: Duration,
+    share: Arc<Share>,
 }
 
-/// A quota that all processes with the same file and name share, Python's (`hikebox.LeasedQuota`) too. Threads may
+/// A quota that all processes with the same folder and name share, Python's (`hikebox.LeasedQuota`) too. Threads may
 /// share it; it is cheap to clone, and all clones are the same quota.
 ///
 /// It is a [`Quota`](crate::Quota) over all processes: in each window of the machine's uptime they draw no more tickets
-/// than the reserve, and the share of the requests that they told the file in it. Requests are counted in the process;
+/// than the reserve, and the share of the requests that they told the store in it. Requests are counted in the process;
 /// it tells them when it asks for a lease, or by [`LeasedQuota::seen`], and those of the present window alone.
 ///
 /// ```
 /// use hikebox::LeasedQuota;
 /// use std::time::Duration;
 ///
-/// # let file = std::env::temp_dir().join(format!("hikebox-doc-quota-{}", std::process::id()));
-/// # let _ = std::fs::remove_file(&file);
-/// let quota = LeasedQuota::new(&file, "payments", 1, 0.2, Duration::from_secs(100_000))?;
-/// assert_eq!((quota.draw()?, quota.draw()?), (Some(0), None));
+/// # let folder = std::env::temp_dir().join(format!("hikebox-doc-quota-{}", std::process::id()));
+/// # let _ = std::fs::remove_dir_all(&folder);
+/// let quota = LeasedQuota::new(&folder, "payments", 1, 0.2, Duration::from_secs(100_000))?;
+/// assert!(quota.draw().is_ok());
+/// assert!(quota.draw().is_err());
 /// for _ in 0..5 {
 ///     quota.deposit();
 /// }
-/// assert_eq!((quota.draw()?, quota.draw()?), (Some(1), None));
-/// # std::fs::remove_file(&file)?;
+/// assert_eq!(quota.draw()?.number(), 1);
+/// # std::fs::remove_dir_all(&folder)?;
 /// # Ok::<(), Box<dyn std::error::Error>>(())
 /// ```
 #[derive(Clone, Debug)]
 pub struct LeasedQuota {
-    file: CountFile,
-    name: String,
+    folder: Folder,
+    key: Key,
     period: u64,
     lease: Option<u64>,
+    again_after: Duration,
     uses: Uses,
     shared: Arc<Shared>,
 }
@@ -75,44 +80,11 @@ pub struct LeasedQuota {
 /// What the clones of a quota have in common.
 #[derive(Debug)]
 struct Shared {
-    terms: Mutex<Terms>,
-    held: Held,
-    requests: Mutex<Requests>,
+    terms: AtomicTerms,
+    share: Share,
 }
 
-/// What this process may draw.
-#[derive(Debug, Default)]
-struct Held {
-    /// Locked also while another is asked for.
-    lease: Mutex<Option<Lease>>,
-    /// Tickets that came back.
-    back: Mutex<Vec<Ticket>>,
-}
-
-/// A range of tickets, and the pass that draws from it.
-#[derive(Debug)]
-struct Lease {
-    first: u64,
-    window: u64,
-    until: Option<Instant>,
-    pass: Pass,
-}
-
-/// A ticket, by its window and its number there.
-#[derive(Clone, Copy, Debug)]
-struct Ticket {
-    window: u64,
-    number: u64,
-}
-
-/// The requests of a window that the file was not told yet.
-#[derive(Debug, Default)]
-struct Requests {
-    window: u64,
-    count: u64,
-}
-
-/// What a file has of the present window of a quota, and the range of it that was granted.
+/// What the store has of the present window of a quota, and the range of it that was granted.
 struct Found {
     window: Window,
     stored: Stored,
@@ -124,25 +96,31 @@ const MOST: u64 = (1 << 52) - 1;
 
 impl Leased {
     /// A budget of `limit` tickets (at most 2^52 - 1; a greater number counts as that) over all processes that name it
-    /// so in this file, which is made where it is missing. It has to be on a local disk.
-    pub fn new(path: impl AsRef<Path>, name: impl Into<String>, limit: u64) -> Self {
-        let limit = limit.min(MOST);
-        Self {
-            file: CountFile::new(path),
-            name: name.into(),
+    /// so in this folder, which is made where it is missing. It has to be on a local disk.
+    ///
+    /// # Errors
+    ///
+    /// [`BudgetError::NameLength`].
+    pub fn new(path: impl AsRef<Path>, name: impl Into<String>, limit: u64) -> Result<Self, BudgetError> {
+        let (limit, name) = (limit.min(MOST), checked(name.into())?);
+        Ok(Self {
+            folder: Folder::new(path),
+            key: Key::of_budget(&name),
+            name,
             limit,
-            period: None,
             lease: (limit / 64).clamp(1, 1000),
-            held: Arc::default(),
-        }
+            again_after: AGAIN_AFTER,
+            share: Arc::new(Share::new(None)),
+        })
     }
 
     /// So many tickets in each window of this length (whole milliseconds, at least one), by the machine's uptime, and
     /// not in all.
     #[must_use]
     pub fn in_each(mut self, period: Duration) -> Self {
-        self.period = Some(period);
-        self.held = Arc::default();
+        let millis = u64::try_from(period.as_millis()).unwrap_or(u64::MAX).max(1);
+        self.key = Key::of_windows(&self.name, millis);
+        self.share = Arc::new(Share::new(Some(millis)));
         self
     }
 
@@ -154,41 +132,42 @@ impl Leased {
         self
     }
 
-    /// A ticket, by its number below the limit, or `None` where there is none: from the lease, or from a new one where
-    /// it is used up.
+    /// How long the store is left alone where it failed, or had nothing left: a second, unless it is said. Where a budget
+    /// has windows, it is asked in the next one.
+    #[must_use]
+    pub fn again_after(mut self, wait: Duration) -> Self {
+        self.again_after = wait;
+        self
+    }
+
+    /// A ticket, whose number is below the limit: from the lease, or from a new one where it is used up.
     ///
     /// # Errors
     ///
-    /// [`StoreError`] where a new lease is wanted and the file grants none.
-    pub fn draw(&self) -> Result<Option<u64>, StoreError> {
-        Ok(self.held.draw(|| self.take())?.map(|ticket| ticket.number))
+    /// [`NoTicket`] where a new lease is needed, and the store has nothing left, or fails: with a [`StoreError`].
+    pub fn draw(&self) -> Result<Ticket, NoTicket> {
+        self.share.draw(self.again_after, |_| self.ask())
     }
 
-    /// A new lease, or `None` where the limit is reached.
-    fn take(&self) -> Result<Option<Lease>, StoreError> {
-        let counts = self.file.lock()?;
-        let (key, window) = match self.period {
-            Some(period) => {
-                let millis = u64::try_from(period.as_millis()).unwrap_or(u64::MAX).max(1);
-                (format!("windows of {millis} ms of {}", self.name), Some(Window::present(millis)?))
-            }
-            None => (format!("budget {}", self.name), None),
-        };
-        let mut stored = counts.of::<1>(&key, window.as_ref())?;
-        let number = window.as_ref().map_or(0, |window| window.number);
+    /// A new lease, which is empty where the limit is reached.
+    fn ask(&self) -> Result<Answer, StoreError> {
+        let slot = self.folder.lock(&self.key)?;
+        let window = self.key.window()?;
+        let mut stored = slot.stored(window.as_ref());
+        let number = window.map_or(0, |window| window.number);
         let asking = Asking { window: number, told: 0, wanted: self.lease };
-        let range = lease_of_budget(self.limit, asking, &mut stored).ok_or(StoreError::Lost)?;
-        if range.tickets == 0 {
-            return Ok(None);
+        let Range { first, tickets } = lease_of_budget(self.limit, asking, &mut stored).ok_or(StoreError::Lost)?;
+        if tickets > 0 {
+            slot.set(window.as_ref(), stored)?;
         }
-        counts.set(key, window.as_ref(), &[stored.given])?;
-        Lease::of(range, number, window.map(|window| window.until)).map(Some)
+        let again_after = if window.is_some() { Duration::MAX } else { self.again_after };
+        Ok(Answer { window, first, tickets, again_after, worth_asking: None })
     }
 }
 
 impl LeasedQuota {
     /// A quota of these terms, as of [`Quota::new`](crate::Quota::new), over all processes that name it so in this
-    /// file, which is made where it is missing. It has to be on a local disk.
+    /// folder, which is made where it is missing. It has to be on a local disk.
     ///
     /// # Errors
     ///
@@ -201,14 +180,15 @@ impl LeasedQuota {
         per: Duration,
     ) -> Result<Self, BudgetError> {
         let terms = Terms::new(reserve, share, per)?.checked()?;
-        let (held, requests) = Default::default();
+        let share = Share::new(Some(terms.period));
         Ok(Self {
-            file: CountFile::new(path),
-            name: name.into(),
+            folder: Folder::new(path),
+            key: Key::of_quota(&checked(name.into())?, terms.period),
             period: terms.period,
             lease: None,
+            again_after: AGAIN_AFTER,
             uses: Uses::default(),
-            shared: Arc::new(Shared { terms: Mutex::new(terms), held, requests }),
+            shared: Arc::new(Shared { terms: AtomicTerms::new(terms.reserve, terms.share), share }),
         })
     }
 
@@ -217,6 +197,14 @@ impl LeasedQuota {
     #[must_use]
     pub fn lease(mut self, tickets: u64) -> Self {
         self.lease = Some(tickets.clamp(1, MOST_TICKETS));
+        self
+    }
+
+    /// How long the store is left alone where it failed, or had nothing left and the requests since then are not worth a
+    /// lease: a second, unless it is said, and up to the next window at most.
+    #[must_use]
+    pub fn again_after(mut self, wait: Duration) -> Self {
+        self.again_after = wait;
         self
     }
 
@@ -239,81 +227,93 @@ impl LeasedQuota {
         self
     }
 
-    /// Sets the reserve and the share that this process names to the file, from its next lease on.
+    /// Sets the reserve and the share that this process names to the store, from its next lease on.
     ///
     /// # Errors
     ///
     /// [`BudgetError`] says which of them is out of its range; then nothing changes.
     pub fn set_terms(&self, reserve: u64, share: f64) -> Result<(), BudgetError> {
         let terms = Terms { reserve, share: thousandths(share)?, period: self.period }.checked()?;
-        *lock(&self.shared.terms) = terms;
+        self.shared.terms.set(terms.reserve, terms.share);
+        self.shared.share.may_ask();
         Ok(())
     }
 
     fn terms(&self) -> Terms {
-        *lock(&self.shared.terms)
+        let (reserve, share) = self.shared.terms.get();
+        Terms { reserve, share, period: self.period }
     }
 
-    /// Counts a request. The file is not asked.
+    /// Counts a request. The store is not asked.
     pub fn deposit(&self) {
         self.deposit_of(1);
     }
 
     /// Counts so many requests at once.
     pub fn deposit_of(&self, requests: u32) {
-        let mut counted = lock(&self.shared.requests);
-        // Where the uptime can't be told, none is counted.
-        if let Ok(now) = uptime() {
-            counted.reach(window_at(now, self.period));
-            counted.count += u64::from(requests);
-        }
+        self.shared.share.deposit(requests);
     }
 
-    /// A ticket, by its number in the present window from 0, or `None` where that has none left: from the lease, or
-    /// from a new one where it is used up.
+    /// A ticket of the present window: from the lease, or from a new one where it is used up.
     ///
     /// # Errors
     ///
-    /// [`StoreError`] where a new lease is wanted and the file grants none.
-    pub fn draw(&self) -> Result<Option<u64>, StoreError> {
-        Ok(self.ticket()?.map(|ticket| ticket.number))
-    }
-
-    fn ticket(&self) -> Result<Option<Ticket>, StoreError> {
-        self.shared.held.draw(|| match self.ask(true)? {
-            Found { range: Range { tickets: 0, .. }, .. } => Ok(None),
-            Found { range, window, .. } => Lease::of(range, window.number, Some(window.until)).map(Some),
+    /// [`NoTicket`] where a new lease is needed, and the store has nothing left, or fails: with a [`StoreError`].
+    pub fn draw(&self) -> Result<Ticket, NoTicket> {
+        self.shared.share.draw(self.again_after, |tell| {
+            let terms = self.terms();
+            let Found { window, stored, range: Range { first, tickets } } = self.ask(terms, true, tell)?;
+            let worth = self.lease_of(terms.allowed(stored.asked)).saturating_mul(1000);
+            let worth_asking =
+                worth.checked_add(terms.share.saturating_sub(1)).and_then(|worth| worth.checked_div(terms.share));
+            let again_after = if terms.share == 0 { Duration::MAX } else { self.again_after };
+            Ok(Answer { window: Some(window), first, tickets, again_after, worth_asking })
         })
     }
 
-    /// Tells the file the requests that were counted since, and answers what it has of the present window.
+    /// Hands a ticket back that was not used: this process draws it again, while its window lasts. The store is not asked.
     ///
     /// # Errors
     ///
-    /// [`StoreError`] where the file can't be read or written, or has lost its count of the present window.
-    pub fn seen(&self) -> Result<Usage, StoreError> {
-        let Found { window, stored: Stored { given, asked, .. }, .. } = self.ask(false)?;
-        let left = self.terms().allowed(asked).saturating_sub(given);
-        Ok(Usage { window: window.number, asked, given, left, next: None })
+    /// The ticket itself, where this quota did not draw it, or its window is over.
+    pub fn hand_back(&self, ticket: Ticket) -> Result<(), Ticket> {
+        self.shared.share.hand_back(ticket)
     }
 
-    /// Tells the file the requests of the present window, and takes a range of its tickets where that is wanted.
+    /// Tells the store the requests that were counted since, and answers what it has of the present window.
+    ///
+    /// # Errors
+    ///
+    /// [`StoreError`] where the store can't be read or written, or has lost its count of the present window.
+    pub fn seen(&self) -> Result<Usage, StoreError> {
+        let terms = self.terms();
+        let ask = |tell: Tell<'_>| self.ask(terms, false, tell).map(|found| (found.window, found.stored));
+        let (window, Stored { given, asked, .. }) = self.shared.share.ask(ask)?;
+        let left = terms.allowed(asked).saturating_sub(given);
+        Ok(Usage { window: window.number, asked, given, left, next: Duration::from_millis(window.until) })
+    }
+
+    /// Tells the store the requests of the present window, and takes a range of its tickets where that is wanted.
     /// Requests that were told are not told again, also where that failed.
-    fn ask(&self, wants_tickets: bool) -> Result<Found, StoreError> {
-        let counts = self.file.lock()?;
-        let (window, terms) = (Window::present(self.period)?, self.terms());
-        let key = format!("quota of {} ms of {}", self.period, self.name);
-        let mut stored = counts.of::<2>(&key, Some(&window))?;
-        // comes to the window before any request is told, as none is where the file has a later one
+    fn ask(&self, terms: Terms, wants_tickets: bool, tell: Tell<'_>) -> Result<Found, StoreError> {
+        let slot = self.folder.lock(&self.key)?;
+        let window = Window::present(self.period)?;
+        let mut stored = slot.stored(Some(&window));
+        // comes to the window before any request is told, as none is where the store has a later one
         terms.lease(window.number, 0, 0, &mut stored)?;
-        let told = lock(&self.shared.requests).take(window.number);
+        let told = tell(&window);
         let allowed = terms.allowed(stored.asked.saturating_add(told));
-        let wanted = if wants_tickets { self.lease.unwrap_or((allowed / 64).clamp(1, 1000)) } else { 0 };
+        let wanted = if wants_tickets { self.lease_of(allowed) } else { 0 };
         let range = terms.lease(window.number, told, wanted, &mut stored)?;
         if told + range.tickets > 0 {
-            counts.set(key, Some(&window), &[stored.given, stored.asked])?;
+            slot.set(Some(&window), stored)?;
         }
         Ok(Found { window, stored, range })
+    }
+
+    /// How many tickets are leased at a time in a window that allows so many.
+    fn lease_of(&self, allowed: u64) -> u64 {
+        self.lease.unwrap_or((allowed / 64).clamp(1, 1000))
     }
 }
 
@@ -334,8 +334,8 @@ impl DrawnOn for Leased {
 }
 
 impl Tickets for Leased {
-    fn draw(&self) -> Result<bool, Box<dyn Error + Send + Sync>> {
-        Ok(Self::draw(self)?.is_some())
+    fn draw(&self) -> Result<Ticket, NoTicket> {
+        Self::draw(self)
     }
 }
 
@@ -354,13 +354,12 @@ impl DrawnOn for LeasedQuota {
         true
     }
 
-    fn count_success(&self, last: Option<u64>, _clock: &mut dyn FnMut() -> Instant) {
+    fn count_success(&self, last: Option<Ticket>, _clock: &dyn Fn() -> Instant) {
         self.succeeded(last);
     }
 }
 
-/// Each call that is retried counts as one request. The number of a ticket that may come back is that of its window and
-/// then its own, `window << 32 | number`.
+/// Each call that is retried counts as one request.
 impl Tickets for LeasedQuota {
     fn deposit(&self) {
         if !self.uses.counts_successes {
@@ -368,80 +367,29 @@ impl Tickets for LeasedQuota {
         }
     }
 
-    fn draw(&self) -> Result<bool, Box<dyn Error + Send + Sync>> {
-        Ok(Self::draw(self)?.is_some())
+    fn draw(&self) -> Result<Ticket, NoTicket> {
+        Self::draw(self)
     }
 
-    fn draw_numbered(&self) -> Result<Option<u64>, Box<dyn Error + Send + Sync>> {
-        Ok(self.ticket()?.map(|Ticket { window, number }| window << 32 | number))
+    fn hand_back(&self, ticket: Ticket) {
+        // (that of a window that is over stays drawn)
+        let _ = Self::hand_back(self, ticket);
     }
 
-    /// This process draws it again, while its window lasts. The file is not asked.
-    fn hand_back(&self, ticket: u64) {
-        let ticket = Ticket { window: ticket >> 32, number: ticket % MOST_TICKETS };
-        lock(&self.shared.held.back).push(ticket);
-    }
-
-    fn succeeded(&self, last: Option<u64>) {
+    fn succeeded(&self, last: Option<Ticket>) {
         if self.uses.counts_successes {
             Self::deposit(self);
         }
         if let (true, Some(ticket)) = (self.uses.returns_tickets, last) {
-            self.hand_back(ticket);
+            Tickets::hand_back(self, ticket);
         }
     }
 }
 
-impl Requests {
-    /// Comes to this window.
-    fn reach(&mut self, window: u64) {
-        if self.window != window {
-            *self = Self { window, count: 0 };
-        }
+/// A name that may be in a key.
+fn checked(name: String) -> Result<String, BudgetError> {
+    match name.len() {
+        1..=255 => Ok(name),
+        bytes => Err(BudgetError::NameLength { bytes }),
     }
-
-    /// Those of this window. None is given again.
-    fn take(&mut self, window: u64) -> u64 {
-        self.reach(window);
-        std::mem::take(&mut self.count)
-    }
-}
-
-impl Lease {
-    fn of(range: Range, window: u64, until: Option<Instant>) -> Result<Self, StoreError> {
-        let pass = Budget::new(range.tickets)?.pass()?;
-        Ok(Self { first: range.first, window, until, pass })
-    }
-
-    /// A ticket of its window that came back, or one of the range. Those of windows that are over are given up.
-    fn draw(&mut self, back: &Mutex<Vec<Ticket>>) -> Option<Ticket> {
-        if self.until.map_or(false, |until| Instant::now() >= until) {
-            return None;
-        }
-        let mut back = lock(back);
-        back.retain(|ticket| ticket.window == self.window);
-        back.pop().or_else(|| {
-            let number = self.first + self.pass.draw()?;
-            Some(Ticket { window: self.window, number })
-        })
-    }
-}
-
-impl Held {
-    /// A ticket of the lease that is held, or of the one that is taken in its place. One that is used up is held until
-    /// then: its tickets may come back.
-    fn draw(&self, take: impl FnOnce() -> Result<Option<Lease>, StoreError>) -> Result<Option<Ticket>, StoreError> {
-        let mut held = lock(&self.lease);
-        if let Some(ticket) = held.as_mut().and_then(|lease| lease.draw(&self.back)) {
-            return Ok(Some(ticket));
-        }
-        match take()? {
-            Some(lease) => Ok(held.insert(lease).draw(&self.back)),
-            None => Ok(None),
-        }
-    }
-}
-
-fn lock<T>(shared: &Mutex<T>) -> MutexGuard<'_, T> {
-    shared.lock().unwrap_or_else(PoisonError::into_inner)
 }

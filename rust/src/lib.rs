@@ -24,9 +24,9 @@
 //!   the time that it may take in all, a clock and a sleep of your own.
 //! - With the feature `tokio`, `retry_async` retries futures. [`Retrying::sleep`] takes the waits of any runtime.
 //! - With the feature `tower`, `RetryPolicy` is a `tower::retry::Policy`.
-//! - With the feature `leased`, `Leased` and `LeasedQuota` are shared by all processes of a machine, by a file. A store
+//! - With the feature `leased`, `Leased` and `LeasedQuota` are shared by all processes of a machine, by a folder. A store
 //!   of your own implements [`Tickets`].
-//! - With the feature `serde`, a policy is read and written as a part of a configuration.
+//! - With the feature `serde`, a policy and a quota are read as parts of a configuration.
 //! - [`Machine`] is a retry that a host with a clock of its own steps.
 //! - [`Storm`] shows what a policy does to a peer that fails for a while, when thousands of calls fail together.
 //!
@@ -47,6 +47,8 @@ mod hooks;
 mod host;
 #[cfg(feature = "leased")]
 mod leased;
+#[cfg(feature = "leased")]
+mod leasing;
 mod machine;
 mod policy;
 mod quota;
@@ -58,8 +60,15 @@ mod schedule;
 #[cfg(feature = "serde")]
 mod serial;
 #[cfg(feature = "leased")]
+mod slot;
+#[cfg(feature = "leased")]
 mod store;
 mod storm;
+mod system;
+mod ticket;
+#[cfg(feature = "leased")]
+mod uptime;
+mod waits;
 mod words;
 
 #[cfg(feature = "tokio")]
@@ -69,8 +78,8 @@ pub use asynchronous::retry_async_mut;
 pub use asynchronous::{Async, AsyncSleep, Retryable};
 pub use budget::{Budget, BudgetError, Pass};
 pub use error::RetryError;
-pub use grants::{Grants, StoreFailure, Tickets, Unlimited};
-pub use hooks::{Hooked, Hooks, PlainHooks};
+pub use grants::{AnyBudget, Grants, Tickets, Unlimited};
+pub use hooks::{Hooked, Hooks, PlainHooks, SharedHooks};
 pub use host::{Host, Random, Sleep, SystemHost, SystemSleep, SystemWords};
 #[cfg(feature = "leased")]
 pub use leased::{Leased, LeasedQuota};
@@ -82,11 +91,14 @@ pub use repeating::{poll_until, repeat, RepeatError, Repeating};
 pub use repeating::{poll_until_async, repeat_async};
 #[cfg(feature = "tower")]
 pub use requests::{Noted, RetryPolicy, RetryWait, Since, Whenever};
-pub use retrying::{retry, Attempt, Blocking, BlockingRetryable, Retrying};
+pub use retrying::{retry, Attempt, Blocking, BlockingRetryable, Retrying, SharedRetrying};
 pub use schedule::{Fold, Schedule, Test};
 #[cfg(feature = "leased")]
 pub use store::StoreError;
 pub use storm::{Storm, StormError, StormReport, StormTotals, StormWindow};
+pub use ticket::{NoTicket, StoreFailure, Ticket};
+
+pub use waits::Waits;
 
 #[cfg(doctest)]
 mod pages {
@@ -110,7 +122,8 @@ mod pages {
     /// use hikebox::RetryError::{self, *};
     /// fn last(error: RetryError<u8>) -> u8 {
     ///     match error {
-    ///         ScheduleDone(last) | BudgetRefused(last) | NotRetried(last) | StoreFailed(_, last) | Broken(_, last) => last,
+    ///         ScheduleDone(last) | Deadline(last) | BudgetRefused(last) | NotRetried(last) => last,
+    ///         StoreFailed(_, last) | Broken(_, last) => last,
     ///     }
     /// }
     /// ```
@@ -120,7 +133,7 @@ mod pages {
     /// fn won(ended: Ended) -> bool {
     ///     match ended {
     ///         Won => true,
-    ///         ScheduleDone | BudgetRefused | Cancelled | Broken(_) => false,
+    ///         ScheduleDone | Deadline | BudgetRefused | Cancelled | Broken(_) => false,
     ///     }
     /// }
     /// ```
@@ -140,7 +153,7 @@ mod pages {
     ///
     /// ```compile_fail
     /// #![deny(unused_must_use)]
-    /// hikebox::Retrying::<u8>::new(&"{\"recurs\":3}".parse().unwrap(), &hikebox::Unlimited).longest(Default::default());
+    /// hikebox::Retrying::<u8>::new(&"{\"recurs\":3}".parse().unwrap(), &hikebox::Unlimited).max_retry_after(Default::default());
     /// ```
     ///
     /// ```compile_fail

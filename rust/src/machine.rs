@@ -3,9 +3,11 @@
 use crate::budget::{Budget, BudgetError};
 use crate::clock::whole_millis;
 use crate::engine::{self, Handle, Next, RetryKind, FAR, NO_DEADLINE};
-use crate::grants::{Grants, Source, StoreFailure, Tickets};
+use crate::grants::{Grants, Source, Tickets};
 use crate::policy::Policy;
 use crate::quota::Quota;
+use crate::system::generation;
+use crate::ticket::{NoTicket, StoreFailure, Ticket};
 use crate::words;
 use std::fmt;
 use std::sync::Arc;
@@ -40,6 +42,8 @@ pub struct Machine {
     /// `None` only while it is dropped.
     handle: Option<Handle<RetryKind>>,
     draws_on: DrawsOn,
+    /// The process in which it began.
+    generation: u64,
     deadline: u64,
     /// What its last step told.
     told: Next,
@@ -65,8 +69,8 @@ enum DrawsOn {
 struct Drawn {
     store: Arc<dyn Tickets>,
     granted: u64,
-    /// The number of the latest ticket.
-    ticket: Option<u64>,
+    /// The latest ticket, which is used up once its run succeeded.
+    ticket: Option<Ticket>,
     failure: Option<StoreFailure>,
     ended: Option<Ended>,
 }
@@ -98,8 +102,10 @@ pub enum Step {
 pub enum Ended {
     /// The last run succeeded.
     Won,
-    /// The last run failed, and the schedule does not go on, or not before the deadline.
+    /// The last run failed, and the schedule does not go on.
     ScheduleDone,
+    /// The last run failed, and the next one would begin past the deadline.
+    Deadline,
     /// The last run failed, the schedule goes on, and the budget or the quota has no ticket.
     BudgetRefused,
     /// It was cancelled.
@@ -130,8 +136,9 @@ impl Machine {
         Self::on(policy, budget.source(), NO_DEADLINE)
     }
 
-    /// The same with a moment past which it plans no run: where the schedule does, it is over as
-    /// [`Ended::ScheduleDone`], and draws no ticket for that.
+    /// The same with a moment past which no run but the first begins: where the schedule plans one, it is over as
+    /// [`Ended::Deadline`], and draws no ticket for that. So it is where it is stepped past that moment while it waits; its
+    /// ticket goes back, if it is a quota's.
     ///
     /// ```
     /// use hikebox::{Ended, Machine, Policy, Report, Step, Unlimited};
@@ -144,7 +151,7 @@ impl Machine {
     /// assert_eq!(machine.step(at(0), Some(Report::Lost(7))), Step::Wait(at(450)));
     /// assert_eq!(machine.left(at(450)), Some(at(150)));
     /// assert_eq!(machine.step(at(450), None), Step::Run);
-    /// assert_eq!(machine.step(at(450), Some(Report::Lost(7))), Step::Over(Ended::ScheduleDone));
+    /// assert_eq!(machine.step(at(450), Some(Report::Lost(7))), Step::Over(Ended::Deadline));
     /// # Ok::<(), Box<dyn std::error::Error>>(())
     /// ```
     ///
@@ -163,7 +170,7 @@ impl Machine {
         });
         let handle = Some(handle.map_err(BudgetError::of)?);
         let (draws_on, told) = (DrawsOn::of(source), Next::default());
-        Ok(Self { handle, draws_on, deadline, told, waits: false, won: false })
+        Ok(Self { handle, draws_on, generation: generation(), deadline, told, waits: false, won: false })
     }
 
     /// Steps it at the moment `now`, which is not before that of the step before, with random words of its own. A
@@ -213,10 +220,10 @@ impl Machine {
     }
 
     /// Its run succeeded, and it is not stepped any more: the ticket of its last retry, of a store.
-    pub(crate) fn succeeded(&mut self) -> Option<u64> {
+    pub(crate) fn succeeded(&mut self) -> Option<Ticket> {
         self.won = true;
-        match &self.draws_on {
-            DrawsOn::Store(drawn) => drawn.ticket,
+        match &mut self.draws_on {
+            DrawsOn::Store(drawn) => drawn.ticket.take(),
             _ => None,
         }
     }
@@ -234,7 +241,8 @@ impl Machine {
     }
 
     /// How many retries it was granted.
-    pub fn granted(&mut self) -> u64 {
+    #[must_use]
+    pub fn granted(&self) -> u64 {
         match &self.draws_on {
             DrawsOn::Store(drawn) => drawn.granted,
             _ => self.told.granted,
@@ -242,12 +250,14 @@ impl Machine {
     }
 
     /// How many runs were reported.
-    pub fn runs(&mut self) -> u64 {
+    #[must_use]
+    pub fn runs(&self) -> u64 {
         self.told.runs
     }
 
     /// How long it is from a moment to the deadline, as the time that a run may be given: none where that is past. `None`
     /// where there is no deadline.
+    #[must_use]
     pub fn left(&self, now: Duration) -> Option<Duration> {
         match self.left_at(whole_millis(now)) {
             NO_DEADLINE => None,
@@ -257,10 +267,15 @@ impl Machine {
 
     /// The same in milliseconds, as the engine tells it at each step.
     fn left_at(&self, now: u64) -> u64 {
-        if self.deadline == NO_DEADLINE { NO_DEADLINE } else { self.deadline.saturating_sub(now) }
+        if self.deadline == NO_DEADLINE {
+            NO_DEADLINE
+        } else {
+            self.deadline.saturating_sub(now)
+        }
     }
 
     /// Why the store of tickets failed, where it did.
+    #[must_use]
     pub fn store_failure(&self) -> Option<&StoreFailure> {
         match &self.draws_on {
             DrawsOn::Store(drawn) => drawn.failure.as_ref(),
@@ -281,10 +296,11 @@ impl Drop for Machine {
     /// Gives its tickets to be counted, and back the one of a run that never began, or that the quota wants back.
     fn drop(&mut self) {
         let handle = match self.handle.take() {
-            Some(handle) => handle,
-            None => return,
+            Some(handle) if self.generation == generation() => handle,
+            // (in a forked child its tickets are the parent's)
+            _ => return,
         };
-        match &self.draws_on {
+        match &mut self.draws_on {
             DrawsOn::Budget(budget) => budget.with(|root| handle.end(root)),
             DrawsOn::Quota(quota) => quota.end(handle, self.waits || (self.won && quota.returns_tickets())),
             DrawsOn::Store(drawn) => drawn.end(self.waits),
@@ -313,14 +329,14 @@ impl Drawn {
     /// and may have no ticket, or fail.
     fn refuses(&mut self, wanted: u64) -> Option<Ended> {
         if wanted > self.granted && self.ended.is_none() {
-            match self.store.draw_numbered() {
-                Ok(Some(ticket)) => {
+            match self.store.draw() {
+                Ok(ticket) => {
                     self.granted += 1;
                     self.ticket = Some(ticket);
                 }
-                Ok(None) => self.ended = Some(Ended::BudgetRefused),
-                Err(error) => {
-                    self.failure = Some(StoreFailure::new(error));
+                Err(NoTicket::UsedUp { .. }) => self.ended = Some(Ended::BudgetRefused),
+                Err(NoTicket::StoreFailed { failure, .. }) => {
+                    self.failure = Some(failure);
                     self.ended = Some(Ended::Broken(Cause::StoreFailed));
                 }
             }
@@ -329,8 +345,8 @@ impl Drawn {
     }
 
     /// Hands the latest ticket back, where the run for which it was drawn never began.
-    fn end(&self, waits: bool) {
-        if let (true, Some(ticket)) = (waits, self.ticket) {
+    fn end(&mut self, waits: bool) {
+        if let (true, Some(ticket)) = (waits, self.ticket.take()) {
             self.store.hand_back(ticket);
         }
     }
@@ -350,7 +366,8 @@ impl fmt::Debug for DrawsOn {
 fn ended_of(how: u32) -> Ended {
     match how {
         engine::ENDED_WON => Ended::Won,
-        engine::ENDED_DONE | engine::ENDED_DEADLINE => Ended::ScheduleDone,
+        engine::ENDED_DONE => Ended::ScheduleDone,
+        engine::ENDED_DEADLINE => Ended::Deadline,
         engine::ENDED_REFUSED => Ended::BudgetRefused,
         engine::ENDED_CANCELLED => Ended::Cancelled,
         engine::ENDED_NO_MEMORY => Ended::Broken(Cause::NoMemory),

@@ -2,6 +2,7 @@
 
 use crate::engine::{self, Event, Handle, Place, PolicyKind, Size, Status, MOST_STEPS};
 use crate::schedule::Schedule;
+use crate::system::PerProcess;
 use std::error::Error;
 use std::fmt;
 use std::str::FromStr;
@@ -29,7 +30,7 @@ struct Shared {
     json: String,
     size: Size,
     /// Locked for as long as a share of the plan is taken: at the first failure of a call, and not at a success.
-    handle: Mutex<Handle<PolicyKind>>,
+    handle: PerProcess<Mutex<Handle<PolicyKind>>>,
 }
 
 /// Why a text or a [`Schedule`] is no policy: its first fault, where that is, and what is wanted there.
@@ -84,7 +85,11 @@ pub struct Line {
 }
 
 impl Policy {
-    /// The policy of a schedule, or its first fault. It is built node by node, and no text is read.
+    /// The policy of a schedule. It is built node by node, and no text is read.
+    ///
+    /// # Errors
+    ///
+    /// The schedule's first fault.
     pub fn new(schedule: &Schedule) -> Result<Self, PolicyError> {
         if let Some(refused) = schedule.fault() {
             let (place, hint) = (refused.call.clone(), refused.why.to_owned());
@@ -98,7 +103,11 @@ impl Policy {
         }
     }
 
-    /// The policy that a JSON text spells, or the text's first fault.
+    /// The policy that a JSON text spells.
+    ///
+    /// # Errors
+    ///
+    /// The text's first fault.
     pub fn from_json(json: &str) -> Result<Self, PolicyError> {
         let handle = Handle::read(json).map_err(|(status, place)| PolicyError::of_text(json, status, place))?;
         Self::of(handle).map_err(PolicyError::of)
@@ -106,20 +115,23 @@ impl Policy {
 
     fn of(mut handle: Handle<PolicyKind>) -> Result<Self, Status> {
         let (json, size) = (handle.json()?, handle.size());
-        Ok(Self { shared: Arc::new(Shared { json, size, handle: Mutex::new(handle) }) })
+        Ok(Self { shared: Arc::new(Shared { json, size, handle: PerProcess::new(Mutex::new(handle)) }) })
     }
 
     /// The policy's JSON text, without spaces, as the engine writes it.
+    #[must_use]
     pub fn as_json(&self) -> &str {
         &self.shared.json
     }
 
     /// How many nodes it has.
+    #[must_use]
     pub fn nodes(&self) -> u64 {
         self.shared.size.nodes
     }
 
     /// How deep it is.
+    #[must_use]
     pub fn depth(&self) -> u64 {
         self.shared.size.depth
     }
@@ -135,6 +147,7 @@ impl Policy {
     /// assert_eq!(Policy::from_json("\"forever\"")?.most_retries(), None);
     /// # Ok::<(), hikebox::PolicyError>(())
     /// ```
+    #[must_use]
     pub fn most_retries(&self) -> Option<u64> {
         self.shared.size.most
     }
@@ -151,6 +164,10 @@ impl Policy {
     /// assert_eq!(lines, ["0: (0, 0) next 100", "100: (1, 1) done"]);
     /// # Ok::<(), hikebox::PolicyError>(())
     /// ```
+    ///
+    /// # Errors
+    ///
+    /// Where memory is wanting.
     pub fn preview(&self, steps: usize) -> Result<Vec<Line>, PolicyError> {
         let steps = u64::try_from(steps).unwrap_or(MOST_STEPS).min(MOST_STEPS);
         let course = engine::Course { steps, from: 0, took: 0 };
@@ -169,7 +186,9 @@ impl Policy {
 
     /// Lends the handle to one call.
     pub(crate) fn with<T>(&self, call: impl FnOnce(&mut Handle<PolicyKind>) -> T) -> T {
-        call(&mut self.shared.handle.lock().unwrap_or_else(PoisonError::into_inner))
+        let Shared { json, handle, .. } = &*self.shared;
+        let anew = || Mutex::new(Handle::read(json).expect("memory for a policy"));
+        call(&mut handle.get(anew).lock().unwrap_or_else(PoisonError::into_inner))
     }
 }
 
@@ -183,17 +202,20 @@ impl Line {
 
 impl PolicyError {
     /// What is wrong.
+    #[must_use]
     pub fn fault(&self) -> PolicyFault {
         self.fault
     }
 
     /// Where: the builder's call of a [`Schedule`], as `jittered(1.2..0.8)`; of a text the steps to the node, as
     /// `meet[1].cap[1]`, or `line 2, column 7` where it is not JSON. Empty where it is the whole policy, or not known.
+    #[must_use]
     pub fn place(&self) -> &str {
         &self.place
     }
 
     /// What is wanted there and was found, or why it is not JSON, in the words of `zsched check`, or nothing.
+    #[must_use]
     pub fn hint(&self) -> &str {
         &self.hint
     }

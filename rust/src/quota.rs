@@ -6,7 +6,10 @@ use crate::counters::{Counter, Counters};
 #[cfg(feature = "leased")]
 use crate::engine::{quota_allows, FAR, MOST_TICKETS};
 use crate::engine::{Handle, PassKind, RetryKind, Status, Used};
+use crate::system::{generation, PerProcess};
+use crate::ticket::{Drawer, NoTicket, Ticket};
 use std::fmt;
+use std::sync::atomic::{AtomicU64, Ordering};
 use std::sync::{Arc, Mutex, MutexGuard, PoisonError};
 use std::time::{Duration, Instant};
 
@@ -32,7 +35,8 @@ use std::time::{Duration, Instant};
 /// ```
 ///
 /// Windows are counted from the moment at which the quota was made, by the system's monotonic clock; with the feature
-/// `tokio` by tokio's, which `tokio::time::pause` stops.
+/// `tokio` by tokio's, which `tokio::time::pause` stops. It belongs to its process: a forked child has one of its own,
+/// with nothing counted, in the same windows.
 #[derive(Clone)]
 pub struct Quota {
     shared: Arc<Shared>,
@@ -49,14 +53,32 @@ pub(crate) struct Uses {
 }
 
 struct Shared {
+    made: Made,
+    passes: PerProcess<Passes>,
+}
+
+/// What a quota is made with, and so is another one in each forked child.
+struct Made {
+    /// The reserve and the share.
+    terms: AtomicTerms,
+    carries: bool,
+    /// How many milliseconds a window is long.
+    period: u64,
+    /// Moment 0.
+    began: Instant,
+    /// The moment from whose window on windows are counted, in milliseconds.
+    from: u64,
+}
+
+/// A reserve and a share, in the lower 16 bits, that are changed as one.
+#[derive(Debug)]
+pub(crate) struct AtomicTerms(AtomicU64);
+
+struct Passes {
     /// The first pass, which others are split off.
     root: Mutex<Handle<PassKind>>,
     /// Those by which threads count their requests.
     counters: Counters,
-    /// Moment 0.
-    began: Instant,
-    /// How many milliseconds a window is long.
-    period: u64,
 }
 
 /// The right to count requests and to draw tickets of a [`Quota`], for one thread at a time: no call of it takes a lock
@@ -68,11 +90,11 @@ struct Shared {
 ///
 /// let quota = Quota::new(1, 0.5, Duration::from_secs(60))?;
 /// let mut pass = quota.pass()?;
-/// assert!(pass.draw().is_some());
-/// assert!(pass.draw().is_none());
+/// assert!(pass.draw().is_ok());
+/// assert!(pass.draw().is_err());
 /// pass.deposit();
 /// pass.deposit();
-/// assert!(pass.draw().is_some());
+/// assert!(pass.draw().is_ok());
 /// drop(pass);
 /// assert_eq!(quota.close().ok(), Some(2));
 /// # Ok::<(), hikebox::BudgetError>(())
@@ -82,7 +104,12 @@ pub struct QuotaPass {
     /// `None` only while it is dropped.
     handle: Option<Handle<PassKind>>,
     quota: Quota,
+    drawer: Drawer,
     tickets: u64,
+    /// The window and the number of the latest ticket, where that did not come back.
+    latest: Option<(u64, u64)>,
+    /// The process that it is of.
+    generation: u64,
 }
 
 /// What is known of a window of a quota.
@@ -97,9 +124,9 @@ pub struct Usage {
     /// The tickets that it may yet give for the requests counted so far, and what is left of those carried to it.
     pub left: u64,
     /// When the next window begins, as a moment of the quota's. If that is further off than the window's length, this
-    /// one was opened by a call whose clock was ahead, or by the requests past the 4,294,967,296 of the window before.
-    /// `None` of a `LeasedQuota`.
-    pub next: Option<Duration>,
+    /// one was opened by a call whose clock was ahead, or by the requests past the 4,294,967,296 of the window before. Of a
+    /// `LeasedQuota` it is a moment of the machine's uptime.
+    pub next: Duration,
 }
 
 /// What a quota is made with, in the engine's units: tickets, thousandths of a ticket, milliseconds.
@@ -156,9 +183,9 @@ impl Quota {
     /// let (quota, at) = (Quota::carrying(0, 0.5, Duration::from_secs(60))?, Duration::from_secs);
     /// let mut pass = quota.pass()?;
     /// pass.deposit_of_at(at(55), 4);
-    /// assert!(pass.draw_at(at(58)).is_some());
-    /// assert!(pass.draw_at(at(61)).is_some());
-    /// assert!(pass.draw_at(at(61)).is_none());
+    /// assert!(pass.draw_at(at(58)).is_ok());
+    /// assert!(pass.draw_at(at(61)).is_ok());
+    /// assert!(pass.draw_at(at(61)).is_err());
     /// # Ok::<(), hikebox::BudgetError>(())
     /// ```
     ///
@@ -189,13 +216,14 @@ impl Quota {
 
     fn made(moment: Duration, began: Instant, terms: Terms, carries: bool) -> Result<Self, BudgetError> {
         let Terms { reserve, share, period } = terms;
-        let root = Handle::quota(whole_millis(moment), reserve, share, period, carries).map_err(BudgetError::of)?;
-        Ok(Self::of(root, began, period))
+        let terms = AtomicTerms::new(reserve, share);
+        let made = Made { terms, carries, period, began, from: whole_millis(moment) };
+        let root = made.root(reserve, share).map_err(BudgetError::of)?;
+        Ok(Self::of(root, made))
     }
 
-    fn of(root: Handle<PassKind>, began: Instant, period: u64) -> Self {
-        let (root, counters) = (Mutex::new(root), Counters::default());
-        Self { shared: Arc::new(Shared { root, counters, began, period }), uses: Uses::default() }
+    fn of(root: Handle<PassKind>, made: Made) -> Self {
+        Self { shared: Arc::new(Shared { made, passes: PerProcess::new(Passes::of(root)) }), uses: Uses::default() }
     }
 
     /// The quota, on which a call counts as a request where it succeeds, and not before its first run: so a callee that
@@ -260,7 +288,11 @@ impl Quota {
     ///
     /// [`BudgetError`] says which of them is out of its range; then nothing changes.
     pub fn set_terms(&self, reserve: u64, share: f64) -> Result<(), BudgetError> {
-        self.lock().set_terms(reserve, thousandths(share)?).map_err(BudgetError::of)
+        let share = thousandths(share)?;
+        let mut root = self.lock();
+        root.set_terms(reserve, share).map_err(BudgetError::of)?;
+        self.shared.made.terms.set(reserve, share);
+        Ok(())
     }
 
     /// A pass of the quota, for a thread that counts requests and draws by itself.
@@ -270,7 +302,8 @@ impl Quota {
     /// [`BudgetError::NoMemory`].
     pub fn pass(&self) -> Result<QuotaPass, BudgetError> {
         let part = self.lock().split().map_err(BudgetError::of)?;
-        Ok(QuotaPass { handle: Some(part), quota: self.clone(), tickets: 0 })
+        let (quota, drawer, generation) = (self.clone(), Drawer::new(), generation());
+        Ok(QuotaPass { handle: Some(part), quota, drawer, tickets: 0, latest: None, generation })
     }
 
     /// Counts a request. Calls that are retried under the quota do it by themselves.
@@ -297,7 +330,7 @@ impl Quota {
     /// Counts a request at this instant.
     #[inline]
     pub(crate) fn deposit_by_clock(&self, now: Instant) {
-        if !self.shared.counters.count_one(now) {
+        if !self.passes().counters.count_one(now) {
             self.count(now, 1);
         }
     }
@@ -306,9 +339,9 @@ impl Quota {
     /// first pass, where they are more than the counter's counts at once.
     #[cold]
     fn count(&self, now: Instant, requests: u32) {
-        let Shared { began, period, .. } = *self.shared;
+        let Made { began, period, .. } = self.shared.made;
         let first = self.millis_at(now) / period * period;
-        let counter = &mut *self.shared.counters.own();
+        let counter = &mut *self.passes().counters.own();
         if let Some(ends) = began.checked_add(Duration::from_millis(first.saturating_add(period))) {
             *counter = match counter.take() {
                 Some(counter) => Some(Counter { first, ends, ..counter }),
@@ -321,24 +354,28 @@ impl Quota {
     }
 
     /// What was asked of the present window, what it has given, what it has left, and when the next begins.
+    #[must_use]
     pub fn seen(&self) -> Usage {
         self.seen_at(self.moment(now()))
     }
 
     /// The same at a moment of a host that has a clock of its own.
+    #[must_use]
     pub fn seen_at(&self, now: Duration) -> Usage {
         usage(self.lock().seen(whole_millis(now)))
     }
 
     /// How many tickets were granted, in all windows, to retries that have ended and to passes that were given back, less
     /// those that came back.
+    #[must_use]
     pub fn granted(&self) -> u64 {
         self.lock().count()
     }
 
     /// The quota's moment at this instant: the time since it was made.
+    #[must_use]
     pub fn moment(&self, now: Instant) -> Duration {
-        now.saturating_duration_since(self.shared.began)
+        now.saturating_duration_since(self.shared.made.began)
     }
 
     /// The same in whole milliseconds.
@@ -354,13 +391,15 @@ impl Quota {
     /// The quota itself.
     pub fn close(self) -> Result<u64, Self> {
         let Self { shared, uses } = self;
-        let Shared { root, counters, began, period } = match Arc::try_unwrap(shared) {
-            Ok(shared) => shared,
-            Err(shared) => return Err(Self { shared, uses }),
+        let Shared { made, passes } = Arc::try_unwrap(shared).map_err(|shared| Self { shared, uses })?;
+        let Passes { root, counters } = match passes.into_inner() {
+            Some(passes) => passes,
+            // (in a forked child that drew none)
+            None => return Ok(0),
         };
         let mut root = root.into_inner().unwrap_or_else(PoisonError::into_inner);
         counters.into_passes().for_each(|pass| root.join(pass));
-        root.close().map_err(|_| Self { uses, ..Self::of(root, began, period) })
+        root.close().map_err(|_| Self { uses, ..Self::of(root, made) })
     }
 
     /// Takes the pass of a retry back, which is over or dropped, and its latest ticket where that comes back.
@@ -383,7 +422,47 @@ impl Quota {
     }
 
     fn lock(&self) -> MutexGuard<'_, Handle<PassKind>> {
-        self.shared.root.lock().unwrap_or_else(PoisonError::into_inner)
+        self.passes().root.lock().unwrap_or_else(PoisonError::into_inner)
+    }
+
+    /// The passes of this process.
+    #[inline]
+    fn passes(&self) -> &Passes {
+        self.shared.passes.get(|| self.shared.made.anew())
+    }
+}
+
+impl Made {
+    /// A first pass of these terms.
+    fn root(&self, reserve: u64, share: u64) -> Result<Handle<PassKind>, Status> {
+        Handle::quota(self.from, reserve, share, self.period, self.carries)
+    }
+
+    /// The passes of a forked child.
+    fn anew(&self) -> Passes {
+        let (reserve, share) = self.terms.get();
+        Passes::of(self.root(reserve, share).expect("memory for a quota"))
+    }
+}
+
+impl Passes {
+    fn of(root: Handle<PassKind>) -> Self {
+        Self { root: Mutex::new(root), counters: Counters::default() }
+    }
+}
+
+impl AtomicTerms {
+    pub(crate) fn new(reserve: u64, share: u64) -> Self {
+        Self(AtomicU64::new(reserve << 16 | share))
+    }
+
+    pub(crate) fn get(&self) -> (u64, u64) {
+        let both = self.0.load(Ordering::Relaxed);
+        (both >> 16, both & 0xffff)
+    }
+
+    pub(crate) fn set(&self, reserve: u64, share: u64) {
+        self.0.store(reserve << 16 | share, Ordering::Relaxed);
     }
 }
 
@@ -399,11 +478,14 @@ impl QuotaPass {
         self.deposit_at(self.quota.moment(now()));
     }
 
-    /// A ticket that no other draw got, or `None` where the present window has none left: a later one may, and so may
-    /// this one after more requests. Ticket n of a window, from 0, has the number `window << 32 | n`; those that are
-    /// carried to a window, which are drawn first, have the last numbers of the one before.
-    #[must_use = "the ticket is drawn, if there is one"]
-    pub fn draw(&mut self) -> Option<u64> {
+    /// A ticket that no other draw got. Those that are carried to a window, which are drawn first, have the last numbers of
+    /// the window before.
+    ///
+    /// # Errors
+    ///
+    /// [`NoTicket::UsedUp`] where the present window has none left: so long until the next one. More requests may give this
+    /// one more.
+    pub fn draw(&mut self) -> Result<Ticket, NoTicket> {
         self.draw_at(self.quota.moment(now()))
     }
 
@@ -417,13 +499,20 @@ impl QuotaPass {
         self.deposit_of_at(self.quota.moment(now()), requests);
     }
 
-    /// Hands the latest ticket that it drew back, and says whether there was one: not where it drew none since the last
-    /// that it handed back. Another may be drawn in the ticket's window for it, by any pass; where that is over, or the
-    /// ticket was carried from it, none is.
-    pub fn hand_back(&mut self) -> bool {
-        let handed = self.handle().hand_back();
-        self.tickets -= u64::from(handed);
-        handed
+    /// Hands the ticket back that it drew latest. Another may be drawn in the ticket's window for it, by any pass; where
+    /// that is over, or the ticket was carried from it, none is.
+    ///
+    /// # Errors
+    ///
+    /// The ticket itself, where it is not the one that this pass drew latest.
+    pub fn hand_back(&mut self, ticket: Ticket) -> Result<(), Ticket> {
+        let is_latest = ticket.is_of(self.drawer) && self.latest == Some((ticket.window(), ticket.number()));
+        if !is_latest || self.generation != generation() || !self.handle().hand_back() {
+            return Err(ticket);
+        }
+        self.latest = None;
+        self.tickets -= 1;
+        Ok(())
     }
 
     /// [`QuotaPass::deposit`] at a moment of a host that has a clock of its own. A moment in an earlier window than the
@@ -441,19 +530,25 @@ impl QuotaPass {
     }
 
     /// [`QuotaPass::draw`] at such a moment.
-    #[must_use = "the ticket is drawn, if there is one"]
-    pub fn draw_at(&mut self, now: Duration) -> Option<u64> {
+    ///
+    /// # Errors
+    ///
+    /// As of [`QuotaPass::draw`].
+    pub fn draw_at(&mut self, now: Duration) -> Result<Ticket, NoTicket> {
         loop {
             match self.handle().draw(whole_millis(now)) {
                 Ok(ticket) => {
                     self.tickets += 1;
-                    return Some(ticket);
+                    let (window, number) = (ticket >> 32, ticket % (1 << 32));
+                    self.latest = Some((window, number));
+                    return Ok(Ticket::drawn(self.drawer, window, number));
                 }
                 // As many other draws got a ticket meanwhile.
                 Err(Status::RacesLost) => {}
                 Err(status) => {
                     debug_assert_eq!(status, Status::NoTicket);
-                    return None;
+                    let next = self.seen_at(now).next;
+                    return Err(NoTicket::UsedUp { next_in: Some(next.saturating_sub(now)) });
                 }
             }
         }
@@ -465,26 +560,34 @@ impl QuotaPass {
     }
 
     /// How many tickets it drew, and did not hand back.
+    #[must_use]
     pub fn count(&self) -> u64 {
         self.tickets
     }
 
+    /// The pass of this process: in a forked child a new one, with nothing drawn.
     fn handle(&mut self) -> &mut Handle<PassKind> {
+        if self.generation != generation() {
+            std::mem::forget(self.handle.take());
+            *self = self.quota.pass().expect("memory for a pass");
+        }
         self.handle.as_mut().expect("a pass has its handle until it is dropped")
     }
 }
 
 impl Drop for QuotaPass {
     fn drop(&mut self) {
-        if let Some(handle) = self.handle.take() {
-            self.quota.lock().join(handle);
+        match self.handle.take() {
+            Some(handle) if self.generation == generation() => self.quota.lock().join(handle),
+            // (in a forked child it is the parent's)
+            handle => std::mem::forget(handle),
         }
     }
 }
 
 fn usage(used: Used) -> Usage {
     let Used { window, asked, given, left, next } = used;
-    Usage { window, asked, given, left, next: Some(Duration::from_millis(next)) }
+    Usage { window, asked, given, left, next: Duration::from_millis(next) }
 }
 
 /// Moment 0 of a host whose clock tells this moment now.

@@ -7,6 +7,7 @@ use crate::grants::Unlimited;
 use crate::host::{Host, Random, Sleep, SystemHost};
 use crate::machine::Ended;
 use crate::policy::{Policy, PolicyError};
+use std::borrow::Cow;
 use std::error::Error;
 use std::fmt;
 use std::future::Future;
@@ -21,6 +22,8 @@ pub enum RepeatError<T, E> {
     Failed(E),
     /// The schedule was done before the answer was as wanted, which was last so.
     ScheduleDone(T),
+    /// The next run would begin past the deadline, and the answer was last so.
+    Deadline(T),
     /// The schedule could not go on.
     Broken(PolicyError),
 }
@@ -106,25 +109,25 @@ where
 ///
 /// ```
 /// use hikebox::{Policy, Repeating, Schedule, Test};
-/// use std::time::Duration;
+/// use std::{cell::Cell, time::Duration};
 ///
 /// // each second while the status is 202, and at most a minute
 /// let schedule = Schedule::spaced(Duration::from_secs(1)).while_input(Test::Equal(202));
 /// let policy = Policy::new(&schedule)?;
 /// let mut statuses = [202, 202, 200].into_iter();
-/// let mut slept = Duration::ZERO;
+/// let slept = Cell::new(Duration::ZERO);
 /// let status = Repeating::new(&policy)
 ///     .code(|status| *status)
 ///     .deadline(Duration::from_secs(60))
-///     .sleep(|wait| slept += wait)
+///     .sleep(|wait| slept.set(slept.get() + wait))
 ///     .call(|| statuses.next().ok_or("no answer"))?;
 /// assert_eq!(status, 200);
-/// assert_eq!(slept, Duration::from_secs(2));
+/// assert_eq!(slept.get(), Duration::from_secs(2));
 /// # Ok::<(), Box<dyn std::error::Error>>(())
 /// ```
 #[must_use = "nothing is called before `call` or `until`"]
 pub struct Repeating<'a, T, C = fn(&T) -> u64, M = SystemHost> {
-    policy: &'a Policy,
+    policy: Cow<'a, Policy>,
     deadline: Option<Duration>,
     code: C,
     host: M,
@@ -134,22 +137,28 @@ pub struct Repeating<'a, T, C = fn(&T) -> u64, M = SystemHost> {
 impl<'a, T> Repeating<'a, T> {
     /// Each value has the code 0.
     pub fn new(policy: &'a Policy) -> Self {
-        Self { policy, deadline: None, code: |_| 0, host: Host::system(), value: PhantomData }
+        Self { policy: Cow::Borrowed(policy), deadline: None, code: |_| 0, host: Host::system(), value: PhantomData }
     }
 }
 
 impl<'a, T, C, M> Repeating<'a, T, C, M> {
-    /// No run is planned to begin later than this (whole milliseconds) after the first one began: where it would be, the
-    /// schedule is done.
+    /// No run but the first begins later than this (whole milliseconds) after the first one began, also where a wait took
+    /// longer than it should.
     pub fn deadline(mut self, deadline: Duration) -> Self {
         self.deadline = Some(deadline);
         self
     }
 
     /// The number by which the schedule knows a value, up to 2^62 - 1: its input.
-    pub fn code<X: FnMut(&T) -> u64>(self, code: X) -> Repeating<'a, T, X, M> {
+    pub fn code<X: Fn(&T) -> u64>(self, code: X) -> Repeating<'a, T, X, M> {
         let Self { policy, deadline, host, value, .. } = self;
         Repeating { policy, deadline, code, host, value }
+    }
+
+    /// The same with a policy of its own, as for a field of a type, or for a task that is spawned.
+    pub fn into_owned(self) -> Repeating<'static, T, C, M> {
+        let Self { policy, deadline, code, host, value } = self;
+        Repeating { policy: Cow::Owned(policy.into_owned()), deadline, code, host, value }
     }
 
     fn with<O>(self, host: impl FnOnce(M) -> O) -> Repeating<'a, T, C, O> {
@@ -165,7 +174,7 @@ impl<'a, T, C, M> Repeating<'a, T, C, M> {
 
 impl<'a, T, C, K, S, R> Repeating<'a, T, C, Host<K, S, R>> {
     /// The clock, in the place of the system's.
-    pub fn clock<X: FnMut() -> Instant>(self, clock: X) -> Repeating<'a, T, C, Host<X, S, R>> {
+    pub fn clock<X: Fn() -> Instant>(self, clock: X) -> Repeating<'a, T, C, Host<X, S, R>> {
         self.with(|Host { sleep, words, .. }| Host { clock, sleep, words })
     }
 
@@ -176,18 +185,18 @@ impl<'a, T, C, K, S, R> Repeating<'a, T, C, Host<K, S, R>> {
     }
 
     /// Random words, in the place of the system's: four for each value, of which a jitter takes the one of its lane.
-    pub fn words<X: FnMut() -> [u32; 4]>(self, words: X) -> Repeating<'a, T, C, Host<K, S, X>> {
+    pub fn words<X: Fn() -> [u32; 4]>(self, words: X) -> Repeating<'a, T, C, Host<K, S, X>> {
         self.with(|Host { clock, sleep, .. }| Host { clock, sleep, words })
     }
 }
 
-impl<T, C: FnMut(&T) -> u64, K: FnMut() -> Instant, S: Sleep, R: Random> Repeating<'_, T, C, Host<K, S, R>> {
+impl<T, C: Fn(&T) -> u64, K: Fn() -> Instant, S: Sleep, R: Random> Repeating<'_, T, C, Host<K, S, R>> {
     /// Runs the call again after each success, and gives the last value. Between runs the thread sleeps.
     ///
     /// # Errors
     ///
     /// [`RepeatError::Failed`] at the first failure.
-    pub fn call<E>(&mut self, call: impl FnMut() -> Result<T, E>) -> Result<T, RepeatError<T, E>> {
+    pub fn call<E>(&self, call: impl FnMut() -> Result<T, E>) -> Result<T, RepeatError<T, E>> {
         last(self.until(|_| false, call))
     }
 
@@ -195,9 +204,10 @@ impl<T, C: FnMut(&T) -> u64, K: FnMut() -> Instant, S: Sleep, R: Random> Repeati
     ///
     /// # Errors
     ///
-    /// [`RepeatError::Failed`] at the first failure, and [`RepeatError::ScheduleDone`] with the last value.
+    /// [`RepeatError::Failed`] at the first failure; [`RepeatError::ScheduleDone`] and [`RepeatError::Deadline`] with the last
+    /// value.
     pub fn until<E>(
-        &mut self,
+        &self,
         mut wanted: impl FnMut(&T) -> bool,
         mut call: impl FnMut() -> Result<T, E>,
     ) -> Result<T, RepeatError<T, E>> {
@@ -207,22 +217,27 @@ impl<T, C: FnMut(&T) -> u64, K: FnMut() -> Instant, S: Sleep, R: Random> Repeati
             if wanted(&value) {
                 return Ok(value);
             }
-            match self.after(&mut course, &value)? {
-                Some(wait) if wait.is_zero() => (),
-                Some(wait) => self.host.sleep.sleep(wait),
-                None => return Err(RepeatError::ScheduleDone(value)),
+            let wait = match self.after(&mut course, &value) {
+                Ok(wait) => wait,
+                Err(ended) => return Err(RepeatError::of(ended, value)),
+            };
+            if !wait.is_zero() {
+                self.host.sleep.sleep(wait);
+            }
+            if let Err(ended) = course.resume(&self.host.clock) {
+                return Err(RepeatError::of(ended, value));
             }
         }
     }
 }
 
-impl<T, C: FnMut(&T) -> u64, K: FnMut() -> Instant, S: AsyncSleep, R: Random> Repeating<'_, T, C, Host<K, S, R>> {
+impl<T, C: Fn(&T) -> u64, K: Fn() -> Instant, S: AsyncSleep, R: Random> Repeating<'_, T, C, Host<K, S, R>> {
     /// [`Repeating::call`] for futures. Without the feature `tokio` it wants a [`Repeating::sleep`] of the runtime.
     ///
     /// # Errors
     ///
     /// [`RepeatError::Failed`] at the first failure.
-    pub async fn call_async<E, F>(&mut self, call: impl FnMut() -> F) -> Result<T, RepeatError<T, E>>
+    pub async fn call_async<E, F>(&self, call: impl FnMut() -> F) -> Result<T, RepeatError<T, E>>
     where
         F: Future<Output = Result<T, E>>,
     {
@@ -233,9 +248,10 @@ impl<T, C: FnMut(&T) -> u64, K: FnMut() -> Instant, S: AsyncSleep, R: Random> Re
     ///
     /// # Errors
     ///
-    /// [`RepeatError::Failed`] at the first failure, and [`RepeatError::ScheduleDone`] with the last value.
+    /// [`RepeatError::Failed`] at the first failure; [`RepeatError::ScheduleDone`] and [`RepeatError::Deadline`] with the last
+    /// value.
     pub async fn until_async<E, F>(
-        &mut self,
+        &self,
         mut wanted: impl FnMut(&T) -> bool,
         mut call: impl FnMut() -> F,
     ) -> Result<T, RepeatError<T, E>>
@@ -248,40 +264,49 @@ impl<T, C: FnMut(&T) -> u64, K: FnMut() -> Instant, S: AsyncSleep, R: Random> Re
             if wanted(&value) {
                 return Ok(value);
             }
-            match self.after(&mut course, &value)? {
-                Some(wait) if wait.is_zero() => (),
-                Some(wait) => self.host.sleep.sleep(wait).await,
-                None => return Err(RepeatError::ScheduleDone(value)),
+            let wait = match self.after(&mut course, &value) {
+                Ok(wait) => wait,
+                Err(ended) => return Err(RepeatError::of(ended, value)),
+            };
+            if !wait.is_zero() {
+                self.host.sleep.sleep(wait).await;
+            }
+            if let Err(ended) = course.resume(&self.host.clock) {
+                return Err(RepeatError::of(ended, value));
             }
         }
     }
 }
 
-impl<T, C: FnMut(&T) -> u64, K: FnMut() -> Instant, S, R: Random> Repeating<'_, T, C, Host<K, S, R>> {
-    fn begin(&mut self) -> Course {
+impl<T, C: Fn(&T) -> u64, K: Fn() -> Instant, S, R: Random> Repeating<'_, T, C, Host<K, S, R>> {
+    fn begin(&self) -> Course {
         Course::new((self.host.clock)())
     }
 
-    /// How long it is waited after a run that gave this value now, or `None` where the schedule is done. To the engine each
-    /// run whose value is not wanted is one that failed, on nothing that could refuse a retry.
-    fn after<E>(&mut self, course: &mut Course, value: &T) -> Result<Option<Duration>, RepeatError<T, E>> {
+    /// How long it is waited after a run that gave this value now, or how the schedule ended. To the engine each run whose
+    /// value is not wanted is one that failed, on nothing that could refuse a retry.
+    fn after(&self, course: &mut Course, value: &T) -> Result<Duration, Ended> {
         let now = (self.host.clock)();
-        let broken = || RepeatError::Broken(PolicyError::no_memory());
-        course.resume(|| now).map_err(|_| broken())?;
         let lost = Lost { now, code: (self.code)(value).min(FAR), words: self.host.words.draw(), asked: None };
-        let terms = Terms { policy: self.policy, budget: &Unlimited, deadline: self.deadline };
-        match course.lost(terms, lost) {
-            Ok(wait) => Ok(Some(wait)),
-            Err(Ended::Broken(_)) => Err(broken()),
-            Err(_) => Ok(None),
+        course.lost(Terms { policy: &self.policy, budget: &Unlimited, deadline: self.deadline }, lost)
+    }
+}
+
+impl<T, E> RepeatError<T, E> {
+    /// That of a repetition which ended so, with this value.
+    fn of(ended: Ended, value: T) -> Self {
+        match ended {
+            Ended::Broken(_) => Self::Broken(PolicyError::no_memory()),
+            Ended::Deadline => Self::Deadline(value),
+            _ => Self::ScheduleDone(value),
         }
     }
 }
 
-/// The last value of a repetition, which ends with its schedule.
+/// The last value of a repetition, which ends with its schedule, or by its deadline.
 fn last<T, E>(ended: Result<T, RepeatError<T, E>>) -> Result<T, RepeatError<T, E>> {
     match ended {
-        Err(RepeatError::ScheduleDone(value)) => Ok(value),
+        Err(RepeatError::ScheduleDone(value) | RepeatError::Deadline(value)) => Ok(value),
         ended => ended,
     }
 }
@@ -289,7 +314,7 @@ fn last<T, E>(ended: Result<T, RepeatError<T, E>>) -> Result<T, RepeatError<T, E
 impl<T, C, M> fmt::Debug for Repeating<'_, T, C, M> {
     fn fmt(&self, f: &mut fmt::Formatter<'_>) -> fmt::Result {
         f.debug_struct("Repeating")
-            .field("policy", self.policy)
+            .field("policy", &self.policy)
             .field("deadline", &self.deadline)
             .finish_non_exhaustive()
     }
@@ -300,6 +325,7 @@ impl<T, E: fmt::Display> fmt::Display for RepeatError<T, E> {
         match self {
             Self::Failed(error) => write!(f, "{error:#}"),
             Self::ScheduleDone(_) => f.write_str("the schedule was done before the answer was there"),
+            Self::Deadline(_) => f.write_str("the deadline came before the answer was there"),
             Self::Broken(error) => write!(f, "the repeat could not go on: {error}"),
         }
     }

@@ -4,15 +4,15 @@ use crate::clock::now;
 use crate::course::{Course, Lost, Terms};
 use crate::grants::{DrawnOn, Grants, Source};
 use crate::policy::Policy;
-use crate::retrying::LONGEST;
+use crate::retrying::MAX_RETRY_AFTER;
 use crate::words;
+use ::tokio::time::{sleep, Sleep};
 use std::fmt;
 use std::future::Future;
 use std::pin::Pin;
 use std::sync::{Arc, Mutex, MutexGuard, PoisonError};
 use std::task::{Context, Poll};
 use std::time::{Duration, Instant};
-use ::tokio::time::{sleep, Sleep};
 
 /// A [`tower::retry::Policy`](::tower::retry::Policy) that retries a request as a schedule says, with a ticket of a
 /// [`Budget`](crate::Budget) or a [`Quota`](crate::Quota) for each retry, in the place of `tower::retry::budget`. Each
@@ -111,7 +111,7 @@ struct Settings<Request, Response, E> {
     code: Asked<E, u64>,
     response_code: Asked<Response, u64>,
     retry_after: Outcome<Option<Duration>, Response, E>,
-    longest: Duration,
+    max_retry_after: Duration,
 }
 
 impl<Request: Clone, Response, E> RetryPolicy<Request, Response, E> {
@@ -141,7 +141,7 @@ impl<Request, Response, E> RetryPolicy<Request, Response, E> {
             code: None,
             response_code: None,
             retry_after: None,
-            longest: LONGEST,
+            max_retry_after: MAX_RETRY_AFTER,
         };
         Self { settings: Arc::new(settings), course: None, began: Whenever }
     }
@@ -174,7 +174,7 @@ impl<Request, Response, E, B: Noted> RetryPolicy<Request, Response, E, B> {
     }
 
     /// How long a failure asks to wait, as a response's `Retry-After` does. The retry waits for so long, up to
-    /// [`RetryPolicy::longest`], where the schedule would wait for less.
+    /// [`RetryPolicy::max_retry_after`], where the schedule would wait for less.
     pub fn retry_after(
         mut self,
         retry_after: impl Fn(Result<&Response, &E>) -> Option<Duration> + Send + Sync + 'static,
@@ -184,13 +184,14 @@ impl<Request, Response, E, B: Noted> RetryPolicy<Request, Response, E, B> {
     }
 
     /// The longest wait that a failure is granted by [`RetryPolicy::retry_after`]: six hours, unless it is said.
-    pub fn longest(mut self, longest: Duration) -> Self {
-        self.set().longest = longest;
+    pub fn max_retry_after(mut self, longest: Duration) -> Self {
+        self.set().max_retry_after = longest;
         self
     }
 
-    /// No retry is planned to begin later than this (whole milliseconds) after the request was made, as of
-    /// [`Retrying::deadline`](crate::Retrying::deadline). A layer of `tower::timeout` ends a run that is under way.
+    /// No retry is planned to begin later than this (whole milliseconds) after the request was made. Tower makes a run that
+    /// it was promised also where its timer was late; [`Retrying::deadline`](crate::Retrying::deadline) does not. A layer
+    /// of `tower::timeout` ends a run that is under way.
     pub fn deadline(mut self, deadline: Duration) -> RetryPolicy<Request, Response, E, Since> {
         self.set().deadline = Some(deadline);
         RetryPolicy { settings: self.settings, course: None, began: Since(now()) }
@@ -210,7 +211,7 @@ impl<Request, Response, E, B: Noted> RetryPolicy<Request, Response, E, B> {
             None => Arc::new(Mutex::new(Course::new(self.began.began(now)))),
         };
         let asked = settings.retry_after.as_ref().and_then(|retry_after| retry_after(result));
-        let asked = asked.map(|asked| asked.min(settings.longest));
+        let asked = asked.map(|asked| asked.min(settings.max_retry_after));
         let wait = lock(&course).lost(settings.terms(), Lost { now, code, words: words::next(), asked }).ok()?;
         let next = Self { settings: self.settings.clone(), course: Some(course), began: self.began };
         Some(RetryWait { next: Some(next), sleep: if wait.is_zero() { None } else { Some(sleeping(wait)) } })
@@ -336,7 +337,7 @@ impl<Request, Response, E> Clone for Settings<Request, Response, E> {
             code: self.code.clone(),
             response_code: self.response_code.clone(),
             retry_after: self.retry_after.clone(),
-            longest: self.longest,
+            max_retry_after: self.max_retry_after,
         }
     }
 }

@@ -2,11 +2,12 @@
 
 use crate::course::{later, Course, Lost, Terms};
 use crate::error::RetryError;
-use crate::grants::{Grants, Unlimited};
-use crate::hooks::{Hooked, Hooks, PlainHooks};
+use crate::grants::{DrawnOn, Grants, Source, Unlimited};
+use crate::hooks::{Hooked, Hooks, PlainHooks, SharedHooks};
 use crate::host::{Host, Random, Sleep, SystemHost};
-use crate::machine::Cause;
+use crate::machine::Ended;
 use crate::policy::Policy;
+use std::borrow::Cow;
 use std::fmt;
 use std::marker::PhantomData;
 use std::time::{Duration, Instant};
@@ -55,7 +56,7 @@ pub fn retry<T, E>(
 ///
 /// let policy: Policy = r#"{"recurs":2}"#.parse()?;
 /// let budget = Budget::new(10)?;
-/// let mut retrying = Retrying::new(&policy, &budget)
+/// let retrying = Retrying::new(&policy, &budget)
 ///     .when(|error: &Error| error.kind() == ErrorKind::TimedOut)
 ///     .notify(|error, wait| eprintln!("{error}; again in {wait:?}"));
 /// let value = retrying.call(|| Err::<(), _>(Error::from(ErrorKind::NotFound)));
@@ -65,16 +66,64 @@ pub fn retry<T, E>(
 /// # Ok::<(), Box<dyn std::error::Error>>(())
 /// ```
 ///
-/// A clone has the same settings and draws on the same budget; it is `Send` where its closures are. A call that succeeds
+/// It is called by `&self`, so what it asks and tells is `Fn`: a closure that counts takes a `Cell` or an atomic. A clone
+/// has the same settings and draws on the same budget; it is `Send` and `Sync` where its closures are. A call that succeeds
 /// at once takes no memory and no lock; on a quota it is counted, by a pass that its thread shares with few others.
+///
+/// It borrows its policy and its budget. One that is kept owns them ([`Retrying::into_owned`]), and has a type that can be
+/// named ([`Retrying::shared`]):
+///
+/// ```
+/// use hikebox::{Policy, Quota, Retrying, SharedRetrying};
+/// use std::{io, time::Duration};
+///
+/// struct Client {
+///     retrying: SharedRetrying<io::Error>,
+/// }
+///
+/// impl Client {
+///     fn new() -> Result<Self, Box<dyn std::error::Error>> {
+///         let policy: Policy = r#"{"meet":[{"recurs":3},{"spaced":1}]}"#.parse()?;
+///         let quota = Quota::new(10, 0.2, Duration::from_secs(10))?;
+///         let retrying = Retrying::new(&policy, &quota).when(|error: &io::Error| error.raw_os_error().is_none());
+///         Ok(Self { retrying: retrying.shared() })
+///     }
+///
+///     fn fetch(&self) -> io::Result<String> {
+///         Ok(self.retrying.call(|| Ok("fetched".to_owned())).map_err(hikebox::RetryError::into_last)?)
+///     }
+/// }
+/// # assert_eq!(Client::new().unwrap().fetch().unwrap(), "fetched");
+/// ```
 #[must_use = "nothing is called before `call` or `run`"]
 pub struct Retrying<'a, E, F = (), H = PlainHooks<E>, M = SystemHost> {
-    terms: Terms<'a>,
+    policy: Cow<'a, Policy>,
+    budget: DrawsOn<'a>,
+    deadline: Option<Duration>,
+    max_retry_after: Duration,
     pub(crate) call: F,
     hooks: H,
     pub(crate) host: M,
-    longest: Duration,
     error: PhantomData<fn(&E)>,
+}
+
+/// A [`Retrying`] that is kept: it owns its policy and its budget, and all its hooks have one type.
+pub type SharedRetrying<E> = Retrying<'static, E, (), SharedHooks<E>>;
+
+/// What a [`Retrying`] draws on.
+#[derive(Clone)]
+enum DrawsOn<'a> {
+    Borrowed(&'a dyn DrawnOn),
+    Owned(Source),
+}
+
+impl DrawsOn<'_> {
+    fn get(&self) -> &dyn DrawnOn {
+        match self {
+            Self::Borrowed(budget) => *budget,
+            Self::Owned(budget) => budget,
+        }
+    }
 }
 
 /// A run of a call, as [`Retrying::call_with`] tells it.
@@ -86,11 +135,13 @@ pub struct Attempt {
 
 impl Attempt {
     /// Which run it is, from 1 on.
+    #[must_use]
     pub fn number(&self) -> u64 {
         self.number
     }
 
     /// How long it is from the run's beginning to the deadline, or `None` where there is none.
+    #[must_use]
     pub fn left(&self) -> Option<Duration> {
         self.left
     }
@@ -135,35 +186,38 @@ impl<'a, E> Retrying<'a, E> {
 impl<'a, E, F> Retrying<'a, E, F> {
     pub(crate) fn of(policy: &'a Policy, call: F) -> Self {
         Self {
-            terms: Terms { policy, budget: &Unlimited, deadline: None },
+            policy: Cow::Borrowed(policy),
+            budget: DrawsOn::Borrowed(&Unlimited),
+            deadline: None,
+            max_retry_after: MAX_RETRY_AFTER,
             call,
             hooks: Hooks::plain(),
             host: Host::system(),
-            longest: LONGEST,
             error: PhantomData,
         }
     }
 }
 
-/// How long an error may ask to wait, unless [`Retrying::longest`] says otherwise: six hours.
-pub(crate) const LONGEST: Duration = Duration::from_secs(6 * 3600);
+/// How long an error may ask to wait, unless [`Retrying::max_retry_after`] says otherwise: six hours.
+pub(crate) const MAX_RETRY_AFTER: Duration = Duration::from_secs(6 * 3600);
 
 impl<'a, E, F, H, M> Retrying<'a, E, F, H, M> {
     /// Each retry draws a ticket on this.
     pub fn budget(mut self, budget: &'a impl Grants) -> Self {
-        self.terms.budget = budget;
+        self.budget = DrawsOn::Borrowed(budget);
         self
     }
 
     /// The longest wait that an error is granted by [`Retrying::retry_after`]: six hours, unless it is said.
-    pub fn longest(mut self, longest: Duration) -> Self {
-        self.longest = longest;
+    pub fn max_retry_after(mut self, longest: Duration) -> Self {
+        self.max_retry_after = longest;
         self
     }
 
-    /// No run is planned to begin later than this (whole milliseconds) after the first one began: where the policy, or
-    /// an error, would wait longer, it ends as [`RetryError::ScheduleDone`], and draws no ticket for that. A run that
-    /// is under way is not ended: [`Retrying::call_with`] tells it how long it has left.
+    /// No run but the first begins later than this (whole milliseconds) after the first one began. Where the policy, or an
+    /// error, would wait longer, the retry ends as [`RetryError::Deadline`], and draws no ticket for that. It ends so, too,
+    /// where a wait took longer than it should: then a quota has the ticket back. A run that is under way is not ended:
+    /// [`Retrying::call_with`] tells it how long it has left.
     ///
     /// ```
     /// use hikebox::{Policy, RetryError, Retrying, Unlimited};
@@ -175,47 +229,98 @@ impl<'a, E, F, H, M> Retrying<'a, E, F, H, M> {
     ///     runs += 1;
     ///     Err::<(), _>("busy")
     /// });
-    /// assert_eq!(value, Err(RetryError::ScheduleDone("busy")));
+    /// assert_eq!(value, Err(RetryError::Deadline("busy")));
     /// assert!(runs <= 3); // at 0, 20 and 40 ms
     /// # Ok::<(), hikebox::PolicyError>(())
     /// ```
     pub fn deadline(mut self, deadline: Duration) -> Self {
-        self.terms.deadline = Some(deadline);
+        self.deadline = Some(deadline);
         self
+    }
+
+    /// The same with a policy and a budget of its own, as for a field of a type, or for a task that is spawned.
+    ///
+    /// ```
+    /// # #[cfg(feature = "tokio")]
+    /// # tokio::runtime::Builder::new_current_thread().enable_time().build().unwrap().block_on(async {
+    /// use hikebox::{Budget, Policy, Retryable};
+    ///
+    /// async fn fetch() -> Result<u32, std::io::Error> {
+    ///     Ok(200)
+    /// }
+    ///
+    /// let call = {
+    ///     let (policy, budget): (Policy, _) = (r#"{"recurs":3}"#.parse()?, Budget::new(10)?);
+    ///     fetch.retry(&policy).budget(&budget).into_owned().run()
+    /// };
+    /// assert_eq!(tokio::spawn(call).await??, 200);
+    /// # Ok::<(), Box<dyn std::error::Error>>(())
+    /// # }).unwrap();
+    /// ```
+    pub fn into_owned(self) -> Retrying<'static, E, F, H, M> {
+        let source = match self.budget {
+            DrawsOn::Borrowed(budget) => budget.source(),
+            DrawsOn::Owned(source) => source,
+        };
+        Retrying {
+            policy: Cow::Owned(self.policy.into_owned()),
+            budget: DrawsOn::Owned(source),
+            deadline: self.deadline,
+            max_retry_after: self.max_retry_after,
+            call: self.call,
+            hooks: self.hooks,
+            host: self.host,
+            error: PhantomData,
+        }
+    }
+
+    /// The same, owned, with hooks behind one pointer, so that its type can be named: [`SharedRetrying`]. It has no other
+    /// hooks from then on.
+    pub fn shared(self) -> Retrying<'static, E, F, SharedHooks<E>, M>
+    where
+        H: Hooked<E> + Send + Sync + 'static,
+    {
+        self.into_owned().with(SharedHooks::new, |host| host)
     }
 
     fn with<I, O>(self, hooks: impl FnOnce(H) -> I, host: impl FnOnce(M) -> O) -> Retrying<'a, E, F, I, O> {
         Retrying {
-            terms: self.terms,
+            policy: self.policy,
+            budget: self.budget,
+            deadline: self.deadline,
+            max_retry_after: self.max_retry_after,
             call: self.call,
             hooks: hooks(self.hooks),
             host: host(self.host),
-            longest: self.longest,
             error: PhantomData,
         }
     }
 
     /// The settings, and the call.
     pub(crate) fn parted(self) -> (Retrying<'a, E, (), H, M>, F) {
-        let Self { terms, call, hooks, host, longest, error } = self;
-        (Retrying { terms, call: (), hooks, host, longest, error }, call)
+        let Self { policy, budget, deadline, max_retry_after, call, hooks, host, error } = self;
+        (Retrying { policy, budget, deadline, max_retry_after, call: (), hooks, host, error }, call)
+    }
+
+    fn terms(&self) -> Terms<'_> {
+        Terms { policy: &self.policy, budget: self.budget.get(), deadline: self.deadline }
     }
 }
 
 impl<'a, E, F, W, C, A, N, M> Retrying<'a, E, F, Hooks<W, C, A, N>, M> {
     /// Retries only errors of which this is true. Another one ends the retry as [`RetryError::NotRetried`].
-    pub fn when<X: FnMut(&E) -> bool>(self, when: X) -> Retrying<'a, E, F, Hooks<X, C, A, N>, M> {
+    pub fn when<X: Fn(&E) -> bool>(self, when: X) -> Retrying<'a, E, F, Hooks<X, C, A, N>, M> {
         self.with(|Hooks { code, retry_after, notify, .. }| Hooks { when, code, retry_after, notify }, |host| host)
     }
 
     /// The number by which the schedule knows an error, up to 2^62 - 1: its input.
-    pub fn code<X: FnMut(&E) -> u64>(self, code: X) -> Retrying<'a, E, F, Hooks<W, X, A, N>, M> {
+    pub fn code<X: Fn(&E) -> u64>(self, code: X) -> Retrying<'a, E, F, Hooks<W, X, A, N>, M> {
         self.with(|Hooks { when, retry_after, notify, .. }| Hooks { when, code, retry_after, notify }, |host| host)
     }
 
     /// How long an error asks to wait, as `Retry-After` of HTTP does. The retry waits for so long, up to
-    /// [`Retrying::longest`], where the schedule would wait for less.
-    pub fn retry_after<X: FnMut(&E) -> Option<Duration>>(
+    /// [`Retrying::max_retry_after`], where the schedule would wait for less.
+    pub fn retry_after<X: Fn(&E) -> Option<Duration>>(
         self,
         retry_after: X,
     ) -> Retrying<'a, E, F, Hooks<W, C, X, N>, M> {
@@ -223,14 +328,14 @@ impl<'a, E, F, W, C, A, N, M> Retrying<'a, E, F, Hooks<W, C, A, N>, M> {
     }
 
     /// Called before each retry with the error, and with how long it will wait.
-    pub fn notify<X: FnMut(&E, Duration)>(self, notify: X) -> Retrying<'a, E, F, Hooks<W, C, A, X>, M> {
+    pub fn notify<X: Fn(&E, Duration)>(self, notify: X) -> Retrying<'a, E, F, Hooks<W, C, A, X>, M> {
         self.with(|Hooks { when, code, retry_after, .. }| Hooks { when, code, retry_after, notify }, |host| host)
     }
 }
 
 impl<'a, E, F, H, K, S, R> Retrying<'a, E, F, H, Host<K, S, R>> {
     /// The clock, in the place of the system's.
-    pub fn clock<X: FnMut() -> Instant>(self, clock: X) -> Retrying<'a, E, F, H, Host<X, S, R>> {
+    pub fn clock<X: Fn() -> Instant>(self, clock: X) -> Retrying<'a, E, F, H, Host<X, S, R>> {
         self.with(|hooks| hooks, |Host { sleep, words, .. }| Host { clock, sleep, words })
     }
 
@@ -242,18 +347,18 @@ impl<'a, E, F, H, K, S, R> Retrying<'a, E, F, H, Host<K, S, R>> {
     }
 
     /// Random words, in the place of the system's: four for each failure, of which a jitter takes the one of its lane.
-    pub fn words<X: FnMut() -> [u32; 4]>(self, words: X) -> Retrying<'a, E, F, H, Host<K, S, X>> {
+    pub fn words<X: Fn() -> [u32; 4]>(self, words: X) -> Retrying<'a, E, F, H, Host<K, S, X>> {
         self.with(|hooks| hooks, |Host { clock, sleep, .. }| Host { clock, sleep, words })
     }
 }
 
-impl<E, H: Hooked<E>, K: FnMut() -> Instant, S: Sleep, R: Random> Retrying<'_, E, (), H, Host<K, S, R>> {
+impl<E, H: Hooked<E>, K: Fn() -> Instant, S: Sleep, R: Random> Retrying<'_, E, (), H, Host<K, S, R>> {
     /// Runs the call until it succeeds. Between runs the thread sleeps.
     ///
     /// # Errors
     ///
     /// [`RetryError`] keeps the last error of the call.
-    pub fn call<T>(&mut self, mut call: impl FnMut() -> Result<T, E>) -> Result<T, RetryError<E>> {
+    pub fn call<T>(&self, mut call: impl FnMut() -> Result<T, E>) -> Result<T, RetryError<E>> {
         self.call_with(|_| call())
     }
 
@@ -264,7 +369,7 @@ impl<E, H: Hooked<E>, K: FnMut() -> Instant, S: Sleep, R: Random> Retrying<'_, E
     /// use std::time::Duration;
     ///
     /// let policy: Policy = r#"{"recurs":3}"#.parse()?;
-    /// let mut retrying = Retrying::new(&policy, &Unlimited).deadline(Duration::from_secs(2));
+    /// let retrying = Retrying::new(&policy, &Unlimited).deadline(Duration::from_secs(2));
     /// let answer = retrying.call_with(|attempt| {
     ///     let timeout = attempt.left().unwrap_or(Duration::MAX);
     ///     if attempt.number() < 3 { Err(timeout) } else { Ok(attempt.number()) }
@@ -276,7 +381,7 @@ impl<E, H: Hooked<E>, K: FnMut() -> Instant, S: Sleep, R: Random> Retrying<'_, E
     /// # Errors
     ///
     /// [`RetryError`] keeps the last error of the call.
-    pub fn call_with<T>(&mut self, mut call: impl FnMut(Attempt) -> Result<T, E>) -> Result<T, RetryError<E>> {
+    pub fn call_with<T>(&self, mut call: impl FnMut(Attempt) -> Result<T, E>) -> Result<T, RetryError<E>> {
         let mut course = self.begin();
         let mut attempt = self.first();
         loop {
@@ -287,12 +392,15 @@ impl<E, H: Hooked<E>, K: FnMut() -> Instant, S: Sleep, R: Random> Retrying<'_, E
             if !wait.is_zero() {
                 self.host.sleep.sleep(wait);
             }
-            attempt = self.next(&mut course, attempt).map_err(|cause| RetryError::Broken(cause, error))?;
+            attempt = match self.next(&mut course, attempt) {
+                Ok(attempt) => attempt,
+                Err(ended) => return Err(course.error(ended, error)),
+            };
         }
     }
 }
 
-impl<E, F, H: Hooked<E>, K: FnMut() -> Instant, S: Sleep, R: Random> Retrying<'_, E, Blocking<F>, H, Host<K, S, R>> {
+impl<E, F, H: Hooked<E>, K: Fn() -> Instant, S: Sleep, R: Random> Retrying<'_, E, Blocking<F>, H, Host<K, S, R>> {
     /// Runs the call until it succeeds. Between runs the thread sleeps.
     ///
     /// # Errors
@@ -302,29 +410,29 @@ impl<E, F, H: Hooked<E>, K: FnMut() -> Instant, S: Sleep, R: Random> Retrying<'_
     where
         F: FnMut() -> Result<T, E>,
     {
-        let (mut retrying, Blocking(call)) = self.parted();
+        let (retrying, Blocking(call)) = self.parted();
         retrying.call(call)
     }
 }
 
-impl<E, H: Hooked<E>, K: FnMut() -> Instant, S, R: Random> Retrying<'_, E, (), H, Host<K, S, R>> {
+impl<E, H: Hooked<E>, K: Fn() -> Instant, S, R: Random> Retrying<'_, E, (), H, Host<K, S, R>> {
     /// A request, and its retry, whose first run begins.
-    pub(crate) fn begin(&mut self) -> Course {
+    pub(crate) fn begin(&self) -> Course {
         let now = (self.host.clock)();
-        self.terms.budget.count_request(now);
+        self.budget.get().count_request(now);
         Course::new(now)
     }
 
     /// The first run, which begins with the retry.
     pub(crate) fn first(&self) -> Attempt {
-        Attempt { number: 1, left: self.terms.deadline }
+        Attempt { number: 1, left: self.deadline }
     }
 
     /// What follows a run that ended so.
-    pub(crate) fn after<T>(&mut self, course: &mut Course, ran: Result<T, E>) -> Then<T, E> {
+    pub(crate) fn after<T>(&self, course: &mut Course, ran: Result<T, E>) -> Then<T, E> {
         let error = match ran {
             Ok(value) => {
-                if self.terms.budget.hears_of_successes() {
+                if self.budget.get().hears_of_successes() {
                     self.succeeded(course);
                 }
                 return Then::End(Ok(value));
@@ -335,9 +443,9 @@ impl<E, H: Hooked<E>, K: FnMut() -> Instant, S, R: Random> Retrying<'_, E, (), H
         if !self.hooks.when(&error) {
             return Then::End(Err(RetryError::NotRetried(error)));
         }
-        let asked = self.hooks.retry_after(&error).map(|asked| asked.min(self.longest));
+        let asked = self.hooks.retry_after(&error).map(|asked| asked.min(self.max_retry_after));
         let lost = Lost { now, code: self.hooks.code(&error), words: self.host.words.draw(), asked };
-        let wait = match course.lost(self.terms, lost) {
+        let wait = match course.lost(self.terms(), lost) {
             Ok(wait) => wait,
             Err(ended) => return Then::End(Err(course.error(ended, error))),
         };
@@ -349,26 +457,28 @@ impl<E, H: Hooked<E>, K: FnMut() -> Instant, S, R: Random> Retrying<'_, E, (), H
     }
 
     #[cold]
-    fn succeeded(&mut self, course: &mut Course) {
-        self.terms.budget.count_success(course.won(), &mut self.host.clock);
+    fn succeeded(&self, course: &mut Course) {
+        self.budget.get().count_success(course.won(), &self.host.clock);
     }
 
-    /// The next run, which begins after the wait for it.
-    pub(crate) fn next(&mut self, course: &mut Course, last: Attempt) -> Result<Attempt, Cause> {
-        course.resume(&mut self.host.clock)?;
-        let left = self.terms.deadline.map(|deadline| deadline.saturating_sub(course.passed((self.host.clock)())));
-        Ok(Attempt { number: last.number + 1, left })
+    /// The next run, which begins after the wait for it, or how the retry ended.
+    pub(crate) fn next(&self, course: &mut Course, last: Attempt) -> Result<Attempt, Ended> {
+        let began = course.resume(&self.host.clock)?;
+        let left = |(deadline, now): (Duration, Instant)| deadline.saturating_sub(course.passed(now));
+        Ok(Attempt { number: last.number + 1, left: self.deadline.zip(began).map(left) })
     }
 }
 
 impl<E, F: Clone, H: Clone, M: Clone> Clone for Retrying<'_, E, F, H, M> {
     fn clone(&self) -> Self {
         Self {
-            terms: self.terms,
+            policy: self.policy.clone(),
+            budget: self.budget.clone(),
+            deadline: self.deadline,
+            max_retry_after: self.max_retry_after,
             call: self.call.clone(),
             hooks: self.hooks.clone(),
             host: self.host.clone(),
-            longest: self.longest,
             error: PhantomData,
         }
     }
@@ -377,10 +487,10 @@ impl<E, F: Clone, H: Clone, M: Clone> Clone for Retrying<'_, E, F, H, M> {
 impl<E, F, H, M> fmt::Debug for Retrying<'_, E, F, H, M> {
     fn fmt(&self, f: &mut fmt::Formatter<'_>) -> fmt::Result {
         f.debug_struct("Retrying")
-            .field("policy", self.terms.policy)
-            .field("budget", &self.terms.budget.source())
-            .field("longest", &self.longest)
-            .field("deadline", &self.terms.deadline)
+            .field("policy", &self.policy)
+            .field("budget", &self.budget.get().source())
+            .field("max_retry_after", &self.max_retry_after)
+            .field("deadline", &self.deadline)
             .finish_non_exhaustive()
     }
 }

@@ -158,9 +158,11 @@ impl Schedule {
     /// The same with a factor of `thousandths` (1000 to 1,000,000), where the random word of the lane, 0 to 3, picks.
     pub fn decorrelated_milli(lane: u8, base: Duration, thousandths: u64, longest: Duration) -> Self {
         Self::delays(lane, base, thousandths, longest).checked(
-            delays_of(base, longest)
-                .or(lane_of(lane))
-                .or(factor_of(thousandths, 1000..=1_000_000, "a factor is from 1000 to 1,000,000 thousandths")),
+            delays_of(base, longest).or(lane_of(lane)).or(factor_of(
+                thousandths,
+                1000..=1_000_000,
+                "a factor is from 1000 to 1,000,000 thousandths",
+            )),
             format_args!("decorrelated_milli({lane}, {base:?}, {thousandths}, {longest:?})"),
         )
     }
@@ -191,55 +193,46 @@ impl Schedule {
     }
 
     /// Goes on while both do, at the later start.
-    #[must_use]
     pub fn meet(self, other: Self) -> Self {
         Self::over("meet", [self, other])
     }
 
     /// Goes on while one of both does, at the earlier start.
-    #[must_use]
     pub fn join(self, other: Self) -> Self {
         Self::over("join", [self, other])
     }
 
     /// This schedule until it is done, and from that event on the other one.
-    #[must_use]
     pub fn then(self, other: Self) -> Self {
         Self::over("follow", [self, other])
     }
 
     /// The other schedule with this one's outputs as its inputs; it goes on while both do, at the later start.
-    #[must_use]
     pub fn feed(self, other: Self) -> Self {
         Self::over("feed", [self, other])
     }
 
     /// Done at the first input of which the test is false. Of a retry the input is the failure's code.
-    #[must_use]
     pub fn while_input(self, test: Test) -> Self {
         self.gate("input", true, test)
     }
 
     /// Done at the first input of which the test is true.
-    #[must_use]
     pub fn until_input(self, test: Test) -> Self {
         self.gate("input", false, test)
     }
 
     /// Done at the first output of which the test is false.
-    #[must_use]
     pub fn while_output(self, test: Test) -> Self {
         self.gate("output", true, test)
     }
 
     /// Done at the first output of which the test is true.
-    #[must_use]
     pub fn until_output(self, test: Test) -> Self {
         self.gate("output", false, test)
     }
 
     /// The output is what `fold` makes of the outputs at the earlier events.
-    #[must_use]
     pub fn gather(self, fold: Fold) -> Self {
         let kind = match fold {
             Fold::Sum => "sum",
@@ -251,25 +244,21 @@ impl Schedule {
     }
 
     /// Each delay is longer by `delay`.
-    #[must_use]
     pub fn delayed_by(self, delay: Duration) -> Self {
         self.under("add", "delayed_by", delay)
     }
 
     /// Each delay is `delay`.
-    #[must_use]
     pub fn with_delay(self, delay: Duration) -> Self {
         self.under("set", "with_delay", delay)
     }
 
     /// No delay is longer than `longest`.
-    #[must_use]
     pub fn cap(self, longest: Duration) -> Self {
         self.under("cap", "cap", longest)
     }
 
     /// Each delay is longer by the output, in milliseconds.
-    #[must_use]
     pub fn add_out(self) -> Self {
         Self::over("add_out", [self])
     }
@@ -278,7 +267,6 @@ impl Schedule {
     /// `jittered` of ZIO does. So that callers that failed together do not retry together.
     ///
     /// A ratio that is not a number, or is negative or past 10, is refused when the [`Policy`](crate::Policy) is made.
-    #[must_use]
     pub fn jittered(self, ratios: Range<f64>) -> Self {
         self.ratios(0, thousandths(ratios.start), thousandths(ratios.end))
             .checked(range_of(&ratios), format_args!("jittered({:?})", ratios))
@@ -286,55 +274,48 @@ impl Schedule {
 
     /// Each delay is multiplied by a ratio from `least` to `most` thousandths (at most 10,000) that the random word of
     /// the lane, 0 to 3, picks.
-    #[must_use]
     pub fn jitter(self, lane: u8, least: u64, most: u64) -> Self {
         self.ratios(lane, least, most)
             .checked(lane_of(lane).or(jitter_of(least, most)), format_args!("jitter({lane}, {least}, {most})"))
     }
 
     /// Done at the first event that is `time` or more after the first one.
-    #[must_use]
     pub fn up_to(self, time: Duration) -> Self {
         self.under("within", "up_to", time)
     }
 
-    /// Done where it would go on later than `time` after the first event: no call begins later than that.
-    #[must_use]
+    /// Done where it would go on later than `time` after the first event: it plans no call for later.
     pub fn ends_by(self, time: Duration) -> Self {
         self.under("ends_by", "ends_by", time)
     }
 
     /// Begins anew at the first event that comes `time` or more after the first one of the present round.
-    #[must_use]
     pub fn renew(self, time: Duration) -> Self {
         self.under("renew", "renew", time)
     }
 
     /// Begins anew at each event that comes `time` or more after the one before it.
-    #[must_use]
     pub fn renew_idle(self, time: Duration) -> Self {
         self.under("renew_idle", "renew_idle", time)
     }
 
     /// The output is the first part of a pair.
-    #[must_use]
     pub fn first(self) -> Self {
         Self::over("first", [self])
     }
 
     /// The output is the second part of a pair.
-    #[must_use]
     pub fn second(self) -> Self {
         Self::over("second", [self])
     }
 
     /// The output is nothing.
-    #[must_use]
     pub fn nothing(self) -> Self {
         Self::over("nothing", [self])
     }
 
     /// The schedule's JSON text, which `zsched plan` and all other ways into Hikebox read.
+    #[must_use]
     pub fn as_json(&self) -> &str {
         &self.json
     }
@@ -446,15 +427,27 @@ fn span(time: Duration) -> Option<&'static str> {
 
 /// The same with one that is not 0.
 fn interval_of(time: Duration) -> Option<&'static str> {
-    if time.is_zero() { Some("the interval is 0") } else { span(time) }
+    if time.is_zero() {
+        Some("the interval is 0")
+    } else {
+        span(time)
+    }
 }
 
 fn number(number: u64) -> Option<&'static str> {
-    if number > FAR { Some("a number is at most 2^62 - 1") } else { None }
+    if number > FAR {
+        Some("a number is at most 2^62 - 1")
+    } else {
+        None
+    }
 }
 
 fn factor_of(factor: u64, range: RangeInclusive<u64>, why: &'static str) -> Option<&'static str> {
-    if range.contains(&factor) { None } else { Some(why) }
+    if range.contains(&factor) {
+        None
+    } else {
+        Some(why)
+    }
 }
 
 fn delays_of(base: Duration, longest: Duration) -> Option<&'static str> {
@@ -462,7 +455,11 @@ fn delays_of(base: Duration, longest: Duration) -> Option<&'static str> {
 }
 
 fn lane_of(lane: u8) -> Option<&'static str> {
-    if lane > 3 { Some("a lane is from 0 to 3") } else { None }
+    if lane > 3 {
+        Some("a lane is from 0 to 3")
+    } else {
+        None
+    }
 }
 
 fn jitter_of(least: u64, most: u64) -> Option<&'static str> {

@@ -1,168 +1,276 @@
-//! Files that count the tickets that were leased, for the processes of a machine.
+//! Folders of slots: the tickets that were leased, counted for all processes of a machine. `docs/MACHINES.md` has the
+//! form of a folder.
 
-use crate::budget::BudgetError;
-use crate::engine::{try_lock, uptime, Stored};
-use serde_json::{json, Map, Value};
+use crate::engine::Stored;
+use crate::slot::{Record, COPY, SIZE};
+use crate::system::{try_lock, unlock};
+use crate::uptime::{boot, now, Window};
+use crate::words;
 use std::error::Error;
 use std::fmt;
-use std::fs::{self, File, OpenOptions};
+use std::fs::{self, DirEntry, File, OpenOptions};
 use std::io;
-use std::os::unix::fs::FileExt;
+use std::ops::Deref;
+use std::os::unix::fs::{FileExt, MetadataExt};
 use std::path::{Path, PathBuf};
 use std::thread;
-use std::time::{Duration, Instant};
+use std::time::{Duration, Instant, SystemTime};
 
-/// Why a file grants no lease. Nothing is granted then.
+/// Why a store grants no lease. Nothing is granted then.
 #[derive(Debug)]
 #[non_exhaustive]
 pub enum StoreError {
-    /// It can't be opened, read, locked or written.
+    /// The slot can't be made, opened, read, locked or written.
     Io(io::Error),
-    /// Another process keeps its lock.
+    /// Another process keeps the slot's lock.
     Locked,
-    /// It is damaged, or no file of counts.
-    Damaged,
-    /// It counts a later window than the present one, of which it has no count any more.
+    /// The file is damaged, or no slot of this budget or quota.
+    Damaged(PathBuf),
+    /// The path names a file. Counts are kept in a folder.
+    NotAFolder(PathBuf),
+    /// The slot counts a later window than the present one, of which it has no count any more.
     Lost,
-    /// The range found no budget to draw from, for want of memory.
-    NoMemory,
 }
 
-/// What a file of counts begins with. The length and the CRC-32 of the JSON text that follows stand behind it.
-const HEADER: &str = "hikebox counts 1 ";
-
-/// How long the file's lock is waited for.
+/// How long a slot's lock is waited for.
 const PATIENCE: Duration = Duration::from_secs(5);
+/// How many other files a process that makes one looks at, to take away those that nobody needs any more.
+const LOOKED_AT: usize = 16;
+/// A file that was to become a slot, and is this old, was left by a process that died.
+const LEFT_BEHIND: Duration = Duration::from_secs(60);
 
-/// A file of counts.
+/// A folder that keeps counts.
 #[derive(Clone, Debug)]
-pub(crate) struct CountFile {
+pub(crate) struct Folder {
     path: PathBuf,
 }
 
-/// A window of the machine's uptime: the name of the machine's start, its number, and when it ends.
-pub(crate) struct Window {
-    boot: String,
-    pub(crate) number: u64,
-    pub(crate) until: Instant,
+/// What a slot is of.
+#[derive(Clone, Debug)]
+pub(crate) struct Key {
+    text: String,
+    /// How many milliseconds its windows are long, where it has windows.
+    period: Option<u64>,
 }
 
-/// The counts of a file, by the keys of its budgets. Its lock goes when it is dropped.
-pub(crate) struct Counts {
-    file: File,
-    by_key: Map<String, Value>,
+/// A slot, of which no other process changes the counts before this is dropped.
+pub(crate) struct Slot {
+    file: Locked,
+    record: Record,
+    is_durable: bool,
 }
 
-impl CountFile {
+/// A file whose lock this process has.
+struct Locked(File);
+
+impl Key {
+    /// That of a budget of this name.
+    pub(crate) fn of_budget(name: &str) -> Self {
+        Self { text: format!("budget {name}"), period: None }
+    }
+
+    /// That of a budget by windows of so many milliseconds.
+    pub(crate) fn of_windows(name: &str, period: u64) -> Self {
+        Self { text: format!("windows of {period} ms of {name}"), period: Some(period) }
+    }
+
+    /// That of a quota.
+    pub(crate) fn of_quota(name: &str, period: u64) -> Self {
+        Self { text: format!("quota of {period} ms of {name}"), period: Some(period) }
+    }
+
+    /// The present window, where it has windows.
+    pub(crate) fn window(&self) -> io::Result<Option<Window>> {
+        self.period.map(Window::present).transpose()
+    }
+
+    /// Where the slot is in its folder: by the FNV-1a hash of its text.
+    fn place(&self) -> String {
+        let hash = self
+            .text
+            .bytes()
+            .fold(0xcbf2_9ce4_8422_2325_u64, |hash, byte| (hash ^ u64::from(byte)).wrapping_mul(0x100_0000_01b3));
+        let hash = format!("{hash:016x}");
+        format!("{}/{}", &hash[..2], &hash[2..])
+    }
+}
+
+impl Folder {
     pub(crate) fn new(path: impl AsRef<Path>) -> Self {
         Self { path: path.as_ref().to_owned() }
     }
 
-    /// The counts in the file, which is made where it is missing. No other process changes them meanwhile.
-    pub(crate) fn lock(&self) -> Result<Counts, StoreError> {
-        let file = OpenOptions::new().read(true).write(true).create(true).truncate(false).open(&self.path)?;
-        let began = Instant::now();
-        loop {
-            match try_lock(&file) {
-                Ok(()) => return Counts::read(file),
-                Err(error) if error.kind() != io::ErrorKind::WouldBlock => return Err(error.into()),
-                Err(_) if began.elapsed() > PATIENCE => return Err(StoreError::Locked),
-                Err(_) => thread::sleep(Duration::from_millis(1)),
+    /// The slot of this key, which is made where it is missing.
+    pub(crate) fn lock(&self, key: &Key) -> Result<Slot, StoreError> {
+        let (path, began) = (self.path.join(key.place()), Instant::now());
+        while began.elapsed() <= PATIENCE {
+            let file = match OpenOptions::new().read(true).write(true).open(&path) {
+                Ok(file) => Locked::of(file, began)?,
+                Err(error) if error.kind() == io::ErrorKind::NotFound => {
+                    make(&path, key).map_err(|error| self.refused(error))?;
+                    continue;
+                }
+                Err(error) => return Err(self.refused(error)),
+            };
+            // (it may have been pruned before its lock was had)
+            if file.is_at(&path) {
+                return Slot::read(file, key).ok_or(StoreError::Damaged(path));
             }
+        }
+        Err(StoreError::Locked)
+    }
+
+    /// Why a slot can't be opened or made.
+    fn refused(&self, error: io::Error) -> StoreError {
+        match fs::metadata(&self.path) {
+            Ok(found) if !found.is_dir() => StoreError::NotAFolder(self.path.clone()),
+            _ => error.into(),
         }
     }
 }
 
-impl Window {
-    /// The present one of so many milliseconds. What it says of its end is never later than that, so that no ticket of it
-    /// is drawn in the next one.
-    pub(crate) fn present(period: u64) -> io::Result<Self> {
-        let (asked, now) = (Instant::now(), uptime()?);
-        let number = window_at(now, period);
-        let end = Duration::from_millis((number + 1).saturating_mul(period));
-        let boot = fs::read_to_string("/proc/sys/kernel/random/boot_id")?;
-        let until = asked.checked_add(end.saturating_sub(now)).unwrap_or_else(|| asked + A_CENTURY);
-        Ok(Self { boot: boot.trim().to_owned(), number, until })
+/// Makes a slot with nothing counted, where there is none: as a whole, so that nobody sees a part of one.
+fn make(path: &Path, key: &Key) -> io::Result<()> {
+    let folder = path.parent().unwrap_or(path);
+    fs::create_dir_all(folder)?;
+    let [first, second, ..] = words::next();
+    let new = folder.join(format!(".new-{}-{first:08x}{second:08x}", std::process::id()));
+    let linked = written(&new, key).and_then(|()| match fs::hard_link(&new, path) {
+        Err(error) if error.kind() == io::ErrorKind::AlreadyExists => Ok(()),
+        linked => linked,
+    });
+    let _ = fs::remove_file(&new);
+    linked?;
+    if key.period.is_none() {
+        // (the names, too, last over a start of the machine)
+        [Some(folder), folder.parent()].into_iter().flatten().try_for_each(|folder| File::open(folder)?.sync_all())?;
     }
+    prune(folder);
+    Ok(())
+}
 
-    /// The number of a window of this text, where it is one of the same start.
-    fn number_of(&self, text: &str) -> Option<u64> {
-        let (boot, number) = text.split_once(' ')?;
-        if boot == self.boot { number.parse().ok() } else { None }
+/// Writes a slot with nothing counted to a new file.
+fn written(path: &Path, key: &Key) -> io::Result<()> {
+    let window = key.window()?;
+    let copy = Record::new(&key.text, window.as_ref()).to_bytes();
+    let file = OpenOptions::new().write(true).create_new(true).open(path)?;
+    file.write_all_at(&copy, 0)?;
+    file.write_all_at(&copy, COPY)?;
+    if window.is_none() {
+        file.sync_all()
+    } else {
+        Ok(())
     }
 }
 
-/// The number of the window of so many milliseconds at this uptime.
-pub(crate) fn window_at(now: Duration, period: u64) -> u64 {
-    u64::try_from(now.as_millis()).unwrap_or(u64::MAX) / period
-}
-
-/// An end that the system's clock can't tell is so far away.
-const A_CENTURY: Duration = Duration::from_secs(100 * 365 * 86_400);
-
-impl fmt::Display for Window {
-    fn fmt(&self, f: &mut fmt::Formatter<'_>) -> fmt::Result {
-        write!(f, "{} {}", self.boot, self.number)
-    }
-}
-
-impl Counts {
-    /// Those in the file, none where it is empty.
-    fn read(file: File) -> Result<Self, StoreError> {
-        let mut text = vec![0; usize::try_from(file.metadata()?.len()).map_err(|_| StoreError::Damaged)?];
-        file.read_exact_at(&mut text, 0)?;
-        let by_key = if text.is_empty() { Map::new() } else { parse(&text).ok_or(StoreError::Damaged)? };
-        Ok(Self { file, by_key })
-    }
-
-    /// What is stored of this key, in `N` counts, as a whole or in the window that was counted last: nothing where the
-    /// file has none of this start of the machine.
-    pub(crate) fn of<const N: usize>(&self, key: &str, window: Option<&Window>) -> Result<Stored, StoreError> {
-        let stored = match self.by_key.get(key) {
-            Some(stored) => stored,
-            None => return Ok(Stored::default()),
+/// Takes away some of a folder's files that nobody needs any more, from a random place on: so that it does not grow for
+/// ever. What can't be read or locked stays.
+fn prune(folder: &Path) {
+    let entries: Vec<_> = fs::read_dir(folder).into_iter().flatten().flatten().collect();
+    let from = words::next()[0] as usize % entries.len().max(1);
+    for entry in entries.iter().cycle().skip(from).take(LOOKED_AT.min(entries.len())) {
+        // (what can't be taken away is looked at again some day)
+        let _ = if entry.file_name().to_string_lossy().starts_with(".new-") {
+            prune_new(entry)
+        } else {
+            prune_slot(&entry.path())
         };
-        let name = stored.get(0).and_then(Value::as_str).ok_or(StoreError::Damaged)?;
-        let window = match window.map(|window| window.number_of(name)) {
-            Some(None) => return Ok(Stored::default()),
-            Some(Some(number)) => number,
-            None => 0,
-        };
-        let numbers = numbers::<N>(stored)?;
-        let at = |place| numbers.get(place).copied().unwrap_or(0);
-        Ok(Stored { window, given: at(0), asked: at(1) })
-    }
-
-    /// Sets the counts of this key, as a whole or in a window, and writes all by one write, and to the disk.
-    pub(crate) fn set(mut self, key: String, window: Option<&Window>, numbers: &[u64]) -> io::Result<()> {
-        let name = window.map(Window::to_string).unwrap_or_default();
-        let values = std::iter::once(json!(name)).chain(numbers.iter().map(|number| json!(number)));
-        self.by_key.insert(key, values.collect());
-        let body = serde_json::to_string(&self.by_key)?;
-        let text = format!("{HEADER}{} {}\n{body}", body.len(), crc32fast::hash(body.as_bytes()));
-        self.file.write_all_at(text.as_bytes(), 0)?;
-        self.file.sync_all()
     }
 }
 
-/// The numbers behind a window's name.
-fn numbers<const N: usize>(stored: &Value) -> Result<[u64; N], StoreError> {
-    let mut numbers = [0; N];
-    for (place, number) in numbers.iter_mut().enumerate() {
-        *number = stored.get(place + 1).and_then(Value::as_u64).ok_or(StoreError::Damaged)?;
+/// Takes a file away that was to become a slot, and was left behind.
+fn prune_new(entry: &DirEntry) -> io::Result<()> {
+    let age = SystemTime::now().duration_since(entry.metadata()?.modified()?).unwrap_or_default();
+    if age > LEFT_BEHIND {
+        fs::remove_file(entry.path())
+    } else {
+        Ok(())
     }
-    Ok(numbers)
 }
 
-fn parse(text: &[u8]) -> Option<Map<String, Value>> {
-    let end = text.iter().position(|byte| *byte == b'\n')?;
-    let head = std::str::from_utf8(&text[..end]).ok()?.strip_prefix(HEADER)?;
-    let (length, check) = head.split_once(' ')?;
-    let body = text[end + 1..].get(..length.parse().ok()?)?;
-    if crc32fast::hash(body) != check.parse::<u32>().ok()? {
-        return None;
+/// Takes a slot away whose window is over for good, under its lock.
+fn prune_slot(path: &Path) -> io::Result<()> {
+    let file = OpenOptions::new().read(true).write(true).open(path)?;
+    let file = Locked::at_once(file).map_err(|(_, error)| error)?;
+    let (boot, now) = (boot()?, now()?);
+    let is_over = Record::read(&file, None).map_or(false, |record| record.is_over(&boot, now));
+    if is_over && file.is_at(path) {
+        fs::remove_file(path)
+    } else {
+        Ok(())
     }
-    serde_json::from_slice(body).ok()
+}
+
+impl Locked {
+    /// The file, once its lock is had: at the latest so long after that moment as a lock is waited for.
+    fn of(mut file: File, began: Instant) -> Result<Self, StoreError> {
+        loop {
+            file = match Self::at_once(file) {
+                Ok(locked) => return Ok(locked),
+                Err((_, error)) if error.kind() != io::ErrorKind::WouldBlock => return Err(error.into()),
+                Err(_) if began.elapsed() > PATIENCE => return Err(StoreError::Locked),
+                Err((file, _)) => file,
+            };
+            thread::sleep(Duration::from_millis(1));
+        }
+    }
+
+    fn at_once(file: File) -> Result<Self, (File, io::Error)> {
+        match try_lock(&file) {
+            Ok(()) => Ok(Self(file)),
+            Err(error) => Err((file, error)),
+        }
+    }
+
+    /// Whether it is the file at this path.
+    fn is_at(&self, path: &Path) -> bool {
+        match (self.0.metadata(), fs::metadata(path)) {
+            (Ok(own), Ok(found)) => (own.dev(), own.ino()) == (found.dev(), found.ino()),
+            _ => false,
+        }
+    }
+}
+
+impl Deref for Locked {
+    type Target = File;
+
+    fn deref(&self) -> &File {
+        &self.0
+    }
+}
+
+impl Drop for Locked {
+    fn drop(&mut self) {
+        unlock(&self.0);
+    }
+}
+
+impl Slot {
+    /// What the file has of this key, or `None` where it is no slot of it.
+    fn read(file: Locked, key: &Key) -> Option<Self> {
+        let record = Record::read(&file, Some(&key.text))?;
+        Some(Self { file, record, is_durable: key.period.is_none() })
+    }
+
+    /// What is stored as a whole, or of the window that was counted last: nothing where the slot has none of this start
+    /// of the machine.
+    pub(crate) fn stored(&self, window: Option<&Window>) -> Stored {
+        self.record.stored(window)
+    }
+
+    /// Stores these counts, as a whole or of a window. They are on the disk then, where they have to outlast a start of
+    /// the machine. Where one copy is lost on the way, the other one has the counts of before.
+    pub(crate) fn set(mut self, window: Option<&Window>, stored: Stored) -> io::Result<()> {
+        self.record.set(window, stored);
+        let copy = self.record.to_bytes();
+        self.file.write_all_at(&copy, 0)?;
+        self.file.write_all_at(&copy, COPY)?;
+        if self.is_durable {
+            self.file.sync_data()
+        } else {
+            Ok(())
+        }
+    }
 }
 
 impl From<io::Error> for StoreError {
@@ -171,20 +279,19 @@ impl From<io::Error> for StoreError {
     }
 }
 
-impl From<BudgetError> for StoreError {
-    fn from(_: BudgetError) -> Self {
-        Self::NoMemory
-    }
-}
-
 impl fmt::Display for StoreError {
     fn fmt(&self, f: &mut fmt::Formatter<'_>) -> fmt::Result {
         match self {
-            Self::Io(error) => write!(f, "the file of counts: {error}"),
-            Self::Locked => f.write_str("the file of counts is locked by another process"),
-            Self::Damaged => f.write_str("the file of counts is damaged, or is none"),
-            Self::Lost => f.write_str("the file of counts has a later window, and has lost the present one's count"),
-            Self::NoMemory => f.write_str("no memory"),
+            Self::Io(error) => write!(f, "the slot of counts: {error}"),
+            Self::Locked => f.write_str("the slot of counts is locked by another process"),
+            Self::Damaged(path) => write!(f, "{}: expected a slot of counts of {SIZE} bytes, got another file", path.display()),
+            Self::NotAFolder(path) => write!(
+                f,
+                "{}: expected a folder, got a file. Counts are kept in a folder now; name another path, or delete the file \
+                 to begin all its budgets and quotas anew.",
+                path.display()
+            ),
+            Self::Lost => f.write_str("the slot of counts has a later window, and has lost the present one's count"),
         }
     }
 }

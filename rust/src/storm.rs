@@ -330,13 +330,21 @@ impl Storm {
 }
 
 fn within(parameter: &'static str, number: u64, least: u64, most: u64) -> Result<(), StormError> {
-    if (least..=most).contains(&number) { Ok(()) } else { Err(StormError::OutOfRange { parameter, least, most }) }
+    if (least..=most).contains(&number) {
+        Ok(())
+    } else {
+        Err(StormError::OutOfRange { parameter, least, most })
+    }
 }
 
 fn span(parameter: &'static str, from: u64, to: u64) -> Result<(), StormError> {
     within(parameter, from, 0, HOUR)?;
     within(parameter, to, 0, HOUR)?;
-    if from > to { Err(StormError::EndsEarly { parameter }) } else { Ok(()) }
+    if from > to {
+        Err(StormError::EndsEarly { parameter })
+    } else {
+        Ok(())
+    }
 }
 
 impl StormWindow {
@@ -376,6 +384,7 @@ impl StormTotals {
     }
 
     /// Calls for each request, to the nearest hundredth.
+    #[must_use]
     pub fn calls_per_request(&self) -> f64 {
         self.hundredths as f64 / 100.0
     }
@@ -383,6 +392,7 @@ impl StormTotals {
 
 impl StormReport {
     /// The windows as CSV with a line of names, as `zsched storm --csv` prints them.
+    #[must_use]
     pub fn to_csv(&self) -> String {
         let mut text = "from,requests,won,retries,succeeded,refused,shed,late,waiting\n".to_owned();
         for window in &self.windows {
@@ -393,6 +403,7 @@ impl StormReport {
     }
 
     /// The windows and the totals as JSON on one line, as `zsched storm --json` prints it.
+    #[must_use]
     pub fn to_json(&self) -> String {
         let totals = &self.totals;
         let window = |window: &StormWindow| format!("[{}]", listed(&window.numbers()));
@@ -441,7 +452,11 @@ impl fmt::Display for StormReport {
             Some(moment) => write!(f, "recovered from {moment:?} on")?,
             None => f.write_str("never recovered")?,
         }
-        if self.totals.cut { f.write_str("\ncut before one call more") } else { Ok(()) }
+        if self.totals.cut {
+            f.write_str("\ncut before one call more")
+        } else {
+            Ok(())
+        }
     }
 }
 

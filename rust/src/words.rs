@@ -1,15 +1,32 @@
 //! Random words of a thread.
 
+use crate::system::generation;
 use std::cell::Cell;
 use std::collections::hash_map::RandomState;
 use std::hash::{BuildHasher, Hasher};
+use std::time::SystemTime;
 
 thread_local! {
-    static STATE: Cell<u64> = Cell::new(RandomState::new().build_hasher().finish());
+    static STATE: Cell<u64> = Cell::new(seed());
+    /// The process that the state was made in.
+    static GENERATION: Cell<u64> = Cell::new(generation());
 }
 
-/// The next four, by SplitMix64 from the system's random bytes on.
+/// A state from the system's random bytes. In a forked child these are the parent's, so the process and the time count too.
+fn seed() -> u64 {
+    let mut hasher = RandomState::new().build_hasher();
+    let now = SystemTime::now().duration_since(SystemTime::UNIX_EPOCH).unwrap_or_default();
+    hasher.write_u32(std::process::id());
+    hasher.write_u128(now.as_nanos());
+    hasher.finish()
+}
+
+/// The next four, by the generator `SplitMix64` from the seed on.
 pub(crate) fn next() -> [u32; 4] {
+    let generation = generation();
+    if GENERATION.with(|own| own.replace(generation)) != generation {
+        STATE.with(|state| state.set(seed()));
+    }
     let (first, second) = STATE.with(|state| (next_half(state), next_half(state)));
     [first as u32, (first >> 32) as u32, second as u32, (second >> 32) as u32]
 }

@@ -1,5 +1,8 @@
 //! Budgets: worked examples, and threads that share one.
 
+mod common;
+
+use common::ticket;
 use hikebox::{retry, Budget, BudgetError, Policy, RetryError};
 use std::sync::atomic::{AtomicU64, Ordering};
 use std::thread;
@@ -8,12 +11,12 @@ use std::thread;
 fn two_passes_share_two_tickets() {
     let budget = Budget::new(2).unwrap();
     let mut first = budget.pass().unwrap();
-    assert_eq!(first.draw(), Some(0));
+    assert_eq!(ticket(first.draw()), Some(0));
     let mut second = budget.pass().unwrap();
-    assert_eq!(second.draw(), Some(1));
+    assert_eq!(ticket(second.draw()), Some(1));
     assert_eq!(second.count(), 1);
-    assert_eq!(first.draw(), None);
-    assert_eq!(first.draw(), None);
+    assert_eq!(ticket(first.draw()), None);
+    assert_eq!(ticket(first.draw()), None);
     drop(first);
     let budget = budget.close().unwrap_err();
     drop(second);
@@ -24,7 +27,7 @@ fn two_passes_share_two_tickets() {
 #[test]
 fn an_empty_budget_has_no_ticket() {
     let budget = Budget::new(0).unwrap();
-    assert_eq!(budget.pass().unwrap().draw(), None);
+    assert_eq!(ticket(budget.pass().unwrap().draw()), None);
     assert_eq!(budget.close().unwrap(), 0);
 }
 
@@ -39,10 +42,10 @@ fn limits_end_at_two_to_the_thirty_second() {
 fn a_rising_budget_rises_and_a_fixed_one_does_not() {
     let budget = Budget::rising(1).unwrap();
     let mut pass = budget.pass().unwrap();
-    assert_eq!(pass.draw(), Some(0));
+    assert_eq!(ticket(pass.draw()), Some(0));
     assert_eq!(budget.raise(3), Ok(3));
     assert_eq!(budget.raise(2), Ok(3));
-    assert_eq!(pass.draw(), Some(1));
+    assert_eq!(ticket(pass.draw()), Some(1));
     assert_eq!(budget.raise(4_294_967_297), Err(BudgetError::LimitTooLarge));
     assert_eq!(Budget::new(1).unwrap().raise(2), Err(BudgetError::Fixed));
 }
@@ -59,9 +62,9 @@ fn what_a_rising_budget_refused_it_gives_once_it_was_raised() {
     assert_eq!(budget.raise(5), Ok(5));
     assert_eq!(fails(), Err(RetryError::ScheduleDone(())));
     let mut pass = budget.pass().unwrap();
-    assert_eq!((pass.draw(), pass.draw(), pass.count()), (Some(4), None, 1));
+    assert_eq!((ticket(pass.draw()), ticket(pass.draw()), pass.count()), (Some(4), None, 1));
     assert_eq!(budget.raise(6), Ok(6));
-    assert_eq!((pass.draw(), pass.draw(), pass.count()), (Some(5), None, 2));
+    assert_eq!((ticket(pass.draw()), ticket(pass.draw()), pass.count()), (Some(5), None, 2));
     drop(pass);
     assert_eq!(budget.close().unwrap(), 6);
 }
@@ -77,7 +80,7 @@ fn a_budget_counts_no_passes() {
         for _ in 0..70_000 {
             drop(budget.pass().unwrap());
         }
-        assert_eq!(budget.pass().unwrap().draw(), Some(70_000));
+        assert_eq!(ticket(budget.pass().unwrap().draw()), Some(70_000));
         assert_eq!(budget.close().unwrap(), 70_001);
     }
 }
@@ -121,7 +124,7 @@ fn sixteen_threads_draw_ten_million_tickets_each_once() {
             let mut pass = budget.pass().unwrap();
             let drawn = &drawn;
             scope.spawn(move || {
-                while let Some(ticket) = pass.draw() {
+                while let Some(ticket) = ticket(pass.draw()) {
                     let bit = 1 << (ticket % 64);
                     let before = drawn[usize::try_from(ticket / 64).unwrap()].fetch_or(bit, Ordering::Relaxed);
                     assert_eq!(before & bit, 0, "ticket {ticket} was drawn twice");

@@ -16,7 +16,7 @@ const fn micros(micros: u64) -> Duration {
 fn runs(json: &str, deadline: u64, took: u64) -> (Vec<(u128, u128)>, u64) {
     let (policy, budget, now) = (policy(json), Budget::new(100).unwrap(), Cell::new(Instant::now()));
     let (origin, mut seen) = (now.get(), Vec::new());
-    let mut retrying = Retrying::new(&policy, &budget)
+    let retrying = Retrying::new(&policy, &budget)
         .deadline(micros(deadline))
         .clock(|| now.get())
         .sleep(|wait| now.set(now.get() + wait));
@@ -26,7 +26,8 @@ fn runs(json: &str, deadline: u64, took: u64) -> (Vec<(u128, u128)>, u64) {
         now.set(now.get() + micros(took));
         Err::<(), _>("busy")
     });
-    assert_eq!(ended, Err(RetryError::ScheduleDone("busy")));
+    let by_policy = json.contains("ends_by");
+    assert_eq!(ended, Err(if by_policy { RetryError::ScheduleDone("busy") } else { RetryError::Deadline("busy") }));
     drop(retrying);
     (seen, budget.close().unwrap())
 }
@@ -48,7 +49,7 @@ fn starts(json: &str, deadline: Option<u64>, mut numbers: u64) -> Vec<u64> {
         .clock(|| now.get())
         .sleep(|wait| now.set(now.get() + wait))
         .words(|| [7, 1 << 30, 1 << 31, 9]);
-    let mut retrying = match deadline {
+    let retrying = match deadline {
         Some(deadline) => retrying.deadline(Duration::from_millis(deadline)),
         None => retrying,
     };
@@ -111,7 +112,7 @@ fn an_error_that_asks_for_more_than_is_left_ends_it() {
         .retry_after(|asked: &u64| Some(Duration::from_millis(*asked)))
         .call(|| Err::<(), _>(asks.next().unwrap()));
     // it waited for 10 and 20, and 71 more would be 101
-    assert_eq!(ended, Err(RetryError::ScheduleDone(71)));
+    assert_eq!(ended, Err(RetryError::Deadline(71)));
     assert_eq!(budget.close().unwrap(), 2);
 }
 
@@ -131,7 +132,7 @@ fn a_retry_on_a_quota_ends_by_it_in_the_quotas_windows() {
             Err::<(), _>("busy")
         });
     // failures at 3600.26, .57, .88 and 3601.19 s, each in a window of its own, and the next run would begin at 1.24 s
-    assert_eq!((ended, runs), (Err(RetryError::ScheduleDone("busy")), 4));
+    assert_eq!((ended, runs), (Err(RetryError::Deadline("busy")), 4));
     assert_eq!(quota.close().unwrap(), 3);
 }
 
@@ -169,8 +170,11 @@ fn each_failure_counts_by_the_part_of_a_millisecond_at_which_it_was() {
 fn a_machine_ends_by_it_at_the_moments_of_its_host() {
     let (at, policy) = (Duration::from_millis, policy(r#"{"spaced":450}"#));
     let (budget, quota) = (Budget::new(9).unwrap(), Quota::new_at(Instant::now(), 9, 0.0, at(60_000)).unwrap());
-    let machines =
-        [Machine::until(&policy, &budget, at(1000)), Machine::until(&policy, &quota, at(1000)), Machine::until(&policy, &Unlimited, at(1000))];
+    let machines = [
+        Machine::until(&policy, &budget, at(1000)),
+        Machine::until(&policy, &quota, at(1000)),
+        Machine::until(&policy, &Unlimited, at(1000)),
+    ];
     for machine in machines {
         let mut machine = machine.unwrap();
         assert_eq!(machine.left(at(0)), Some(at(1000)));
@@ -179,7 +183,7 @@ fn a_machine_ends_by_it_at_the_moments_of_its_host() {
             assert_eq!(machine.step(at(start), Some(Report::Lost(5))), Step::Wait(at(start + 450)));
         }
         assert_eq!(machine.step(at(900), None), Step::Run);
-        assert_eq!(machine.step(at(900), Some(Report::Lost(5))), Step::Over(Ended::ScheduleDone));
+        assert_eq!(machine.step(at(900), Some(Report::Lost(5))), Step::Over(Ended::Deadline));
         assert_eq!((machine.granted(), machine.runs()), (2, 3));
         assert_eq!((machine.left(at(999)), machine.left(at(1001))), (Some(at(1)), Some(at(0))));
     }
@@ -208,5 +212,187 @@ async fn a_request_of_towers_has_a_deadline_of_its_own() {
         // runs begin at 0 and 130, and the next one would at 260
         assert_eq!(began.elapsed().as_millis(), 160);
         assert_eq!((quota.seen().asked, quota.granted()), (u64::from(request), u64::from(request)));
+    }
+}
+
+/// A clock that a sleep moves by so much more than it should.
+fn late_by(late: u64) -> (Cell<Instant>, impl Fn(&Cell<Instant>, Duration)) {
+    (Cell::new(Instant::now()), move |now, wait| now.set(now.get() + wait + Duration::from_millis(late)))
+}
+
+#[test]
+fn no_run_begins_past_it_where_a_sleep_took_too_long() {
+    let (now, sleep) = late_by(200);
+    let (policy, quota, origin) =
+        (policy(r#"{"spaced":10}"#), Quota::new(9, 0.0, Duration::from_secs(60)).unwrap(), now.get());
+    let mut starts = vec![];
+    let ended = Retrying::new(&policy, &quota)
+        .deadline(Duration::from_millis(50))
+        .clock(|| now.get())
+        .sleep(|wait| sleep(&now, wait))
+        .call(|| {
+            starts.push((now.get() - origin).as_millis());
+            Err::<(), _>("busy")
+        });
+    assert_eq!((ended, starts), (Err(RetryError::Deadline("busy")), vec![0]));
+    // the ticket of the run that was not made came back
+    assert_eq!((quota.granted(), quota.seen().left), (0, 9));
+    assert_eq!(quota.close().unwrap(), 0);
+}
+
+#[test]
+fn a_run_that_begins_just_by_it_is_made() {
+    let (now, sleep) = late_by(1);
+    let (policy, budget) = (policy(r#"{"spaced":9}"#), Budget::new(9).unwrap());
+    let mut runs = vec![];
+    let ended = Retrying::new(&policy, &budget)
+        .deadline(Duration::from_millis(30))
+        .clock(|| now.get())
+        .sleep(|wait| sleep(&now, wait))
+        .call_with(|attempt| {
+            runs.push(attempt.left().unwrap().as_millis());
+            Err::<(), _>("busy")
+        });
+    // at 0, 10, 20 and 30 ms; and at 30 the next is planned for 39
+    assert_eq!((ended, runs), (Err(RetryError::Deadline("busy")), vec![30, 20, 10, 0]));
+    assert_eq!(budget.close().unwrap(), 3);
+}
+
+#[test]
+fn no_run_begins_past_it_where_the_notice_of_a_retry_took_too_long() {
+    for json in [r#"{"spaced":10}"#, r#"{"recurs":9}"#] {
+        let (now, quota) = (Cell::new(Instant::now()), Quota::new(9, 0.0, Duration::from_secs(60)).unwrap());
+        let mut runs = 0;
+        let ended = Retrying::new(&policy(json), &quota)
+            .deadline(Duration::from_millis(50))
+            .clock(|| now.get())
+            .sleep(|wait| now.set(now.get() + wait))
+            .notify(|_, _| now.set(now.get() + Duration::from_millis(51)))
+            .call(|| {
+                runs += 1;
+                Err::<(), _>("busy")
+            });
+        assert_eq!((ended, runs), (Err(RetryError::Deadline("busy")), 1), "{json}");
+        assert_eq!(quota.close().unwrap(), 0, "{json}");
+    }
+}
+
+#[test]
+fn a_policy_that_is_done_is_told_from_a_deadline() {
+    let (policy, now) = (policy(r#"{"meet":[{"recurs":2},{"spaced":20}]}"#), Cell::new(Instant::now()));
+    let ended = |deadline| {
+        Retrying::new(&policy, &Unlimited)
+            .deadline(Duration::from_millis(deadline))
+            .clock(|| now.get())
+            .sleep(|wait| now.set(now.get() + wait))
+            .call(|| Err::<(), _>("busy"))
+    };
+    assert_eq!(ended(40), Err(RetryError::ScheduleDone("busy")));
+    assert_eq!(ended(39), Err(RetryError::Deadline("busy")));
+    assert_eq!(ended(39).unwrap_err().to_string(), "busy (the deadline leaves no time for a retry)");
+}
+
+#[test]
+fn no_repeat_begins_past_it() {
+    use hikebox::{RepeatError, Repeating};
+
+    let (now, sleep) = late_by(200);
+    let (policy, mut runs) = (policy(r#"{"spaced":10}"#), 0);
+    let repeating =
+        Repeating::new(&policy).deadline(Duration::from_millis(50)).clock(|| now.get()).sleep(|wait| sleep(&now, wait));
+    let polled = repeating.until(
+        |_| false,
+        || {
+            runs += 1;
+            Ok::<_, ()>(runs)
+        },
+    );
+    assert_eq!(polled, Err(RepeatError::Deadline(1)));
+    // a repeat gives its last value
+    assert_eq!(repeating.call(|| Ok::<_, ()>(7)), Ok(7));
+    let on_time = Repeating::new(&policy).deadline(Duration::from_millis(50)).sleep(|_| ());
+    let polled = on_time.clock(|| now.get()).until(
+        |value| *value == 3,
+        || {
+            runs += 1;
+            Ok::<_, ()>(runs)
+        },
+    );
+    assert_eq!(polled, Ok(3));
+}
+
+#[test]
+fn a_machine_that_is_stepped_past_it_is_over_and_hands_its_ticket_back() {
+    let (at, policy) = (Duration::from_millis, policy(r#"{"spaced":450}"#));
+    let (budget, quota) = (Budget::new(9).unwrap(), Quota::new_at(Instant::now(), 9, 0.0, at(60_000)).unwrap());
+    for machine in [Machine::until(&policy, &budget, at(1000)), Machine::until(&policy, &quota, at(1000))] {
+        let mut machine = machine.unwrap();
+        assert_eq!(machine.step(at(0), None), Step::Run);
+        assert_eq!(machine.step(at(0), Some(Report::Lost(5))), Step::Wait(at(450)));
+        assert_eq!(machine.step(at(1001), None), Step::Over(Ended::Deadline));
+    }
+    // a budget's ticket stays drawn
+    assert_eq!((budget.close().unwrap(), quota.close().unwrap()), (1, 0));
+    // the first run is made in any case, and one at the deadline is
+    let mut machine = Machine::until(&policy, &Unlimited, at(1000)).unwrap();
+    assert_eq!(machine.step(at(2000), None), Step::Run);
+    let mut machine = Machine::until(&policy, &Unlimited, at(1000)).unwrap();
+    assert_eq!(machine.step(at(0), None), Step::Run);
+    assert_eq!(machine.step(at(0), Some(Report::Lost(5))), Step::Wait(at(450)));
+    assert_eq!(machine.step(at(1000), None), Step::Run);
+}
+
+#[cfg(feature = "tokio")]
+mod of_futures {
+    use super::*;
+    use hikebox::{RepeatError, Repeating};
+    use std::future::ready;
+
+    async fn too_long(wait: Duration) {
+        tokio::time::sleep(wait + Duration::from_millis(200)).await;
+    }
+
+    #[tokio::test(start_paused = true)]
+    async fn no_run_of_a_future_begins_past_it() {
+        let (policy, mut runs) = (policy(r#"{"spaced":10}"#), 0);
+        let quota = Quota::new_at(tokio::time::Instant::now().into_std(), 9, 0.0, Duration::from_secs(60)).unwrap();
+        let retrying = Retrying::new(&policy, &quota).deadline(Duration::from_millis(50)).sleep(too_long);
+        let ended = retrying.call_async(|| {
+            runs += 1;
+            ready(Err::<(), _>("busy"))
+        });
+        assert_eq!((ended.await, runs), (Err(RetryError::Deadline("busy")), 1));
+        assert_eq!(quota.granted(), 0);
+        let repeating = Repeating::new(&policy).deadline(Duration::from_millis(50)).sleep(too_long);
+        let polled = repeating.until_async(|_| false, || ready(Ok::<_, ()>(5))).await;
+        assert_eq!(polled, Err(RepeatError::Deadline(5)));
+    }
+
+    /// By the real clock and tokio's real timers: 2,000 retries of which each plans runs up to its deadline.
+    #[tokio::test]
+    async fn of_many_retries_none_begins_a_run_past_it() {
+        let policy = policy(r#"{"jitter":[0,500,1500,{"spaced":7}]}"#);
+        let deadline = Duration::from_millis(60);
+        let retries = (0..2_000).map(|_| {
+            let policy = policy.clone();
+            tokio::spawn(async move {
+                let retrying = Retrying::new(&policy, &Unlimited).deadline(deadline);
+                let mut lefts = vec![];
+                let ended = retrying.call_async_with(|attempt| {
+                    lefts.push(attempt.left().unwrap());
+                    ready(Err::<(), _>("busy"))
+                });
+                assert_eq!(ended.await, Err(RetryError::Deadline("busy")));
+                lefts
+            })
+        });
+        let mut begun = 0;
+        for retry in retries.collect::<Vec<_>>() {
+            let lefts = retry.await.unwrap();
+            begun += lefts.len();
+            // (a run that began late would have nothing left)
+            assert!(lefts.iter().skip(1).all(|left| !left.is_zero()), "{lefts:?}");
+        }
+        assert!(begun >= 2_000);
     }
 }

@@ -78,7 +78,13 @@ async fn only_the_errors_that_are_named_are_retried() {
         let mut left = codes.iter();
         service_fn(move |(): ()| {
             let code = left.next().copied().unwrap_or(200);
-            async move { if code == 200 { Ok(()) } else { Err(code) } }
+            async move {
+                if code == 200 {
+                    Ok(())
+                } else {
+                    Err(code)
+                }
+            }
         })
     };
     for (codes, answer) in [(&[503, 503][..], Ok(())), (&[404], Err(404)), (&[503, 500], Err(500))] {
@@ -115,7 +121,13 @@ async fn a_future_that_is_dropped_gives_its_quotas_pass_back() {
 async fn a_service_is_retried_on_a_quota_and_each_request_counts() {
     let quota = Quota::new_at(Instant::now().into_std(), 1, 0.5, Duration::from_secs(60)).unwrap();
     let layer = RetryLayer::new(RetryPolicy::new(policy(r#"{"recurs":9}"#), quota.clone()));
-    let answers = service_fn(|code: u64| async move { if code == 200 { Ok(()) } else { Err(code) } });
+    let answers = service_fn(|code: u64| async move {
+        if code == 200 {
+            Ok(())
+        } else {
+            Err(code)
+        }
+    });
     let mut service = ServiceBuilder::new().layer(layer).service(answers);
     for _ in 0..3 {
         assert_eq!(service.ready().await.unwrap().call(200).await, Ok(()));
@@ -157,7 +169,7 @@ fn a_wait_of_nothing_needs_no_timer_and_no_runtime() {
     let spaced = policy(r#"{"meet":[{"recurs":2},{"spaced":100}]}"#);
     let waits = RefCell::new(Vec::new());
     let stopped = std::time::Instant::now();
-    let mut retrying = Retrying::new(&spaced, &Unlimited).clock(|| stopped).sleep(|wait: Duration| {
+    let retrying = Retrying::new(&spaced, &Unlimited).clock(|| stopped).sleep(|wait: Duration| {
         waits.borrow_mut().push(wait.as_millis());
         ready(())
     });
@@ -203,7 +215,7 @@ async fn a_retry_of_futures_is_sent_where_its_closures_are() {
     let (spaced, counted) = (policy(r#"{"meet":[{"recurs":2},{"spaced":100}]}"#), Arc::new(AtomicU32::new(0)));
     let counter = counted.clone();
     let retry = sends(async move {
-        let mut retrying = Retrying::new(&spaced, &Unlimited).notify(|_: &u8, _| ());
+        let retrying = Retrying::new(&spaced, &Unlimited).notify(|_: &u8, _| ());
         retrying
             .call_async(|| {
                 counter.fetch_add(1, Ordering::SeqCst);
@@ -219,11 +231,11 @@ async fn a_retry_of_futures_is_sent_where_its_closures_are() {
 async fn a_stopped_clock_moves_a_quotas_windows() {
     let quota = Quota::new(1, 0.0, Duration::from_secs(60)).unwrap();
     let mut pass = quota.pass().unwrap();
-    assert_eq!((pass.draw().is_some(), pass.draw().is_some()), (true, false));
+    assert_eq!((pass.draw().is_ok(), pass.draw().is_ok()), (true, false));
     tokio::time::advance(Duration::from_secs(60)).await;
     quota.deposit();
     assert_eq!(told(quota.seen()), [1, 1, 0, 1]);
-    assert!(pass.draw().is_some());
+    assert!(pass.draw().is_ok());
 }
 
 /// A response with a status, and how long it asks to wait.
@@ -241,7 +253,7 @@ async fn a_response_is_a_failure_and_asks_for_a_wait() {
         .failed(|response: &Response| response.0 >= 400)
         .response_code(|response| response.0)
         .retry_after(|result: Result<&Response, &String>| result.ok()?.1)
-        .longest(Duration::from_secs(2));
+        .max_retry_after(Duration::from_secs(2));
     let cases = [
         (vec![(503, None), (503, Some(50)), (200, None)], 200, 200),
         (vec![(503, Some(1500)), (503, Some(9_999_999)), (503, None)], 503, 3500),

@@ -169,7 +169,7 @@ fn faults_are_those_of_the_text() {
     assert_eq!(Policy::new(&deep).unwrap().depth(), 32);
     let deeper = deep.nothing();
     let refused = Policy::new(&deeper).unwrap_err();
-    assert_eq!((refused.fault(), refused.hint()), (PolicyFault::TooDeep, "a plan is at most 32 deep"));
+    assert_eq!((refused.fault(), refused.hint()), (PolicyFault::TooDeep, "expected a plan at most 32 deep"));
     assert_eq!(Policy::from_json(deeper.as_json()), Err(refused));
 
     let mut wide = Schedule::forever();
@@ -187,25 +187,21 @@ fn a_fault_has_its_place_and_what_is_wanted_there() {
     for (json, place, hint) in [
         ("", "line 1, column 1", "the text ends too soon"),
         ("[\n{\"plan\":]", "line 2, column 9", "what stands here is not JSON, or is nested more than 127 deep"),
-        ("7", "", "a plan is a string or an object of one member; found 7"),
-        (
-            r#"{"fixed":0}"#,
-            "",
-            r#""fixed" is spelt {"fixed":D}, D from 1 to 4611686018427387903; found {"fixed":0}"#,
-        ),
+        ("7", "", "expected a plan, a string or an object with one member, got 7"),
+        (r#"{"fixed":0}"#, "", r#"expected {"fixed":D}, D from 1 to 4611686018427387903, got {"fixed":0}"#),
         (
             r#"{"meet":["forever",{"cap":[5,{"exponental":[1,2]}]}]}"#,
             "meet[1].cap[1]",
             r#"no node is called "exponental"; did you mean "exponential"?"#,
         ),
         (r#"{"gather":["sum",{"second":"für immer"}]}"#, "gather[1].second", r#"no node is called "für immer""#),
-        (&deep, "nothing", "a plan is at most 32 deep"),
+        (&deep, "nothing", "expected a plan at most 32 deep"),
     ] {
         let error = Policy::from_json(json).unwrap_err();
         assert_eq!((error.place(), error.hint()), (place, hint), "{json}");
     }
     let shown = |json: &str| Policy::from_json(json).unwrap_err().to_string();
-    assert_eq!(shown("7"), "not a policy: a plan is a string or an object of one member; found 7");
+    assert_eq!(shown("7"), "not a policy: expected a plan, a string or an object with one member, got 7");
     assert_eq!(shown(r#"{"recurs":3"#), "not JSON: line 1, column 11: the text ends too soon");
 }
 
@@ -279,4 +275,29 @@ fn durations_are_rounded_up_and_ratios_to_thousandths() {
     let longest = Schedule::spaced(Duration::from_millis(4_611_686_018_427_387_903));
     assert!(Policy::new(&longest).is_ok());
     assert_eq!(Policy::new(&Schedule::spaced(Duration::MAX)).unwrap_err().fault(), PolicyFault::OutOfRange);
+}
+
+/// The waits of a policy, up to so many.
+fn waits(json: &str, most: usize) -> Vec<u128> {
+    json.parse::<Policy>().unwrap().waits().take(most).map(|wait| wait.as_millis()).collect()
+}
+
+#[test]
+fn the_waits_of_a_policy_come_one_after_another() {
+    assert_eq!(waits(r#"{"meet":[{"recurs":4},{"fibonacci":10}]}"#, 9), [10, 10, 20, 30]);
+    assert_eq!(waits(r#"{"follow":[{"recurs":2},{"meet":[{"recurs":2},{"spaced":7}]}]}"#, 9), [0, 0, 7, 7]);
+    assert_eq!(waits(r#"{"recurs":0}"#, 9), [0; 0]);
+    assert_eq!(waits(r#"{"ends_by":[25,{"spaced":10}]}"#, 9), [10, 10]);
+    assert_eq!(waits("\"forever\"", 5000), [0; 5000]);
+    let policy: Policy = r#"{"recurs":1}"#.parse().unwrap();
+    let mut waits = policy.waits();
+    assert_eq!([waits.next(), waits.next(), waits.next()], [Some(Duration::ZERO), None, None]);
+}
+
+#[test]
+fn waits_are_jittered_each_time_anew() {
+    let json = r#"{"jitter":[0,500,1500,{"spaced":100000}]}"#;
+    let (first, second) = (waits(json, 20), waits(json, 20));
+    assert_ne!(first, second);
+    assert!(first.iter().chain(&second).all(|wait| (50_000..=150_000).contains(wait)), "{first:?} {second:?}");
 }

@@ -1,5 +1,8 @@
 //! Quotas: worked windows, retries on them, and threads that share one.
 
+mod common;
+
+use common::ticket;
 use hikebox::{
     retry, Budget, BudgetError, Ended, Grants, Machine, Policy, Quota, QuotaPass, Report, RetryError, Retrying, Step,
     Unlimited, Usage,
@@ -33,28 +36,28 @@ fn worked_windows() {
     let quota = quota(2, 0.4, 100);
     let mut first = quota.pass().unwrap();
     let mut second = quota.pass().unwrap();
-    assert_eq!(first.draw_at(at(300)), Some(3 * WINDOW));
-    assert_eq!(second.draw_at(at(310)), Some(3 * WINDOW + 1));
-    assert_eq!(first.draw_at(at(320)), None);
+    assert_eq!(ticket(first.draw_at(at(300))), Some(3 * WINDOW));
+    assert_eq!(ticket(second.draw_at(at(310))), Some(3 * WINDOW + 1));
+    assert_eq!(ticket(first.draw_at(at(320))), None);
     for _ in 0..4 {
         second.deposit_at(at(330));
     }
     // 2 and 0.4 for each of four requests: 3.6
     assert_eq!(told(first.seen_at(at(340))), [3, 4, 2, 1]);
-    assert_eq!(first.seen_at(at(340)).next, Some(at(400)));
-    assert_eq!(first.draw_at(at(340)), Some(3 * WINDOW + 2));
-    assert_eq!(first.draw_at(at(340)), None);
+    assert_eq!(first.seen_at(at(340)).next, at(400));
+    assert_eq!(ticket(first.draw_at(at(340))), Some(3 * WINDOW + 2));
+    assert_eq!(ticket(first.draw_at(at(340))), None);
     quota.deposit_at(at(350));
-    assert_eq!(second.draw_at(at(399)), Some(3 * WINDOW + 3));
-    assert_eq!(second.draw_at(at(399)), None);
+    assert_eq!(ticket(second.draw_at(at(399))), Some(3 * WINDOW + 3));
+    assert_eq!(ticket(second.draw_at(at(399))), None);
     assert_eq!(told(quota.seen_at(at(400))), [4, 0, 0, 2]);
-    assert_eq!(first.draw_at(at(400)), Some(4 * WINDOW));
+    assert_eq!(ticket(first.draw_at(at(400))), Some(4 * WINDOW));
     // a clock that is behind is served in the latest window
-    assert_eq!(second.draw_at(at(50)), Some(4 * WINDOW + 1));
-    assert_eq!(second.draw_at(at(50)), None);
+    assert_eq!(ticket(second.draw_at(at(50))), Some(4 * WINDOW + 1));
+    assert_eq!(ticket(second.draw_at(at(50))), None);
     // and one that is ahead opens its own
-    assert_eq!(first.draw_at(at(3_600_000)), Some(36_000 * WINDOW));
-    assert_eq!(quota.seen_at(at(50)).next, Some(at(3_600_100)));
+    assert_eq!(ticket(first.draw_at(at(3_600_000))), Some(36_000 * WINDOW));
+    assert_eq!(quota.seen_at(at(50)).next, at(3_600_100));
     assert_eq!((first.count(), second.count()), (4, 3));
     assert_eq!(quota.granted(), 0);
     drop(first);
@@ -69,7 +72,7 @@ fn an_idle_week_gives_one_reserve() {
     let quota = quota(10, 0.0, 1000);
     let mut pass = quota.pass().unwrap();
     let week = at(7 * 86_400_000);
-    assert_eq!((0..200).filter(|_| pass.draw_at(week).is_some()).count(), 10);
+    assert_eq!((0..200).filter(|_| pass.draw_at(week).is_ok()).count(), 10);
     drop(pass);
     assert_eq!(quota.close().unwrap(), 10);
 }
@@ -79,10 +82,10 @@ fn a_host_may_count_from_1970() {
     let millis = |millis: u64| at(1_700_000_000_000 + millis);
     let quota = Quota::new_of_host(millis(42), 1, 0.0, at(100)).unwrap();
     let mut pass = quota.pass().unwrap();
-    assert_eq!(pass.draw_at(millis(99)), Some(0));
-    assert_eq!(pass.draw_at(millis(99)), None);
-    assert_eq!(pass.draw_at(millis(100)), Some(WINDOW));
-    assert_eq!(pass.draw_at(millis(299_999_999_800)), Some(2_999_999_998 * WINDOW));
+    assert_eq!(ticket(pass.draw_at(millis(99))), Some(0));
+    assert_eq!(ticket(pass.draw_at(millis(99))), None);
+    assert_eq!(ticket(pass.draw_at(millis(100))), Some(WINDOW));
+    assert_eq!(ticket(pass.draw_at(millis(299_999_999_800))), Some(2_999_999_998 * WINDOW));
     assert!(quota.moment(Instant::now()) >= millis(42));
 }
 
@@ -94,7 +97,7 @@ fn windows_go_by_the_systems_clock() {
     assert_eq!(told(quota.seen()), [1, 1, 0, 2]);
     let mut pass = quota.pass().unwrap();
     pass.deposit();
-    assert_eq!(pass.draw(), Some(WINDOW));
+    assert_eq!(ticket(pass.draw()), Some(WINDOW));
     assert_eq!(told(pass.seen()), [1, 2, 1, 2]);
     assert_eq!(quota.moment(began), at(0));
     assert_eq!(quota.moment(began + Duration::from_millis(1500)), at(1500));
@@ -152,7 +155,11 @@ fn a_retry_on_nothing_ends_by_its_schedule() {
     let mut calls = 0;
     let result = retry(&policy(r#"{"recurs":4}"#), &Unlimited, || {
         calls += 1;
-        if calls == 3 { Ok(calls) } else { Err(()) }
+        if calls == 3 {
+            Ok(calls)
+        } else {
+            Err(())
+        }
     });
     assert_eq!(result, Ok(3));
 }
@@ -223,7 +230,7 @@ fn sixteen_threads_draw_all_of_a_window_each_ticket_once() {
                     let mut drawn = Vec::new();
                     // where a draw lost 64 races there are tickets left
                     while pass.seen_at(at(0)).left > 0 {
-                        drawn.extend(pass.draw_at(at(0)));
+                        drawn.extend(ticket(pass.draw_at(at(0))));
                     }
                     assert_eq!(pass.count(), drawn.len() as u64);
                     drawn
@@ -253,7 +260,7 @@ fn threads_draw_in_different_windows_at_once() {
                     let mut drawn = Vec::new();
                     ready.wait();
                     for window in first..first + 2000 {
-                        drawn.extend(std::iter::from_fn(|| pass.draw_at(at(window * 100))));
+                        drawn.extend(std::iter::from_fn(|| ticket(pass.draw_at(at(window * 100)))));
                     }
                     drawn
                 })
@@ -380,7 +387,7 @@ fn carrying() -> Quota {
 
 /// The tickets that are drawn at this moment, until there is none.
 fn all_drawn(pass: &mut QuotaPass, moment: u64) -> Vec<u64> {
-    std::iter::from_fn(|| pass.draw_at(at(moment))).collect()
+    std::iter::from_fn(|| ticket(pass.draw_at(at(moment)))).collect()
 }
 
 #[test]
@@ -388,14 +395,14 @@ fn what_a_window_leaves_of_its_share_is_drawn_once_in_the_next() {
     let quota = carrying();
     let (mut first, mut second) = (quota.pass().unwrap(), quota.pass().unwrap());
     first.deposit_of_at(at(10), 5);
-    assert_eq!([first.draw_at(at(50)), second.draw_at(at(99))], [Some(0), Some(1)]);
+    assert_eq!([ticket(first.draw_at(at(50))), ticket(second.draw_at(at(99)))], [Some(0), Some(1)]);
     second.deposit_of_at(at(100), 2);
     // three of the five, which are drawn first, and the window's own two
     assert_eq!(told(quota.seen_at(at(100))), [1, 2, 0, 5]);
-    assert_eq!([first.draw_at(at(100)), second.draw_at(at(110))], [Some(WINDOW - 3), Some(WINDOW - 2)]);
+    assert_eq!([ticket(first.draw_at(at(100))), ticket(second.draw_at(at(110)))], [Some(WINDOW - 3), Some(WINDOW - 2)]);
     assert_eq!(all_drawn(&mut first, 199), [WINDOW - 1, WINDOW, WINDOW + 1]);
     assert_eq!(told(quota.seen_at(at(199))), [1, 2, 2, 0]);
-    assert_eq!([first.draw_at(at(200)), second.draw_at(at(200))], [None, None]);
+    assert_eq!([ticket(first.draw_at(at(200))), ticket(second.draw_at(at(200)))], [None, None]);
     assert_eq!((first.count(), second.count()), (5, 2));
     drop((first, second));
     assert_eq!(quota.close().unwrap(), 7);
@@ -406,7 +413,7 @@ fn what_was_carried_is_not_carried_on() {
     let quota = carrying();
     let mut pass = quota.pass().unwrap();
     pass.deposit_of_at(at(10), 5);
-    assert_eq!(pass.draw_at(at(100)), Some(WINDOW - 5));
+    assert_eq!(ticket(pass.draw_at(at(100))), Some(WINDOW - 5));
     pass.deposit_of_at(at(150), 2);
     // window 2 has the two requests of window 1, and nothing of the four tickets that were left there of window 0
     assert_eq!(all_drawn(&mut pass, 200), [2 * WINDOW - 2, 2 * WINDOW - 1]);
@@ -419,7 +426,7 @@ fn nothing_is_carried_by_other_quotas_nor_past_an_idle_window() {
     for (quota, moment, left) in [(plain, 100, 0), (carrying(), 199, 3), (carrying(), 200, 0)] {
         let mut pass = quota.pass().unwrap();
         pass.deposit_of_at(at(10), 5);
-        assert_eq!([pass.draw_at(at(10)), pass.draw_at(at(10))], [Some(0), Some(1)]);
+        assert_eq!([ticket(pass.draw_at(at(10))), ticket(pass.draw_at(at(10)))], [Some(0), Some(1)]);
         assert_eq!(all_drawn(&mut pass, moment).len(), left);
     }
 }
@@ -431,7 +438,7 @@ fn a_reserve_is_not_carried() {
     pass.deposit_of_at(at(10), 4);
     assert_eq!(told(pass.seen_at(at(10))), [0, 4, 0, 5]);
     assert_eq!(told(pass.seen_at(at(100))), [1, 0, 0, 5]);
-    assert_eq!([0; 3].map(|_| pass.draw_at(at(100)).unwrap()), [WINDOW - 2, WINDOW - 1, WINDOW]);
+    assert_eq!([0; 3].map(|_| ticket(pass.draw_at(at(100)))), [WINDOW - 2, WINDOW - 1, WINDOW].map(Some));
     // the two of window 1 that are left are of its reserve
     assert_eq!(all_drawn(&mut pass, 200), [2 * WINDOW, 2 * WINDOW + 1, 2 * WINDOW + 2]);
     // a window has half of its numbers for its own tickets
@@ -443,12 +450,15 @@ fn a_ticket_that_is_handed_back_is_not_carried() {
     let quota = Quota::carrying(0, 0.5, at(100)).unwrap();
     let mut pass = quota.pass().unwrap();
     pass.deposit_of_at(at(10), 10);
-    assert_eq!([0; 3].map(|_| pass.draw_at(at(20)).unwrap()), [0, 1, 2]);
-    assert!(pass.hand_back());
+    assert_eq!([0; 2].map(|_| ticket(pass.draw_at(at(20)))), [Some(0), Some(1)]);
+    let third = pass.draw_at(at(20)).unwrap();
+    assert_eq!(third.number(), 2);
+    pass.hand_back(third).unwrap();
     // two of the five are left, since three were given
-    assert_eq!(pass.draw_at(at(100)), Some(WINDOW - 2));
+    let carried = pass.draw_at(at(100)).unwrap();
+    assert_eq!((carried.window(), carried.number()), (0, WINDOW - 2));
     // and one that was carried is given up
-    assert!(pass.hand_back());
+    pass.hand_back(carried).unwrap();
     assert_eq!(all_drawn(&mut pass, 100), [WINDOW - 1]);
     assert_eq!(pass.count(), 3);
 }
@@ -477,7 +487,7 @@ fn a_host_carries_by_its_own_clock() {
     let quota = Quota::carrying_of_host(millis(42), 0, 0.5, at(100)).unwrap();
     quota.deposit_of_at(millis(99), 4);
     let mut pass = quota.pass().unwrap();
-    assert_eq!([0; 3].map(|_| pass.draw_at(millis(100))), [Some(WINDOW - 2), Some(WINDOW - 1), None]);
+    assert_eq!([0; 3].map(|_| ticket(pass.draw_at(millis(100)))), [Some(WINDOW - 2), Some(WINDOW - 1), None]);
     assert_eq!(Quota::carrying(0, 20.0, at(100)).unwrap_err(), BudgetError::ShareOutOfRange);
     assert_eq!(Quota::carrying_of_host(millis(0), 0, 0.0, at(99)).unwrap_err(), BudgetError::PeriodTooShort);
 }

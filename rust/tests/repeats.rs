@@ -61,7 +61,7 @@ fn runs(json: &str, took: u64, deadline: Option<u64>) -> (Vec<u128>, Result<usiz
     let (policy, now) = (policy(json), Cell::new(Instant::now()));
     let (origin, mut seen) = (now.get(), Vec::new());
     let repeating = Repeating::new(&policy).clock(|| now.get()).sleep(|wait| now.set(now.get() + wait));
-    let mut repeating = match deadline {
+    let repeating = match deadline {
         Some(deadline) => repeating.deadline(Duration::from_millis(deadline)),
         None => repeating,
     };
@@ -103,21 +103,21 @@ fn a_poll_has_no_last_run() {
 #[test]
 fn a_schedule_is_given_the_numbers_of_values_and_random_words() {
     let policy = policy(r#"{"gate":["input",true,"equal",202,{"jitter":[1,0,1000,{"spaced":1000}]}]}"#);
-    let (mut statuses, mut waits) = ([202, 202, 200, 202].into_iter(), Vec::new());
-    let mut repeating = Repeating::new(&policy)
+    let (mut statuses, waits) = ([202, 202, 200, 202].into_iter(), RefCell::new(Vec::new()));
+    let repeating = Repeating::new(&policy)
         .code(|status: &u64| *status)
         .words(|| [9, 1 << 31, 9, 9])
-        .sleep(|wait: Duration| waits.push(wait.as_millis()));
+        .sleep(|wait: Duration| waits.borrow_mut().push(wait.as_millis()));
     assert_eq!(repeating.call(|| statuses.next().ok_or(())), Ok(200));
     drop(repeating);
-    assert_eq!((waits, statuses.next()), (vec![500, 500], Some(202)));
+    assert_eq!((waits.into_inner(), statuses.next()), (vec![500, 500], Some(202)));
 }
 
 #[test]
 fn a_poll_of_futures_runs_on_any_runtime() {
     let (policy, stopped, waits) = (policy(r#"{"spaced":100}"#), Instant::now(), RefCell::new(Vec::new()));
     let mut answers = 1..;
-    let mut polling = Repeating::new(&policy).clock(|| stopped).sleep(|wait: Duration| {
+    let polling = Repeating::new(&policy).clock(|| stopped).sleep(|wait: Duration| {
         waits.borrow_mut().push(wait.as_millis());
         ready(())
     });

@@ -1,8 +1,8 @@
 //! Retries: how they end, what they are granted, and what threads share.
 
 use hikebox::{
-    retry, BlockingRetryable, Budget, Cause, Ended, Machine, Policy, Report, RetryError, Retrying, Step, Tickets,
-    Unlimited,
+    retry, BlockingRetryable, Budget, Cause, Ended, Machine, NoTicket, Policy, Report, RetryError, Retrying, Step,
+    Ticket, Tickets, Unlimited,
 };
 use std::cell::{Cell, RefCell};
 use std::error::Error;
@@ -52,12 +52,10 @@ fn a_retry_goes_on_after_65_536_failures() {
 fn a_code_is_the_schedules_input() {
     let json = r#"{"gate":["input",true,"below",500,{"recurs":5}]}"#;
     let seen = RefCell::new(0);
-    let result = Retrying::new(&policy(json), &Budget::new(10).unwrap())
-        .code(|code: &u64| *code)
-        .call(|| {
-            *seen.borrow_mut() += 250;
-            Err::<(), u64>(*seen.borrow())
-        });
+    let result = Retrying::new(&policy(json), &Budget::new(10).unwrap()).code(|code: &u64| *code).call(|| {
+        *seen.borrow_mut() += 250;
+        Err::<(), u64>(*seen.borrow())
+    });
     assert_eq!(result, Err(RetryError::ScheduleDone(500)));
 }
 
@@ -65,13 +63,13 @@ fn a_code_is_the_schedules_input() {
 fn waits_are_as_long_as_planned() {
     let json = r#"{"meet":[{"recurs":2},{"spaced":20}]}"#;
     let began = Instant::now();
-    let mut waits = Vec::new();
+    let waits = RefCell::new(Vec::new());
     let result = Retrying::new(&policy(json), &Budget::new(10).unwrap())
-        .notify(|_, wait| waits.push(wait))
+        .notify(|_, wait| waits.borrow_mut().push(wait))
         .call(|| Err::<(), _>(()));
     assert_eq!(result, Err(RetryError::ScheduleDone(())));
     assert!(began.elapsed() >= Duration::from_millis(40));
-    assert_eq!(waits, [Duration::from_millis(20); 2]);
+    assert_eq!(waits.into_inner(), [Duration::from_millis(20); 2]);
 }
 
 #[test]
@@ -79,12 +77,12 @@ fn a_wait_is_whole_whatever_part_of_a_millisecond_the_call_took() {
     // by hand: the runs end 0.84 ms and 3.68 ms after the retry began, and each wait is 2 ms from there on
     let (now, began) = (Cell::new(Instant::now()), Instant::now());
     let origin = now.get();
-    let mut waits = Vec::new();
+    let waits = RefCell::new(Vec::new());
     let mut starts = Vec::new();
     let result = Retrying::new(&policy(r#"{"meet":[{"recurs":2},{"spaced":2}]}"#), &Unlimited)
         .clock(|| now.get())
         .sleep(|wait| {
-            waits.push(wait);
+            waits.borrow_mut().push(wait);
             now.set(now.get() + wait);
         })
         .call(|| {
@@ -93,7 +91,7 @@ fn a_wait_is_whole_whatever_part_of_a_millisecond_the_call_took() {
             Err::<(), _>("no")
         });
     assert_eq!(result, Err(RetryError::ScheduleDone("no")));
-    assert_eq!(waits, [Duration::from_millis(2); 2]);
+    assert_eq!(waits.into_inner(), [Duration::from_millis(2); 2]);
     assert_eq!(starts, [0, 2840, 5680].map(Duration::from_micros));
     assert!(began.elapsed() < Duration::from_secs(20));
 }
@@ -103,16 +101,18 @@ fn a_sleep_need_not_move_the_clock_and_is_not_asked_for_nothing() {
     let stopped = Instant::now();
     let slept = Cell::new(Duration::ZERO);
     let policy = policy(r#"{"follow":[{"recurs":2},{"meet":[{"recurs":2},{"spaced":3600000}]}]}"#);
-    let mut retrying = Retrying::new(&policy, &Unlimited)
-        .clock(|| stopped)
-        .sleep(|wait: Duration| {
-            assert!(!wait.is_zero());
-            slept.set(slept.get() + wait);
-        });
+    let retrying = Retrying::new(&policy, &Unlimited).clock(|| stopped).sleep(|wait: Duration| {
+        assert!(!wait.is_zero());
+        slept.set(slept.get() + wait);
+    });
     let mut runs = 0;
     let result = retrying.call(|| {
         runs += 1;
-        if runs < 100 { Err(7) } else { Ok("a run that no one planned") }
+        if runs < 100 {
+            Err(7)
+        } else {
+            Ok("a run that no one planned")
+        }
     });
     assert_eq!((result, runs), (Err(RetryError::ScheduleDone(7)), 5));
     assert_eq!(slept.get(), Duration::from_secs(2 * 3600));
@@ -128,8 +128,8 @@ fn an_error_asks_for_a_longer_wait_up_to_the_longest() {
             .retry_after(|wait: &Option<u64>| wait.map(Duration::from_millis))
             .notify(|_, wait| waits.borrow_mut().push(wait.as_millis()))
             .sleep(|wait: Duration| slept.borrow_mut().push(wait));
-        let mut retrying = match longest {
-            Some(millis) => retrying.longest(Duration::from_millis(millis)),
+        let retrying = match longest {
+            Some(millis) => retrying.max_retry_after(Duration::from_millis(millis)),
             None => retrying,
         };
         let result = retrying.call(|| match asked.next() {
@@ -148,15 +148,14 @@ fn an_error_asks_for_a_longer_wait_up_to_the_longest() {
 #[test]
 fn words_pick_the_delays() {
     let json = r#"{"meet":[{"recurs":3},{"jitter":[2,0,1000,{"spaced":1000}]}]}"#;
-    let mut waits = Vec::new();
     for (word, wait) in [(0, 0), (1 << 31, 500)] {
-        waits.clear();
+        let waits = RefCell::new(Vec::new());
         let _ = Retrying::new(&policy(json), &Unlimited)
             .words(|| [9, 9, word, 9])
             .sleep(|_: Duration| ())
-            .notify(|_, wait| waits.push(wait.as_millis()))
+            .notify(|_, wait| waits.borrow_mut().push(wait.as_millis()))
             .call(|| Err::<(), _>(()));
-        assert_eq!(waits, [wait; 3]);
+        assert_eq!(waits.into_inner(), [wait; 3]);
     }
 }
 
@@ -166,17 +165,18 @@ fn settings_are_cloned_shown_and_called_as_often_as_one_likes() {
     let heard = Rc::new(Cell::new(0));
     let counter = heard.clone();
     // an `Rc` is not `Send`, and nothing is sent
-    let mut retrying = Retrying::new(&policy, &budget)
+    let retrying = Retrying::new(&policy, &budget)
         .when(|error: &&str| *error != "fatal")
         .notify(move |_, _| counter.set(counter.get() + 1));
-    let mut other = retrying.clone();
+    let other = retrying.clone();
     for _ in 0..3 {
         assert_eq!(retrying.call(|| Err::<(), _>("busy")), Err(RetryError::ScheduleDone("busy")));
         assert_eq!(other.call(|| Err::<u8, _>("fatal")), Err(RetryError::NotRetried("fatal")));
     }
     assert_eq!((heard.get(), budget.granted()), (3, 3));
     drop(other);
-    let shown = r#"Retrying { policy: Policy({"recurs":1}), budget: Budget { granted: 3, .. }, longest: 21600s, "#;
+    let shown =
+        r#"Retrying { policy: Policy({"recurs":1}), budget: Budget { granted: 3, .. }, max_retry_after: 21600s, "#;
     assert!(format!("{retrying:?}").starts_with(shown));
 }
 
@@ -236,11 +236,11 @@ impl Tickets for Store {
         self.asked.fetch_add(1, Ordering::SeqCst);
     }
 
-    fn draw(&self) -> Result<bool, Box<dyn Error + Send + Sync>> {
+    fn draw(&self) -> Result<Ticket, NoTicket> {
         match self.left.fetch_sub(1, Ordering::SeqCst) {
-            left if left > 0 => Ok(true),
-            _ if self.fails => Err("the table is locked".into()),
-            _ => Ok(false),
+            left if left > 0 => Ok(Ticket::new(left.unsigned_abs())),
+            _ if self.fails => Err(NoTicket::failed("the table is locked")),
+            _ => Err(NoTicket::used_up()),
         }
     }
 }
@@ -366,7 +366,11 @@ fn a_call_that_succeeds_or_is_not_retried_leaves_nothing_in_the_budget() {
     let second = Cell::new(0);
     let then = |failure: Result<(), u8>| {
         second.set(second.get() + 1);
-        if second.get() % 2 == 1 { Err(1) } else { failure }
+        if second.get() % 2 == 1 {
+            Err(1)
+        } else {
+            failure
+        }
     };
     assert_eq!(drawn(&|| Ok(())), 0);
     assert_eq!(drawn(&|| Err(9)), 0);
@@ -388,7 +392,11 @@ fn sixteen_threads_never_pass_the_budget() {
                 let mut left = 3;
                 let result = retry(&policy, &budget, || {
                     left -= 1;
-                    if left == 0 { Ok(()) } else { Err(()) }
+                    if left == 0 {
+                        Ok(())
+                    } else {
+                        Err(())
+                    }
                 });
                 if result.is_err() {
                     assert_eq!(result, Err(RetryError::BudgetRefused(())));

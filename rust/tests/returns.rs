@@ -1,11 +1,13 @@
 //! Quotas whose terms are set, requests counted at once or where calls succeed, and tickets that come back.
 
+mod common;
+
+use common::ticket;
 use hikebox::{
-    retry, Budget, BudgetError, Ended, Machine, Policy, Quota, Report, RetryError, Retrying, Step, Tickets, Unlimited,
-    Usage,
+    retry, Budget, BudgetError, Ended, Machine, NoTicket, Policy, Quota, Report, RetryError, Retrying, Step, Ticket,
+    Tickets, Unlimited, Usage,
 };
 use std::cell::Cell;
-use std::error::Error;
 use std::panic::{catch_unwind, AssertUnwindSafe};
 use std::sync::{Arc, Mutex};
 use std::thread;
@@ -73,9 +75,9 @@ fn several_requests_are_counted_in_the_window_of_their_moment() {
 fn terms_are_set_while_a_quota_is_used() {
     let quota = quota(2, 0.0);
     let (mut first, mut second) = (quota.pass().unwrap(), quota.pass().unwrap());
-    assert_eq!([first.draw(), first.draw(), first.draw()], [Some(0), Some(1), None]);
+    assert_eq!([ticket(first.draw()), ticket(first.draw()), ticket(first.draw())], [Some(0), Some(1), None]);
     assert_eq!(quota.set_terms(3, 0.0), Ok(()));
-    assert_eq!([second.draw(), second.draw()], [Some(2), None]);
+    assert_eq!([ticket(second.draw()), ticket(second.draw())], [Some(2), None]);
     quota.deposit_of(10);
     assert_eq!(quota.clone().set_terms(1, 0.5), Ok(()));
     // one, and a half of ten, of which three were given
@@ -86,29 +88,60 @@ fn terms_are_set_while_a_quota_is_used() {
     // what was given stays given
     assert_eq!(quota.set_terms(0, 0.0), Ok(()));
     assert_eq!(told(quota.seen()), [10, 3, 0]);
-    assert_eq!((first.draw(), second.count()), (None, 1));
+    assert_eq!((ticket(first.draw()), second.count()), (None, 1));
 }
 
 #[test]
 fn a_pass_hands_its_latest_ticket_back_once() {
     let quota = Quota::new(2, 0.0, at(100)).unwrap();
     let (mut pass, mut other) = (quota.pass().unwrap(), quota.pass().unwrap());
-    assert!(!pass.hand_back());
-    assert_eq!([pass.draw_at(at(0)), pass.draw_at(at(0)), pass.draw_at(at(0))], [Some(0), Some(1), None]);
-    assert!(pass.hand_back());
-    assert!(!pass.hand_back());
+    let (first, second) = (pass.draw_at(at(0)).unwrap(), pass.draw_at(at(0)).unwrap());
+    assert_eq!([(first.window(), first.number()), (second.window(), second.number())], [(0, 0), (0, 1)]);
+    assert_eq!(ticket(pass.draw_at(at(0))), None);
+    // not by another pass, and not the one before
+    let second = other.hand_back(second).unwrap_err();
+    let first = pass.hand_back(first).unwrap_err();
+    pass.hand_back(second).unwrap();
+    assert!(pass.hand_back(first).is_err());
     assert_eq!(pass.count(), 1);
     assert_eq!(quota.seen_at(at(0)).left, 1);
     // another number is dealt for it, to whoever draws
-    assert_eq!([other.draw_at(at(0)), other.draw_at(at(0))], [Some(2), None]);
+    assert_eq!([ticket(other.draw_at(at(0))), ticket(other.draw_at(at(0)))], [Some(2), None]);
     // a ticket of a window that is over gives the next one none
-    assert_eq!(other.draw_at(at(100)), Some(WINDOW));
-    assert_eq!(pass.draw_at(at(150)), Some(WINDOW + 1));
-    assert_eq!(other.draw_at(at(200)), Some(2 * WINDOW));
-    assert!(pass.hand_back());
-    assert_eq!([other.draw_at(at(200)), other.draw_at(at(200))], [Some(2 * WINDOW + 1), None]);
+    assert_eq!(ticket(other.draw_at(at(100))), Some(WINDOW));
+    let late = pass.draw_at(at(150)).unwrap();
+    assert_eq!((late.window(), late.number()), (1, 1));
+    assert_eq!(ticket(other.draw_at(at(200))), Some(2 * WINDOW));
+    pass.hand_back(late).unwrap();
+    assert_eq!([ticket(other.draw_at(at(200))), ticket(other.draw_at(at(200)))], [Some(2 * WINDOW + 1), None]);
     drop((pass, other));
     assert_eq!(quota.close().unwrap(), 5);
+}
+
+#[test]
+fn a_ticket_of_a_store_or_of_another_quota_does_not_come_back() {
+    let (one, another) = (quota(3, 0.0), quota(3, 0.0));
+    let (mut pass, mut others) = (one.pass().unwrap(), another.pass().unwrap());
+    let (own, foreign) = (pass.draw().unwrap(), others.draw().unwrap());
+    assert_eq!((own.window(), own.number()), (foreign.window(), foreign.number()));
+    assert!(pass.hand_back(foreign).is_err());
+    assert!(pass.hand_back(Ticket::new(0)).is_err());
+    assert!(pass.hand_back(own).is_ok());
+    drop((pass, others));
+    assert_eq!((one.close().unwrap(), another.close().unwrap()), (0, 1));
+}
+
+#[test]
+fn a_draw_says_how_long_it_is_until_there_may_be_a_ticket() {
+    let quota = Quota::new(1, 0.0, at(100)).unwrap();
+    let mut pass = quota.pass().unwrap();
+    assert!(pass.draw_at(at(30)).is_ok());
+    let refused = pass.draw_at(at(30)).unwrap_err();
+    assert_eq!(refused, NoTicket::UsedUp { next_in: Some(at(70)) });
+    assert_eq!(refused.to_string(), "no ticket is left (again in 70ms)");
+    assert!(pass.draw_at(at(100)).is_ok());
+    let budget = Budget::new(0).unwrap();
+    assert_eq!(budget.pass().unwrap().draw().unwrap_err(), NoTicket::UsedUp { next_in: None });
 }
 
 #[test]
@@ -256,24 +289,20 @@ impl Tickets for Heard {
         self.hears("asked".to_owned());
     }
 
-    fn draw(&self) -> Result<bool, Box<dyn Error + Send + Sync>> {
-        Ok(self.draw_numbered()?.is_some())
-    }
-
-    fn draw_numbered(&self) -> Result<Option<u64>, Box<dyn Error + Send + Sync>> {
+    fn draw(&self) -> Result<Ticket, NoTicket> {
         let mut left = self.left.lock().unwrap();
         let ticket = left.checked_sub(1);
         *left = ticket.unwrap_or(0);
         self.hears(format!("draws {ticket:?}"));
-        Ok(ticket)
+        ticket.map(Ticket::new).ok_or_else(NoTicket::used_up)
     }
 
-    fn hand_back(&self, ticket: u64) {
-        self.hears(format!("back {ticket}"));
+    fn hand_back(&self, ticket: Ticket) {
+        self.hears(format!("back {}", ticket.number()));
     }
 
-    fn succeeded(&self, last: Option<u64>) {
-        self.hears(format!("succeeded {last:?}"));
+    fn succeeded(&self, last: Option<Ticket>) {
+        self.hears(format!("succeeded {:?}", last.map(|ticket| ticket.number())));
     }
 }
 
@@ -321,14 +350,14 @@ fn whatever_retries_takes_whatever_grants() {
     #[cfg(feature = "leased")]
     {
         use hikebox::{Leased, LeasedQuota};
-        let file = std::env::temp_dir().join(format!("hikebox-whatever-{}", std::process::id()));
-        let _ = std::fs::remove_file(&file);
-        let quota = |name: &str| LeasedQuota::new(&file, name, 9, 0.0, Duration::from_secs(1_000_000)).unwrap();
-        assert_eq!(granted(&Leased::new(&file, "b", 9)), 2);
-        assert_eq!(granted(&Arc::new(Leased::new(&file, "c", 9))), 2);
+        let folder = std::env::temp_dir().join(format!("hikebox-whatever-{}", std::process::id()));
+        let _ = std::fs::remove_dir_all(&folder);
+        let quota = |name: &str| LeasedQuota::new(&folder, name, 9, 0.0, Duration::from_secs(1_000_000)).unwrap();
+        assert_eq!(granted(&Leased::new(&folder, "b", 9).unwrap()), 2);
+        assert_eq!(granted(&Arc::new(Leased::new(&folder, "c", 9).unwrap())), 2);
         assert_eq!(granted(&quota("q")), 2);
         assert_eq!(granted(&Arc::new(quota("r"))), 2);
-        std::fs::remove_file(&file).unwrap();
+        std::fs::remove_dir_all(&folder).unwrap();
     }
 }
 
@@ -350,7 +379,7 @@ mod of_futures {
     async fn a_future_that_is_dropped_while_its_error_waits_hands_its_ticket_back() {
         // the schedule goes on at once, and the error asks to wait
         let (policy, quota) = (policy(r#"{"recurs":5}"#), quota(9, 0.0));
-        let mut retrying = Retrying::new(&policy, &quota).retry_after(|_| Some(Duration::from_millis(100)));
+        let retrying = Retrying::new(&policy, &quota).retry_after(|_| Some(Duration::from_millis(100)));
         let call = retrying.call_async(|| ready(Err::<(), _>("busy")));
         assert!(timeout(Duration::from_millis(250), call).await.is_err());
         // failures at 0, 100 and 200, and the last one's retry never began

@@ -52,7 +52,11 @@ fn a_storm_is_what_the_program_prints() {
     let cases: [(Storm, &Policy, &str); 8] = [
         (Storm::new(&three).seconds(15), &three, "--seconds 15"),
         (Storm::new(&full()).rate(90).seconds(12).seed(7), &full(), "--rate 90 --seconds 12 --words 7"),
-        (Storm::new(&three).seconds(1).budget(5).outage(SECOND / 10..SECOND), &three, "--seconds 1 --budget 5 --outage 100..1000"),
+        (
+            Storm::new(&three).seconds(1).budget(5).outage(SECOND / 10..SECOND),
+            &three,
+            "--seconds 1 --budget 5 --outage 100..1000",
+        ),
         (
             Storm::new(&spaced).rate(40).together(2).seconds(2).no_outage().quota(1, 0.1, millis(100)).capacity(20),
             &spaced,
@@ -65,7 +69,11 @@ fn a_storm_is_what_the_program_prints() {
         ),
         (Storm::new(&three).seconds(20).until(millis(10_500)), &three, "--seconds 20 --until 10500"),
         (Storm::new(&three).seconds(20).calls(9000), &three, "--seconds 20 --calls 9000"),
-        (Storm::new(&three).seconds(1).rate(1).queue(0).patience(millis(1)), &three, "--seconds 1 --rate 1 --queue 0 --patience 1"),
+        (
+            Storm::new(&three).seconds(1).rate(1).queue(0).patience(millis(1)),
+            &three,
+            "--seconds 1 --rate 1 --queue 0 --patience 1",
+        ),
     ];
     for (storm, policy, options) in cases {
         let report = storm.play().unwrap();
@@ -146,7 +154,10 @@ fn what_is_out_of_range_is_named() {
         (told(storm().slow(SECOND..seconds(2), 101)), "slow is from 1 to 100"),
         (told(storm().rate(20_000)), "rate times seconds is at most 1048576"),
         (told(storm().window(millis(1))), "until divided by window is at most 65536"),
-        (told(storm().quota(1, 20.0, SECOND)), "the share is not 0, nor from 0.001 to 10 retries a request (0.2 is one for every five)"),
+        (
+            told(storm().quota(1, 20.0, SECOND)),
+            "the share is not 0, nor from 0.001 to 10 retries a request (0.2 is one for every five)",
+        ),
         (told(storm().quota(1, 0.1, Duration::ZERO)), "the window is shorter than 100 milliseconds"),
     ];
     for (told, wanted) in cases {

@@ -74,10 +74,10 @@ fn draws() {
     let mut share = Quota::new(1_000_000, 1.0, WINDOW).and_then(|quota| quota.pass()).expect("a pass");
     let tower = tower::retry::budget::Budget::new(WINDOW, 1_000_000, 1.0);
     let [draw, deposit_and_draw, deposit_and_withdraw] = least([
-        &mut || pass.draw().is_some(),
+        &mut || pass.draw().is_ok(),
         &mut || {
             share.deposit();
-            share.draw().is_some()
+            share.draw().is_ok()
         },
         &mut || {
             tower.deposit();

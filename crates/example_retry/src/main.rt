@@ -80,6 +80,7 @@ fn told<R: Eprint>(
         CallEnding::Won(text) => Ok(text.value),
         CallEnding::ScheduleDone(fault) => Err(fault.value.into()),
         CallEnding::BudgetRefused(fault) => Err(fault.value.into()),
+        CallEnding::DeadlinePassed(fault) => Err(fault.value.into()),
         CallEnding::Broken(_, fault) => Err(fault.value.into()),
     }
 }

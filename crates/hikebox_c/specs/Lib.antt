@@ -5,3 +5,4 @@ pub mod Courses
 pub mod Passes
 pub mod Retries
 pub mod Leases
+pub mod Leased

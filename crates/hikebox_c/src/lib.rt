@@ -4,6 +4,7 @@
 
 mod courses;
 mod joins;
+mod leased;
 mod leases;
 mod passes;
 mod policies;

@@ -1,4 +1,4 @@
-//! What is wanted where jobs have their fault, and what was found. Nothing is proved of these texts.
+//! What was expected where jobs have their fault, and what was found. Nothing is proved of these texts.
 use sched_plan_check::{Fault, Step};
 use sched_plan_hint::{push_found, push_plan_hint};
 use sched_time::NoMemory;
@@ -6,46 +6,46 @@ use serde_json::Value;
 use std::alloc::Global;
 use std::fmt::Write;
 
-const JOBS_WANTED: &str = "jobs are an array, with a job for each item";
+const JOBS_EXPECTED: &str = "expected an array of jobs";
 
-const JOB_WANTED: &str = r#"a job is {"plan":PLAN,"runs":[RUN,..]}"#;
+const JOB_EXPECTED: &str = r#"expected {"plan":PLAN,"runs":[RUN,..]}"#;
 
-const RUN_WANTED: &str =
-    r#"a run is {"won":CODE} or {"lost":CODE}, CODE from 0 to 4611686018427387903"#;
+const RUN_EXPECTED: &str =
+    r#"expected {"won":CODE} or {"lost":CODE}, CODE from 0 to 4611686018427387903"#;
 
-/// Adds what is wanted at the fault of jobs, and what was found.
+/// Adds what was expected at the fault of jobs, and what was found.
 pub(crate) fn push_jobs_hint(
     alloc: Global,
     text: &mut String,
     found: &Fault<'_>,
 ) -> Result<(), NoMemory> {
     match found.place.as_slice() {
-        [] if !found.value.is_array() => push_wanted(alloc, text, JOBS_WANTED, found.value)?,
+        [] if !found.value.is_array() => push_expected(alloc, text, JOBS_EXPECTED, found.value)?,
         [] => write!(
             text,
-            "at most 4096 jobs are wanted, {} found",
+            "expected at most 4096 jobs, got {}",
             items_of(found.value)
         )?,
-        [_] => push_wanted(alloc, text, JOB_WANTED, found.value)?,
+        [_] => push_expected(alloc, text, JOB_EXPECTED, found.value)?,
         [_, Step::Key("runs")] => write!(
             text,
-            "1 to 64 runs are wanted, {} found",
+            "expected 1 to 64 runs, got {}",
             items_of(found.value)
         )?,
-        [_, Step::Key("runs"), _] => push_wanted(alloc, text, RUN_WANTED, found.value)?,
+        [_, Step::Key("runs"), _] => push_expected(alloc, text, RUN_EXPECTED, found.value)?,
         _ => push_plan_hint(alloc, text, found.fault, found.value)?,
     }
     Ok(())
 }
 
-// Adds what is wanted, and this value, which was found.
-fn push_wanted(
+// Adds what was expected, and this value, which was found.
+fn push_expected(
     alloc: Global,
     text: &mut String,
-    wanted: &str,
+    expected: &str,
     found: &Value,
 ) -> Result<(), NoMemory> {
-    text.push_str(wanted)?;
+    text.push_str(expected)?;
     push_found(alloc, text, found)
 }
 

@@ -31,7 +31,7 @@ fn refuses(rt: &impl Abort, alloc: Global, table: &[(&str, &str)], fault: PrintF
 // Asserts what is told of texts that are not a plan: of each the place, what is wanted there, and what was found.
 fn finds(rt: &impl Abort, alloc: Global, wanted: &str, table: &[(&str, &str, &str)]) {
     for (text, place, found) in table {
-        let line = format!(in alloc; "{place}: {wanted}; found {found}\n");
+        let line = format!(in alloc; "{place}: {wanted}, got {found}\n");
         let line = line.expect(rt, "there is memory");
         tells(rt, alloc, text, &line, Err(PrintFault::NotAPlan));
     }

@@ -4,7 +4,7 @@ use Rattle.std.specs.Prelude.{String, codes, decimal, string_bytes}
 use Rattle.sched_effect.specs.Runs.{code_of}
 use Rattle.sched_effect.specs.declared.ran.Ran.{Ran}
 use Rattle.sched_task.specs.declared.endings.How.{How}
-use Rattle.sched_task.specs.declared.endings.How.TheVariants.{Won, ScheduleDone, BudgetRefused, Failed, Cancelled, Broken}
+use Rattle.sched_task.specs.declared.endings.How.TheVariants.{Won, ScheduleDone, BudgetRefused, DeadlinePassed, Failed, Cancelled, Broken}
 use Rattle.sched_task.specs.declared.endings.RunFault.TheVariants.{NoMemory, JournalFull, Backwards}
 use Rattle.sched_task_law.specs.Past.{Past}
 
@@ -25,6 +25,7 @@ abbrev pub ending_text : Option How → ℕ → List ℕ
 ending_text (Some Won) code = codes "won " ++ decimal code
 ending_text (Some ScheduleDone) code = codes "schedule done, failure " ++ decimal code
 ending_text (Some BudgetRefused) code = codes "budget refused, failure " ++ decimal code
+ending_text (Some DeadlinePassed) code = codes "deadline passed, failure " ++ decimal code
 ending_text (Some Failed) code = codes "failed " ++ decimal code
 ending_text (Some Cancelled) code = codes "cancelled"
 ending_text (Some (Broken NoMemory)) code = codes "broken, no memory"

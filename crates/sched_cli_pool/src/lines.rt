@@ -48,6 +48,7 @@ fn push_ending(lines: &mut String, how: Option<How>, code: u64) -> Result<(), No
         Some(How::Won) => write!(lines, "won {code}")?,
         Some(How::ScheduleDone) => write!(lines, "schedule done, failure {code}")?,
         Some(How::BudgetRefused) => write!(lines, "budget refused, failure {code}")?,
+        Some(How::DeadlinePassed) => write!(lines, "deadline passed, failure {code}")?,
         Some(How::Failed) => write!(lines, "failed {code}")?,
         Some(How::Cancelled) => lines.push_str("cancelled")?,
         Some(How::Broken(RunFault::NoMemory)) => lines.push_str("broken, no memory")?,

@@ -2,6 +2,7 @@
 //! printed to a stream, as lines with bars, as comma-separated values or as JSON.
 #![tactic(auto)]
 
+mod bars;
 mod lines;
 mod printing;
 mod rows;

@@ -4,6 +4,7 @@ ghost use Rattle.sched_cli_plan.specs.Printing.{ReadsPlan};
 ghost use Rattle.sched_cli_plan.specs.Whole.{count_of_writes};
 ghost use Rattle.sched_cli_storm.specs.StormPrinting.{PrintsStorm, IsRefusal};
 
+use crate::bars::push_bars;
 use crate::lines::push_lines;
 use crate::rows::{push_csv, push_json};
 use crate::side_by_side::push_table;
@@ -74,8 +75,14 @@ fn text_of(
     match options.form {
         Form::Csv => push_csv(&mut text, &report)?,
         Form::Json => push_json(&mut text, &report)?,
-        Form::Bars => push_told(alloc, &mut text, options, &report, true)?,
-        Form::Plain => push_told(alloc, &mut text, options, &report, false)?,
+        Form::Bars => {
+            push_bars(alloc, &mut text, &report, options.width)?;
+            push_words(&mut text, &options.storm, &report.totals)?;
+        }
+        Form::Plain => {
+            push_lines(alloc, &mut text, &report)?;
+            push_words(&mut text, &options.storm, &report.totals)?;
+        }
     }
     Ok((text, report.totals.is_cut))
 }
@@ -84,18 +91,6 @@ fn text_of(
 fn played(alloc: Global, options: &StormOptions, plan: Plan) -> Result<Report, NoMemory> {
     let plan = SharedPlan::new(alloc, plan)?;
     options.storm.play(alloc, plan)
-}
-
-// Adds the lines, and the totals in words.
-fn push_told(
-    alloc: Global,
-    text: &mut String,
-    options: &StormOptions,
-    report: &Report,
-    has_bars: bool,
-) -> Result<(), NoMemory> {
-    push_lines(alloc, text, report, has_bars)?;
-    push_words(text, &options.storm, &report.totals)
 }
 
 // The totals of the storm under the first plan and of those under the others, side by side.

@@ -4,6 +4,11 @@ use clap::Command;
 use sched_storm::{MOST_CALLS, MOST_EACH, MOST_MILLIS, MOST_REQUESTS, MOST_SECONDS, MOST_UNTIL};
 use std::alloc::{AllocError, Global};
 
+// The widths of a line with its bar.
+const LEAST_WIDTH: u64 = 72;
+
+const MOST_WIDTH: u64 = 1000;
+
 const STORM_EXAMPLES: &str = "Examples:
   zsched storm plans/back-off.json
   zsched storm --quota 10/10%/1s plans/back-off.json
@@ -104,7 +109,7 @@ const RETRIES: [Row; 3] = [
 ];
 
 // What is played and told.
-const REPORT: [Row; 6] = [
+const REPORT: [Row; 7] = [
     Row {
         name: "window",
         takes: Takes::Number("M", 1, MOST_MILLIS),
@@ -128,18 +133,24 @@ const REPORT: [Row; 6] = [
         name: "plain",
         takes: Takes::Nothing,
         excludes: &[],
-        help: "No bars behind the lines",
+        help: "All numbers of a window, and no bar",
+    },
+    Row {
+        name: "width",
+        takes: Takes::Number("N", LEAST_WIDTH, MOST_WIDTH),
+        excludes: &["plain", "compare"],
+        help: "How wide a line with its bar is, from 72 to 1000 columns; 80 where nothing is said",
     },
     Row {
         name: "csv",
         takes: Takes::Nothing,
-        excludes: &["plain", "compare"],
+        excludes: &["plain", "width", "compare"],
         help: "The lines alone, as comma-separated values",
     },
     Row {
         name: "json",
         takes: Takes::Nothing,
-        excludes: &["csv", "plain", "compare"],
+        excludes: &["csv", "plain", "width", "compare"],
         help: "Lines and totals as JSON, on one line",
     },
 ];

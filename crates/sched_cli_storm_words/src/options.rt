@@ -15,12 +15,15 @@ const SLOW_WANTED: &str =
     "it is spelt as 10000..20000@50, in milliseconds; FROM is at most TO, TO at most 3600000, \
      and PERCENT from 1 to 100";
 
+// How wide a line with its bar is where nothing is said.
+const WIDTH: u64 = 80;
+
 /// How a storm is told.
 #[derive(Clone, Copy, Debug, PartialEq, Eq)]
 pub enum Form {
-    /// A line a window, with a bar, and the totals in words.
+    /// A line for each window, with a bar of its calls, and the totals in words.
     Bars,
-    /// The same without bars.
+    /// A line for each window with all of its numbers, and the totals in words.
     Plain,
     /// The lines alone, as comma-separated values.
     Csv,
@@ -35,6 +38,8 @@ pub struct StormOptions {
     pub storm: Storm,
     /// How it is told.
     pub form: Form,
+    /// How wide a line with its bar is.
+    pub width: u64,
     /// The files of the plans that it is played under, of which the first is the program's input.
     pub names: Vec<String>,
     /// The texts of the further files, in their order; none before they are read.
@@ -55,6 +60,7 @@ pub fn storm_options(
     Ok(StormOptions {
         storm,
         form: form_in(options),
+        width: number(options, "width", WIDTH),
         names: names(alloc, options)?,
         texts: Vec::new(alloc),
     })

@@ -40,7 +40,7 @@ fn asked(alloc: Global, matches: &ArgMatches<'_>) -> Result<Asked, WordsFault>
     ensures { IfOk result IsAskedInRange }
 {
     let Some((name, options)) = matches.subcommand() else {
-        return Err(WordsFault::bad(alloc, "a command is wanted"));
+        return Err(WordsFault::bad(alloc, "expected a command"));
     };
     let origin = origin(alloc, options)?;
     match name {

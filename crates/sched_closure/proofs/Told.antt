@@ -15,11 +15,11 @@ use Rattle.sched_task.specs.declared.endings.How.{How}
 use Rattle.sched_task_law.specs.Kind.{Kind}
 use Rattle.sched_task_law.specs.Lists.{last_element}
 use Rattle.sched_task_law.proofs.Lists.{last_element-push}
-use Rattle.sched_run_machine.specs.Machine.{StandsFor}
-use Rattle.sched_run_machine.specs.Next.{Finds}
+use Rattle.sched_run_machine.specs.Machine.{Machine, StandsFor}
+use Rattle.sched_run_machine.specs.Next.{Finds, HostPollUntil}
 use Rattle.sched_run_machine.specs.declared.next.Next.{Next}
 use Rattle.sched_run_machine.specs.declared.next.Next.TheVariants.{Poll, Wait}
-use Rattle.sched_run_machine.proofs.Calls.{plan_after}
+use Rattle.sched_run_machine.proofs.Calls.{plan_until, runs_until}
 use Rattle.sched_run_machine.specs.Retrying.{Retrying}
 use Rattle.sched_closure.specs.Turns.{Turning, Calling, calling, Finishes, Turn}
 use Rattle.sched_closure.specs.Calls.{task_turning, machine_turning}
@@ -117,16 +117,44 @@ module _ {K C I F : Type 0} (tells : K → ℕ → K → Type 0) (waits : K → 
         } in
         (rest.0, (with_task turns.0 one.0, here, rest.1), rest.2, rest.3)
 
--- a machine of a retry, or of a repeat
-module _ {R D : Type 0} (stands : R → Driven → Type 0) (kind : Kind) (goes_by : R → Schedule → Type 0) (grants : Grants D) where
-  pub machine_follows : Follows (machine_turning grants kind stands goes_by) (task_turning grants kind)
-      (StandsFor stands kind grants) (λ m v. goes_by m.driver v.past.driver.plan) (λ (v : Retrying D). v.past.runs)
+-- the deadline stays over turns
+module _ {R D K C I F : Type 0} (stands : R → Driven → Type 0) (kind : Kind) (goes_by : R → Schedule → Type 0)
+    (ends : R → Option ℕ) (grants : Grants D) (tells : K → ℕ → K → Type 0) (waits : K → ℕ → ℕ → K → Type 0)
+    (gives : C → Result I F → C → Type 0) (item_code : I → ℕ) (fault_code : F → ℕ) where
+  pub same_deadline : (s : Calling (Machine R D) K C (Result I F)) (ticks : List Tick)
+      (n : Calling (Machine R D) K C (Result I F)) →
+      FoldsTo (Turn (machine_turning grants kind stands goes_by ends) tells waits gives item_code fault_code) s ticks n →
+      ends n.task.driver ≡ ends s.task.driver
+  same_deadline s [] n turns = sym (ap (λ (s : Calling (Machine R D) K C (Result I F)). ends s.task.driver) turns)
+  same_deadline s (tick ∷ ticks) n turns = same_deadline turns.0 ticks n turns.2 ∙ turns.1.poll.deadline
+
+  -- and what the machine goes by in the end it went by in the beginning
+  pub fewer_plans : (s : Calling (Machine R D) K C (Result I F)) (ticks : List Tick)
+      (n : Calling (Machine R D) K C (Result I F)) →
+      FoldsTo (Turn (machine_turning grants kind stands goes_by ends) tells waits gives item_code fault_code) s ticks n →
+      (plan : Schedule) → goes_by n.task.driver plan → goes_by s.task.driver plan
+  fewer_plans s [] n turns plan by =
+      subst (λ (s : Calling (Machine R D) K C (Result I F)). goes_by s.task.driver plan) (sym turns) by
+  fewer_plans s (tick ∷ ticks) n turns plan by =
+      turns.1.poll.narrows plan (fewer_plans turns.0 ticks n turns.2 plan by)
+
+-- a machine of a retry, or of a repeat, that has this deadline or none
+module _ {R D : Type 0} (stands : R → Driven → Type 0) (kind : Kind) (goes_by : R → Schedule → Type 0) (ends : R → Option ℕ)
+    (grants : Grants D) (deadline : Option ℕ) where
+  pub machine_follows : Follows (machine_turning grants kind stands goes_by ends) (task_turning grants kind deadline)
+      (λ m v. StandsFor stands kind grants m v × (ends m.driver ≡ deadline)) (λ m v. goes_by m.driver v.past.driver.plan)
+      (λ (v : Retrying D). v.past.runs)
   machine_follows = record {
-    running = λ m v st. st.under_way;
-    due = λ m v start st due. due v st;
+    running = λ m v st. st.0.under_way;
+    due = λ m v start st due. due v st.0;
     narrows = λ m n v t told polls by. polls.narrows v.past.driver.plan by;
     polls = λ m n v t told st polls by.
-        let was = polls.leads v st by in
-        (was.0, was.1, was.2, λ p by. subst (λ (s : Schedule). goes_by p.driver s) (sym (plan_after grants kind v t told was.0 was.1)) by);
-    adds = λ v u t told poll. poll.runs;
+        let was = polls.leads v st.0 by in (
+          was.0,
+          subst (λ (end : Option ℕ). HostPollUntil grants kind end v t told was.0) st.1 was.1,
+          (was.2, polls.deadline ∙ st.1),
+          λ p by. subst (λ (s : Schedule). goes_by p.driver s)
+              (sym (plan_until grants kind (ends m.driver) v t told was.0 was.1)) by,
+        );
+    adds = λ v u t told poll. runs_until grants kind deadline v t told u poll;
   }

@@ -1,5 +1,5 @@
 -- What a first call makes of a retry that has not begun.
-use Rattle.std.proofs.Common.{◌≡◌, ℕ, Bool, true, false, [], ◌∷◌, Some, None, Result, Err, refl, arith}
+use Rattle.std.proofs.Common.{◌≡◌, ℕ, ◌<◌, Bool, true, false, List, [], ◌∷◌, length, inl, Option, Some, None, Result, Err, refl, arith}
 use Rattle.rand_core.specs.Stream.{Stream}
 use Rattle.sched_time.specs.declared.numbers.Tick.{Tick}
 use Rattle.sched_plan.specs.Schedule.{Schedule}
@@ -10,6 +10,9 @@ use Rattle.sched_task.specs.declared.endings.RunFault.TheVariants.{NoMemory}
 use Rattle.sched_task_law.specs.Kind.{a_retry}
 use Rattle.sched_task_law.specs.Poll.{runs_on, ends, breaks, RefusedIn}
 use Rattle.sched_task_law.proofs.Law.{law_of_nothing}
+use Rattle.sched_effect.specs.declared.ran.Ran.{Ran}
+use Rattle.sched_task_law.specs.Past.{is_under_way}
+use Rattle.sched_run_machine.specs.Next.{HostPoll, HostPollUntil}
 use Rattle.sched_run_machine.specs.Retrying.{Retrying, RetryLaw}
 use Rattle.sched_run_machine.specs.Machine.{unbegun}
 use Rattle.sched_run_machine.proofs.Settles.{Settled, settles, next}
@@ -64,6 +67,14 @@ module _ {D : Type 0} (grants : Grants D) (lawful : Lawful grants) (keeps : Bool
         law = (wins_then none none code).law;
       }
 
+-- no poll of a task with a run under way, or before its first, begins a run too late
+pub only_first_in_time : {D : Type 0} (grants : Grants D) (keeps : Bool) (deadline : Option ℕ) (v : Retrying D) (t : Tick)
+    (told : List Ran) (u : Retrying D) → HostPoll grants (a_retry keeps) v t told u →
+    (is_under_way v.past.runs v.past.begun ≡ false → 0 < length v.past.runs → ⊥) →
+    HostPollUntil grants (a_retry keeps) deadline v t told u
+only_first_in_time grants keeps deadline v t told u poll first =
+    record { poll = inl poll; in_time = λ past idle some. absurd (first idle some) }
+
 module _ {T D K C I F : Type 0} (grants : Grants D) (lawful : Lawful grants) (keeps : Bool) (tells : K → ℕ → K → Type 0)
     (waits : K → ℕ → ℕ → K → Type 0) (gives : C → Result I F → C → Type 0) (item_code : I → ℕ) (fault_code : F → ℕ) where
   -- two turns, by ticks that the clock and the generator gave: a run begins, and its step is refused memory
@@ -74,7 +85,7 @@ module _ {T D K C I F : Type 0} (grants : Grants D) (lawful : Lawful grants) (ke
       (calling task clock words call None) (calling after then left called (Some (Err fault))) fault
   broken_at_once task after clock during then words between left call called fault began ended told lanes gave tells_then lanes_then = record {
     ticks = began ∷ ended ∷ [];
-    breaks = λ plan drawing holds.
+    breaks = λ deadline plan drawing holds.
         let code = fault_code fault in
         let first = starts grants lawful keeps plan drawing holds began in
         let second = breaks_then grants lawful keeps plan drawing holds began ended code in
@@ -83,12 +94,14 @@ module _ {T D K C I F : Type 0} (grants : Grants D) (lawful : Lawful grants) (ke
           broken,
           (
             calling running during between call None,
-            idle_turn (task_turning grants (a_retry keeps)) tells waits gives item_code fault_code _ _ clock during words between call None began refl
-                refl told lanes (record { poll = first.poll; runs = refl }),
+            idle_turn (task_turning grants (a_retry keeps) deadline) tells waits gives item_code fault_code _ _ clock during words between call None
+                began refl refl told lanes
+                (only_first_in_time grants keeps deadline _ began [] _ (record { poll = first.poll; runs = refl }) (λ idle some. omega (arith, some))),
             (
               calling broken then left called (Some (Err fault)),
-              run_turn (task_turning grants (a_retry keeps)) tells waits gives item_code fault_code _ _ during then between left call called None ended
-                  (Err fault) refl refl gave tells_then lanes_then (record { poll = second.poll; runs = refl }),
+              run_turn (task_turning grants (a_retry keeps) deadline) tells waits gives item_code fault_code _ _ during then between left call called
+                  None ended (Err fault) refl refl gave tells_then lanes_then
+                  (only_first_in_time grants keeps deadline _ ended (Lost code ∷ []) _ (record { poll = second.poll; runs = refl }) (λ idle some. absurd cc)),
               refl,
             ),
           ),

@@ -1,5 +1,5 @@
 -- A retry that is begun at its first failure: what is made for it, and what came of its calls.
-use Rattle.std.specs.Prelude.{◌≡◌, ℕ, Bool, false, true, List, [], ◌∷◌, Some, None, Result, Ok, Err}
+use Rattle.std.specs.Prelude.{◌≡◌, ℕ, Bool, false, true, List, [], ◌∷◌, Option, Some, None, Result, Ok, Err}
 use Rattle.std.specs.List.{FoldsTo}
 use Rattle.sched_time.specs.declared.numbers.Tick.{Tick}
 use Rattle.sched_plan.specs.Schedule.{Schedule}
@@ -47,7 +47,7 @@ module _ {D : Type 0} (grants : Grants D) where
     pub law : RetryLaw grants (a_retry keeps) (won_once plan drawing moment code)
 
 module _ {R D K C I F : Type 0} (stands : R → Driven → Type 0) (keeps : Bool) (goes_by : R → Schedule → Type 0)
-    (grants : Grants D) (tells : K → ℕ → K → Type 0) (waits : K → ℕ → ℕ → K → Type 0)
+    (ends : R → Option ℕ) (grants : Grants D) (tells : K → ℕ → K → Type 0) (waits : K → ℕ → ℕ → K → Type 0)
     (gives : C → Result I F → C → Type 0) (item_code : I → ℕ) (fault_code : F → ℕ) where
   -- Each retry that the machine may stand for in the beginning, by a schedule that it may go by in the end, took these
   -- turns, is over as the ending says, and is one that the machine may stand for in the end.
@@ -55,10 +55,13 @@ module _ {R D K C I F : Type 0} (stands : R → Driven → Type 0) (keeps : Bool
     pub ticks : List Tick
     pub leads : (v : Retrying D) → StandsFor stands (a_retry keeps) grants s.task v →
         goes_by n.task.driver v.past.driver.plan → (u : Retrying D)
-        × FoldsTo (Turn (task_turning grants (a_retry keeps)) tells waits gives item_code fault_code)
+        × FoldsTo (Turn (task_turning grants (a_retry keeps) (ends s.task.driver)) tells waits gives item_code fault_code)
         (calling v s.clock s.words s.call s.last) ticks (calling u n.clock n.words n.call n.last)
         × EndsWith item_code fault_code u.past.over u.past.runs (how_of ending) (gave ending)
         × StandsFor stands (a_retry keeps) grants n.task u
+    -- it goes by no other schedules than in the beginning, and has the same deadline
+    pub narrows : (plan : Schedule) → goes_by n.task.driver plan → goes_by s.task.driver plan
+    pub deadline : ends n.task.driver ≡ ends s.task.driver
     -- it draws on the same budget as in the beginning
     pub budget : grants.name n.task.drawing ≡ grants.name s.task.drawing
 
@@ -76,11 +79,12 @@ module _ {T D K C I F : Type 0} (grants : Grants D) (keeps : Bool) (tells : K �
     pub wins : (plan : Schedule) (drawing : D) → grants.stands drawing →
         WinsOnce grants keeps plan drawing moment (item_code item)
 
-  -- The first call failed, and nothing could be begun: two turns of each retry that had not begun, which they break.
+  -- The first call failed, and nothing could be begun: two turns of each retry that had not begun, which they break,
+  -- with whichever deadline.
   pub record BrokenAtOnce (s n : Calling T K C (Result I F)) (fault : F) : Type 0 where
     pub ticks : List Tick
-    pub breaks : (plan : Schedule) (drawing : D) → grants.stands drawing → (u : Retrying D)
-        × FoldsTo (Turn (task_turning grants (a_retry keeps)) tells waits gives item_code fault_code)
+    pub breaks : (deadline : Option ℕ) (plan : Schedule) (drawing : D) → grants.stands drawing → (u : Retrying D)
+        × FoldsTo (Turn (task_turning grants (a_retry keeps) deadline) tells waits gives item_code fault_code)
         (calling (unbegun grants plan drawing) s.clock s.words s.call None) ticks
         (calling u n.clock n.words n.call (Some (Err fault)))
         × EndsWith item_code fault_code u.past.over u.past.runs (how.Broken NoMemory) (Err fault)

@@ -1,8 +1,7 @@
 //! How calls of a closure ended, with what the last one gave.
 ghost use Rattle.std.specs.Prelude.{◌≡◌, Some, true, false, is_some};
 ghost use Rattle.sched_effect.specs.Runs.{ran_by};
-ghost use Rattle.sched_run_machine.specs.Aims.{EndsAs};
-ghost use Rattle.sched_closure.specs.Endings.{how_of, gave, how_of_repeat, gave_of_repeat};
+ghost use Rattle.sched_closure.specs.Endings.{how_of, gave, how_of_repeat, gave_of_repeat, EndsCalls};
 
 use sched_effect::Coded;
 use sched_task::{How, RunFault};
@@ -16,6 +15,8 @@ pub enum CallEnding<I: Drop, F: Drop> {
     ScheduleDone(F),
     /// The failure at which the budget had no ticket.
     BudgetRefused(F),
+    /// The failure before a wait that went past the deadline.
+    DeadlinePassed(F),
     /// Why it could not go on, and the failure at which that was.
     Broken(RunFault, F),
 }
@@ -29,6 +30,7 @@ impl<I: Drop, F: Drop> CallEnding<I, F> {
             CallEnding::Won(_) => How::Won,
             CallEnding::ScheduleDone(_) => How::ScheduleDone,
             CallEnding::BudgetRefused(_) => How::BudgetRefused,
+            CallEnding::DeadlinePassed(_) => How::DeadlinePassed,
             CallEnding::Broken(cause, _) => How::Broken(*cause),
         }
     }
@@ -41,6 +43,7 @@ impl<I: Drop, F: Drop> CallEnding<I, F> {
             CallEnding::Won(item) => Ok(item),
             CallEnding::ScheduleDone(fault) => Err(fault),
             CallEnding::BudgetRefused(fault) => Err(fault),
+            CallEnding::DeadlinePassed(fault) => Err(fault),
             CallEnding::Broken(_, fault) => Err(fault),
         }
     }
@@ -51,6 +54,8 @@ impl<I: Drop, F: Drop> CallEnding<I, F> {
 pub enum RepeatCallEnding<I: Drop, F: Drop> {
     /// The success at which the schedule was done.
     ScheduleDone(I),
+    /// The success before a wait that went past the deadline.
+    DeadlinePassed(I),
     /// The first failure.
     Failed(F),
     /// Why it could not go on, and the success at which that was.
@@ -64,6 +69,7 @@ impl<I: Drop, F: Drop> RepeatCallEnding<I, F> {
     {
         match self {
             RepeatCallEnding::ScheduleDone(_) => How::ScheduleDone,
+            RepeatCallEnding::DeadlinePassed(_) => How::DeadlinePassed,
             RepeatCallEnding::Failed(_) => How::Failed,
             RepeatCallEnding::Broken(cause, _) => How::Broken(*cause),
         }
@@ -75,6 +81,7 @@ impl<I: Drop, F: Drop> RepeatCallEnding<I, F> {
     {
         match self {
             RepeatCallEnding::ScheduleDone(item) => Ok(item),
+            RepeatCallEnding::DeadlinePassed(item) => Ok(item),
             RepeatCallEnding::Failed(fault) => Err(fault),
             RepeatCallEnding::Broken(_, item) => Ok(item),
         }
@@ -87,7 +94,7 @@ pub(crate) fn retry_ending<I: Coded + Drop, F: Coded + Drop>(
     over: Option<How>,
 ) -> CallEnding<I, F>
     requires over { is_some over ≡ true }
-    requires ends { EndsAs false (ran_by I.coded F.coded outcome) over }
+    requires ends { EndsCalls false (ran_by I.coded F.coded outcome) over }
     ensures over { over ≡ Some (how_of result) }
     ensures gave { gave result ≡ outcome }
 {
@@ -96,6 +103,7 @@ pub(crate) fn retry_ending<I: Coded + Drop, F: Coded + Drop>(
         Err(fault) => match over {
             Some(How::ScheduleDone) => CallEnding::ScheduleDone(fault),
             Some(How::BudgetRefused) => CallEnding::BudgetRefused(fault),
+            Some(How::DeadlinePassed) => CallEnding::DeadlinePassed(fault),
             Some(How::Broken(cause)) => CallEnding::Broken(cause, fault),
             None | Some(How::Won | How::Failed | How::Cancelled) => unreachable!(),
         },
@@ -108,7 +116,7 @@ pub(crate) fn repeat_ending<I: Coded + Drop, F: Coded + Drop>(
     over: Option<How>,
 ) -> RepeatCallEnding<I, F>
     requires over { is_some over ≡ true }
-    requires ends { EndsAs true (ran_by I.coded F.coded outcome) over }
+    requires ends { EndsCalls true (ran_by I.coded F.coded outcome) over }
     ensures over { over ≡ Some (how_of_repeat result) }
     ensures gave { gave_of_repeat result ≡ outcome }
 {
@@ -116,6 +124,7 @@ pub(crate) fn repeat_ending<I: Coded + Drop, F: Coded + Drop>(
         Err(fault) => RepeatCallEnding::Failed(fault),
         Ok(item) => match over {
             Some(How::ScheduleDone) => RepeatCallEnding::ScheduleDone(item),
+            Some(How::DeadlinePassed) => RepeatCallEnding::DeadlinePassed(item),
             Some(How::Broken(cause)) => RepeatCallEnding::Broken(cause, item),
             None | Some(How::Won | How::BudgetRefused | How::Failed | How::Cancelled) =>
                 unreachable!(),

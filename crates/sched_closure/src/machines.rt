@@ -10,22 +10,26 @@ use sched_time::Tick;
 use std::alloc::Global;
 
 impl<S: Drives, D: Draws, A: Aims> Turns for Machine<S, D, A> {
+    ghost use Rattle.std.specs.Prelude.{nat_lt};
     ghost use Rattle.sched_task_law.specs.Kind.{repeats};
-    ghost use Rattle.sched_run_machine.specs.Aims.{EndsAs};
     ghost use Rattle.sched_closure.specs.Calls.{machine_turning};
+    ghost use Rattle.sched_closure.specs.Endings.{EndsCalls};
 
     ghost ended = { λ m. m.over };
 
-    ghost turning = { machine_turning D.grants (A.kind S.keeps) S.stands S.goes_by };
+    ghost turning = { machine_turning D.grants (A.kind S.keeps) S.stands S.goes_by S.ends };
 
-    ghost may_end = { EndsAs (repeats (A.kind S.keeps)) };
+    ghost has_run = { λ m. nat_lt 0 m.told };
+
+    ghost may_end = { EndsCalls (repeats (A.kind S.keeps)) };
 
     fn next(&self) -> Next {
         Machine::next(self)
     }
 
-    fn poll(&mut self, tick: &Tick) {
-        Machine::poll(self, tick)
+    fn poll(&mut self, tick: &Tick) -> Option<How> {
+        Machine::poll(self, tick);
+        self.over()
     }
 
     fn tell(&mut self, alloc: Global, tick: &Tick, ran: Ran) -> Option<How> {

@@ -2,10 +2,11 @@
 ghost use Rattle.std.specs.Prelude.{◌≡◌, ℕ, List, Some, None};
 ghost use Rattle.std.specs.List.{FoldsTo};
 ghost use Rattle.sched_time.specs.declared.numbers.Tick.{Tick as Ticked};
+ghost use Rattle.sched_plan.specs.Schedule.{Schedule};
 ghost use Rattle.sched_ticket_draws.specs.Freely.{free_grants};
 ghost use Rattle.sched_task_law.specs.Kind.{a_repeat};
 ghost use Rattle.sched_run_machine.specs.Retrying.{Retrying};
-ghost use Rattle.sched_run_machine.specs.Machine.{StandsFor};
+ghost use Rattle.sched_run_machine.specs.Machine.{begins, unbegun, StandsFor};
 ghost use Rattle.sched_closure.specs.Turns.{calling, Turn};
 ghost use Rattle.sched_closure.specs.Calls.{task_turning};
 ghost use Rattle.sched_closure.specs.Endings.{how_of_repeat, gave_of_repeat, EndsWith};
@@ -14,7 +15,7 @@ use crate::endings::{RepeatCallEnding, repeat_ending};
 use crate::turns::call_on;
 use rand_core::Rng;
 use sched_effect::Coded;
-use sched_run_machine::{Drives, RepeatMachine};
+use sched_run_machine::{Drives, Machine, RepeatMachine};
 use sched_task::Clock;
 use std::alloc::AllocGlobal;
 use std::sync::Wait;
@@ -22,16 +23,21 @@ use std::sync::Wait;
 /// Calls this closure again after each success, as the repeat's schedule says, until it fails or the schedule is done,
 /// and answers how that ended. Between two calls it waits by the clock.
 ///
+/// The repeat's machine is made of this driver, and is answered beside the ending.
+///
 /// Each run calls the closure once, and ends at the moment that the clock tells after the call: the schedule's delays
 /// count from there. The schedule is stepped with the code of each success. Where memory is refused or a journal is full
 /// at the end of a run that succeeded, the repeat ends as `Broken`, with that run's item.
+///
+/// With a deadline, by `Until` as its driver, each call but the first begins by the deadline. The repeat ends as
+/// `ScheduleDone` where the start planned is past it, and as `DeadlinePassed` where a wait goes past it.
 pub fn repeat_call<I, F, R, S, K, G, C>(
     rt: &R,
-    repeat: &mut RepeatMachine<S>,
+    driver: S,
     clock: &mut K,
     words: &mut G,
     call: C,
-) -> RepeatCallEnding<I, F>
+) -> (RepeatCallEnding<I, F>, RepeatMachine<S>)
 where
     I: Coded + Drop,
     F: Coded + Drop,
@@ -40,19 +46,26 @@ where
     K: Clock,
     G: Rng,
     C: FnMut() -> Result<I, F>,
-    requires unended { repeat.old.over ≡ None }
+    requires fresh { S.fresh driver }
     requires callable { C.IsAlwaysCallable call }
     ensures turns { (ticks : List Ticked) × (called : C)
-        × ((v : Retrying ℕ) → StandsFor S.stands (a_repeat S.keeps) free_grants repeat.old v →
-        S.goes_by repeat.new.driver v.past.driver.plan → (u : Retrying ℕ)
-        × FoldsTo (Turn (task_turning free_grants (a_repeat S.keeps)) K.tells K.waits C.step I.coded F.coded)
+        × ((v : Retrying ℕ) → StandsFor S.stands (a_repeat S.keeps) free_grants (begins free_grants driver 0) v →
+        S.goes_by result.1.driver v.past.driver.plan → (u : Retrying ℕ)
+        × FoldsTo (Turn (task_turning free_grants (a_repeat S.keeps) (S.ends driver)) K.tells K.waits C.step
+        I.coded F.coded)
         (calling v clock.old (G.stream words.old) call None)
         ticks
-        (calling u clock.new (G.stream words.new) called (Some (gave_of_repeat result)))
-        × EndsWith I.coded F.coded u.past.over u.past.runs (how_of_repeat result) (gave_of_repeat result)
-        × StandsFor S.stands (a_repeat S.keeps) free_grants repeat.new u) }
-    ensures over { repeat.new.over ≡ Some (how_of_repeat result) }
+        (calling u clock.new (G.stream words.new) called (Some (gave_of_repeat result.0)))
+        × EndsWith I.coded F.coded u.past.over u.past.runs (how_of_repeat result.0) (gave_of_repeat result.0)
+        × StandsFor S.stands (a_repeat S.keeps) free_grants result.1 u) }
+    ensures stands { (plan : Schedule) → S.goes_by driver plan →
+        StandsFor S.stands (a_repeat S.keeps) free_grants (begins free_grants driver 0) (unbegun free_grants plan 0) }
+    ensures narrows { (plan : Schedule) → S.goes_by result.1.driver plan → S.goes_by driver plan }
+    ensures deadline { S.ends result.1.driver ≡ S.ends driver }
+    ensures over { result.1.over ≡ Some (how_of_repeat result.0) }
 {
-    let outcome = call_on(rt, repeat, clock, words, call);
-    repeat_ending(outcome, repeat.over())
+    let mut repeat = Machine::repeating(driver);
+    let outcome = call_on(rt, &mut repeat, clock, words, call, None);
+    let ending = repeat_ending(outcome, repeat.over());
+    (ending, repeat)
 }

@@ -2,7 +2,7 @@
 ghost use Rattle.std.specs.Prelude.{◌≡◌, [], Some, None, Ok, Err, IfOk, IfSome, IfNone, true};
 ghost use Rattle.sched_plan.specs.Schedule.{Schedule};
 ghost use Rattle.sched_task_law.specs.Kind.{a_retry};
-ghost use Rattle.sched_run_machine.specs.Machine.{begins, unbegun, StandsFor, Polls};
+ghost use Rattle.sched_run_machine.specs.Machine.{begins, unbegun, StandsFor, PollsUntil};
 ghost use Rattle.sched_closure.specs.Turns.{calling};
 ghost use Rattle.sched_closure.specs.Calls.{machine_turning};
 ghost use Rattle.sched_closure.specs.Begins.{Goes, EndsUnbegun};
@@ -29,8 +29,9 @@ use std::sync::Wait;
 /// count from there. Where memory is refused or a journal is full at the end of a run that failed, the retry ends as
 /// `Broken`, with that run's fault; so it does where `begin` is refused memory.
 ///
-/// With a deadline, by `Until` as the retry's driver, it ends as `ScheduleDone` where the start planned is past that; the
-/// driver's `late_start` then tells that start.
+/// With a deadline, by `Until` as the retry's driver, each call but the first begins by the deadline. The retry ends
+/// as `ScheduleDone` where the start planned is past it; the driver's `late_start` then tells that start. Where a wait
+/// goes past the deadline it ends as `DeadlinePassed`.
 pub fn retry_call<I, F, R, S, D, K, G, B, C>(
     rt: &R,
     begin: &mut B,
@@ -53,7 +54,7 @@ where
         IfOk made (λ m. S.fresh m.0) }
     requires callable { C.IsAlwaysCallable call }
     ensures begun { IfSome result.1 (λ retry. (made : _) × (alloc : _) × B.step begin.old alloc (Ok made) begin.new
-        × (called : C) × Goes S.stands S.keeps S.goes_by D.grants K.tells K.waits C.step I.coded F.coded
+        × (called : C) × Goes S.stands S.keeps S.goes_by S.ends D.grants K.tells K.waits C.step I.coded F.coded
         (calling (begins D.grants made.0 made.1) clock.old (G.stream words.old) call None)
         (calling retry clock.new (G.stream words.new) called (Some (gave result.0))) result.0) }
     ensures unbegun { IfNone result.1 ((called : C)
@@ -97,7 +98,7 @@ where
     requires callable { C.IsAlwaysCallable call }
     ensures begun { (k : K) (c : C) → K.tells k first.0 clock.old → C.step c (Err first.1) call →
         IfSome result.1 (λ retry. (made : _) × (alloc : _) × B.step begin.old alloc (Ok made) begin.new
-        × (called : C) × Goes S.stands S.keeps S.goes_by D.grants K.tells K.waits C.step I.coded F.coded
+        × (called : C) × Goes S.stands S.keeps S.goes_by S.ends D.grants K.tells K.waits C.step I.coded F.coded
         (calling (begins D.grants made.0 made.1) k (G.stream words.old) c None)
         (calling retry clock.new (G.stream words.new) called (Some (gave result.0))) result.0) }
     ensures unbegun { (k : K) (c : C) → K.tells k first.0 clock.old → C.step c (Err first.1) call →
@@ -124,7 +125,7 @@ where
     let lost = Err(fault);
     let outcome = match retry.tell(alloc, &ended, ran_of(&lost)) {
         Some(_) => lost,
-        None => call_on(rt, &mut retry, clock, words, call),
+        None => call_on(rt, &mut retry, clock, words, call, Some(lost)),
     };
     let ending = retry_ending(outcome, retry.over());
     (ending, Some(retry))
@@ -133,12 +134,12 @@ where
 // The machine of a retry whose first run began at the tick.
 fn begun<S: Drives, D: Draws>(driver: S, drawing: D, tick: &Tick) -> Machine<S, D>
     requires { S.fresh driver }
-    ensures due { (machine_turning D.grants (a_retry S.keeps) S.stands S.goes_by).due
+    ensures due { (machine_turning D.grants (a_retry S.keeps) S.stands S.goes_by S.ends).due
         (begins D.grants driver drawing) None }
     ensures stands { (s : Schedule) → S.goes_by driver s →
         StandsFor S.stands (a_retry S.keeps) D.grants (begins D.grants driver drawing) (unbegun D.grants s drawing) }
     ensures begun { result ≡ record (begins D.grants driver drawing) { under_way = true } }
-    ensures polls { Polls S.stands (a_retry S.keeps) S.goes_by D.grants
+    ensures polls { PollsUntil S.stands (a_retry S.keeps) S.goes_by D.grants S.ends
         (begins D.grants driver drawing) tick.entry.now [] result }
 {
     let mut retry = Machine::new(driver, drawing);

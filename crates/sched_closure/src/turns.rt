@@ -1,5 +1,5 @@
 //! Turns: a closure is called wherever a run is under way, by a clock.
-ghost use Rattle.std.specs.Prelude.{◌≡◌, List, [], ◌∷◌, Option, Some, None, true, is_some};
+ghost use Rattle.std.specs.Prelude.{◌≡◌, List, [], ◌∷◌, Bool, Option, Some, None, true, false, is_some, IfSome};
 ghost use Rattle.std.specs.List.{FoldsTo};
 ghost use Rattle.sched_time.specs.declared.numbers.Tick.{Tick as Ticked};
 ghost use Rattle.sched_effect.specs.Runs.{ran_by};
@@ -26,7 +26,10 @@ pub(crate) trait Turns {
     // Its turns.
     ghost turning: { Turning Self };
 
-    // Holds of a run and how it may end all, or that it goes on.
+    // Whether a run of it has finished.
+    ghost has_run: { Self → Bool };
+
+    // Holds of a run and how all may end after it, or that it goes on.
     ghost may_end: { Finished → Option Ended → Type 0 };
 
     /// What is to be done.
@@ -34,10 +37,15 @@ pub(crate) trait Turns {
         ensures finds { Finds (ended self.now) (turning.running self.now) result }
         ensures due { turning.due self.now (start_in result) };
 
-    /// Begins a run at the tick, where one is to be begun.
-    fn poll(&mut self, tick: &Tick)
+    /// Begins a run at the tick, where one is to be begun, or ends all where another one would begin too late. Answers
+    /// how this ended all, or `None` where it goes on.
+    fn poll(&mut self, tick: &Tick) -> Option<How>
+        requires unended { ended self.old ≡ None }
         ensures polls { turning.polls self.old tick.entry.now [] self.new }
-        ensures unbroken { ended self.new ≡ ended self.old };
+        ensures over { ended self.new ≡ result }
+        ensures ran { is_some result ≡ true → has_run self.old ≡ true }
+        ensures ends { (ran : Finished) → may_end ran None → may_end ran result }
+        ensures has_run { has_run self.new ≡ has_run self.old };
 
     /// Ends the run under way as it went, and answers how this ended all, or `None` where it goes on.
     fn tell(&mut self, alloc: Global, tick: &Tick, ran: Ran) -> Option<How>
@@ -48,13 +56,15 @@ pub(crate) trait Turns {
         ensures ends { may_end ran result };
 }
 
-/// Calls this closure wherever a run is under way, until one ends all, and answers what that one gave.
+/// Calls this closure wherever a run is under way, until all is over, and answers what the last call gave. `before` is
+/// what an earlier call gave, if there was one.
 pub(crate) fn call_on<I, F, R, M, K, G, C>(
     rt: &R,
     machine: &mut M,
     clock: &mut K,
     words: &mut G,
     mut call: C,
+    before: Option<Result<I, F>>,
 ) -> Result<I, F>
 where
     I: Coded + Drop,
@@ -66,15 +76,18 @@ where
     C: FnMut() -> Result<I, F>,
     requires unended { M.ended machine.old ≡ None }
     requires callable { C.IsAlwaysCallable call }
+    requires first { before ≡ None → M.has_run machine.old ≡ false }
+    requires goes_on { IfSome before (λ outcome. M.may_end (ran_by I.coded F.coded outcome) None) }
     ensures turns { (ticks : List Ticked) × (called : C)
         × FoldsTo (Turn M.turning K.tells K.waits C.step I.coded F.coded)
-        (calling machine.old clock.old (G.stream words.old) call None)
+        (calling machine.old clock.old (G.stream words.old) call before)
         ticks
         (calling machine.new clock.new (G.stream words.new) called (Some result)) }
     ensures over { is_some (M.ended machine.new) ≡ true }
     ensures ends { M.may_end (ran_by I.coded F.coded result) (M.ended machine.new) }
 {
     let alloc = rt.alloc();
+    let mut last = before;
     for _ in rt.forever() {
         let next = machine.next();
         match next {
@@ -84,10 +97,13 @@ where
                 if machine.tell(alloc, &tick, ran_of(&outcome)).is_some() {
                     return outcome;
                 }
+                last = Some(outcome);
             }
             Next::Poll | Next::Wait(_) => {
                 let tick = next_tick(&next, clock, words);
-                machine.poll(&tick);
+                if machine.poll(&tick).is_some() {
+                    return last.unwrap();
+                }
             }
             Next::Over(_) => unreachable!(),
         }

@@ -1,6 +1,6 @@
 //! Closures at their calls. Most give the number of their call, so that a test sees which call an ending is of; the
 //! helpers answer what came of it, so that a test holds few values.
-ghost use Rattle.std.specs.Prelude.{◌≡◌, ⊤, [], None, IfOk};
+ghost use Rattle.std.specs.Prelude.{◌≡◌, ⊤, [], IfOk};
 ghost use Rattle.sched_ticket.specs.Held.{IsOf};
 ghost use Rattle.sched_driver_stepper.specs.Standing.{standing_after};
 
@@ -147,14 +147,14 @@ fn retried_by<S: Drives, D: Draws>(
 // The repeat of a closure that fails after so many successes.
 fn repeated<S: Drives>(
     rt: &(impl Wait + AllocGlobal + Abort),
-    repeat: &mut RepeatMachine<S>,
+    driver: S,
     clock: &mut impl Clock,
     successes: u32,
-) -> Came
-    requires { repeat.old.over ≡ None }
+) -> (Came, RepeatMachine<S>)
+    requires { S.fresh driver }
 {
     let mut calls = 0u32;
-    let ending = repeat_call(rt, repeat, clock, &mut MidWords, || {
+    let (ending, repeat) = repeat_call(rt, driver, clock, &mut MidWords, || {
         calls = calls.saturating_add(1);
         if calls <= successes {
             Ok(calls)
@@ -164,12 +164,13 @@ fn repeated<S: Drives>(
     });
     let how = ending.how();
     assert_eq!(rt; repeat.over(), Some(how));
-    Came {
+    let came = Came {
         how,
         gave: ending.into_result(),
         calls,
         now: clock.now().get(),
-    }
+    };
+    (came, repeat)
 }
 
 // A clock that others move too. It wakes no later than 30 milliseconds after it began to wait.

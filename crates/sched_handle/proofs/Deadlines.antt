@@ -1,5 +1,5 @@
 -- Retries with a deadline: which schedules they may go by, and that how one has ended tells whether its plan is done, and
--- whether that has a start past the deadline.
+-- whether the deadline ended it.
 use Rattle.std.proofs.Common.{◌≡◌, ℕ, Bool, true, false, ◌||◌, if◌then◌else◌, nat_eq, List, [], ◌∷◌, Option, Some, None, is_some, refl, sym, ap, ◌∙◌}
 use Rattle.sched_plan.specs.Schedule.{Schedule}
 use Rattle.sched_time.specs.Decision.{start_of}
@@ -23,7 +23,7 @@ use Rattle.sched_run_machine.specs.Next.{next_of, next_by_ending, next_by_start}
 use Rattle.sched_run_machine.specs.Until.{Until, unstepped_until, plan_of-until, beneath, GoesUntil, schedule_until, goes_until}
 use Rattle.sched_run_machine.specs.declared.next.Next.{Next}
 use Rattle.sched_run_machine.specs.declared.next.Next.TheVariants as next
-use Rattle.sched_handle.specs.Retries.{how_number, reply_to, plan_is_done, is_late}
+use Rattle.sched_handle.specs.Retries.{how_number, reply_to, was_timed_out, plan_is_done, is_late}
 
 -- before its first step it may go by the schedule of the deadline for any first moment
 pub goes_by_until : (first : ℕ) (deadline : Option ℕ) (v : Standing) →
@@ -51,6 +51,7 @@ done_where keeps v None law ended = undone v (ended refl)
 done_where keeps v (Some how.Won) law ended = undone v ended.1
 done_where keeps v (Some how.ScheduleDone) law ended = ended.0
 done_where keeps v (Some how.BudgetRefused) law ended = (law.denied ended).undone
+done_where keeps v (Some how.DeadlinePassed) law ended = undone v ended.0
 done_where keeps v (Some how.Failed) law ended = undone v ended.1
 done_where keeps v (Some how.Cancelled) law ended = undone v (ended refl)
 done_where keeps v (Some (how.Broken fault)) law ended = undone v (ended.0 refl)
@@ -90,21 +91,35 @@ told_as v None late granted runs left =
     told_unended (is_under_way v.runs v.begun) (next_start_of v.driver) late granted runs left
 told_as v (Some ended) late granted runs left = refl
 
-told_by : (over : Option How) (planned late : Bool) → (planned || late) ≡ says_done over → (planned ≡ true → late ≡ false) →
-    (planned ≡ nat_eq (number_of over late) 2) × (late ≡ nat_eq (number_of over late) 8)
-told_by None planned late is apart = or_false planned late is
-told_by (Some how.Won) planned late is apart = or_false planned late is
-told_by (Some how.ScheduleDone) planned late is apart = told_done planned late is apart
-told_by (Some how.BudgetRefused) planned late is apart = or_false planned late is
-told_by (Some how.Failed) planned late is apart = or_false planned late is
-told_by (Some how.Cancelled) planned late is apart = or_false planned late is
-told_by (Some (how.Broken fault.NoMemory)) planned late is apart = or_false planned late is
-told_by (Some (how.Broken fault.JournalFull)) planned late is apart = or_false planned late is
-told_by (Some (how.Broken fault.Backwards)) planned late is apart = or_false planned late is
+-- where neither is so, and the deadline did not end it as it waited
+neither : (planned late : Bool) → (planned || late) ≡ false → (planned ≡ false) × ((late || false) ≡ false)
+neither planned late is = let parts = or_false planned late is in (parts.0, rw parts.1 refl)
 
--- this number tells whether the plan is done, and whether it has a start past the deadline
+told_late : (planned late : Bool) → (planned || late) ≡ false → (planned ≡ false) × ((late || true) ≡ true)
+told_late planned late is = let parts = or_false planned late is in (parts.0, rw parts.1 refl)
+
+or_none : (late n : Bool) → late ≡ n → (late || false) ≡ n
+or_none true n same = same
+or_none false n same = same
+
+told_by : (over : Option How) (planned late : Bool) → (planned || late) ≡ says_done over → (planned ≡ true → late ≡ false) →
+    (planned ≡ nat_eq (number_of over late) 2) × ((late || was_timed_out over) ≡ nat_eq (number_of over late) 8)
+told_by None planned late is apart = neither planned late is
+told_by (Some how.Won) planned late is apart = neither planned late is
+told_by (Some how.ScheduleDone) planned late is apart =
+    let told = told_done planned late is apart in (told.0, or_none late _ told.1)
+told_by (Some how.BudgetRefused) planned late is apart = neither planned late is
+told_by (Some how.DeadlinePassed) planned late is apart = told_late planned late is
+told_by (Some how.Failed) planned late is apart = neither planned late is
+told_by (Some how.Cancelled) planned late is apart = neither planned late is
+told_by (Some (how.Broken fault.NoMemory)) planned late is apart = neither planned late is
+told_by (Some (how.Broken fault.JournalFull)) planned late is apart = neither planned late is
+told_by (Some (how.Broken fault.Backwards)) planned late is apart = neither planned late is
+
+-- this number tells whether the plan is done, and whether the deadline ended the retry
 abbrev pub TellsEnding : Option ℕ → Past → ℕ → Type 0
-TellsEnding deadline v number = (plan_is_done deadline v ≡ nat_eq number 2) × (is_late deadline v ≡ nat_eq number 8)
+TellsEnding deadline v number =
+    (plan_is_done deadline v ≡ nat_eq number 2) × ((is_late deadline v || was_timed_out v.over) ≡ nat_eq number 8)
 
 pub tells_ending : (keeps : Bool) (deadline : Option ℕ) (v : Past) (granted runs left : ℕ) → Law (a_retry keeps) v →
     schedule_is_done v.driver ≡ (plan_is_done deadline v || is_late deadline v) →

@@ -2,3 +2,4 @@ mod AsBox
 mod Deadlines
 pub mod Quotas
 pub mod Splits
+pub mod Undrawn

@@ -7,3 +7,4 @@ pub mod Policies
 pub mod Drawing
 pub mod Passes
 pub mod Retries
+pub mod Leases

@@ -1,5 +1,5 @@
 -- What the calls on a retry do.
-use Rattle.std.specs.Prelude.{◌≡◌, ℕ, ◌-◌, Bool, false, if◌then◌else◌, nat_eq, List, [], ◌∷◌, length, min, Option, Some, None, is_some, option_map, Result, Ok, Err}
+use Rattle.std.specs.Prelude.{◌≡◌, ℕ, ◌-◌, Bool, true, false, ◌||◌, if◌then◌else◌, nat_eq, [], ◌∷◌, length, min, Option, Some, None, is_some, option_map, Result, Ok, Err}
 use Rattle.std.specs.Global.{Global}
 use Rattle.std_alloc.specs.declared.boxed.Box.{Box}
 use Rattle.sched_time.specs.declared.numbers.Tick.{Tick}
@@ -15,7 +15,7 @@ use Rattle.sched_task_law.specs.Past.{Past, schedule_is_done}
 use Rattle.sched_run_machine.specs.Retrying.{Retrying, gives_up}
 use Rattle.sched_run_machine.specs.Deadline.{is_past, late, until_from}
 use Rattle.sched_run_machine.specs.Drives.{IsStepped, GoesByPlan}
-use Rattle.sched_run_machine.specs.Machine.{Machine, begins, unbegun, is_told, cancelled, StandsFor, Polls as PollsMachine}
+use Rattle.sched_run_machine.specs.Machine.{Machine, begins, unbegun, is_told, cancelled, StandsFor, PollsUntil, PollsInTime, Polls as PollsMachine}
 use Rattle.sched_run_machine.specs.Next.{next_of}
 use Rattle.sched_run_machine.specs.Until.{Until, unstepped_until, beneath, StandsUntil, GoesUntil}
 use Rattle.sched_ticket_draws.specs.Drawing.{drawing_grants}
@@ -39,11 +39,13 @@ Hosted = Machine (Until Standing) Drawing
 abbrev pub MayBe : Hosted → Retrying Drawing → Type 0
 MayBe m u = StandsFor (StandsUntil IsStepped) (a_retry false) drawing_grants m u
 
--- the number by which C knows how a retry ended: of one that is done, by its deadline or by its plan
+-- the number by which C knows how a retry ended: of one that is done, by its deadline or by its plan; the deadline also
+-- ended one whose next run would have begun past it
 abbrev pub how_number : How → Bool → ℕ
 how_number how.Won is_late = 1
 how_number how.ScheduleDone is_late = if is_late then 8 else 2
 how_number how.BudgetRefused is_late = 3
+how_number how.DeadlinePassed is_late = 8
 how_number how.Cancelled is_late = 4
 how_number (how.Broken fault.NoMemory) is_late = 5
 how_number (how.Broken fault.JournalFull) is_late = 6
@@ -60,6 +62,11 @@ reply_to (next.Wait start) is_late granted runs left =
     record { what = 2; how = 0; until = start; granted = granted; runs = runs; left = left }
 reply_to (next.Over h) is_late granted runs left =
     record { what = 3; how = how_number h is_late; until = 0; granted = granted; runs = runs; left = left }
+
+-- whether a retry ended where its next run would have begun past the deadline
+abbrev pub was_timed_out : Option How → Bool
+was_timed_out (Some how.DeadlinePassed) = true
+was_timed_out _ = false
 
 -- whether the plan of a retry, without its deadline, is done; and whether it has a start that is past the deadline
 abbrev pub plan_is_done : Option ℕ → Past → Bool
@@ -81,15 +88,16 @@ abbrev pub reply_of : Option ℕ → ℕ → Past → Reply
 reply_of deadline now v = reply_to (next_of v) (is_late deadline v) v.granted
     (min (length v.runs) 18446744073709551615) (left_at deadline now)
 
--- What a retry is at, at this moment: there is a retry that it may stand for, and of each such one this is told. It waits
--- for no moment past its deadline, has ended as done exactly where its plan is done, and as late where that has a start
--- past the deadline.
+-- What a retry is at, at this moment: there is a retry that it may stand for, and of each such one this is told. It
+-- waits for no moment past its deadline. It has ended as done exactly where its plan is done, and as late exactly where
+-- that has a start past the deadline or its next run would have begun past it.
 pub record Shows (m : Hosted) (now : ℕ) (x : Reply) : Type 0 where
   pub stands : (u : Retrying Drawing) × MayBe m u
   pub tells : (u : Retrying Drawing) → MayBe m u → x ≡ reply_of m.driver.deadline now u.past
   pub in_time : x.what ≡ 2 → is_past m.driver.deadline x.until ≡ false
   pub done : (u : Retrying Drawing) → MayBe m u → plan_is_done m.driver.deadline u.past ≡ nat_eq x.how 2
-  pub late : (u : Retrying Drawing) → MayBe m u → is_late m.driver.deadline u.past ≡ nat_eq x.how 8
+  pub late : (u : Retrying Drawing) → MayBe m u →
+      (is_late m.driver.deadline u.past || was_timed_out u.past.over) ≡ nat_eq x.how 8
 
 -- A retry that has not begun, of this policy, with this deadline or none: the one that has done nothing yet is among
 -- those that it may stand for, by the schedule that the deadline makes of the policy whichever the first step's moment.
@@ -119,18 +127,26 @@ Retries deadline (Policy plan) (Pass d) r v = PassRetries deadline plan d r v
 Retries deadline (Policy plan) u r v = OtherRetries u r v
 Retries deadline policy u r v = OtherKind u r v
 
--- One poll, in which the runs that finish are those told, of each retry that it may stand for; its deadline stays.
-pub record IsPoll (m : Hosted) (t : Tick) (told : List Ran) (n : Hosted) : Type 0 where
-  pub polls : PollsMachine (StandsUntil IsStepped) (a_retry false) (GoesUntil GoesByPlan) drawing_grants m t told n
+-- The run under way ends as it is reported: one poll of each retry that it may stand for. Its deadline stays.
+pub record IsReport (m : Hosted) (t : Tick) (ran : Ran) (n : Hosted) : Type 0 where
+  pub polls : PollsMachine (StandsUntil IsStepped) (a_retry false) (GoesUntil GoesByPlan) drawing_grants
+      m t (ran ∷ []) n
   pub deadline : n.driver.deadline ≡ m.driver.deadline
+
+-- One poll of each retry that it may stand for, in which no run finishes, or the end by its deadline, which stays: past
+-- that, no run begins but the first.
+pub record IsPoll (m : Hosted) (t : Tick) (n : Hosted) : Type 0 where
+  pub polls : PollsUntil (StandsUntil IsStepped) (a_retry false) (GoesUntil GoesByPlan) drawing_grants
+      (λ v. v.deadline) m t [] n
+  pub in_time : PollsInTime m.driver.deadline m t.now n
 
 -- the run under way ends as it is reported, and then one begins where it may
 abbrev pub Ends : Hosted → Tick → Ran → Hosted → Type 0
-Ends m t ran n = (k : Hosted) × IsPoll m t (ran ∷ []) k × IsPoll k t [] n
+Ends m t ran n = (k : Hosted) × IsReport m t ran k × IsPoll k t n
 
 -- a poll, after a report where there is one
 abbrev pub RetryPolls : Tick → Option Ran → Hosted → Result Reply Status → Hosted → Type 0
-RetryPolls t None m (Ok x) n = IsPoll m t [] n × Shows n t.now x
+RetryPolls t None m (Ok x) n = IsPoll m t n × Shows n t.now x
 RetryPolls t (Some ran) m (Ok x) n = Ends m t ran n × Shows n t.now x
 RetryPolls t (Some ran) m (Err NoRun) n = (is_told m ≡ false) × (n ≡ m)
 RetryPolls t report m (Err _) n = ⊥

@@ -41,6 +41,9 @@ code_of status.NoRun = 41
 code_of status.DrawsElsewhere = 42
 code_of status.NothingToHandBack = 43
 code_of status.TooManyRequests = 44
+code_of status.LeaseWanted = 50
+code_of status.NotOut = 51
+code_of status.HeldAlready = 52
 
 -- what a call that answers nothing else returns
 abbrev pub told : {A : Type 0} → Result A Status → ℕ

@@ -8,6 +8,7 @@ use sched_driver_stepper::Stepper;
 use sched_plan::SharedPlan;
 use sched_run_machine::{Machine, Until};
 use sched_ticket_draws::Drawing;
+use sched_ticket_lease::Leased;
 use std::alloc::Global;
 use std::mem;
 
@@ -22,6 +23,8 @@ pub enum Held {
     Pass(Drawing),
     /// A retry, which keeps no journal, and has a deadline or none.
     Retry(Machine<Until<Stepper>, Drawing>),
+    /// A leased pass.
+    Leased(Leased),
 }
 
 /// Which kind of thing a handle holds, by the names that `Held` has for them.
@@ -31,6 +34,7 @@ pub enum Kind {
     Policy,
     Pass,
     Retry,
+    Leased,
 }
 
 impl Held {
@@ -43,6 +47,7 @@ impl Held {
             Held::Policy(_) => Kind::Policy,
             Held::Pass(_) => Kind::Pass,
             Held::Retry(_) => Kind::Retry,
+            Held::Leased(_) => Kind::Leased,
         }
     }
 

@@ -5,6 +5,7 @@
 mod drawing;
 mod handle;
 mod held;
+mod leases;
 mod passes;
 mod policies;
 mod replies;
@@ -13,5 +14,6 @@ mod status;
 
 pub use handle::Handle;
 pub use held::{Held, Kind};
-pub use replies::{Place, Reply, Size, Usage, tell, tick_at};
+pub use leases::Draw;
+pub use replies::{Granted, Place, Reply, Size, Standing, Usage, tell, tick_at};
 pub use status::Status;

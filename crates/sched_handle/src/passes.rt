@@ -203,6 +203,7 @@ impl Held {
             Held::Retry(retry) => Some(retry.drawing()),
             Held::Room => None,
             Held::Policy(_) => None,
+            Held::Leased(_) => None,
         }
     }
 
@@ -219,6 +220,10 @@ impl Held {
             Held::Room => None,
             Held::Policy(policy) => {
                 drop(policy);
+                None
+            }
+            Held::Leased(leased) => {
+                drop(leased);
                 None
             }
         }

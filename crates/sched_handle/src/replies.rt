@@ -61,6 +61,26 @@ pub struct Usage {
     pub next: u64,
 }
 
+/// A range that a store granted, or that one leased pass lends another: so many tickets of a window from the number `first` on,
+/// and the moment at which the window ends.
+#[repr(C)]
+#[derive(Clone, Copy)]
+pub struct Granted {
+    pub window: u64,
+    pub first: u64,
+    pub tickets: u64,
+    pub until: u64,
+}
+
+/// What a leased pass has: how many tickets were drawn with it and not handed back, how many are at hand, and how many requests
+/// were counted and not told.
+#[derive(Clone, Copy)]
+pub struct Standing {
+    pub drawn: u64,
+    pub at_hand: u64,
+    pub untold: u64,
+}
+
 impl Usage {
     /// What was seen of a window.
     pub(crate) fn of(seen: Seen) -> Usage

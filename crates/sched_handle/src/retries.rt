@@ -19,7 +19,7 @@ use std::alloc::Global;
 
 impl Held {
     /// A retry that has not begun, of the policy, with a pass that is split off. Past the deadline, where there is one, it
-    /// plans no run.
+    /// begins no run but the first.
     pub fn retry(
         alloc: Global,
         policy: &Held,
@@ -43,6 +43,7 @@ impl Held {
             Held::Room => Err(Status::WrongKind),
             Held::Policy(_) => Err(Status::WrongKind),
             Held::Pass(_) => Err(Status::WrongKind),
+            Held::Leased(_) => Err(Status::WrongKind),
         }
     }
 
@@ -58,6 +59,7 @@ impl Held {
             Held::Room => Err(Status::WrongKind),
             Held::Policy(_) => Err(Status::WrongKind),
             Held::Pass(_) => Err(Status::WrongKind),
+            Held::Leased(_) => Err(Status::WrongKind),
         }
     }
 }
@@ -92,9 +94,9 @@ fn poll_retry(
     }
 }
 
-// Begins a run where one may begin, and answers what the retry is at then.
+// Begins a run where one may begin, or ends the retry by its deadline, and answers what it is at then.
 fn poll_at(retry: &mut Machine<Until<Stepper>, Drawing>, tick: &Tick) -> Reply
-    ensures polls { IsPoll retry.old tick.entry.now [] retry.new }
+    ensures polls { IsPoll retry.old tick.entry.now retry.new }
     ensures shows { Shows retry.new tick.entry.now.now result }
 {
     retry.poll(tick);
@@ -140,6 +142,7 @@ fn how_code(how: How, is_late: bool) -> u32
         How::Won => 1,
         How::ScheduleDone => { if is_late { 8 } else { 2 } }
         How::BudgetRefused => 3,
+        How::DeadlinePassed => 8,
         How::Cancelled => 4,
         How::Broken(RunFault::NoMemory) => 5,
         How::Broken(RunFault::JournalFull) => 6,

@@ -63,6 +63,12 @@ pub enum Status {
     NothingToHandBack,
     /// the requests are more than the pass has parts
     TooManyRequests,
+    /// a lease is wanted
+    LeaseWanted,
+    /// the ticket is not out
+    NotOut,
+    /// the range was granted already
+    HeldAlready,
 }
 
 impl Status {
@@ -98,6 +104,9 @@ impl Status {
             Status::DrawsElsewhere => 42,
             Status::NothingToHandBack => 43,
             Status::TooManyRequests => 44,
+            Status::LeaseWanted => 50,
+            Status::NotOut => 51,
+            Status::HeldAlready => 52,
         }
     }
 }

@@ -3,14 +3,14 @@ use sched_time::NoMemory;
 use serde_json::Value;
 use std::alloc::Global;
 
-// The most letters that are shown.
+// The most characters that are shown.
 const MOST_SHOWN: usize = 60;
 
-/// Adds what was found, as JSON: `; found {"fixed":0}`, and of a long value the first 60 letters and `..`. Fails only
+/// Adds what was found, as JSON: `, got {"fixed":0}`, and of a long value the first 60 characters and `..`. Fails only
 /// with `NoMemory`.
 pub fn push_found(alloc: Global, text: &mut String, value: &Value) -> Result<(), NoMemory> {
     let found = value.to_string(alloc)?;
-    text.push_str("; found ")?;
+    text.push_str(", got ")?;
     let mut shown = 0usize;
     for letter in found.as_str().chars() {
         if shown >= MOST_SHOWN {

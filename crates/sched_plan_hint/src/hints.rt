@@ -1,4 +1,4 @@
-//! What is wanted where a plan has its fault, and what was found. Nothing is proved of these texts.
+//! What was expected where a plan has its fault, and what was found. Nothing is proved of these texts.
 use crate::found::push_found;
 use crate::nodes::{foreign, nearest, spelling};
 use sched_plan::PlanFault;
@@ -8,9 +8,9 @@ use serde_json::Value;
 use std::alloc::Global;
 use std::fmt::Write;
 
-const PLAN_WANTED: &str = "a plan is a string or an object of one member";
+const PLAN_EXPECTED: &str = "expected a plan, a string or an object with one member";
 
-/// Adds what is wanted where a plan has this fault, at this value, and what was found. Fails only with `NoMemory`.
+/// Adds what was expected where a plan has this fault, at this value, and what was found. Fails only with `NoMemory`.
 pub fn push_plan_hint(
     alloc: Global,
     text: &mut String,
@@ -20,8 +20,10 @@ pub fn push_plan_hint(
     match fault {
         ReadFault::NotAPlan => push_form_hint(alloc, text, value)?,
         ReadFault::Plan(PlanFault::OutOfRange) => push_form_hint(alloc, text, value)?,
-        ReadFault::Plan(PlanFault::TooDeep) => text.push_str("a plan is at most 32 deep")?,
-        ReadFault::Plan(PlanFault::TooMany) => text.push_str("a plan has at most 256 nodes")?,
+        ReadFault::Plan(PlanFault::TooDeep) => text.push_str("expected a plan at most 32 deep")?,
+        ReadFault::Plan(PlanFault::TooMany) => text.push_str(
+            "expected a plan of at most 256 nodes",
+        )?,
         ReadFault::Plan(PlanFault::NoMemory) => text.push_str("no memory")?,
     }
     Ok(())
@@ -39,11 +41,11 @@ fn push_form_hint(alloc: Global, text: &mut String, value: &Value) -> Result<(),
                     push_name_hint(alloc, text, name.as_str(), value)?;
                     push_fraction_hint(text, name.as_str(), inner)?;
                 }
-                _ => write!(text, "{PLAN_WANTED}, and this has {count}")?,
+                _ => write!(text, "{PLAN_EXPECTED}, got one with {count}")?,
             }
         }
         _ => {
-            text.push_str(PLAN_WANTED)?;
+            text.push_str(PLAN_EXPECTED)?;
             push_found(alloc, text, value)?;
         }
     }
@@ -58,7 +60,7 @@ fn push_name_hint(
     value: &Value,
 ) -> Result<(), NoMemory> {
     if let Some(form) = spelling(name) {
-        write!(text, "\"{name}\" is spelt {form}")?;
+        write!(text, "expected {form}")?;
         return push_found(alloc, text, value);
     }
     write!(text, "no node is called \"{name}\"")?;

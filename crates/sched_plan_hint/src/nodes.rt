@@ -34,8 +34,8 @@ const NODES: [(&str, &str); 32] = [
     ),
     (
         "decorrelated",
-        "{\"decorrelated\":[LANE,D,F,MOST]}, LANE from 0 to 3, D from 0 to MOST, F from 1000 to 1000000, \
-         MOST from D to 4611686018427387903",
+        "{\"decorrelated\":[LANE,D,F,MAX]}, LANE from 0 to 3, D from 0 to MAX, F from 1000 to 1000000, \
+         MAX from D to 4611686018427387903",
     ),
     ("elapsed", r#""elapsed""#),
     ("identity", r#""identity""#),
@@ -72,7 +72,7 @@ const NODES: [(&str, &str); 32] = [
     ("add_out", r#"{"add_out":PLAN}"#),
     (
         "jitter",
-        "{\"jitter\":[LANE,LEAST,MOST,PLAN]}, LANE from 0 to 3, LEAST at most MOST, MOST at most 10000",
+        "{\"jitter\":[LANE,MIN,MAX,PLAN]}, LANE from 0 to 3, MIN at most MAX, MAX at most 10000",
     ),
     (
         "within",

@@ -51,7 +51,9 @@ pub(crate) fn ending_of<I: Coded + Drop, F: Coded + Drop>(
             None => None,
             Some(How::ScheduleDone) => Some(RepeatEnding::ScheduleDone),
             Some(How::Broken(cause)) => Some(RepeatEnding::Broken(cause)),
-            Some(How::Won | How::BudgetRefused | How::Failed | How::Cancelled) => unreachable!(),
+            Some(
+                How::Won | How::BudgetRefused | How::DeadlinePassed | How::Failed | How::Cancelled,
+            ) => unreachable!(),
         },
     }
 }

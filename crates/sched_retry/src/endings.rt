@@ -55,7 +55,7 @@ pub(crate) fn ending_of<I: Coded + Drop, F: Coded + Drop>(
             Some(How::ScheduleDone) => Some(Ending::ScheduleDone(fault)),
             Some(How::BudgetRefused) => Some(Ending::BudgetRefused(fault)),
             Some(How::Broken(cause)) => Some(Ending::Broken(cause)),
-            Some(How::Won | How::Failed | How::Cancelled) => unreachable!(),
+            Some(How::Won | How::DeadlinePassed | How::Failed | How::Cancelled) => unreachable!(),
         },
     }
 }

@@ -40,7 +40,10 @@ pub(crate) fn unless_stop(over: Option<How>) -> Option<How>
 {
     match over {
         Some(How::ScheduleDone | How::BudgetRefused) => None,
-        None | Some(How::Won | How::Failed | How::Cancelled | How::Broken(_)) => over,
+        None
+        | Some(How::Won | How::DeadlinePassed | How::Failed | How::Cancelled | How::Broken(_)) => {
+            over
+        }
     }
 }
 

@@ -1,6 +1,7 @@
 -- Each call on a machine is one poll of each task that it may stand for.
-use Rattle.std.proofs.Common.{◌≡◌, ℕ, if◌then◌else◌, ◌+◌, ◌<◌, ◌≤◌, inl, inr, Bool, true, false, List, [], ◌∷◌, ◌++◌, length, min, Option, Some, None, is_some, IfSome, IsSomeAnd, refl, sym, ap, ◌∙◌, subst, arith}
+use Rattle.std.proofs.Common.{◌≡◌, ℕ, if◌then◌else◌, ◌+◌, ◌<◌, ◌≤◌, inl, inr, Bool, true, false, not, ◌&&◌, nat_lt, List, [], ◌∷◌, ◌++◌, length, min, Option, Some, None, is_some, IfSome, IsSomeAnd, refl, sym, ap, ◌∙◌, subst, arith}
 use Rattle.std.specs.Bool.{MatchBool}
+use Rattle.std.proofs.lemmas.Bool.{ltb-true, lt-ltb, and_parts}
 use Rattle.std.proofs.lemmas.List.{append-nil, length_push}
 use Rattle.sched_time.specs.declared.numbers.Tick.{Tick}
 use Rattle.sched_plan.specs.Schedule.{Schedule}
@@ -12,14 +13,15 @@ use Rattle.sched_task.specs.declared.endings.How.TheVariants as how
 use Rattle.sched_ticket_draws.specs.Grants.{Grants, Lawful}
 use Rattle.sched_task_law.specs.Kind.{Kind, keeps, draws, falls_back, calls}
 use Rattle.sched_task_law.specs.Past.{Past, is_under_way, waits_for}
-use Rattle.sched_task_law.specs.Poll.{Happened, stays, cannot_begin, runs_on, cannot_run, ends, breaks, stops_done, stops_denied, recurs, asks, cannot_ask, falls, stop, after, CanRun, Steps, May}
+use Rattle.sched_task_law.specs.Poll.{Happened, stays, cannot_begin, runs_on, cannot_run, ends, breaks, stops_done, stops_denied, recurs, asks, cannot_ask, falls, stop, after, CanRun, CanTimeOut, Steps, May}
 use Rattle.sched_task_law.proofs.Lists.{by_test}
-use Rattle.sched_task_law.proofs.Law.{under_way_then, finished_then, law_of_nothing, law_cancelled}
-use Rattle.sched_run_machine.specs.Retrying.{Retrying, Drawn, DrawsIn, gives_up}
+use Rattle.sched_task_law.proofs.Law.{under_way_then, finished_then, law_of_nothing, law_cancelled, law_timed_out}
+use Rattle.sched_run_machine.specs.Deadline.{is_past}
+use Rattle.sched_run_machine.specs.Retrying.{Retrying, Drawn, DrawsIn, gives_up, expires}
 use Rattle.sched_run_machine.proofs.Settles.{next, settles, rests}
 use Rattle.sched_run_machine.specs.Drives.{unstepped, SteppedOn}
-use Rattle.sched_run_machine.specs.Machine.{Machine, begins, unbegun, breaks_off, cancelled, StandsFor, Looks, IsMachine, Polls, Stops, Ends}
-use Rattle.sched_run_machine.specs.Next.{HostPoll}
+use Rattle.sched_run_machine.specs.Machine.{Machine, begins, unbegun, is_too_late, timed_out, breaks_off, cancelled, StandsFor, Looks, IsMachine, Polls, PollsUntil, Stops, Ends}
+use Rattle.sched_run_machine.specs.Next.{HostPoll, HostPollUntil}
 
 -- whatever happens in a poll, the schedule stays
 pub same_plan : (kind : Kind) (v : Past) (t : Tick) (h : Happened) → (after kind v t h).driver.plan ≡ v.driver.plan
@@ -40,6 +42,35 @@ pub plan_after : {D : Type 0} (grants : Grants D) (kind : Kind) (v : Retrying D)
     HostPoll grants kind v t told u → u.past.driver.plan ≡ v.past.driver.plan
 plan_after grants kind v t told u polled =
     ap (λ (p : Past). p.driver.plan) polled.poll.poll.leaves ∙ same_plan kind v.past t polled.poll.poll.happened
+
+pub plan_until : {D : Type 0} (grants : Grants D) (kind : Kind) (deadline : Option ℕ) (v : Retrying D) (t : Tick)
+    (told : List Ran) (u : Retrying D) → HostPollUntil grants kind deadline v t told u →
+    u.past.driver.plan ≡ v.past.driver.plan
+plan_until {D} grants kind deadline v t told u polled = elim polled.poll [
+  | inl poll ↦ plan_after grants kind v t told u poll
+  | inr out ↦ ap (λ (u : Retrying D). u.past.driver.plan) out.leaves
+]
+
+-- of both a task tells the runs
+pub runs_until : {D : Type 0} (grants : Grants D) (kind : Kind) (deadline : Option ℕ) (v : Retrying D) (t : Tick)
+    (told : List Ran) (u : Retrying D) → HostPollUntil grants kind deadline v t told u →
+    u.past.runs ≡ v.past.runs ++ told
+runs_until {D} grants kind deadline v t told u polled = elim polled.poll [
+  | inl poll ↦ poll.runs
+  | inr out ↦ ap (λ (u : Retrying D). u.past.runs) out.leaves ∙ sym (append-nil v.past.runs)
+      ∙ ap (λ (told : List Ran). v.past.runs ++ told) (sym out.none_told)
+]
+
+-- what is under way does not begin too late
+never_late : (a b : Bool) → (a && (b && false)) ≡ false
+never_late a b = by_test a (λ yes. rw yes (by_test b (λ yes. rw yes refl) (λ no. rw no refl))) (λ no. rw no refl)
+
+pub running_in_time : {R D : Type 0} (deadline : Option ℕ) (m : Machine R D) (now : ℕ) → m.under_way ≡ true →
+    is_too_late deadline m now ≡ false
+running_in_time deadline m now running = rw running (never_late (is_past deadline now) (nat_lt 0 m.told))
+
+not_so : (b : Bool) → not b ≡ true → b ≡ false
+not_so b is = by_test b (λ yes. absurd (let bad : false ≡ true = rw yes at is in cc)) (λ no. no)
 
 module _ {R D : Type 0} (stands : R → Driven → Type 0) (kind : Kind) (goes_by : R → Schedule → Type 0) (grants : Grants D)
     (lawful : Lawful grants) (alone : falls_back kind ≡ false) where
@@ -111,13 +142,95 @@ module _ {R D : Type 0} (stands : R → Driven → Type 0) (kind : Kind) (goes_b
     }
 
     -- a task that stays as it is
+    stays_poll : (v : Retrying D) → StandsFor stands kind grants m v → May kind v.past t stays → HostPoll grants kind v t [] v
+    stays_poll v st may =
+        record { poll = rests grants lawful kind v t (is_some v.past.over) refl st.law may; runs = sym (append-nil v.past.runs) }
+
     stayed : (v : Retrying D) → StandsFor stands kind grants m v → May kind v.past t stays →
         (u : Retrying D) × HostPoll grants kind v t [] u × StandsFor stands kind grants m u
-    stayed v st may =
-        (v, record { poll = rests grants lawful kind v t (is_some v.past.over) refl st.law may; runs = sym (append-nil v.past.runs) }, st)
+    stayed v st may = (v, stays_poll v st may, st)
 
     pub stays_as : Looks stands kind grants m t true → Polls stands kind goes_by grants m t [] m
     stays_as may = same_driver_polls m [] refl (λ v st. stayed v st (may v st))
+
+    -- polls by a deadline
+    module _ (ends : R → Option ℕ) where
+      pub polled_until_as : (w n : Machine R D) (told : List Ran) → m ≡ w → PollsUntil stands kind goes_by grants ends m t told n →
+          PollsUntil stands kind goes_by grants ends w t told n
+      polled_until_as w n told same polls =
+          subst (λ (m : Machine R D). PollsUntil stands kind goes_by grants ends m t told n) same polls
+
+      pub left_until : (w n : Machine R D) (told : List Ran) → m ≡ w → PollsUntil stands kind goes_by grants ends w t told n →
+          IsMachine stands kind goes_by grants m → IsMachine stands kind goes_by grants n
+      left_until w n told same polls is s by =
+          let was = subst (λ (m : Machine R D). IsMachine stands kind goes_by grants m) same is s (polls.narrows s by) in
+          let after = polls.leads was.0 was.2 (subst (λ (s : Schedule). goes_by n.driver s) (sym was.1) by) in
+          (after.0, plan_until grants kind (ends w.driver) was.0 t told after.0 after.1 ∙ was.1, after.2)
+
+      -- where none would begin too late, none does
+      none_late : is_too_late (ends m.driver) m t.now ≡ false → (v : Retrying D) → StandsFor stands kind grants m v →
+          is_past (ends m.driver) t.now ≡ true → is_under_way v.past.runs v.past.begun ≡ false → 0 < length v.past.runs → ⊥
+      none_late in_time v st past idle some =
+          let told : nat_lt 0 m.told ≡ true = lt-ltb 0 m.told (omega (arith, st.told, some)) in
+          let resting : m.under_way ≡ false = st.under_way ∙ idle in
+          let late : is_too_late (ends m.driver) m t.now ≡ true = rw (past, told, resting) refl in
+          (let bad : false ≡ true = sym in_time ∙ late in cc)
+
+      pub polls_in_time : (n : Machine R D) (told : List Ran) → Polls stands kind goes_by grants m t told n →
+          ends n.driver ≡ ends m.driver → is_too_late (ends m.driver) m t.now ≡ false →
+          PollsUntil stands kind goes_by grants ends m t told n
+      polls_in_time n told polls same in_time = record {
+        narrows = polls.narrows;
+        deadline = same;
+        leads = λ v st by.
+            let was = polls.leads v st by in (
+              was.0,
+              record { poll = inl was.1; in_time = λ past idle some. absurd (none_late in_time v st past idle some) },
+              was.2,
+            );
+      }
+
+      pub stays_until : Looks stands kind grants m t true → PollsUntil stands kind goes_by grants ends m t [] m
+      stays_until may = record {
+        narrows = λ s by. by;
+        deadline = refl;
+        leads = λ v st by. (v, record { poll = inl (stays_poll v st (may v st)); in_time = λ past idle some. refl }, st);
+      }
+
+      pub times_out : Looks stands kind grants m t false → is_too_late (ends m.driver) m t.now ≡ true →
+          PollsUntil stands kind goes_by grants ends m t [] (timed_out m)
+      times_out can late = record {
+        narrows = λ s by. by;
+        deadline = refl;
+        leads = λ v st by.
+            let parts : (is_past (ends m.driver) t.now ≡ true) × ((nat_lt 0 m.told && not m.under_way) ≡ true) = and_parts _ _ late in
+            let both : (nat_lt 0 m.told ≡ true) × (not m.under_way ≡ true) = and_parts _ _ parts.1 in
+            let told : 0 < m.told = ltb-true 0 m.told both.0 in
+            let some : 0 < length v.past.runs = omega (arith, st.told, told) in
+            let may : CanTimeOut v.past t =
+            record { can = can v st; idle = sym st.under_way ∙ not_so m.under_way both.1; after_a_run = some } in (
+              expires v,
+              record {
+                poll = inr (record { may = may; past = parts.0; none_told = refl; leaves = refl });
+                in_time = λ past idle some. refl;
+              },
+              record {
+                law = record {
+                  law = law_timed_out kind v.past t st.law.law may;
+                  granted = st.law.granted;
+                  denied = st.law.denied;
+                  stands = st.law.stands;
+                  untaken = λ _. refl;
+                };
+                driver = st.driver;
+                under_way = st.under_way;
+                over = refl;
+                drawing = st.drawing;
+                had = st.had;
+                told = st.told;
+              },
+            );
+      }
 
     -- What a look tells: one that is over stays as it is, and so does one that waits for a later moment; else a run can
     -- be polled.
@@ -235,6 +348,7 @@ module _ {R D : Type 0} (stands : R → Driven → Type 0) (kind : Kind) (goes_b
             (idle v r st) refl refl refl (counted v r st)
         stops_leads (Some how.Won) s q came holds v st by = absurd came
         stops_leads (Some how.Failed) s q came holds v st by = absurd came
+        stops_leads (Some how.DeadlinePassed) s q came holds v st by = absurd came
         stops_leads (Some how.Cancelled) s q came holds v st by = absurd came
 
       -- it ends a run as it went

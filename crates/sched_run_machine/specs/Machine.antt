@@ -1,5 +1,5 @@
 -- What contracts see of a machine, and which retries or repeats it may stand for.
-use Rattle.std.specs.Prelude.{◌≡◌, ℕ, Bool, true, false, not, ◌&&◌, if◌then◌else◌, List, length, min, Option, Some, None, is_some, refl}
+use Rattle.std.specs.Prelude.{◌≡◌, ℕ, ◌⊎◌, Bool, true, false, not, ◌&&◌, if◌then◌else◌, nat_lt, List, length, min, Option, Some, None, is_some, refl}
 use Rattle.std.specs.Bool.{MatchBool}
 use Rattle.std.specs.Coded.{Coded, code_by, coded×, coded_ℕ, coded_bool, coded_option}
 use Rattle.sched_time.specs.declared.numbers.Tick.{Tick}
@@ -18,7 +18,7 @@ use Rattle.sched_task_law.specs.Codes.{coded_how}
 use Rattle.sched_run_machine.specs.Retrying.{Retrying, RetryLaw, Drawn}
 use Rattle.sched_run_machine.specs.Deadline.{is_past}
 use Rattle.sched_run_machine.specs.Drives.{Stepped, Refused}
-use Rattle.sched_run_machine.specs.Next.{HostPoll}
+use Rattle.sched_run_machine.specs.Next.{HostPoll, HostPollUntil}
 use Rattle.sched_run_machine.specs.declared.next.Next.{Next}
 use Rattle.sched_run_machine.specs.declared.next.Next.TheVariants.{Wait}
 
@@ -58,6 +58,21 @@ is_told m = not (is_some m.over) && m.under_way
 abbrev pub WaitsInTime : Option ℕ → Next → Type 0
 WaitsInTime deadline (Wait start) = is_past deadline start ≡ false
 WaitsInTime deadline _ = Unit {0}
+
+-- Another run would begin past the deadline: none is under way, and one was reported.
+abbrev pub is_too_late : {R D : Type 0} → Option ℕ → Machine R D → ℕ → Bool
+is_too_late deadline m now = is_past deadline now && (nat_lt 0 m.told && not m.under_way)
+
+-- one that its deadline ends
+abbrev pub timed_out : {R D : Type 0} → Machine R D → Machine R D
+timed_out m = record m { over = Some how.DeadlinePassed }
+
+-- What a poll at this moment leaves: the machine as it was; the machine with a run under way, which does not begin too
+-- late; or, where that would begin too late, the machine ended by its deadline.
+abbrev pub PollsInTime : {R D : Type 0} → Option ℕ → Machine R D → ℕ → Machine R D → Type 0
+PollsInTime deadline m now n =
+    (n ≡ m) ⊎ (((is_too_late deadline m now ≡ false) × (n ≡ record m { under_way = true }))
+    ⊎ ((m.over ≡ None) × (is_too_late deadline m now ≡ true) × (n ≡ timed_out m)))
 
 -- one to whose run, or to the beginning of it, memory is refused
 abbrev pub breaks_off : {R D : Type 0} → Bool → Machine R D → Machine R D
@@ -114,6 +129,15 @@ module _ {R D : Type 0} (stands : R → Driven → Type 0) (kind : Kind) (goes_b
     pub narrows : (s : Schedule) → goes_by n.driver s → goes_by m.driver s
     pub leads : (v : Retrying D) → StandsFor stands kind grants m v → goes_by n.driver v.past.driver.plan →
         (u : Retrying D) × HostPoll grants kind v t told u × StandsFor stands kind grants n u
+
+  -- A poll of a machine whose driver has a deadline or none: of each such task it was one poll, or the end by its
+  -- deadline.
+  pub record PollsUntil (ends : R → Option ℕ) (m : Machine R D) (t : Tick) (told : List Ran) (n : Machine R D)
+      : Type 0 where
+    pub narrows : (s : Schedule) → goes_by n.driver s → goes_by m.driver s
+    pub deadline : ends n.driver ≡ ends m.driver
+    pub leads : (v : Retrying D) → StandsFor stands kind grants m v → goes_by n.driver v.past.driver.plan →
+        (u : Retrying D) × HostPollUntil grants kind (ends m.driver) v t told u × StandsFor stands kind grants n u
 
   -- What the step comes to that a run of this code calls for: the driver r and what draws, p, become s and q. It draws
   -- where the schedule goes on, if a ticket is needed, and nowhere else.

@@ -5,7 +5,7 @@ use Rattle.sched_time.specs.declared.numbers.Tick.{Tick}
 use Rattle.sched_ticket_draws.specs.Grants.{Grants}
 use Rattle.sched_task_law.specs.Kind.{Kind, draws}
 use Rattle.sched_task_law.specs.Past.{Past}
-use Rattle.sched_task_law.specs.Poll.{Happened, stops_denied, recurs, OnePoll, cancelled}
+use Rattle.sched_task_law.specs.Poll.{Happened, stops_denied, recurs, OnePoll, cancelled, timed_out}
 use Rattle.sched_task_law.specs.Law.{Law}
 use Rattle.sched_task_law.specs.Codes.{coded_past}
 
@@ -66,3 +66,7 @@ gives_up v = record v {
   past = cancelled v.past;
   untaken = if is_some v.past.over then v.untaken else true;
 }
+
+-- one that its deadline ends
+abbrev pub expires : {D : Type 0} → Retrying D → Retrying D
+expires v = record v { past = timed_out v.past; untaken = true }

@@ -1,7 +1,7 @@
 //! What a poll of a run comes to.
 ghost use Rattle.std.specs.Prelude.{◌≡◌, false, None};
 ghost use Rattle.sched_task_law.specs.Kind.{repeats};
-ghost use Rattle.sched_run_machine.specs.Machine.{Looks, Polls};
+ghost use Rattle.sched_run_machine.specs.Machine.{is_too_late, Looks, Polls};
 ghost use Rattle.sched_run_machine.specs.Runner.{polls_run, leaves_run, told_by, IsOver};
 
 use crate::aims::Aims;
@@ -22,6 +22,7 @@ impl<R: Drives, D: Draws, A: Aims> Machine<R, D, A> {
         polled: &Polled<I, F>,
     )
         requires looks { Looks R.stands (A.kind R.keeps) D.grants self.old tick.now false }
+        requires in_time { is_too_late (R.ends self.old.driver) self.old tick.now.now ≡ false }
         requires unended { self.old.over ≡ None }
         requires idle { polls_run polled.now ≡ false → self.old.under_way ≡ false }
         ensures polls { Polls R.stands (A.kind R.keeps) R.goes_by D.grants self.old tick.entry.now

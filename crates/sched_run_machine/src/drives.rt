@@ -32,13 +32,18 @@ pub trait Drives: Drop {
     // The moment past which it plans no start, if there is one.
     ghost ends: { Self → Option ℕ };
 
+    /// Its deadline: the moment past which it plans no start, and its machine begins no run but the first. `None` where
+    /// it has none.
+    fn deadline(&self) -> Option<Moment>
+        ensures deadline { result ≡ ends self.now };
+
     /// The start planned last, or `None` where there was no step or the plan was done.
     fn next_start(&self) -> Option<Moment>
         ensures start { (d : Driven) → stands self.now d → result ≡ next_start_of d }
         ensures in_time { IfSome result (λ start. is_past (ends self.now) start ≡ false) };
 
-    /// Steps the plan with a run's code, and answers the start that it plans, or `None` where it is done.
-    /// A refused step changes nothing.
+    /// Steps the plan with a run's code. Answers `None` where the plan is done, and a start where it goes on; what it
+    /// waits for is `next_start`. A refused step changes nothing.
     fn step(&mut self, alloc: Global, tick: &Tick, code: Millis) -> Result<Option<Moment>, RunFault>
         ensures stepped { IfOk result (λ start.
             Stepped stands keeps goes_by self.old tick.entry.now code (is_none start) self.new) }
@@ -74,6 +79,10 @@ impl Drives for Driver {
     ghost begins = { unstepped_driver };
 
     ghost goes = { λ _. refl };
+
+    fn deadline(&self) -> Option<Moment> {
+        None
+    }
 
     fn next_start(&self) -> Option<Moment> {
         Driver::next_start(self)
@@ -115,6 +124,10 @@ impl Drives for Stepper {
 
     ghost goes = { λ _. refl };
 
+    fn deadline(&self) -> Option<Moment> {
+        None
+    }
+
     fn next_start(&self) -> Option<Moment> {
         Stepper::next_start(self)
     }
@@ -130,5 +143,15 @@ impl Drives for Stepper {
             Err(StepFault::Backwards { floor: _ }) => Err(RunFault::Backwards),
             Err(StepFault::NoMemory) => Err(RunFault::NoMemory),
         }
+    }
+}
+
+// Whether this moment is past the deadline, where there is one.
+pub(crate) fn is_past(deadline: Option<Moment>, now: Moment) -> bool
+    ensures { result ≡ is_past deadline now }
+{
+    match deadline {
+        Some(deadline) => deadline.get() < now.get(),
+        None => false,
     }
 }

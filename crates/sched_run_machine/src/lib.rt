@@ -8,6 +8,7 @@
 mod aims;
 mod attempts;
 mod drives;
+pub mod laws;
 mod machine;
 mod next;
 mod runner;

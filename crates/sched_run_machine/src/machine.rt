@@ -2,7 +2,7 @@
 ghost use Rattle.std.specs.Prelude.{◌≡◌, ◌+◌, [], ◌∷◌, true, false, None};
 ghost use Rattle.sched_plan.specs.Schedule.{Schedule};
 ghost use Rattle.sched_run_machine.specs.Retrying.{Retrying, gives_up};
-ghost use Rattle.sched_run_machine.specs.Machine.{begins, unbegun, is_told, breaks_off, cancelled, StandsFor, Looks, IsMachine, Polls, WaitsInTime, Ends};
+ghost use Rattle.sched_run_machine.specs.Machine.{begins, unbegun, is_told, is_too_late, breaks_off, cancelled, StandsFor, Looks, IsMachine, Polls, PollsUntil, PollsInTime, WaitsInTime, Ends};
 ghost use Rattle.sched_run_machine.specs.Aims.{EndsAs};
 ghost use Rattle.sched_task_law.specs.Kind.{a_retry, a_repeat, repeats};
 ghost use Rattle.sched_ticket_draws.specs.Freely.{free_grants};
@@ -10,7 +10,7 @@ ghost use Rattle.sched_task_law.specs.Past.{waits_for};
 ghost use Rattle.sched_run_machine.specs.Next.{next_of, Finds};
 
 use crate::aims::{Aims, Repeats, Retries};
-use crate::drives::Drives;
+use crate::drives::{Drives, is_past};
 use crate::next::{Next, is_later};
 use sched_effect::Ran;
 use sched_task::{How, RunFault};
@@ -109,13 +109,18 @@ impl<R: Drives, D: Draws, A: Aims> Machine<R, D, A> {
         }
     }
 
-    /// Begins a run at the tick, where none is under way, it is not over and waits for no later moment.
+    /// Begins a run at the tick, where none is under way, it is not over and waits for no later moment. Where its driver
+    /// has a deadline and the tick is past that, it ends as `DeadlinePassed` and begins none, unless no run was made yet.
     pub fn poll(&mut self, tick: &Tick)
-        ensures polls { Polls R.stands (A.kind R.keeps) R.goes_by D.grants self.old tick.entry.now [] self.new }
-        ensures unbroken { self.new.over ≡ self.old.over }
-        ensures deadline { R.ends self.new.driver ≡ R.ends self.old.driver }
+        ensures polls { PollsUntil R.stands (A.kind R.keeps) R.goes_by D.grants R.ends
+            self.old tick.entry.now [] self.new }
+        ensures in_time { PollsInTime (R.ends self.old.driver) self.old tick.entry.now.now self.new }
     {
         if self.stays(tick) {
+            return;
+        }
+        if self.is_too_late(tick.now) {
+            self.over = Some(How::DeadlinePassed);
             return;
         }
         self.begin(tick);
@@ -123,7 +128,8 @@ impl<R: Drives, D: Draws, A: Aims> Machine<R, D, A> {
 
     /// Begins a run at the tick, where none is under way.
     pub fn begin(&mut self, _tick: &Tick)
-        requires { Looks R.stands (A.kind R.keeps) D.grants self.old _tick.now false }
+        requires looks { Looks R.stands (A.kind R.keeps) D.grants self.old _tick.now false }
+        requires in_time { is_too_late (R.ends self.old.driver) self.old _tick.now.now ≡ false }
         ensures polls { Polls R.stands (A.kind R.keeps) R.goes_by D.grants self.old _tick.entry.now [] self.new }
         ensures begins { self.new ≡ record self.old { under_way = true } }
     {
@@ -155,7 +161,8 @@ impl<R: Drives, D: Draws, A: Aims> Machine<R, D, A> {
 
     /// Ends the run under way as it went, or one that began at the tick, as `report` does.
     pub fn finish(&mut self, alloc: Global, tick: &Tick, ran: Ran)
-        requires { Looks R.stands (A.kind R.keeps) D.grants self.old tick.now false }
+        requires looks { Looks R.stands (A.kind R.keeps) D.grants self.old tick.now false }
+        requires in_time { is_too_late (R.ends self.old.driver) self.old tick.now.now ≡ false }
         ensures polls { Polls R.stands (A.kind R.keeps) R.goes_by D.grants
             self.old tick.entry.now (ran ∷ []) self.new }
         ensures ends { EndsAs (repeats (A.kind R.keeps)) ran self.new.over }
@@ -173,6 +180,7 @@ impl<R: Drives, D: Draws, A: Aims> Machine<R, D, A> {
     /// or, where no run has begun, to its beginning.
     pub fn break_off(&mut self, _tick: &Tick, begun: bool)
         requires looks { Looks R.stands (A.kind R.keeps) D.grants self.old _tick.now false }
+        requires in_time { is_too_late (R.ends self.old.driver) self.old _tick.now.now ≡ false }
         requires begun { self.old.under_way ≡ true → begun ≡ true }
         ensures polls { Polls R.stands (A.kind R.keeps) R.goes_by D.grants self.old _tick.entry.now [] self.new }
         ensures breaks_off { self.new ≡ breaks_off begun self.old }
@@ -190,6 +198,13 @@ impl<R: Drives, D: Draws, A: Aims> Machine<R, D, A> {
             return true;
         }
         is_later(self.due(), tick.now)
+    }
+
+    /// Whether another run would begin past the deadline at this moment: none is under way, and one was reported.
+    pub fn is_too_late(&self, now: Moment) -> bool
+        ensures { result ≡ is_too_late (R.ends self.now.driver) self.now now }
+    {
+        is_past(self.driver.deadline(), now) && 0 < self.told && !self.under_way
     }
 
     /// The moment that it waits for, or `None` where it waits for none.

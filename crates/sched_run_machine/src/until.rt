@@ -15,8 +15,8 @@ use std::marker::Model;
 /// A driver with a deadline: it goes on as its driver does, but is done where the start planned is past the deadline.
 /// A start at the deadline is in time.
 ///
-/// The deadline is about the starts planned. The first run, which no step plans, is made even where the deadline is past
-/// already, and a run that is begun later than planned, as by a clock that wakes late, is begun.
+/// The first run, which no step plans, is made even where the deadline is past already. Every later one begins by the
+/// deadline: where its machine is polled only past that, as after a wait that took too long, the machine ends.
 #[derive(Drop)]
 pub struct Until<R: Drives> {
     driver: R,
@@ -114,6 +114,10 @@ impl<R: Drives> Drives for Until<R> {
     ghost begins = { begins_until R.stands R.goes_by R.fresh R.begins };
 
     ghost goes = { λ v. goes_until R.goes_by v (R.plan v.driver) (R.goes v.driver) };
+
+    fn deadline(&self) -> Option<Moment> {
+        self.deadline
+    }
 
     fn next_start(&self) -> Option<Moment> {
         starts_in_time(self.deadline, self.driver.next_start())

@@ -11,6 +11,8 @@ pub enum How {
     ScheduleDone,
     /// The retry budget had no ticket left.
     BudgetRefused,
+    /// Its next run would have begun past its deadline.
+    DeadlinePassed,
     /// A run failed where only successes are repeated.
     Failed,
     /// It was cancelled.

@@ -28,6 +28,7 @@ pub trait TimeSource: Copy {
 }
 
 impl<R: time::Clock> TimeSource for &R {
+    // `std` states nothing of its reading and its sleep, so nothing is stated here.
     ghost reads = { λ _ _ _. ⊤ };
 
     ghost sleeps = { λ _ _ _. ⊤ };

@@ -7,7 +7,7 @@ use Rattle.sched_plan.specs.Answer.{is_done}
 use Rattle.sched_plan.specs.declared.history.Event.{Event}
 use Rattle.sched_driver.specs.Driven.{Driven}
 use Rattle.sched_task.specs.declared.endings.How.{How}
-use Rattle.sched_task.specs.declared.endings.How.TheVariants.{Won, ScheduleDone, BudgetRefused, Failed, Cancelled, Broken}
+use Rattle.sched_task.specs.declared.endings.How.TheVariants.{Won, ScheduleDone, BudgetRefused, DeadlinePassed, Failed, Cancelled, Broken}
 use Rattle.sched_task_law.specs.Kind.{Kind, retry, falls_back}
 use Rattle.sched_task_law.specs.Past.{Past, decision_on, schedule_is_done, recurrences, bit}
 use Rattle.sched_task_law.specs.Law.{Law, Ended, is_stop, is_refused}
@@ -57,6 +57,7 @@ stop_bit v None ended apart = let no = or_false v.denied (schedule_is_done v.dri
 stop_bit v (Some Won) ended apart = let no = or_false v.denied (schedule_is_done v.driver) ended.1 in rw (no.0, no.1) refl
 stop_bit v (Some ScheduleDone) ended apart = rw (ended.0, ended.1) refl
 stop_bit v (Some BudgetRefused) ended apart = rw (ended, apart ended) refl
+stop_bit v (Some DeadlinePassed) ended apart = let no = or_false v.denied (schedule_is_done v.driver) ended.0 in rw (no.0, no.1) refl
 stop_bit v (Some Failed) ended apart = absurd (let bad = ended.0 in cc)
 stop_bit v (Some Cancelled) ended apart = let no = or_false v.denied (schedule_is_done v.driver) (ended refl) in rw (no.0, no.1) refl
 stop_bit v (Some (Broken fault)) ended apart = let no = or_false v.denied (schedule_is_done v.driver) (ended.0 refl) in rw (no.0, no.1) refl
@@ -75,6 +76,7 @@ denied_is kind alone v None ended = (or_false v.denied (schedule_is_done v.drive
 denied_is kind alone v (Some Won) ended = (or_false v.denied (schedule_is_done v.driver) ended.1).0
 denied_is kind alone v (Some ScheduleDone) ended = ended.1
 denied_is kind alone v (Some BudgetRefused) ended = ended
+denied_is kind alone v (Some DeadlinePassed) ended = (or_false v.denied (schedule_is_done v.driver) ended.0).0
 denied_is kind alone v (Some Failed) ended = (or_false v.denied (schedule_is_done v.driver) ended.1).0
 denied_is kind alone v (Some Cancelled) ended = (or_false v.denied (schedule_is_done v.driver) (ended alone)).0
 denied_is kind alone v (Some (Broken fault)) ended = (or_false v.denied (schedule_is_done v.driver) (ended.0 alone)).0

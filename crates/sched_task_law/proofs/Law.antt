@@ -1,7 +1,7 @@
 -- A task keeps its law over each poll.
 use Rattle.std.proofs.Common.{◌≡◌, ℕ, ◌+◌, ◌<◌, ◌≤◌, ◌⊎◌, inl, inr, Bool, true, false, not, ◌||◌, if◌then◌else◌, List, [], ◌∷◌, ◌++◌, filter, take, length, get_or, Option, Some, None, is_some, IsSome, IfSome, IsSomeAnd, refl, sym, ap, ◌∙◌, subst, arith}
 use Rattle.std.specs.List.{list_all}
-use Rattle.std.proofs.lemmas.Bool.{ltb-true, ltb-false, cases_lt}
+use Rattle.std.proofs.lemmas.Bool.{ltb-true, ltb-false, cases_lt, and_parts}
 use Rattle.std.proofs.lemmas.List.{take_all, take-append-le, get_or_append_left, length_push, length-map}
 use Rattle.std.proofs.Math.Seq.{get_or-append_seam}
 use Rattle.sched_time.specs.Decision.{start_of}
@@ -14,13 +14,13 @@ use Rattle.sched_driver.specs.Driven.{Driven, next_start_of, after as driven_aft
 use Rattle.sched_effect.specs.Runs.{code_of}
 use Rattle.sched_effect.specs.declared.ran.Ran.{Ran}
 use Rattle.sched_task.specs.declared.endings.How.{How}
-use Rattle.sched_task.specs.declared.endings.How.TheVariants.{ScheduleDone, BudgetRefused, Cancelled, Broken}
+use Rattle.sched_task.specs.declared.endings.How.TheVariants.{ScheduleDone, BudgetRefused, DeadlinePassed, Cancelled, Broken}
 use Rattle.sched_task.specs.declared.endings.RunFault.{RunFault}
 use Rattle.sched_task.specs.declared.endings.RunFault.TheVariants.{NoMemory}
 use Rattle.sched_task_law.specs.Kind.{Kind, a_retry, a_retry_or, a_repeat, draws, falls_back, calls, final, is_final}
 use Rattle.sched_task_law.specs.Lists.{last_is}
 use Rattle.sched_task_law.specs.Past.{Past, nothing_yet, decision_on, schedule_is_done, recurrences, inputs, called_inputs, is_under_way, is_stopped, waits_for, bit}
-use Rattle.sched_task_law.specs.Poll.{Happened, stays, cannot_begin, runs_on, cannot_run, ends, breaks, stops_done, stops_denied, recurs, asks, cannot_ask, falls, begun_by, finished, stepped, step_event, stop, stopped_by, after, CanRun, CanAsk, Steps, May, cancelled}
+use Rattle.sched_task_law.specs.Poll.{Happened, stays, cannot_begin, runs_on, cannot_run, ends, breaks, stops_done, stops_denied, recurs, asks, cannot_ask, falls, begun_by, finished, stepped, step_event, stop, stopped_by, after, CanRun, CanAsk, Steps, May, cancelled, timed_out, CanTimeOut}
 use Rattle.sched_task_law.specs.Law.{Law, HasOneMore, IsDenied, Ended, may_leave_a_run}
 use Rattle.sched_task_law.proofs.Lists.{by_test, all_but_last-push, last_is-push, all_of, length_filter}
 use Rattle.sched_task_law.proofs.Journals.{inputs-push, called_inputs-push, called_inputs-same, recurrences-push, is_done_some, next_start_some, start_some}
@@ -391,6 +391,29 @@ law_cancelled kind v law =
       | None ↦ λ unended. refused_law kind v (Some Cancelled) law unended refl refl (λ isnt. rw unended at law.ended isnt)
       | Some how ↦ λ ended. subst (λ (over : Option How). Law kind (record v { over = over })) ended law
     ] refl
+
+-- where all pass and there is one, the last passes
+last_of : {A : Type 0} (test : A → Bool) (xs : List A) → list_all test xs ≡ true → 0 < length xs → last_is test xs ≡ true
+last_of test [] all some = absurd (omega arith)
+last_of test (x ∷ []) all some = (and_parts _ _ all).0
+last_of test (x ∷ y ∷ xs) all some = last_of test (y ∷ xs) (and_parts _ _ all).1 (omega arith)
+
+-- and so does a deadline that ends it
+pub law_timed_out : (kind : Kind) (v : Past) (t : Tick) → Law kind v → CanTimeOut v t → Law kind (timed_out v)
+law_timed_out kind v t law may =
+    let now = ready kind v t law may.can in
+    record {
+      before_last = law.before_last;
+      last = law.last ∙ not_final kind v may.can.unended;
+      fed = inl now.fed;
+      went_on = law.went_on;
+      waited = law.waited;
+      counted = inl (idle_length v may.idle law.counted);
+      denied = λ yes. same_denied kind v (Some DeadlinePassed) (law.denied yes);
+      done = law.done;
+      ended = (may.can.unstopped, last_of (calls kind) v.runs now.all may.after_a_run);
+      granted = law.granted;
+    }
 
 -- a task that has done nothing keeps it
 pub law_of_nothing : (kind : Kind) (plan : Schedule) → Law kind (nothing_yet plan)

@@ -36,12 +36,13 @@ how_code how.Cancelled = 4
 how_code (how.Broken NoMemory) = 5
 how_code (how.Broken JournalFull) = 6
 how_code (how.Broken Backwards) = 7
+how_code how.DeadlinePassed = 8
 
 abbrev how_from : ℕ → How
 how_from n =
     if n == 0 then how.Won else (if n == 1 then how.ScheduleDone else (if n == 2 then how.BudgetRefused else
     (if n == 3 then how.Failed else (if n == 4 then how.Cancelled else (if n == 5 then how.Broken NoMemory else
-    (if n == 6 then how.Broken JournalFull else how.Broken Backwards))))))
+    (if n == 6 then how.Broken JournalFull else (if n == 7 then how.Broken Backwards else how.DeadlinePassed)))))))
 
 pub how_back : (h : How) → how_from (how_code h) ≡ h
 how_back how.Won = refl
@@ -52,6 +53,7 @@ how_back how.Cancelled = refl
 how_back (how.Broken NoMemory) = refl
 how_back (how.Broken JournalFull) = refl
 how_back (how.Broken Backwards) = refl
+how_back how.DeadlinePassed = refl
 
 abbrev pub coded_how : Coded How
 coded_how = code_by ℕ coded_ℕ how_code how_from how_back

@@ -62,6 +62,7 @@ is_final kind None = false
 is_final kind (Some how.Won) = not (repeats kind)
 is_final kind (Some how.ScheduleDone) = false
 is_final kind (Some how.BudgetRefused) = false
+is_final kind (Some how.DeadlinePassed) = false
 is_final kind (Some how.Failed) = repeats kind
 is_final kind (Some how.Cancelled) = false
 is_final kind (Some (how.Broken fault)) = false

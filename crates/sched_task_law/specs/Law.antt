@@ -4,7 +4,7 @@ use Rattle.sched_time.specs.Decision.{start_of}
 use Rattle.sched_plan.specs.Datum.{num}
 use Rattle.sched_plan.specs.Answer.{is_done}
 use Rattle.sched_task.specs.declared.endings.How.{How}
-use Rattle.sched_task.specs.declared.endings.How.TheVariants.{Won, ScheduleDone, BudgetRefused, Failed, Cancelled, Broken}
+use Rattle.sched_task.specs.declared.endings.How.TheVariants.{Won, ScheduleDone, BudgetRefused, DeadlinePassed, Failed, Cancelled, Broken}
 use Rattle.sched_task.specs.declared.endings.RunFault.TheVariants.{NoMemory}
 use Rattle.sched_task_law.specs.Lists.{all_but_last, last_is}
 use Rattle.sched_task_law.specs.Kind.{Kind, repeats, draws, falls_back, calls, is_final}
@@ -46,12 +46,14 @@ pub record HasOneMore (v : Past) : Type 0 where
   pub left : may_leave_a_run v.over ≡ true
   pub unstopped : is_stopped v ≡ false
 
--- What each ending says. A task that asks no fallback is over where its schedule is done, and where it is denied.
+-- What each ending says. A task that asks no fallback is over where its schedule is done, and where it is denied. One
+-- that its deadline ended was to run again after its last run.
 abbrev pub Ended : Kind → Past → Option How → Type 0
 Ended kind v None = falls_back kind ≡ false → is_stopped v ≡ false
 Ended kind v (Some Won) = (repeats kind ≡ false) × (is_stopped v ≡ false)
 Ended kind v (Some ScheduleDone) = (schedule_is_done v.driver ≡ true) × (v.denied ≡ false)
 Ended kind v (Some BudgetRefused) = v.denied ≡ true
+Ended kind v (Some DeadlinePassed) = (is_stopped v ≡ false) × (last_is (calls kind) v.runs ≡ true)
 Ended kind v (Some Failed) = (repeats kind ≡ true) × (is_stopped v ≡ false)
 Ended kind v (Some Cancelled) = falls_back kind ≡ false → is_stopped v ≡ false
 Ended kind v (Some (Broken fault)) =

@@ -10,7 +10,7 @@ use Rattle.sched_driver.specs.Driver.{HasRoom}
 use Rattle.sched_effect.specs.Runs.{code_of}
 use Rattle.sched_effect.specs.declared.ran.Ran.{Ran}
 use Rattle.sched_task.specs.declared.endings.How.{How}
-use Rattle.sched_task.specs.declared.endings.How.TheVariants.{ScheduleDone, BudgetRefused, Cancelled, Broken}
+use Rattle.sched_task.specs.declared.endings.How.TheVariants.{ScheduleDone, BudgetRefused, DeadlinePassed, Cancelled, Broken}
 use Rattle.sched_task.specs.declared.endings.RunFault.{RunFault}
 use Rattle.sched_task.specs.declared.endings.RunFault.TheVariants.{NoMemory, JournalFull, Backwards}
 use Rattle.sched_task_law.specs.Kind.{Kind, keeps, draws, falls_back, calls, final}
@@ -153,3 +153,12 @@ pub record OnePoll (kind : Kind) (v : Past) (t : Tick) (ready : Bool) (u : Past)
 -- a task that is not over is cancelled
 abbrev pub cancelled : Past → Past
 cancelled v = record v { over = if is_some v.over then v.over else Some Cancelled }
+
+-- One that has had a run, and would begin another one, is ended by its deadline.
+abbrev pub timed_out : Past → Past
+timed_out v = record v { over = Some DeadlinePassed }
+
+pub record CanTimeOut (v : Past) (t : Tick) : Type 0 where
+  pub can : CanRun v t
+  pub idle : is_under_way v.runs v.begun ≡ false
+  pub after_a_run : 0 < length v.runs

@@ -1,2 +1,9 @@
 pub mod Counts
 pub mod Ranges
+pub mod Weights
+pub mod Granted
+pub mod TakenOnce
+pub mod Shared
+pub mod InTime
+pub mod ToldOnce
+pub mod Remembered

@@ -4,5 +4,13 @@
 
 pub mod laws;
 mod lease;
+mod leased;
+mod requests;
+mod slice;
+mod span;
+mod spans;
+mod ticket;
 
 pub use lease::{Ask, Grants, Lease, Stored};
+pub use leased::Leased;
+pub use ticket::{Grant, GrantFault, NoTicket, NotBack, Ticket};

@@ -12,6 +12,7 @@ engine in `libhikebox.so`, which this package calls.
 """
 
 from ._deadline import seconds_left
+from ._tickets import Refusal, RefusalReason, Ticket
 from ._time import FAR, Duration, Milliseconds, milliseconds
 from .budget import Budget
 from .builders import (
@@ -46,6 +47,7 @@ from .errors import (
     StoreLost,
     StormError,
     TermsError,
+    TicketError,
     TryAgain,
 )
 from .log import after_log, before_log, before_sleep_log
@@ -78,6 +80,8 @@ __all__ = [
     "Policy",
     "PolicyError",
     "Quota",
+    "Refusal",
+    "RefusalReason",
     "Repeating",
     "ResultRefused",
     "RetryState",
@@ -91,6 +95,8 @@ __all__ = [
     "StormRow",
     "StormTotals",
     "TermsError",
+    "Ticket",
+    "TicketError",
     "Tickets",
     "TryAgain",
     "Usage",

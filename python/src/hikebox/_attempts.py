@@ -111,8 +111,26 @@ class _BaseAttempts:
 class Attempts(_BaseAttempts):
     """Those of a `for` loop."""
 
+    #: How many seconds the next attempt of a plain retry is waited for, once the one before has failed.
+    wait: Optional[float] = None
+
     def __iter__(self) -> Attempts:
         return self
+
+    def ended(self, error: Optional[BaseException]) -> bool:
+        if error is None:
+            return super().ended(None)
+        try:
+            wait = self.wait = self.course.fails(error)
+        except BaseException:
+            self.course.close()
+            raise
+        if wait is None:
+            return super().ended(error)
+        self.under_way = False
+        if wait < 0.0:
+            self.course.close()
+        return wait >= 0.0
 
     def judge(self, steps: Union[bool, Steps[Any]], error: Optional[BaseException]) -> bool:
         course = self.course
@@ -131,13 +149,13 @@ class Attempts(_BaseAttempts):
         try:
             if self.is_open:
                 settle(self.told())
-            wait = course.plain_wait()
+            wait, self.wait = self.wait, None
             if wait is not None:
-                if wait > 0:
+                if wait > 0.0:
                     not_awaitable(course.settings.sleeps(wait))
-                course.goes_on()
-                return self.begins()
-            if settle(course.begins()):
+                if course.goes_on():
+                    return self.begins()
+            elif settle(course.begins()):
                 return self.begins()
         except BaseException:
             course.close()
@@ -148,8 +166,8 @@ class Attempts(_BaseAttempts):
 
 
 class AsyncAttempts(_BaseAttempts):
-    """Those of an `async for` loop. Where something has to be awaited to judge an attempt, that is done at the next turn
-    of the loop, which then lets the last exception out."""
+    """Those of an `async for` loop. Where something has to be awaited to judge an attempt, the next turn of the loop
+    does that, and lets the last exception out."""
 
     def __init__(self, owner: BaseRetrying) -> None:
         super().__init__(owner)

@@ -15,7 +15,7 @@ def whole(number: Any, what: str, least: int = 0, most: int = FAR) -> int:
     if type(number) is int and least <= number <= most:
         return number
     if isinstance(number, bool) or not isinstance(number, int):
-        raise TypeError(f"{what}: a whole number is wanted, not {number!r}")
+        raise TypeError(f"{what}: expected a whole number, got {number!r}")
     if not least <= number <= most:
         raise PolicyError(Fault.OUT_OF_RANGE, hint=f"{what}: {number} is not from {least} to {most}")
     return int(number)
@@ -32,7 +32,7 @@ def interval(duration: Duration, what: str) -> int:
 def thousandths(number: Any, what: str, least: float, most: float) -> int:
     """A number in thousandths, rounded."""
     if isinstance(number, bool) or not isinstance(number, (int, float)):
-        raise TypeError(f"{what}: a number is wanted, not {number!r}")
+        raise TypeError(f"{what}: expected a number, got {number!r}")
     if not least <= number <= most:
         raise PolicyError(Fault.OUT_OF_RANGE, hint=f"{what}: {number} is not from {least:g} to {most:g}")
     return round(number * 1000)

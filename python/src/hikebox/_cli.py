@@ -7,21 +7,20 @@ import logging
 import os
 import sys
 from itertools import repeat
-from typing import Any, Iterator, List, NoReturn, Optional, Set, Union
+from typing import Any, Callable, Iterator, List, NoReturn, Optional, Set, Union
 
 from . import _words
 from ._plan_picture import plan_picture
-from ._run import RunOptions, run_command
+from ._arguments import Parser
+from ._run import MOST_OUTPUT, RunOptions, run_command
 from ._seeded import seeded
-from ._storm_options import add_storm_options, parameters_of
-from ._storm_picture import storm_picture
-from ._storm_terms import Parameters, tickets_text
-from ._storm_words import beside
+from ._storm_command import result_of
+from ._storm_options import add_storm_options
+from ._streams import settle
 from ._svg import LEAST_WIDTH, MOST_WIDTH
 from ._time import FAR, milliseconds
-from .errors import BudgetError, Fault, PolicyError, StormError
+from .errors import BudgetError, Fault, PolicyError, StoreError, StormError
 from .policy import Policy
-from .storm import Storm, play
 from .version import VERSION
 
 __all__ = ["main"]
@@ -33,10 +32,16 @@ BAD_COMMAND_LINE, BAD_INPUT, BAD_STREAM, NO_MEMORY, NOT_FINISHED = 2, 3, 4, 5, 6
 MOST_BYTES = 1 << 20
 
 _RUN = f"""\
-Runs the command until it succeeds or no retry is left, and exits with the status of its last run. A command that can't
-be run ends it with 127 or 126; a timeout counts as status 124, and death by signal N as 128 + N. SIGINT, SIGTERM, SIGHUP
-and SIGQUIT go to the command, and no further attempt is made; between two attempts they end hikebox. With a deadline
-HIKEBOX_SECONDS_LEFT tells the command how long it has; an attempt that is under way is not ended for it.
+Runs the command until it succeeds or no retry is left, and exits with the status of its last attempt. The status is 127
+or 126 if the command can't be run, 124 after a timeout, and 128 + N after death by signal N.
+
+Each attempt is a process group of its own. When an attempt fails or takes too long, the whole group is ended before the
+next one begins: by SIGTERM, and after --kill-after by SIGKILL. SIGINT, SIGTERM, SIGHUP and SIGQUIT go to the whole
+group, and no further attempt is made; between two attempts they end hikebox. On a terminal the command is in the
+foreground.
+
+The command has HIKEBOX_ATTEMPT, the number of the attempt from 1, and with a deadline HIKEBOX_SECONDS_LEFT. A deadline
+does not end an attempt that is under way.
 
 A policy is the name of a JSON file, JSON, or an expression. By default it is
   {DEFAULT}
@@ -44,32 +49,44 @@ A policy is the name of a JSON file, JSON, or an expression. By default it is
 examples:
   hikebox run -- curl --fail https://example.org
   hikebox run --policy 'recurs(9) & spaced(2)' --on 1-3 --timeout 30 -- ./job
-  hikebox run --budget 100@/run/lock/nightly -- ./job   # at most 100 retries over all runs that name the file
+  hikebox run --budget 100@/run/lock/nightly -- ./job   # at most 100 retries over all runs that name the folder
   hikebox run --quota 10/20%/1h@/run/lock/jobs -- ./job   # each hour 10 over all runs, and one for every five runs
 """
 
 _STORM = """\
-Plays many requests under one policy, on a peer that fails for a while: no call is made, and no time passes. Times are in
-milliseconds. A line is a window of time, by its first moment. Requests and retries count in the window in which they
-begin, calls in the one in which they end: succeeded, refused in the outage, shed since the queue was full, or late, since
-the client gave up. The status is 6 where a storm was cut.
+Plays many requests under one policy, on a peer that fails for a while: no call is made, and no time passes. Times are
+in milliseconds. A line is a window of time, by its first moment. Requests and retries count in the window in which they
+begin, calls in the one in which they end: succeeded, refused in the outage, shed since the queue was full, or late,
+since the client gave up. The status is 6 where a storm was cut.
 
 examples:
   hikebox storm 'recurs(8) & exponential(0.1, 2).cap(10).jittered(0, 1)'
   hikebox storm --quota 10/10%/1s --without --svg storm.svg plans/back-off.json
   hikebox storm --scenario herd plans/back-off.json plans/jittered-back-off.json
+  hikebox storm --quota 10/10%/1s --without --sweep rate=200..1600/8 --svg load.svg plans/back-off.json
+  hikebox storm --scenario brown-out --find quota 'recurs(3)'
 """
 
 
 def main(words: Optional[List[str]] = None) -> int:
     """The program: its exit status."""
+    settle()
     try:
-        given = _parser().parse_args(words)
+        return _does(words)
+    finally:
+        _drops_unwritten()
+
+
+def _does(words: Optional[List[str]]) -> int:
+    """Does what the command line says: its exit status."""
+    try:
+        given = _parser().read(words)
         return int(given.does(given))
     except PolicyError as error:
         return _fails(str(error), BAD_INPUT)
-    except (BudgetError, StormError) as error:
-        return _fails(str(error), BAD_COMMAND_LINE)
+    except (BudgetError, StoreError, StormError) as error:
+        is_file = isinstance(error, StormError) and error.name == "scenario"
+        return _fails(str(error), BAD_INPUT if is_file else BAD_COMMAND_LINE)
     except MemoryError:
         return _fails("no memory", NO_MEMORY)
     except KeyboardInterrupt:
@@ -81,11 +98,21 @@ def _fails(line: str, status: int) -> int:
     return status
 
 
-def _parser() -> argparse.ArgumentParser:
-    parser = argparse.ArgumentParser(prog="hikebox", description="Retries commands by policies, within limits.")
+#: How the width of a picture is given.
+_WIDE: Any = {"metavar": "N", "type": _words.number(MOST_WIDTH, LEAST_WIDTH), "default": 760}
+
+
+def _parser() -> Parser:
+    parser = Parser(prog="hikebox", description="Retries commands by policies, within limits.")
+    parser.set_defaults(parser=parser)
     parser.add_argument("--version", action="version", version=f"hikebox {VERSION}")
     commands = parser.add_subparsers(required=True, metavar="COMMAND")
+    for adds in (_add_run, _add_plan, _add_check, _add_storm, _add_lab):
+        adds(commands)
+    return parser
 
+
+def _add_run(commands: Any) -> None:
     run = commands.add_parser(
         "run",
         help="run a command until it succeeds",
@@ -95,9 +122,11 @@ def _parser() -> argparse.ArgumentParser:
     )
     run.add_argument("--policy", metavar="POLICY", default=DEFAULT, help="when to run it again")
     bounds = run.add_mutually_exclusive_group()
-    bounds.add_argument("--budget", metavar="N[@FILE]", help="at most N retries; with FILE, over all runs that name it")
-    quota = "RESERVE retries in each PERIOD (60s, 1h) over all runs that name FILE, and SHARE of a retry for each run"
-    bounds.add_argument("--quota", metavar="RESERVE/SHARE%/PERIOD@FILE", help=quota.replace("%", "%%"))
+    bounds.add_argument(
+        "--budget", metavar="N[@FOLDER]", help="at most N retries; with FOLDER, over all runs that name it"
+    )
+    quota = "RESERVE retries in each PERIOD (60s, 1h) over all runs that name FOLDER, and a SHARE of the runs"
+    bounds.add_argument("--quota", metavar="RESERVE/SHARE%/PERIOD@FOLDER", help=quota.replace("%", "%%"))
     run.add_argument("--on", metavar="CODES", type=_words.statuses, help="retry only these statuses, such as 1,3-5")
     run.add_argument("--timeout", metavar="SECONDS", type=_words.duration, help="how long an attempt may take")
     grace = "how long after SIGTERM a SIGKILL follows (5)"
@@ -106,33 +135,47 @@ def _parser() -> argparse.ArgumentParser:
     run.add_argument("--deadline", metavar="SECONDS", type=_words.duration, help=within)
     run.add_argument("--replay-input", action="store_true", help="give each attempt the whole standard input")
     run.add_argument("--last-output", action="store_true", help="print the standard output of the last attempt only")
+    limit = "with --last-output, fail where an attempt has more output, in bytes or as 10K, 10M, 10G (1G)"
+    run.add_argument("--output-limit", metavar="SIZE", type=_words.size, default=MOST_OUTPUT, help=limit)
     tells = run.add_mutually_exclusive_group()
     tells.add_argument("--verbose", "-v", action="store_true", help="tell on standard error what happens")
     tells.add_argument("--quiet", "-q", action="store_true", help="on a terminal, show no line while it waits")
     run.add_argument("command", nargs=argparse.REMAINDER, metavar="COMMAND")
-    run.set_defaults(does=_run)
+    run.set_defaults(does=_run, parser=run)
 
+
+def _add_plan(commands: Any) -> None:
     plan = commands.add_parser("plan", help="play a policy and print what it does, in milliseconds")
-    plan.add_argument("file", nargs="?", default="-", metavar="POLICY", help="as for run; - or nothing: standard input")
+    several = "as for run; - or nothing: standard input; several stand in one picture, or one below the other"
+    plan.add_argument("file", nargs="*", metavar="POLICY", help=several)
     plan.add_argument("--steps", type=_words.number(4096), default=10, metavar="N", help="how many events at most (10)")
-    plan.add_argument("--from", type=_words.number(FAR), default=0, metavar="M", dest="start", help="the first moment (0)")
-    plan.add_argument("--took", type=_words.number(FAR), default=0, metavar="M", help="how long each further call takes (0)")
+    plan.add_argument(
+        "--from", type=_words.number(FAR), default=0, metavar="M", dest="start", help="the first moment (0)"
+    )
+    plan.add_argument(
+        "--took", type=_words.number(FAR), default=0, metavar="M", help="how long each further call takes (0)"
+    )
     codes = plan.add_mutually_exclusive_group()
     codes.add_argument("--input", type=_words.number(FAR), default=0, metavar="N", help="the code of each failure (0)")
     in_turn = "the codes of the failures, in turn; the last one repeats"
     codes.add_argument("--inputs", type=_words.inputs(FAR), metavar="A,B,..", help=in_turn)
     words = plan.add_mutually_exclusive_group()
-    words.add_argument("--word", type=_words.number(2**32 - 1), default=2**31, metavar="W", help="each random word (middle)")
+    words.add_argument(
+        "--word", type=_words.number(2**32 - 1), default=2**31, metavar="W", help="each random word (middle)"
+    )
     words.add_argument("--words", type=_words.number(2**64 - 1), metavar="SEED", help="other random words, by a seed")
     plan.add_argument("--svg", metavar="FILE", help="write the picture into this file; - is standard output")
-    wide: Any = {"metavar": "N", "type": _words.number(MOST_WIDTH, LEAST_WIDTH), "default": 760}
-    plan.add_argument("--width", help="how wide the picture is, from 280 to 4000 (760)", **wide)
-    plan.set_defaults(does=_plan)
+    plan.add_argument("--width", help="how wide the picture is, from 280 to 4000 (760)", **_WIDE)
+    plan.set_defaults(does=_plan, parser=plan)
 
+
+def _add_check(commands: Any) -> None:
     check = commands.add_parser("check", help="say what a policy is, or where it is wrong")
     check.add_argument("file", nargs="?", default="-", metavar="POLICY", help="as for plan")
-    check.set_defaults(does=_check)
+    check.set_defaults(does=_check, parser=check)
 
+
+def _add_storm(commands: Any) -> None:
     storm = commands.add_parser(
         "storm",
         help="play what a policy does to a peer that fails for a while",
@@ -143,25 +186,42 @@ def _parser() -> argparse.ArgumentParser:
     add_storm_options(storm)
     compare = "play this policy too, as one more POLICY; may be given again"
     storm.add_argument("--compare", metavar="POLICY", action="append", default=[], help=compare)
-    storm.add_argument("--without", action="store_true", help="play each policy without the budget or quota, too")
     forms = storm.add_mutually_exclusive_group()
-    forms.add_argument("--csv", action="store_true", help="print the lines of one policy as CSV")
-    forms.add_argument("--json", action="store_true", help="print the lines and totals of one policy as JSON")
+    forms.add_argument("--csv", action="store_true", help="print the lines of one storm, or a sweep, as CSV")
+    forms.add_argument(
+        "--json", action="store_true", help="print the lines and totals of one storm, or a sweep, as JSON"
+    )
     forms.add_argument("--svg", metavar="FILE", help="write the picture into this file; - is standard output")
-    storm.add_argument("--width", help="as for plan", **wide)
-    storm.add_argument("file", nargs="*", metavar="POLICY", help="as for plan; of several the totals stand side by side")
-    storm.set_defaults(does=_storm)
+    shown = "print each window with a bar of its calls, in colour on a terminal where NO_COLOR is not set"
+    forms.add_argument("--bars", action="store_true", help=shown)
+    columns = "how wide the picture is, from 280 to 4000 (760), or a line of --bars, from 72 to 1000 (80)"
+    storm.add_argument("--width", metavar="N", type=_words.number(MOST_WIDTH, 72), help=columns)
+    storm.add_argument("--detail", action="store_true", help="tell apart in the picture why calls failed")
+    storm.add_argument("--title", metavar="TEXT", help="what the picture says in the place of the policy")
+    name = "what a picture or a table calls a storm; may be given again, for each storm in turn"
+    storm.add_argument("--name", metavar="TEXT", action="append", help=name)
+    storm.add_argument(
+        "file", nargs="*", metavar="POLICY", help="as for plan; of several the totals stand side by side"
+    )
+    storm.set_defaults(does=_storm, parser=storm)
 
-    lab = commands.add_parser("lab", help="serve a page on this machine on which policies and storms are tried, until Ctrl-C")
-    lab.add_argument("link", nargs="?", default="", metavar="LINK", help="a link of the page, of any run: open what it carries")
-    lab.add_argument("--port", type=_words.number(65535), default=0, metavar="N", help="the port on 127.0.0.1 (a free one)")
+
+def _add_lab(commands: Any) -> None:
+    lab = commands.add_parser(
+        "lab", help="serve a page on this machine on which policies and storms are tried, until Ctrl-C"
+    )
+    lab.add_argument(
+        "link", nargs="?", default="", metavar="LINK", help="a link of the page, of any run: open what it carries"
+    )
+    lab.add_argument(
+        "--port", type=_words.number(65535), default=0, metavar="N", help="the port on 127.0.0.1 (a free one)"
+    )
     lab.add_argument("--no-browser", action="store_true", help="print the address, and open no browser")
-    lab.set_defaults(does=_lab)
-    return parser
+    lab.set_defaults(does=_lab, parser=lab)
 
 
 class _Told(logging.Handler):
-    """Tells what the package warns of on standard error, each thing once."""
+    """Tells what the package warns of on standard error, each thing once; how the retry ends the run says itself."""
 
     def __init__(self) -> None:
         super().__init__(logging.WARNING)
@@ -169,7 +229,7 @@ class _Told(logging.Handler):
 
     def emit(self, record: logging.LogRecord) -> None:
         line = record.getMessage()
-        if line not in self.told:
+        if line not in self.told and not hasattr(record, "hikebox_ending"):
             self.told.add(line)
             print(f"hikebox: {line}", file=sys.stderr, flush=True)
 
@@ -177,7 +237,7 @@ class _Told(logging.Handler):
 def _run(given: Any) -> int:
     command = given.command[1:] if given.command[:1] == ["--"] else given.command
     if not command:
-        return _fails("run: a command is wanted", BAD_COMMAND_LINE)
+        return _fails("run: expected a command, got none", BAD_COMMAND_LINE)
     options = RunOptions(
         policy=_policy(given.policy),
         budget=_words.budget(given.budget) if given.quota is None else _words.quota(given.quota),
@@ -189,6 +249,7 @@ def _run(given: Any) -> int:
         quiet=given.quiet,
         replay_input=given.replay_input,
         last_output=given.last_output,
+        most_output=given.output_limit,
     )
     logging.getLogger("hikebox").addHandler(_Told())
     try:
@@ -198,53 +259,30 @@ def _run(given: Any) -> int:
 
 
 def _plan(given: Any) -> int:
-    policy = _policy(given.file)
-    words: Iterator[int] = repeat(given.word) if given.words is None else seeded(given.words)
+    policies = [_policy(word) for word in given.file or ["-"]]
     how: Any = {
         "start": milliseconds(given.start),
         "took": milliseconds(given.took),
         "input": given.input if given.inputs is None else given.inputs,
-        "random": lambda: next(words) / 2**32,
     }
+
+    def random() -> Callable[[], float]:
+        words: Iterator[int] = repeat(given.word) if given.words is None else seeded(given.words)
+        return lambda: next(words) / 2**32
+
     if given.svg is not None:
-        return _writes(given.svg, plan_picture(policy, given.steps, width=given.width, **how))
-    return _prints("".join(f"{step}\n" for step in policy.preview(given.steps, **how)))
+        return _writes(given.svg, plan_picture(*policies, steps=given.steps, random=random, width=given.width, **how))
+    told = ""
+    for policy in policies:
+        told += f"{policy!r}\n" if len(policies) > 1 else ""
+        told += "".join(f"{step}\n" for step in policy.preview(given.steps, random=random(), **how))
+    return _prints(told)
 
 
 def _storm(given: Any) -> int:
-    parameters = parameters_of(given)
-    if (given.csv or given.json) and (len(_names(given)) > 1 or given.without):
-        return _fails("storm: --csv and --json are of one policy", BAD_COMMAND_LINE)
-    storms = _played(given, parameters)
-    status = _shows(given, storms)
-    is_cut = any(storm.totals.cut for storm in storms)
-    return _fails("not finished", NOT_FINISHED) if is_cut and status == 0 else status
-
-
-def _names(given: Any) -> List[str]:
-    """The words that name the policies of storms."""
-    return [*(given.file or ["-"]), *given.compare]
-
-
-def _played(given: Any, parameters: Parameters) -> List[Storm]:
-    """The storms that were asked for."""
-    bare = [parameters._replace(tickets=None)] if given.without else []
-    policies = [_policy(word) for word in _names(given)]
-    return [play(policy, how) for policy in policies for how in (*bare, parameters)]
-
-
-def _shows(given: Any, storms: List[Storm]) -> int:
-    """Prints storms, or writes their picture."""
-    if given.svg is not None:
-        return _writes(given.svg, storm_picture(storms, width=given.width))
-    if given.csv:
-        return _prints(storms[0].to_csv())
-    if given.json:
-        return _prints(storms[0].to_json() + "\n")
-    if len(storms) == 1:
-        return _prints(f"{storms[0]}\n")
-    names = [f"{storm.policy!r}, {tickets_text(storm.parameters.tickets)}" for storm in storms]
-    return _prints(beside(storms, names) + "\n")
+    result = result_of(given, _policy)
+    status = _prints(result.text) if given.svg is None else _writes(given.svg, result.text)
+    return _fails("not finished", NOT_FINISHED) if result.is_cut and status == 0 else status
 
 
 def _lab(given: Any) -> int:
@@ -253,7 +291,8 @@ def _lab(given: Any) -> int:
     try:
         return run_lab(given.port, given.link, not given.no_browser)
     except OSError as error:
-        return _fails(f"lab: port {given.port}: {error.strerror}", BAD_STREAM)
+        about = f"port {given.port}: " if given.port else ""
+        return _fails(f"lab: {about}{error.strerror}", BAD_STREAM)
 
 
 def _writes(name: str, text: str) -> int:
@@ -286,8 +325,19 @@ def _prints(text: str) -> int:
         sys.stdout.flush()
         return 0
     except OSError:
-        os.dup2(os.open(os.devnull, os.O_WRONLY), sys.stdout.fileno())
+        _drops_unwritten()
         return _fails("write failed", BAD_STREAM)
+
+
+def _drops_unwritten() -> None:
+    """Drops what could not be written, which Python would try again at its end."""
+    try:
+        sys.stdout.flush()
+    except OSError:
+        os.dup2(os.open(os.devnull, os.O_WRONLY), sys.stdout.fileno())
+
+
+Parser.prints = staticmethod(_prints)
 
 
 def _policy(word: str) -> Policy:

@@ -9,7 +9,7 @@ __all__ = ["Limit", "enter", "leave", "seconds_left"]
 
 
 class Limit:
-    """A moment by a retry's clock, past which no attempt is planned to begin."""
+    """A moment by a retry's clock, past which no attempt but the first begins."""
 
     __slots__ = ("clock", "at", "ahead", "outer")
 

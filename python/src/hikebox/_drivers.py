@@ -59,7 +59,7 @@ def run(owner: BaseRetrying, fn: Callable[..., Any], args: Any, kwargs: Any) -> 
     """Calls the function until its retry is over."""
     settings = owner.settings
     start = settings.clock()
-    limit = None if settings.most_millis is None else settings.limit_of(start)
+    limit = None if settings.deadline_millis is None else settings.limit_of(start)
     token = None if limit is None else enter(limit)
     # until something is to be done for it, a retry is only its start
     course = None if settings.is_quiet else Course(owner, fn, args, kwargs, start, limit)
@@ -68,12 +68,14 @@ def run(owner: BaseRetrying, fn: Callable[..., Any], args: Any, kwargs: Any) -> 
             settings.deposit()
         goes_on = course is None or settle(course.begins())
         while goes_on:
+            wait = None
             try:
                 result = fn(*args, **kwargs)
             except BaseException as error:
                 if course is None:
                     course = Course(owner, fn, args, kwargs, start, limit)
-                if not settle(course.raised(error)):
+                wait = course.fails(error)
+                if not settle(course.raised(error)) if wait is None else wait < 0.0:
                     raise
             else:
                 if type(result) is CoroutineType:
@@ -84,13 +86,14 @@ def run(owner: BaseRetrying, fn: Callable[..., Any], args: Any, kwargs: Any) -> 
                         settings.deposit_won()
                     return result
                 settle(course.returned(result))
-            wait = course.plain_wait()
             if wait is None:
                 goes_on = settle(course.begins())
                 continue
-            if wait > 0:
-                not_awaitable(settings.sleeps(wait))
-            course.goes_on()
+            if wait > 0.0:
+                slept = settings.sleeps(wait)
+                if slept is not None:
+                    not_awaitable(slept)
+            goes_on = course.goes_on()
         return None if course is None else answer_of(course)
     finally:
         if token is not None:
@@ -103,15 +106,16 @@ async def run_async(owner: BaseRetrying, fn: Callable[..., Any], args: Any, kwar
     """Awaits the function's calls until its retry is over."""
     settings = owner.settings
     start = settings.clock()
-    limit = None if settings.most_millis is None else settings.limit_of(start)
+    limit = None if settings.deadline_millis is None else settings.limit_of(start)
     token = None if limit is None else enter(limit)
     course = None if settings.is_quiet else Course(owner, fn, args, kwargs, start, limit)
-    awaitable = None
+    awaitable: Any = None
     try:
         if course is None and settings.deposit is not None:
             settings.deposit()
         goes_on = True if course is None else await settle_async(course.begins())
         while goes_on:
+            wait = None
             try:
                 awaitable = fn(*args, **kwargs)
                 result = await awaitable if hasattr(type(awaitable), "__await__") else _NOT_AWAITABLE
@@ -120,27 +124,29 @@ async def run_async(owner: BaseRetrying, fn: Callable[..., Any], args: Any, kwar
                     course = Course(owner, fn, args, kwargs, start, limit)
                 if awaitable is None and course.state.attempt_number == 1 and isinstance(error, Exception):
                     _refuse_function(fn, settings.repeats, error)
-                judged = course.raised(error)
-                if not (judged if isinstance(judged, bool) else await settle_async(judged)):
+                wait = course.fails(error)
+                if not await settle_async(course.raised(error)) if wait is None else wait < 0.0:
                     raise
             else:
                 if result is _NOT_AWAITABLE:
-                    raise TypeError(f"{fn!r} gave nothing that is awaited: {_plain(settings.repeats)} is for functions")
+                    raise TypeError(f"{fn!r} returned nothing to await: {_plain(settings.repeats)} is for functions")
                 if course is None:
                     owner.counts.add_success()
                     if settings.deposit_won is not None:
                         settings.deposit_won()
                     return result
                 await settle_async(course.returned(result))
-            awaitable = None  # which nobody needs while it waits
-            wait = course.plain_wait()
             if wait is None:
+                awaitable = None  # which nobody needs while it waits
                 goes_on = await settle_async(course.begins())
                 continue
-            pause = settings.sleeps(wait) if wait > 0 else None if settings.pause is None else settings.pause(0)
-            if hasattr(type(pause), "__await__"):
-                await pause
-            course.goes_on()
+            awaitable = settings.sleeps(wait) if wait > 0.0 else settings.pause and settings.pause(0)
+            if hasattr(type(awaitable), "__await__"):
+                if wait > 0.0:
+                    course.parks()
+                await awaitable
+            awaitable = None
+            goes_on = course.goes_on()
         return None if course is None else answer_of(course)
     finally:
         if token is not None:
@@ -164,7 +170,7 @@ def answer_of(course: Course) -> Any:
 def not_awaitable(answer: Any) -> Any:
     """What something gave that is called by a `Retrying`: nothing there is awaited."""
     if hasattr(type(answer), "__await__"):
-        refuse_awaitable("what was given to a Retrying", answer)
+        refuse_awaitable("a hook, a test or a sleep of a Retrying", answer)
     return answer
 
 
@@ -173,14 +179,14 @@ def refuse_awaitable(what: str, awaitable: Any, repeats: bool = False) -> None:
     if type(awaitable) is CoroutineType:
         awaitable.close()
     awaits = "AsyncRepeating" if repeats else "AsyncRetrying"
-    raise TypeError(f"{what} gave {type(awaitable).__name__}, which is not awaited here: {awaits} awaits")
+    raise TypeError(f"{what} returned a {type(awaitable).__name__}, which is not awaited here: use {awaits}")
 
 
 def _refuse_function(fn: Any, repeats: bool, error: Exception) -> None:
-    """Refuses a function that raised before it gave anything to await, and is no coroutine function."""
+    """Refuses a function that raised before it returned anything to await, and is not a coroutine function."""
     if not is_async(unwrap(fn)):
         plain = _plain(repeats)
-        raise TypeError(f"{fn!r} raised before it gave anything to await: {plain} is for functions") from error
+        raise TypeError(f"{fn!r} raised before it returned anything to await: {plain} is for functions") from error
 
 
 def _plain(repeats: bool) -> str:

@@ -1,7 +1,7 @@
 """The calls of `hikebox.h`, by ctypes, and small classes that keep one handle each.
 
-Every handle is used by one thread at a time. The library is loaded so that a call keeps the interpreter's lock, since no
-call waits and each is over in less than a microsecond or two: so threads may share a policy, whose calls change nothing.
+Every handle is used by one thread at a time. The library is loaded so that a call keeps the interpreter's lock, since
+no call waits and each takes at most a microsecond or two: so threads may share a policy, whose calls change nothing.
 A pass is handed out to one user, and taken back, by the classes above this one.
 """
 
@@ -10,6 +10,7 @@ from __future__ import annotations
 import ctypes
 import os
 import struct
+import sys
 from ctypes import POINTER, byref, c_bool, c_char_p, c_size_t, c_uint8, c_uint32, c_uint64
 from typing import Any, Callable, Dict, List, NamedTuple, Optional, Sequence, Tuple
 
@@ -64,6 +65,9 @@ TOO_MANY_PASSES = 33
 PASSES_OUT = 34
 RACES_LOST = 38
 NOTHING_TO_HAND_BACK = 43
+LEASE_WANTED = 50
+NOT_OUT = 51
+HELD_ALREADY = 52
 
 #: The most tickets of a budget, and of a window of a quota.
 MOST_TICKETS = 2**32
@@ -99,7 +103,18 @@ SIGNATURES: Dict[str, Tuple[Any, ...]] = {
     "hikebox_policy_node": (c_char_p, c_size_t, _NUMBER, c_size_t, _HANDLE, _HANDLE, _HANDLE),
     "hikebox_policy_json": (_HANDLE, POINTER(c_uint8), c_size_t, POINTER(c_size_t)),
     "hikebox_policy_size": (_HANDLE, _NUMBER, _NUMBER, _NUMBER),
-    "hikebox_policy_course": (_HANDLE, POINTER(Course), POINTER(Event), c_size_t, POINTER(Line), c_size_t, POINTER(c_size_t), POINTER(c_uint8), c_size_t, POINTER(c_size_t)),
+    "hikebox_policy_course": (
+        _HANDLE,
+        POINTER(Course),
+        POINTER(Event),
+        c_size_t,
+        POINTER(Line),
+        c_size_t,
+        POINTER(c_size_t),
+        POINTER(c_uint8),
+        c_size_t,
+        POINTER(c_size_t),
+    ),
     "hikebox_policy_free": (_HANDLE,),
     "hikebox_budget_fixed": (c_uint64, _HANDLE),
     "hikebox_budget_rising": (c_uint64, _HANDLE),
@@ -135,10 +150,19 @@ def library_path() -> str:
 
 
 def _load() -> Any:
+    if not hasattr(ctypes, "PyDLL"):
+        name = sys.implementation.name
+        raise ImportError(f"hikebox runs on CPython: {name} has no ctypes.PyDLL, by which hikebox calls its engine")
     try:
         library = ctypes.PyDLL(library_path())
     except OSError as error:
-        raise ImportError(f"the engine of hikebox can't be loaded: {error}") from None
+        import platform
+
+        machine = f"{platform.system()} on {platform.machine()}"
+        raise ImportError(
+            f"the engine of hikebox can't be loaded: {error}; it is made for Linux on x86_64 and on aarch64, and this "
+            f"is {machine}; HIKEBOX_LIBRARY names another one"
+        ) from None
     for name, parameters in SIGNATURES.items():
         function = getattr(library, name)
         function.argtypes = parameters
@@ -161,6 +185,7 @@ _policy_free = unchecked("hikebox_policy_free")
 _pass_draw = unchecked("hikebox_pass_draw")
 _pass_deposit = unchecked("hikebox_pass_deposit")
 _pass_hand_back = unchecked("hikebox_pass_hand_back")
+_pass_free = unchecked("hikebox_pass_free")
 #: The one call that takes long: it lets go of the interpreter's lock.
 _storm_play = ctypes.CDLL(library_path()).hikebox_storm_play
 _storm_play.argtypes = SIGNATURES["hikebox_storm_play"]
@@ -261,8 +286,8 @@ class PolicyHandle:
         raise refused("hikebox_policy_read", status)
 
     def make(self, name: Spelt, numbers: Tuple[int, ...], first: PolicyHandle, second: PolicyHandle) -> bool:
-        """Makes the node of this name with these numbers over these policies, of which those that hold nothing are none:
-        False where it is refused. They are in two handles, also where they are the same policy."""
+        """Makes the node of this name with these numbers over these policies; an empty handle is no policy. False where
+        it is refused. Both are in handles of their own, also where they are the same policy."""
         count = len(numbers)
         given = _ARRAYS[count](*numbers) if count else _NO_NUMBERS
         status = _policy_node(*name, given, _COUNTS[count], first.at, second.at, self.at)
@@ -281,8 +306,8 @@ class PolicyHandle:
         return other
 
     def size(self) -> Tuple[int, int, Optional[int]]:
-        """How many nodes the policy has, how deep it is, and at how many events it goes on at most, None where its nodes
-        give no such number."""
+        """How many nodes the policy has, how deep it is, and at how many events it goes on at most, or None where its
+        nodes give no such number."""
         nodes, depth, most = c_uint64(), c_uint64(), c_uint64()
         status = library.hikebox_policy_size(self.at, byref(nodes), byref(depth), byref(most))
         if status != OK:
@@ -294,8 +319,8 @@ class PolicyHandle:
         return _text("hikebox_policy_json", lambda *room: library.hikebox_policy_json(self.at, *room)).decode()
 
     def course(self, steps: int, start: int, took: int, events: Sequence[Given]) -> List[Decided]:
-        """What the policy does at its first events, at most so many: up to the one at which it does not go on. The first
-        event is at the moment `start`, and each other one `took` after the start that was planned at the one before.
+        """What the policy does at its first events, at most so many: up to the one at which it does not go on. The
+        first event is at the moment `start`, and each other one `took` after the start planned at the one before.
         Events past those given are as the last of them."""
         course = Course(steps, start, took)
         given = (Event * len(events)).from_buffer_copy(b"".join([_pack_event(*event) for event in events]))
@@ -339,8 +364,8 @@ def play_storm(policy: PolicyHandle, storm: Storm) -> Tuple[List[Tuple[int, ...]
 
 
 class Pass:
-    """A pass of a budget, of a quota or of nothing. Who holds it joins it into another, closes what it is of with it, or
-    frees it. Moments are whole milliseconds from 0 to FAR."""
+    """A pass of a budget, of a quota or of nothing. Who holds it joins it into another, closes what it is of with it,
+    or frees it. Moments are whole milliseconds from 0 to FAR."""
 
     __slots__ = ("handle", "at", "_now", "_ticket", "_at_ticket")
 
@@ -375,7 +400,7 @@ class Pass:
         return made
 
     def draw(self, now: int = 0) -> Optional[int]:
-        """A ticket, or None where the budget, or the window of the quota, has none left. A quota alone heeds the moment."""
+        """A ticket, or None where the budget or the window has none left. Only a quota reads the moment."""
         self._now.value = now
         status = _pass_draw(self.at, self._now, self._at_ticket)
         while status == RACES_LOST:  # to as many draws that got a ticket
@@ -420,9 +445,10 @@ class Pass:
         """The limit after it was raised to this one at least, or None where the budget keeps its limit."""
         return self._ticket.value if self._does("raise", limit, self._at_ticket, unless=FIXED) else None
 
-    def split(self) -> Optional[Pass]:
-        """A new pass of the same, with no ticket, or None where this one has a single part, which it keeps."""
-        part = Pass()
+    def split(self, into: Optional[Pass] = None) -> Optional[Pass]:
+        """A new pass of the same, with no ticket, in `into` where that is given; None where this one has a single part,
+        which it keeps."""
+        part = Pass() if into is None else into
         return part if self._does("split", part.at, unless=TOO_MANY_PASSES) else None
 
     def join(self, other: Pass) -> None:
@@ -430,18 +456,24 @@ class Pass:
         self._does("join", other.at)
 
     def count(self) -> int:
-        """How many tickets were drawn with it and with those joined into it."""
-        self._does("count", self._at_ticket)
-        return self._ticket.value
+        """How many tickets were drawn with it and with those joined into it. (Another thread may draw with it.)"""
+        tickets = c_uint64()
+        self._does("count", byref(tickets))
+        return tickets.value
 
     def close(self) -> Optional[int]:
         """Closes what it is of: how many tickets were drawn of it, or None where another pass is out."""
-        return self._ticket.value if self._does("close", self._at_ticket, unless=PASSES_OUT) else None
+        return self.total if self._does("close", self._at_ticket, unless=PASSES_OUT) else None
 
-    def free(self) -> None:
+    @property
+    def total(self) -> int:
+        """How many tickets were drawn of what it closed."""
+        return self._ticket.value
+
+    def free(self, free: Any = _pass_free) -> None:
         """Frees it with its tickets, where it holds a pass: what it is of can't be closed then."""
         if self.handle.held:
-            library.hikebox_pass_free(self.at)
+            free(self.at)
 
     def _does(self, verb: str, *given: Any, unless: Optional[int] = None) -> bool:
         """Makes this call: False where it answers the one status that is no error."""

@@ -40,7 +40,7 @@ def policy_in(text: str) -> Union[Policy, Marked]:
     ('spced(1)', "no builder is called 'spced'; did you mean 'spaced'?")
     """
     if not text.strip():
-        return Marked(0, 0, "no policy", "an expression, as recurs(3) & exponential(0.1, 2), or JSON is wanted")
+        return Marked(0, 0, "no policy", "expected an expression, as recurs(3) & exponential(0.1, 2), or JSON")
     if not is_json(text):
         found = _parse.read(text)
         if isinstance(found, Policy):

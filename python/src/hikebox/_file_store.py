@@ -1,69 +1,69 @@
-"""A store of leases in a file."""
+"""A store of leases in a folder."""
 
 from __future__ import annotations
 
 import contextlib
-import fcntl
-import json
 import os
+import re
+import secrets
 import time
-import zlib
-from typing import Any, Callable, Dict, Iterator, List, Optional, Tuple, Union
+from typing import Callable, Iterator, Optional, Union
 
-from ._engine import MOST_NUMBER
 from ._leasing import Stored, lease_of_budget, lease_of_quota
-from ._stores import QuotaRange, Range, present_window, uptime
-from .errors import StoreError, StoreLost
+from ._slots import NO_BOOT, Copy, Slot, make_slot, slot_path, sync_folder, unpack
+from ._stores import Present, QuotaRange, Range, checked_name, present_window
+from .errors import StoreError
 from .quota import Terms
 
-__all__ = ["FileStore", "read_counts", "write_counts"]
+__all__ = ["FileStore", "shared_uptime"]
+
+#: How often in a row a slot may be deleted while it is opened.
+_TRIES = 100
 
 
 class FileStore:
-    """Counts in a file, for the processes of one machine.
+    """Counts in a folder, for the processes of one machine.
 
-    Each lease is one change of the file under its lock (`flock`), written to the disk before it is granted. Windows are
-    counted by the machine's uptime, so a clock that is set, or off, changes nothing. The file has to be on a local
-    disk. Who deletes it begins all its budgets and quotas anew; one that is damaged grants nothing (`StoreLost`).
+    Each budget, and each quota, has a file of its own in the folder, which is made where it is missing. A lease is one
+    change of that file under its lock (`flock`). That of a budget without windows is on the disk before the lease is
+    granted. Windows are counted by the machine's uptime, so a clock that is set, or off, changes nothing, and neither
+    does the time namespace of a container. The folder has to be on a local disk. If you delete it, all its budgets and
+    quotas begin anew. A damaged file grants nothing (`StoreLost`).
 
-    `patience` is how many seconds are waited for the lock.
+    `patience` is how many seconds a lease waits for the lock.
     """
 
     def __init__(self, path: Union[str, os.PathLike[str]], *, patience: float = 5.0) -> None:
-        self.path = os.fspath(path)
+        self.path = os.fsdecode(path)
         self.patience = patience
+        self._look_at_path()
 
     def __repr__(self) -> str:
         return f"FileStore({self.path!r})"
 
-    def take(
-        self, name: str, count: int, limit: int, period: Optional[int], clock: Callable[[], float]
-    ) -> Range:
+    def take(self, name: str, count: int, limit: int, period: Optional[int], clock: Callable[[], float]) -> Range:
         """A range of this name's tickets, or of its present window's."""
-        with self._locked() as file:
-            counts = read_counts(file, self.path)
-            key, boot, number, until = f"budget {name}", "", 0, None
-            if period is not None:
-                present = present_window(period, clock(), uptime(), clock())
-                key, boot, number, until = f"windows of {period} ms of {name}", _boot(), present.number, present.until
-            stored = _stored(counts.get(key), boot)
-            granted = lease_of_budget(limit, number, count, stored)
+        checked_name(name)
+        if period is None:
+            return self._take_of_all(name, count, limit)
+        with self._locked(f"windows of {period} ms of {name}") as slot:
+            present, boot = _present(period, clock), this_boot()
+            stored = slot.read().stored(boot)
+            granted = lease_of_budget(limit, present.number, count, stored)
             if granted is None:
-                return Range(0, 0, until, lost=True)
+                return Range(0, 0, present.until, present.number, lost=True)
             if granted.tickets:
-                counts[key] = [f"{boot} {number}" if boot else "", stored.given]
-                write_counts(file, counts)
-            return Range(granted.first, granted.tickets, until)
+                slot.write(boot, stored)
+            return Range(granted.first, granted.tickets, present.until, present.number)
 
     def take_of_quota(
         self, name: str, terms: Terms, count: int, asked: Callable[[float], int], clock: Callable[[], float]
     ) -> QuotaRange:
         """Adds requests to the present window of this name's quota, and takes a range of its tickets."""
-        with self._locked() as file:
-            counts = read_counts(file, self.path)
-            present = present_window(terms.period, clock(), uptime(), clock())
-            key, boot, number = f"quota of {terms.period} ms of {name}", _boot(), present.number
-            stored = _stored(counts.get(key), boot)
+        checked_name(name)
+        with self._locked(f"quota of {terms.period} ms of {name}") as slot:
+            present, boot = _present(terms.period, clock), this_boot()
+            number, stored = present.number, slot.read().stored(boot)
             # comes to the window before any request is told, as none is where the file has a later one
             if lease_of_quota(terms, number, 0, 0, stored) is None:
                 return QuotaRange(0, 0, present.until, number, 0, lost=True)
@@ -71,82 +71,142 @@ class FileStore:
             granted = lease_of_quota(terms, number, told, count, stored)
             assert granted is not None
             if told or granted.tickets:
-                counts[key] = [f"{boot} {number}", stored.given, stored.asked]
-                write_counts(file, counts)
+                slot.write(boot, stored)
             return QuotaRange(granted.first, granted.tickets, present.until, number, stored.asked)
 
+    def _take_of_all(self, name: str, count: int, limit: int) -> Range:
+        """A range of a budget without windows."""
+        with self._locked(f"budget {name}", to_disk=True) as slot:
+            stored = Stored(given=slot.read().given)
+            granted = lease_of_budget(limit, 0, count, stored)
+            assert granted is not None
+            if granted.tickets:
+                slot.write(NO_BOOT, stored)
+            return Range(granted.first, granted.tickets, None)
+
     @contextlib.contextmanager
-    def _locked(self) -> Iterator[int]:
-        """The file, open and locked."""
+    def _locked(self, key: str, to_disk: bool = False) -> Iterator[Slot]:
+        """The slot of this key, open and locked. It is made where it is missing."""
+        spelt = key.encode()
+        path = slot_path(self.path, spelt)
         try:
-            file = os.open(self.path, os.O_RDWR | os.O_CREAT | os.O_CLOEXEC, 0o666)
+            slot = self._open(path, spelt, to_disk)
             try:
-                self._lock(file)
-                yield file
+                yield slot
             finally:
-                os.close(file)
+                slot.close()
         except OSError as error:
-            raise StoreError(f"{self.path}: {error.strerror}") from error
+            self._look_at_path()
+            raise StoreError(f"{path}: {error.strerror}") from error
 
-    def _lock(self, file: int) -> None:
-        given_up_at = time.monotonic() + self.patience
-        while True:
+    def _open(self, path: str, key: bytes, to_disk: bool) -> Slot:
+        for _ in range(_TRIES):
             try:
-                fcntl.flock(file, fcntl.LOCK_EX | fcntl.LOCK_NB)
-                return
-            except BlockingIOError:
-                if time.monotonic() >= given_up_at:
-                    raise StoreError(f"{self.path}: its lock is not given up") from None
-                time.sleep(0.001)
+                slot = Slot(path, key, to_disk)
+            except FileNotFoundError:
+                self._make(path, key, to_disk)
+                continue
+            try:
+                if slot.lock(self.patience):
+                    return slot
+            except BaseException:
+                slot.close()
+                raise
+            # it was deleted, or its folder was, while this process waited for the lock
+            slot.close()
+        raise StoreError(f"{path}: it was deleted again and again")
+
+    def _make(self, path: str, key: bytes, to_disk: bool) -> None:
+        folder = os.path.dirname(path)
+        os.makedirs(folder, exist_ok=True)
+        with contextlib.suppress(FileNotFoundError):  # the folder was deleted just now
+            make_slot(path, _nothing_counted(key), to_disk)
+            if to_disk:
+                sync_folder(self.path)
+            _prune(folder, os.path.basename(path))
+
+    def _look_at_path(self) -> None:
+        if os.path.isfile(self.path):
+            raise StoreError(
+                f"{self.path}: expected a folder, got a file. Counts are kept in a folder now; name another path, or "
+                "delete the file to begin all its budgets and quotas anew."
+            )
 
 
-def _stored(kept: Optional[List[Any]], boot: str) -> Stored:
-    """What the file keeps of a budget or a quota of this start of the machine, nothing where it is of another; without a
-    start that of a budget without windows."""
-    if kept is None:
-        return Stored()
-    started, _, window = kept[0].partition(" ")
-    numbers = [int(window or 0), *kept[1:]]
-    if not all(0 <= number <= MOST_NUMBER for number in numbers):
-        raise StoreLost("a count in the file is out of range")
-    return Stored(*numbers) if started == boot else Stored()
+def _present(period: int, clock: Callable[[], float]) -> Present:
+    return present_window(period, clock(), shared_uptime(), clock())
 
 
-def _boot() -> str:
-    """A name of this start of the machine."""
-    with open("/proc/sys/kernel/random/boot_id", encoding="ascii") as file:
-        return file.read().strip()
+#: How the key of counts by windows begins, with their milliseconds.
+_WINDOWS = re.compile(rb"(?:windows|quota) of (\d+) ms of ")
 
 
-_HEADER = b"hikebox counts 1 "
+def _nothing_counted(key: bytes) -> Copy:
+    """The first counts of this key: of the present window, where it has windows."""
+    found = _WINDOWS.match(key)
+    if found is None:
+        return Copy(key, 0, 0, 0, 0, NO_BOOT)
+    return Copy(key, 0, shared_uptime() // (int(found[1]) * 10**6), 0, 0, this_boot())
 
 
-def read_counts(file: int, path: str) -> Dict[str, List[Any]]:
-    """The counts in the file, none where it is empty."""
-    text = b""
-    while True:
-        more = os.pread(file, 1 << 20, len(text))
-        if not more:
-            break
-        text += more
-    if not text:
-        return {}
-    head, _, rest = text.partition(b"\n")
+def shared_uptime() -> int:
+    """Nanoseconds since the machine started, by the clock that all its processes share. That of a process in a time
+    namespace is shifted."""
+    return time.clock_gettime_ns(time.CLOCK_BOOTTIME) - _shift()
+
+
+def _shift() -> int:
+    """By how many nanoseconds this process's clock is ahead of the machine's."""
     try:
-        length, check = (int(word) for word in head[len(_HEADER) :].split())
-        body = rest[:length]
-        if not head.startswith(_HEADER) or len(body) != length or zlib.crc32(body) != check:
-            raise ValueError("damaged")
-        counts: Dict[str, List[Any]] = json.loads(body)
-        return counts
-    except ValueError:
-        raise StoreLost(f"{path}: it is damaged, or no file of counts") from None
+        with open("/proc/self/timens_offsets", encoding="ascii") as file:
+            for line in file:
+                clock, seconds, nanos = line.split()
+                if clock == "boottime":
+                    return int(seconds) * 10**9 + int(nanos)
+    except FileNotFoundError:  # a kernel without time namespaces
+        pass
+    return 0
 
 
-def write_counts(file: int, counts: Dict[str, List[Any]]) -> None:
-    """Writes the counts by one write, and to the disk."""
-    body = json.dumps(counts, sort_keys=True).encode()
-    text = _HEADER + b"%d %d\n" % (len(body), zlib.crc32(body)) + body
-    if os.pwrite(file, text, 0) != len(text):
-        raise StoreError("the file could not be written whole")
-    os.fsync(file)
+def this_boot() -> bytes:
+    """A name of this start of the machine."""
+    with open("/proc/sys/kernel/random/boot_id", "rb") as file:
+        return file.read(36)
+
+
+#: At how many other files a lease looks that makes a new one.
+_LOOKS = 16
+#: How many seconds a file beside its name is left alone, which a process that was killed left behind.
+_LEFT_ALONE = 60.0
+
+
+def _prune(folder: str, own: str) -> None:
+    """Deletes some files of this folder that no lease needs any more."""
+    names = os.listdir(folder)
+    begin = secrets.randbelow(len(names) or 1)
+    for name in (names[begin:] + names[:begin])[:_LOOKS]:
+        if name != own:
+            # one that another process has locked, or has deleted, or that is no file, is left alone
+            with contextlib.suppress(OSError, StoreError):
+                _delete_if_over(os.path.join(folder, name))
+
+
+def _delete_if_over(path: str) -> None:
+    slot = Slot(path)
+    try:
+        if slot.lock(patience=0) and _is_over(slot):
+            os.unlink(path)
+    finally:
+        slot.close()
+
+
+def _is_over(slot: Slot) -> bool:
+    """Whether no lease needs this file: its window is over for good, or it is a leftover."""
+    if os.path.basename(slot.path).startswith(".new-"):
+        return slot.age() > _LEFT_ALONE
+    copy = unpack(slot.content())
+    found = None if copy is None else _WINDOWS.match(copy.key)
+    if copy is None or found is None:
+        return False
+    period = int(found[1])
+    return copy.boot != this_boot() or (copy.window + 2) * period * 10**6 <= shared_uptime()

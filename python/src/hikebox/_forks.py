@@ -3,10 +3,14 @@
 from __future__ import annotations
 
 import os
+import threading
 from typing import Protocol
 from weakref import WeakSet
 
-__all__ = ["BeginsAnew", "begins_anew_in_a_child"]
+__all__ = ["BeginsAnew", "begins_anew_in_a_child", "no_fork"]
+
+#: While a thread has it, no other thread forks.
+no_fork = threading.RLock()
 
 
 class BeginsAnew(Protocol):
@@ -25,8 +29,9 @@ def begins_anew_in_a_child(thing: BeginsAnew) -> None:
 
 
 def _begin_all() -> None:
+    no_fork.release()
     for thing in list(_things):
         thing.begin_anew()
 
 
-os.register_at_fork(after_in_child=_begin_all)
+os.register_at_fork(before=no_fork.acquire, after_in_parent=no_fork.release, after_in_child=_begin_all)

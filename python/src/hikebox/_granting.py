@@ -24,8 +24,7 @@ class Granting:
 
     @property
     def granted(self) -> int:
-        """How many tickets were drawn, and not handed back: exact once it is closed, and before that without those that retries still under
-        way have drawn."""
+        """How many tickets were drawn, and not handed back, also by retries that are still under way."""
         return self.passes.drawn()
 
     @property
@@ -71,24 +70,12 @@ class Granting:
 
     def begin_retry(self, machine: Machine, policy: PolicyHandle, deadline: int) -> None:
         """Begins a retry in this machine, with a pass of its own."""
-        lent = self.passes.lend()
-        try:
-            if not machine.begin(policy, lent, deadline):
-                lent = self.passes.exchange(lent)
-                machine.begin(policy, lent, deadline)
-        finally:
-            self.passes.give_back(lent)
+        self.passes.begin(machine, policy, deadline)
 
     def end_retry(self, machine: Machine, hands_back: bool) -> None:
         """Takes the pass of the machine's retry back, with its tickets; the latest one is handed back where that is so,
         and where it is a quota's."""
-        lent = self.passes.lend()
-        try:
-            machine.end(lent)
-            if hands_back:
-                lent.hand_back()
-        finally:
-            self.passes.give_back(lent)
+        self.passes.end(machine, hands_back)
 
     def expression(self) -> str:
         """The expression that makes one like it."""

@@ -9,8 +9,10 @@ import secrets
 import signal
 import socket
 import sys
+import tempfile
 import threading
 import webbrowser
+from html import escape
 from http.server import BaseHTTPRequestHandler, ThreadingHTTPServer
 from pathlib import Path
 from typing import Any, Callable, Dict, Optional
@@ -123,11 +125,13 @@ class _Handler(BaseHTTPRequestHandler):
             return start_answer()
         if name == "plan":
             return plan_answer(asked)
-        if name == "storm":
+        if name in ("storm", "sweep"):
             page = asked.get("page")
             if not isinstance(page, str) or len(page) > 64:
-                raise BadRequest("page: a short text is wanted")
-            is_newest = self.server.newest(page)
+                raise BadRequest("page: expected a short text")
+            if (name == "sweep") != ("along" in asked):
+                raise BadRequest("along: expected a parameter of a sweep alone")
+            is_newest = self.server.newest(f"{name} {page}")
             answer = self.server.players.play(asked, lambda: is_newest() and not self._is_gone())
             if "bad" in answer:
                 raise BadRequest(answer["bad"])
@@ -156,16 +160,20 @@ class _Handler(BaseHTTPRequestHandler):
     def _asked(self) -> Optional[Dict[str, Any]]:
         """The object that is sent, or None where it was answered that there is none."""
         length = self.headers.get("Content-Length", "")
-        if not (length.isascii() and length.isdigit()) or int(length) > _MOST_BYTES or self.headers.get_content_type() != "application/json":
+        if (
+            not (length.isascii() and length.isdigit())
+            or int(length) > _MOST_BYTES
+            or self.headers.get_content_type() != "application/json"
+        ):
             self.close_connection = True
-            self._answers(400, "text/plain", f"JSON of at most {_MOST_BYTES} bytes is wanted\n")
+            self._answers(400, "text/plain", f"expected JSON of at most {_MOST_BYTES} bytes\n")
             return None
         try:
             asked = json.loads(self.rfile.read(int(length)))
         except (ValueError, RecursionError):
             asked = None
         if not isinstance(asked, dict):
-            self._answers(400, "text/plain", "a JSON object is wanted\n")
+            self._answers(400, "text/plain", "expected a JSON object\n")
             return None
         return asked
 
@@ -204,14 +212,26 @@ def run_lab(port: int = 0, link: str = "", opens: bool = True) -> int:
     address = lab.address + mark + quote(carried, safe="%=&+-._~()*!',;:@/?")
     try:
         print(f"hikebox lab: {address} (Ctrl-C ends it)", flush=True)
-        if opens and _has_screen():
-            threading.Thread(target=webbrowser.open, args=(address,), daemon=True).start()
-        lab.serve_forever(poll_interval=0.2)
+        with tempfile.TemporaryDirectory(prefix="hikebox-lab-") as folder:
+            if opens and _has_screen():
+                door = _door(Path(folder), address)
+                threading.Thread(target=webbrowser.open, args=(door.as_uri(),), daemon=True).start()
+            lab.serve_forever(poll_interval=0.2)
     except KeyboardInterrupt:
         pass
     finally:
         lab.server_close()
     return 0
+
+
+def _door(folder: Path, address: str) -> Path:
+    """A file that leads a browser to the address, in a folder that nobody else can enter. The browser's command line,
+    which all can read, names the file, and not the address with its secret."""
+    door = folder / "open.html"
+    door.write_text(
+        f'<!DOCTYPE html><title>Hikebox lab</title><meta http-equiv="refresh" content="0; url={escape(address)}">\n'
+    )
+    return door
 
 
 def _interrupts(*_: Any) -> None:

@@ -2,25 +2,35 @@
 
 from __future__ import annotations
 
-from typing import Any, Dict, List, Optional, Tuple, Union
+from typing import Any, Dict, List, Optional, Sequence, Tuple, Union
 
 from ._faults import Marked, policy_in
 from ._lab_cookbook import COOKBOOK
+from ._lab_stories import STORIES
 from ._plan_picture import plan_picture
-from ._storm_code import in_python, in_rust
+from ._storm_axes import AXES
+from ._storm_code import in_command, in_python, in_rust, in_scenario
+from ._storm_heads import names_of
 from ._storm_options import tickets_of
 from ._storm_picture import storm_picture
-from ._storm_terms import RANGES, SCENARIOS, Parameters, Slow, Span
-from ._storm_words import sentences
+from ._storm_terms import RANGES, Parameters, Slow, Span
+from ._storm_words import recovery_mark, sentences, share_text
 from ._svg import LEAST_WIDTH, MOST_WIDTH
+from ._sweep_picture import sweep_picture
 from .errors import BudgetError, StormError
 from .policy import Policy
 from .quota import Terms
 from .storm import Storm, play
+from .sweeps import swept
 
-__all__ = ["BadRequest", "plan_answer", "start_answer", "storm_answer"]
+__all__ = ["BadRequest", "plan_answer", "start_answer", "storm_answer", "sweep_answer"]
 
 _MOST_SIDES = 4
+#: The values of a sweep, as parts of the number that the page has, and for a share in thousandths.
+_PARTS = (0.25, 0.5, 0.75, 1.0, 1.25, 1.5, 1.75, 2.0)
+_SHARES = (0, 25, 50, 100, 150, 200, 300, 400)
+#: The parameters along which the page plays storms.
+_ALONG = ("rate", "capacity", "outage", "patience", "queue", "share")
 
 Json = Dict[str, Any]
 Tickets = Union[None, int, Terms]
@@ -32,9 +42,20 @@ class BadRequest(Exception):
 
 def start_answer() -> Json:
     """What the page begins with."""
-    stories = {name: _told_parameters(parameters) for name, parameters in SCENARIOS.items()}
-    ranges = {name: list(RANGES[name]) for name in RANGES}
-    return {"cookbook": [list(entry) for entry in COOKBOOK], "stories": stories, "ranges": ranges}
+    stories = {
+        name: {
+            "title": story.title,
+            "storm": _told_parameters(story.parameters),
+            "sides": [{"text": text, "limit": limit} for text, limit in story.sides],
+        }
+        for name, story in STORIES.items()
+    }
+    return {
+        "cookbook": [list(entry) for entry in COOKBOOK],
+        "stories": stories,
+        "ranges": {name: list(RANGES[name]) for name in RANGES},
+        "along": {name: AXES[name].title for name in _ALONG},
+    }
 
 
 def _told_parameters(parameters: Parameters) -> Json:
@@ -59,19 +80,74 @@ def plan_answer(asked: Json) -> Json:
 
 
 def storm_answer(asked: Json) -> Json:
-    """The storms of policies, each with its picture, its totals in words and its programs; None for what is none."""
-    sides = asked.get("sides")
-    if not isinstance(sides, list) or len(sides) > _MOST_SIDES or not all(map(_is_object, sides)):
-        raise BadRequest("sides: a list of objects is wanted")
+    """The storms of policies in one picture, each with its totals in words and its programs; None for what is none."""
+    sides = _sides(asked)
     try:
         parameters = _parameters(asked.get("storm"))
     except StormError as error:
-        return {"fault": {"name": error.name, "said": error.hint}}
-    wanted = [_side(side) for side in sides]
-    storms = [None if found is None else play(found[0], parameters._replace(tickets=found[1])) for found in wanted]
+        return _fault(error)
+    storms = [None if side is None else play(side[0], parameters._replace(tickets=side[1])) for side in sides]
     played = [storm for storm in storms if storm is not None]
-    width = _width(asked)
-    return {"sides": [None if storm is None else _shown(storm, played, width) for storm in storms]}
+    if not played:
+        return {"sides": [None for _ in storms], "picture": "", "scenario": ""}
+    names = [f"{letter}: {name}" for letter, name in zip(_letters(storms), names_of(played))]
+    how: Any = {"width": _width(asked), "styled": False, "is_brief": asked.get("is_brief") is True}
+    return {
+        "sides": [None if storm is None else _shown(storm) for storm in storms],
+        "picture": storm_picture(played, names=names, title="", **how),
+        "scenario": in_scenario(played),
+    }
+
+
+def sweep_answer(asked: Json) -> Json:
+    """The shares that succeed along a parameter, as a picture; or why there are none."""
+    name = _text(asked, "along")
+    if name not in _ALONG:
+        raise BadRequest(f"along: expected one of {', '.join(_ALONG)}, got {name!r}")
+    sides = _sides(asked)
+    try:
+        parameters = _parameters(asked.get("storm"))
+        storms = [(side[0], parameters._replace(tickets=side[1])) for side in sides if side is not None]
+        values = _values(name, parameters)
+        if not storms or len(values) < 2:
+            return {"picture": "", "said": f"There is nothing to play along {AXES[name].title}."}
+        played = swept(storms, name, values, _letters(sides))
+    except StormError as error:
+        return _fault(error)
+    return {"picture": sweep_picture(played, ("succeeded",), width=_width(asked), title="", styled=False), "said": ""}
+
+
+def _values(name: str, parameters: Parameters) -> List[int]:
+    """About the number that the page has, or the shares of a quota; none where it has no such number."""
+    if name == "share":
+        return list(_SHARES)
+    outage = parameters.outage
+    now = outage.ends - outage.begins if name == "outage" else int(getattr(parameters, name))
+    return [value for value in sorted({round(part * now) for part in _PARTS}) if _is_right(name, parameters, value)]
+
+
+def _is_right(name: str, parameters: Parameters, value: int) -> bool:
+    """Whether there is a storm with this value."""
+    try:
+        return bool(value and AXES[name].put(parameters, value).checked())
+    except StormError:
+        return False
+
+
+def _letters(sides: Sequence[Optional[Any]]) -> List[str]:
+    """The letters of the sides that have something."""
+    return [chr(ord("A") + index) for index, side in enumerate(sides) if side is not None]
+
+
+def _fault(error: StormError) -> Json:
+    return {"fault": {"name": error.name, "said": error.hint}}
+
+
+def _sides(asked: Json) -> List[Optional[Tuple[Policy, Tickets]]]:
+    sides = asked.get("sides")
+    if not isinstance(sides, list) or len(sides) > _MOST_SIDES or not all(map(_is_object, sides)):
+        raise BadRequest("sides: expected a list of objects")
+    return [_side(side) for side in sides]
 
 
 def _is_object(value: Any) -> bool:
@@ -87,20 +163,23 @@ def _side(side: Json) -> Optional[Tuple[Policy, Tickets]]:
     return None if isinstance(found, Marked) else (found, tickets)
 
 
-def _shown(storm: Storm, beside: List[Storm], width: int) -> Json:
-    parameters = storm.parameters
+def _shown(storm: Storm) -> Json:
+    totals = storm.totals
+    back = recovery_mark(storm)[1]
+    brief = f"{share_text(totals)} of {totals.requests:,} requests succeeded{back and ', ' + back}"
     return {
-        "picture": storm_picture([storm], beside, width=width, styled=False),
+        "brief": f"{brief}; {totals.calls_per_request:.2f} calls for each",
         "lines": sentences(storm),
         "json": storm.policy.to_json(),
-        "python": in_python(storm.policy, parameters),
-        "rust": in_rust(storm.policy, parameters),
+        "command": in_command(storm.policy, storm.parameters),
+        "python": in_python(storm.policy, storm.parameters),
+        "rust": in_rust(storm.policy, storm.parameters),
     }
 
 
 def _parameters(asked: Any) -> Parameters:
     if not isinstance(asked, dict):
-        raise BadRequest("storm: an object is wanted")
+        raise BadRequest("storm: expected an object")
     told: Json = {name: _whole(name, asked[name]) for name in RANGES if asked.get(name) is not None}
     if asked.get("outage") is not None:
         told["outage"] = Span(*_wholes("outage", asked["outage"], 2))
@@ -111,20 +190,20 @@ def _parameters(asked: Any) -> Parameters:
 
 def _whole(name: str, value: Any) -> int:
     if isinstance(value, bool) or not isinstance(value, int):
-        raise BadRequest(f"{name}: a whole number is wanted")
+        raise BadRequest(f"{name}: expected a whole number")
     return value
 
 
 def _wholes(name: str, value: Any, count: int) -> List[int]:
     if not isinstance(value, list) or len(value) != count:
-        raise BadRequest(f"{name}: {count} whole numbers are wanted")
+        raise BadRequest(f"{name}: expected {count} whole numbers")
     return [_whole(name, each) for each in value]
 
 
 def _text(asked: Json, name: str) -> str:
     value = asked.get(name, "")
     if not isinstance(value, str):
-        raise BadRequest(f"{name}: a text is wanted")
+        raise BadRequest(f"{name}: expected a text")
     return value
 
 

@@ -9,7 +9,7 @@ import queue
 import sys
 import threading
 
-from ._lab_answers import BadRequest, storm_answer
+from ._lab_answers import BadRequest, storm_answer, sweep_answer
 
 __all__ = ["main"]
 
@@ -27,7 +27,8 @@ def _answer(asked: queue.SimpleQueue[bytes]) -> None:
     while True:
         line = asked.get()
         try:
-            answer = storm_answer(json.loads(line))
+            given = json.loads(line)
+            answer = sweep_answer(given) if "along" in given else storm_answer(given)
         except BadRequest as error:
             answer = {"bad": str(error)}
         except MemoryError:

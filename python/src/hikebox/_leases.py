@@ -5,76 +5,55 @@ from __future__ import annotations
 import logging
 import math
 import threading
-from typing import Any, Awaitable, Callable, ClassVar, List, NamedTuple, Optional, Union
+from typing import Any, Awaitable, Callable, ClassVar, List, Optional, Union
 
 from ._drawing import Drawing
 from ._forks import begins_anew_in_a_child
-from ._stores import Range
-from .budget import Budget
-from .errors import BudgetClosed, BudgetInUse, StoreError
+from ._leasing import Grant, LeasedPass, LeasedTicket
+from ._stores import Range, checked_name
+from ._tickets import Drawn, Refusal, RefusalReason, Ticket, checked_ticket
+from ._time import FAR, HAIR
+from .errors import StoreError, StoreLost, TicketError
 
-__all__ = ["Leases"]
+__all__ = ["Leases", "Moments"]
 
 logger = logging.getLogger("hikebox")
 
 #: How many leases in a row may be over before a ticket is drawn of them.
 _TRIES = 3
 
-
-class Lease:
-    """A range, and the budget of the engine that draws from it."""
-
-    __slots__ = ("first", "until", "budget")
-
-    def __init__(self, granted: Range) -> None:
-        self.first = granted.first
-        self.until = granted.until
-        self.budget = Budget(granted.tickets)
-
-    def lasts(self, now: float) -> bool:
-        """Whether its tickets may be drawn at this moment."""
-        return self.until is None or now < self.until
+#: The engine's moment at which a process begins. Its clock may go back by as many milliseconds.
+_BEGINS = 2**40
 
 
-class Ticket(NamedTuple):
-    """A ticket, by its number, and the lease that it is of."""
+class Moments:
+    """The engine's moments beside the seconds of a clock."""
 
-    number: int
-    lease: Lease
+    __slots__ = ("_clock", "_origin")
 
+    def __init__(self, clock: Callable[[], float]) -> None:
+        self._clock = clock
+        self._origin = clock()
 
-class CameBack:
-    """Tickets that came back: they are drawn again before any other."""
+    def now(self) -> int:
+        """The last whole millisecond that has begun."""
+        return self.of(self._clock())
 
-    __slots__ = ("tickets", "_lost", "_lock")
+    def of(self, seconds: Optional[float]) -> int:
+        """The millisecond that these seconds of the clock are in; the last one for None."""
+        if seconds is None:
+            return FAR
+        return max(0, min(FAR, math.floor((seconds - self._origin) * 1000 + HAIR) + _BEGINS))
 
-    def __init__(self) -> None:
-        self.tickets: List[Ticket] = []
-        #: How many were not drawn again while their windows lasted.
-        self._lost = 0
-        self._lock = threading.Lock()
+    def after(self, seconds: Optional[float]) -> int:
+        """The first whole millisecond that does not begin before these seconds; the last one for None."""
+        if seconds is None:
+            return FAR
+        return max(0, min(FAR, math.ceil((seconds - self._origin) * 1000 - HAIR) + _BEGINS))
 
-    @property
-    def count(self) -> int:
-        """How many came back, and were not drawn again."""
-        return len(self.tickets) + self._lost
-
-    def add(self, ticket: Ticket) -> None:
-        """One more: by one step, since a retry that nobody holds any more may be freed at any moment."""
-        self.tickets.append(ticket)
-
-    def take(self, now: float) -> Optional[Ticket]:
-        """One whose window lasts. The others are lost with theirs."""
-        while self.tickets:
-            try:
-                ticket = self.tickets.pop()
-            except IndexError:  # another thread took the last one just now
-                break
-            if ticket.lease.lasts(now):
-                return ticket
-            with self._lock:
-                self._lost += 1
-        return None
+    def seconds(self, moment: int) -> Optional[float]:
+        """The seconds of the clock at which a moment begins, or None for the last one."""
+        return None if moment >= FAR else (moment - _BEGINS) / 1000 + self._origin
 
 
 class Leases:
@@ -86,7 +65,7 @@ class Leases:
     def __init__(
         self, name: str, period: Optional[int], spare: int, again_after: float, clock: Callable[[], float]
     ) -> None:
-        self.name = name
+        self.name = checked_name(name)
         #: How many tickets this process may draw while the store can't be reached, in all or in each window.
         self.spare = spare
         self.again_after = again_after
@@ -106,79 +85,70 @@ class Leases:
     def begin_anew(self) -> None:
         """Begins with no lease, as in a forked child."""
         self.generation += 1
+        #: Who has it asks the store.
         self.lock = threading.Lock()
-        self._lease: Optional[Lease] = None
-        #: The budgets of past leases that are not closed yet, and how many tickets were drawn of the others.
-        self._past: List[Budget] = []
-        self._drawn = 0
-        #: From when on the store is asked again; None for never.
-        self.ask_at: Optional[float] = -math.inf
-        #: Whether the store could be reached when it was asked last, and whether it had lost its count.
-        self._reached = True
-        self._lost = False
-        self._spared: Optional[Lease] = None
-        self._came_back = CameBack()
-        #: The ticket that was drawn by hand latest, and not handed back, where there is one.
-        self._by_hand: List[Ticket] = []
+        self.moments = Moments(self.clock)
+        #: What was leased, and what is drawn while the store can't be reached, in windows of the process's own.
+        self.leased = LeasedPass(self.millis or 0)
+        self._spared = LeasedPass(self.millis or 0)
+        self._spares = 0
+        #: What was leased before the store began anew.
+        self._past: List[LeasedPass] = []
+        #: Why the store grants nothing, where that is not since all is used up; and what it raised.
+        self._reason = RefusalReason.USED_UP
+        self._error: Optional[StoreError] = None
 
     def _take(self) -> Range:
         """A range from the store."""
         raise NotImplementedError
 
-    def draw(self) -> Optional[int]:
-        """A ticket, by its number, or None where there is none: from the lease, or from a new one where it is used up.
+    def _granted_none(self, found: Range) -> None:
+        """The store has no ticket left. It is left alone until the window ends, where this does nothing else."""
+
+    def _is_worth_asking(self) -> bool:
+        """Whether the store is asked though it was to be left alone."""
+        return False
+
+    # Draws
+
+    def draw(self) -> Drawn:
+        """A `Ticket` of what was leased, or of a new lease where that is used up: or a `Refusal`, which is false and
+        says why there is none. It waits for the store where that is asked.
 
         The numbers begin at 0, in each window anew; those that are drawn while the store can't be reached are -1, -2
-        and so on.
+        and so on, and are of no window.
         """
-        ticket = self.draw_ticket()
-        return None if ticket is None else self._by_this_hand(ticket)
-
-    async def draw_async(self) -> Optional[int]:
-        """The same for a coroutine: it waits for the store on another thread."""
-        ticket = await self.draw_ticket_async()
-        return None if ticket is None else self._by_this_hand(ticket)
-
-    def _by_this_hand(self, ticket: Ticket) -> int:
-        self._by_hand[:] = [ticket]
-        return ticket.number
-
-    def draw_ticket(self) -> Optional[Ticket]:
-        """A ticket with its lease, or None: waits for the store."""
-        before = self._lease
-        ticket = self._at_hand(before)
-        if ticket is not None:
-            return ticket
+        found = self._at_hand()
+        if isinstance(found, Ticket):
+            return found
         with self.lock:
-            return self._drawn_anew(before)
+            return self._drawn_anew()
 
-    async def draw_ticket_async(self) -> Optional[Ticket]:
-        """The same for a coroutine."""
-        ticket = self._at_hand(self._lease)
-        if ticket is not None:
-            return ticket
-        if not self.lock.locked() and not self._may_ask():
-            return self.draw_ticket()
+    async def draw_async(self) -> Drawn:
+        """The same for a coroutine: it waits for the store on another thread."""
+        found = self._at_hand()
+        if isinstance(found, Ticket):
+            return found
+        if not self.lock.locked() and not self._may_ask(found):
+            return self.draw()
         import asyncio
 
         try:
             loop = asyncio.get_running_loop()
         except RuntimeError:  # a coroutine of another library
-            return self.draw_ticket()
-        return await loop.run_in_executor(None, self.draw_ticket)
+            return self.draw()
+        return await loop.run_in_executor(None, self.draw)
 
-    def hand_back_by_hand(self) -> bool:
-        """Takes back the ticket that was drawn by hand latest: False where none was since one came back."""
-        try:
-            ticket = self._by_hand.pop()
-        except IndexError:
-            return False
-        self.take_back(ticket)
-        return True
-
-    def take_back(self, ticket: Ticket) -> None:
-        """Takes a ticket back that was drawn and not used: this process may draw it again while its window lasts."""
-        self._came_back.add(ticket)
+    def hand_back(self, ticket: Ticket) -> None:
+        """Hands a ticket back that was drawn by hand, and not used: this process may draw it again while its window
+        lasts, and `granted` is one less then. That can be done once, else it is a `TicketError`. `ticket.hand_back()`
+        does the same."""
+        if not self.TAKES_BACK:
+            raise TicketError(f"expected a ticket of a quota, got {ticket!r} of a budget, which does not come back")
+        generation, drawn_of, drawn = checked_ticket(ticket).comes_back(self)
+        if generation != self.generation:
+            raise TicketError("expected a ticket of this process, got one of the quota before the fork")
+        drawn_of.hand_back(drawn)
 
     def retry_drawing(self, awaits: bool) -> Drawing:
         """What draws for a retry."""
@@ -187,99 +157,94 @@ class Leases:
     @property
     def granted(self) -> int:
         """How many tickets this process drew, and not handed back."""
-        with self.lock:
-            held = [lease.budget for lease in (self._lease, self._spared) if lease is not None]
-            return self._drawn + sum(budget.granted for budget in (*self._past, *held)) - self._came_back.count
+        return sum(each.seen().drawn for each in (*self._past, self.leased, self._spared))
 
     def __reduce__(self) -> Any:
         raise TypeError(f"each process makes its own {type(self).__name__}, of the same store and name")
 
-    def _at_hand(self, lease: Optional[Lease]) -> Optional[Ticket]:
-        """A ticket that came back, or one of this lease."""
-        if self._came_back.tickets:
-            ticket = self._came_back.take(self.clock())
-            if ticket is not None:
-                return ticket
-        return None if lease is None else self._from(lease)
+    def _at_hand(self) -> Union[Ticket, int]:
+        """A ticket of what was leased, or the moment from which on the store may be asked."""
+        leased = self.leased
+        return self._ticket(leased, leased.draw(self.moments.now()))
 
-    def _from(self, lease: Lease) -> Optional[Ticket]:
-        """A ticket of this lease, where it may still be drawn from and has one."""
-        if not lease.lasts(self.clock()):
-            return None
-        try:
-            ticket = lease.budget.draw()
-        except BudgetClosed:
-            return None
-        return None if ticket is None else Ticket(lease.first + ticket, lease)
+    def _ticket(self, drawn_of: LeasedPass, found: Union[LeasedTicket, int]) -> Union[Ticket, int]:
+        if isinstance(found, int):
+            return found
+        if drawn_of is self._spared:
+            ticket = Ticket(-1 - found.number, None, self)
+        else:
+            ticket = Ticket(found.number, None if self.millis is None else found.window, self)
+        ticket.may_come_back_to((self.generation, drawn_of, found))
+        return ticket
 
-    def _may_ask(self) -> bool:
-        return self.ask_at is not None and self.clock() >= self.ask_at
+    def _may_ask(self, moment: int) -> bool:
+        """Whether the store may be asked now, which is to be left alone until this moment."""
+        return moment <= self.moments.now() or self._is_worth_asking()
 
-    def _drawn_anew(self, before: Optional[Lease]) -> Optional[Ticket]:
-        """A ticket of the present lease, if it is another than before, or of a new one, or one without the store."""
-        lease = self._lease
-        if lease is not None and lease is not before:
-            ticket = self._from(lease)
-            if ticket is not None:
-                return ticket
+    def _drawn_anew(self) -> Drawn:
+        """A ticket: what another thread leased meanwhile, or of a new lease, or one without the store."""
         for _ in range(_TRIES):
-            lease = self._leased()
-            if lease is None:
-                return self._at_hand(None) or (None if self._reached else self._from_spared())
-            ticket = self._from(lease)
-            if ticket is not None:
-                return ticket
-        self.ask_at = self.clock() + self.again_after
-        return None
+            found = self._at_hand()
+            if isinstance(found, Ticket):
+                return found
+            if not self._may_ask(found) or not self._lease():
+                break
+        else:
+            self.leave_alone()
+        found = self._at_hand()
+        if isinstance(found, Ticket):
+            return found
+        return self._spare_one() or Refusal(self._reason, self.moments.seconds(found), self._error)
 
-    def _leased(self) -> Optional[Lease]:
-        """A new lease in the place of the present one, or None where the store is not asked, or grants none."""
-        if not self._may_ask():
-            return None
+    def leave_alone(self, until: Optional[float] = None) -> None:
+        """The store is not asked for `again_after` seconds, or until this moment where that is before."""
+        again = self.moments.of(self.clock() + self.again_after)
+        self.leased.leave_alone(min(again, self.moments.after(until)))
+
+    def _lease(self) -> bool:
+        """Asks the store for a range: whether it granted one. Where not it is left alone for a while."""
         try:
-            granted = self._take()
+            found = self._take()
         except StoreError as error:
-            if self._reached:
+            if self._error is None:
                 logger.warning("%s: %s; it grants nothing until it can be reached", self.name, error)
-            self._reached = False
-            self.ask_at = self.clock() + self.again_after
-            return None
-        self._reached = True
-        if granted.lost and not self._lost:
+            self._reason = RefusalReason.LOST if isinstance(error, StoreLost) else RefusalReason.UNREACHABLE
+            self._error = error.with_traceback(None)
+            self.leave_alone()
+            return False
+        if found.lost and self._reason is not RefusalReason.LOST:
             logger.warning("%s: the store may have lost its count of this window, and grants nothing of it", self.name)
-        self._lost = granted.lost
-        if granted.tickets == 0:
-            self.ask_at = granted.until
-            return None
-        self.ask_at = -math.inf
-        if self._lease is not None:
-            self._past.append(self._lease.budget)
-        self._lease = Lease(granted)
-        self._retire()
-        return self._lease
+        self._reason = RefusalReason.LOST if found.lost else RefusalReason.USED_UP
+        self._error = None
+        grant = Grant(found.window, found.first, found.tickets, self.moments.of(found.until))
+        if not self.leased.granted(grant):
+            self._begin_leases_anew(grant)
+        if not found.tickets:
+            # (tickets end with the millisecond before the window's end, and others may be had in the one after)
+            self.leased.leave_alone(self.moments.after(found.until))
+            self._granted_none(found)
+        return found.tickets > 0
 
-    def _retire(self) -> None:
-        """Closes the budgets of past leases, and adds up what was drawn of them."""
-        in_use: List[Budget] = []
-        for budget in self._past:
-            try:
-                self._drawn += budget.close()
-            except BudgetInUse:  # a draw of another thread is under way
-                in_use.append(budget)
-        self._past = in_use
+    def _begin_leases_anew(self, grant: Grant) -> None:
+        """The store granted what it had granted before, so it began anew, as where its folder was deleted."""
+        logger.warning("%s: the store began anew", self.name)
+        self._past.append(self.leased)
+        self.leased = LeasedPass(self.millis or 0)
+        self.leased.granted(grant)
 
-    def _from_spared(self) -> Optional[Ticket]:
-        """A ticket of those that are drawn without the store."""
-        if self.spare == 0:
+    def _spare_one(self) -> Optional[Ticket]:
+        """A ticket of those that are drawn while the store can't be reached."""
+        if self.spare == 0 or self._error is None:
             return None
-        spared = self._spared
-        if spared is None or not spared.lasts(self.clock()):
-            if spared is not None:
-                self._past.append(spared.budget)
-            until = None if self.millis is None else self.clock() + self.millis / 1000
-            spared = self._spared = Lease(Range(0, self.spare, until))
-        ticket = self._from(spared)
-        return None if ticket is None else Ticket(-1 - ticket.number, spared)
+        found = self._spared.draw(self.moments.now())
+        if isinstance(found, int) and found <= self.moments.now():
+            until = self.moments.of(None if self.millis is None else self.clock() + self.millis / 1000)
+            self._spared.granted(Grant(self._spares, 0, self.spare, until))
+            self._spared.leave_alone(until)
+            self._spares += 1
+            found = self._spared.draw(self.moments.now())
+        drawn = self._ticket(self._spared, found)
+        return drawn if isinstance(drawn, Ticket) else None
 
 
 class ByLease:
@@ -293,21 +258,21 @@ class ByLease:
         self._latest: Optional[Ticket] = None
         self._generation = leases.generation
 
-    def draw(self) -> Union[Optional[int], Awaitable[Optional[int]]]:
-        """A ticket, or None where there is none."""
-        return self._draw_async() if self._awaits else self._drawn(self._leases.draw_ticket())
+    def draw(self) -> Union[Optional[Refusal], Awaitable[Optional[Refusal]]]:
+        """Draws a ticket: why there is none."""
+        return self._draw_async() if self._awaits else self._drawn(self._leases.draw())
 
-    async def _draw_async(self) -> Optional[int]:
-        return self._drawn(await self._leases.draw_ticket_async())
+    async def _draw_async(self) -> Optional[Refusal]:
+        return self._drawn(await self._leases.draw_async())
 
-    def _drawn(self, ticket: Optional[Ticket]) -> Optional[int]:
-        if ticket is None:
-            return None
-        self._latest, self._generation = ticket, self._leases.generation
-        return ticket.number
+    def _drawn(self, drawn: Drawn) -> Optional[Refusal]:
+        if isinstance(drawn, Refusal):
+            return drawn
+        self._latest, self._generation = drawn, self._leases.generation
+        return None
 
     def end(self, hands_back: bool) -> None:
         """The latest ticket comes back, where that is so. (In a forked child it is the parent's.)"""
         leases, ticket = self._leases, self._latest
         if hands_back and ticket is not None and leases.TAKES_BACK and self._generation == leases.generation:
-            leases.take_back(ticket)
+            ticket.hand_back()

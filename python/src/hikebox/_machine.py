@@ -2,9 +2,8 @@
 
 from __future__ import annotations
 
-import itertools
 from ctypes import byref, c_uint64
-from typing import Dict, List, Optional, Tuple
+from typing import Any, Dict, List, Optional, Tuple
 
 from ._engine import (
     NO_DEADLINE,
@@ -22,16 +21,16 @@ from ._engine import (
 )
 from ._structs import Next, Words
 
-__all__ = ["Machine", "lend_machine", "take_machine_back"]
+__all__ = ["Loan", "Machine", "end_retry", "is_crowded", "lend_machine", "park", "resumed", "take_machine_back"]
 
 _retry_poll = unchecked("hikebox_retry_poll")
 _retry_new = library.hikebox_retry_new
 _retry_free = library.hikebox_retry_free
 
-#: The pass of retries that draw on nothing. It has no parts, and each call on it is over before another thread has its turn.
+#: The pass of retries that draw on nothing. It has no parts, and each call on it is over before another thread runs.
 _NOTHING = Pass.of_nothing()
 
-#: What is to be done; the moment up to which is waited, or how it ended; and the tickets granted so far, as of a report.
+#: What is to be done; the moment to wait for, or how it ended; and the tickets granted so far, as of a report.
 Polled = Tuple[int, int, int]
 
 
@@ -53,18 +52,32 @@ class _Slate:
 _slates: List[_Slate] = []
 
 
+class Loan:
+    """A retry under way, for what it draws on: gone as soon as nobody steps it any more."""
+
+    __slots__ = ("granted", "noted", "__weakref__")
+
+    def __init__(self) -> None:
+        #: How many tickets it drew.
+        self.granted = 0
+        #: Where what it draws on has noted it.
+        self.noted: Any = None
+
+
 class Machine:
     """A retry that is stepped. One object serves many retries, one after the other."""
 
-    __slots__ = ("handle", "at")
+    __slots__ = ("handle", "at", "loan")
 
     def __init__(self) -> None:
         self.handle = Handle()
         self.at = byref(self.handle)
+        #: What a budget or a quota knows of its retry, where it draws on one.
+        self.loan: Optional[Loan] = None
 
     def begin(self, policy: PolicyHandle, drawn: Pass, deadline: int = NO_DEADLINE) -> bool:
-        """Begins a retry with a pass split off this one, and a moment past which it plans no attempt; False where the pass
-        has a single part. On a quota it draws at the moments of its polls."""
+        """Begins a retry with a pass split off this one, and a moment past which no attempt but its first begins; False
+        where the pass has a single part. On a quota it draws at the moments of its polls."""
         return _begun("hikebox_retry_new", _retry_new(policy.at, drawn.at, deadline, self.at))
 
     def begin_unlimited(self, policy: PolicyHandle, deadline: int = NO_DEADLINE) -> None:
@@ -88,6 +101,8 @@ class Machine:
         told = slate.next
         what = told.what
         polled = (what, told.until if what == WAIT else told.how if what == OVER else 0, told.granted if report else 0)
+        if report and self.loan is not None:
+            self.loan.granted = told.granted
         _slates.append(slate)
         return polled
 
@@ -99,14 +114,28 @@ class Machine:
 
     def end(self, drawn: Pass) -> None:
         """Frees the retry, over or not, and joins its pass into this one, which is of the same budget or quota."""
-        status = library.hikebox_retry_end(self.at, drawn.at)
-        if status != OK:
-            raise refused("hikebox_retry_end", status)
+        end_retry(self.handle, drawn)
 
     def free(self) -> None:
-        """Frees the retry and its pass, where there is one: what that is of can't be closed then."""
-        if self.handle.held:
+        """Frees the retry, where there is one. One that draws on a budget or a quota is left to that, which takes its
+        pass back."""
+        if self.loan is not None:
+            self.handle = Handle()
+            self.at = byref(self.handle)
+            self.loan = None
+        elif self.handle.held:
             _retry_free(self.at)
+
+    def __del__(self, free: Any = _retry_free) -> None:
+        if self.loan is None and self.handle.held:
+            free(self.at)
+
+
+def end_retry(handle: Handle, drawn: Pass) -> None:
+    """Frees the retry in this handle, over or not, and joins its pass into this one."""
+    status = library.hikebox_retry_end(byref(handle), drawn.at)
+    if status != OK:
+        raise refused("hikebox_retry_end", status)
 
 
 def _begun(call: str, status: int) -> bool:
@@ -121,10 +150,30 @@ def _begun(call: str, status: int) -> bool:
 #: Machines that hold no retry, for the next ones; those of many concurrent retries are given up.
 _machines: List[Machine] = []
 _MOST_MACHINES = 64
-#: How many were given up, and after how many of them the system has its memory back: the C library keeps what the engine
-#: freed below what is still in use.
-_given_up = itertools.count(1)
-_GIVEN_BACK_AFTER = 4096
+
+
+class _Crowd:
+    """Many retries at once. The C library keeps the memory that they leave below what is still in use: the system has
+    it back after so many of them."""
+
+    __slots__ = ("machines", "parked", "over")
+
+    AFTER = 4096
+
+    def __init__(self) -> None:
+        #: About how many machines there are, how many retries are parked (threads may miscount), and how many are over.
+        self.machines = 0
+        self.parked = 0
+        self.over = 0
+
+    def leaves(self) -> None:
+        """One of many is over."""
+        self.over += 1
+        if self.over % self.AFTER == 0:
+            give_memory_back()
+
+
+_crowd = _Crowd()
 
 
 def lend_machine() -> Machine:
@@ -132,6 +181,7 @@ def lend_machine() -> Machine:
     try:
         return _machines.pop()
     except IndexError:
+        _crowd.machines += 1
         return Machine()
 
 
@@ -140,5 +190,30 @@ def take_machine_back(machine: Machine) -> None:
     machine.free()
     if len(_machines) < _MOST_MACHINES:
         _machines.append(machine)
-    elif next(_given_up) % _GIVEN_BACK_AFTER == 0:
-        give_memory_back()
+    else:
+        _crowd.machines -= 1
+        _crowd.leaves()
+
+
+def is_crowded() -> bool:
+    """Whether so many retries are under way that those which wait should be parked."""
+    return not _machines and _crowd.machines > _MOST_MACHINES
+
+
+def park(machine: Machine) -> int:
+    """Takes a machine back, but not its retry, which draws on nothing: `resumed` goes on with that."""
+    held: int = machine.handle.held
+    machine.handle.held = None
+    _crowd.parked += 1
+    take_machine_back(machine)
+    return held
+
+
+def resumed(held: int) -> Machine:
+    """A machine with a retry that was parked."""
+    machine = lend_machine()
+    machine.handle.held = held
+    _crowd.parked -= 1
+    if _crowd.parked >= _MOST_MACHINES:
+        _crowd.leaves()
+    return machine

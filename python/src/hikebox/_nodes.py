@@ -2,12 +2,16 @@
 
 from __future__ import annotations
 
-from typing import Any, Dict, Iterator, List, Tuple
+from typing import Any, Dict, FrozenSet, Iterator, List, Sequence, Tuple
 
-__all__ = ["FOLDS", "FORMS", "NAMES", "parts_of", "reads_of", "walk"]
+__all__ = ["FOLDS", "FORMS", "MOST_DEPTH", "MOST_NODES", "NAMES", "parts_of", "reads_of", "reads_of_node", "walk"]
 
 #: The leaves that are spelt as a string alone.
 NAMES = ("forever", "elapsed", "identity")
+
+#: The most nodes of a policy, and the most of them one below another.
+MOST_NODES = 256
+MOST_DEPTH = 32
 
 #: How outputs are gathered.
 FOLDS = ("sum", "count", "max", "list")
@@ -16,8 +20,8 @@ _DELAY = ("number", "plan")
 _ONE = ("plan",)
 _BOTH = ("plan", "plan")
 
-#: The nodes that are spelt as an object with one member, with the kinds of their items in order. An item is the member's
-#: value where it is the only one.
+#: The nodes that are spelt as an object with one member, with the kinds of their items in order. An only item is the
+#: member's value.
 FORMS: Dict[str, Tuple[str, ...]] = {
     "recurs": ("number",),
     "spaced": ("number",),
@@ -70,20 +74,15 @@ def walk(tree: Any) -> Iterator[Tuple[str, List[Any]]]:
         yield from walk(plan)
 
 
-def reads_of(tree: Any) -> Tuple[List[int], bool]:
-    """What a policy that was accepted reads at an event: the lanes by which its nodes pick at random, and whether it reads
-    the code."""
-    lanes, codes, nodes = set(), False, [tree]
-    while nodes:
-        node = nodes.pop()
-        if isinstance(node, str):
-            codes = codes or node == "identity"
-            continue
-        ((name, value),) = node.items()
-        if name in ("jitter", "decorrelated"):
-            lanes.add(value[0])
-        elif name == "gate":
-            codes = codes or value[0] == "input"
-        items = value if isinstance(value, list) else [value]
-        nodes.extend(item for item in items if isinstance(item, dict) or item in NAMES)
-    return sorted(lanes), codes
+def reads_of_node(name: str, own: Sequence[Any]) -> Tuple[FrozenSet[int], bool]:
+    """What one node reads at an event, as `reads_of` tells it."""
+    if name in ("jitter", "decorrelated"):
+        return frozenset(own[:1]), False
+    return frozenset(), name == "identity" or (name == "gate" and own[0] == "input")
+
+
+def reads_of(tree: Any) -> Tuple[FrozenSet[int], bool]:
+    """What a policy that was accepted reads at an event: the lanes by which its nodes pick at random, and whether it
+    reads the code."""
+    reads = [reads_of_node(name, own) for name, own in walk(tree)]
+    return frozenset().union(*(lanes for lanes, _ in reads)), any(codes for _, codes in reads)

@@ -4,10 +4,10 @@ from __future__ import annotations
 
 import json
 from ctypes import c_size_t
-from typing import Any, Callable, Dict, List, Optional, Tuple
+from typing import Any, Callable, Dict, Optional, Tuple
 
 from . import _engine
-from ._nodes import FORMS, NAMES, reads_of
+from ._nodes import FORMS, NAMES
 from .errors import Fault, PolicyError
 
 __all__ = ["Plan"]
@@ -34,7 +34,6 @@ class Plan(_engine.PolicyHandle):
 
     _text: Optional[str] = None
     _tree: Any = None
-    _reads: Optional[Tuple[List[int], bool]] = None
 
     @classmethod
     def of_text(cls, text: bytes) -> Plan:
@@ -73,13 +72,6 @@ class Plan(_engine.PolicyHandle):
         if self._tree is None:
             self._tree = json.loads(self.text)
         return self._tree
-
-    @property
-    def reads(self) -> Tuple[List[int], bool]:
-        """The lanes by which its nodes pick at random, and whether one reads the code of a failure."""
-        if self._reads is None:
-            self._reads = reads_of(self.tree)
-        return self._reads
 
 
 #: The JSON of a value.

@@ -51,8 +51,8 @@ def played(
     plan: Plan, steps: int, start: int, took: int, codes: List[int], random: Optional[Callable[[], float]]
 ) -> List[Step]:
     """At most so many first events of a plan, up to the one at which it is done, on a clock of its own: the first is at
-    the moment `start`, and each other one `took` milliseconds after its planned start. Their inputs are these codes, the
-    last one again and again; their words are picked by `random`, or in the middle."""
+    the moment `start`, and each other one `took` milliseconds after its planned start. Their inputs are these codes,
+    the last one again and again; their words are picked by `random`, or in the middle."""
     most = plan.size()[2]
     count = whole(max(0, steps), "preview: steps", 0, MOST_STEPS)
     if most is not None:

@@ -71,22 +71,20 @@ class RedisStore:
         with _errors():
             self.client.delete(self._key(name), self._key(name) + ":server")
 
-    def take(
-        self, name: str, count: int, limit: int, period: Optional[int], clock: Callable[[], float]
-    ) -> Range:
+    def take(self, name: str, count: int, limit: int, period: Optional[int], clock: Callable[[], float]) -> Range:
         """A range of this name's tickets, or of its present window's."""
         with _errors():
             if period is None:
                 return self._of_budget(name, count, limit)
             present, server = self._window(period, clock)
             if server is None:
-                return Range(0, 0, present.until, lost=True)
+                return Range(0, 0, present.until, present.number, lost=True)
             pipe = self._transaction()
             key = f"{self._key(name)}:{period}:{present.number}"
             pipe.incrby(key, count)
             pipe.pexpire(key, 2 * period)
             after = int(self._answers(pipe, server)[0])
-            return _below(limit, after - count, count, present.until)
+            return _below(limit, after - count, count, present)
 
     def take_of_quota(
         self, name: str, terms: Terms, count: int, asked: Callable[[float], int], clock: Callable[[], float]
@@ -119,7 +117,7 @@ class RedisStore:
         begun_on = server.decode() if isinstance(server, bytes) else server
         if not self.durable and begun_on != info["run_id"]:
             raise StoreLost(f"Redis was started anew since {name!r} was begun, and may have lost some of its count")
-        return _below(limit, before, count, None)
+        return _below(limit, before, count)
 
     def _window(self, period: int, clock: Callable[[], float]) -> Tuple[Present, Optional[str]]:
         """The present window, and the name of this start of the server: None where the window may have begun before
@@ -128,10 +126,9 @@ class RedisStore:
         pipe = self._transaction()
         pipe.time()
         info, (whole, micros) = pipe.execute()
-        moment = int(whole) + int(micros) / 1e6
-        present = present_window(period, before, moment, clock())
-        started_by = moment - int(info["uptime_in_seconds"]) + _UPTIME_OFF
-        return present, info["run_id"] if present.number * period / 1000 >= started_by else None
+        present = present_window(period, before, int(whole) * 10**9 + int(micros) * 1000, clock())
+        started_by = (int(whole) - int(info["uptime_in_seconds"]) + _UPTIME_OFF) * 10**6 + int(micros)
+        return present, info["run_id"] if present.number * period * 1000 >= started_by else None
 
     def _transaction(self) -> Any:
         """A transaction whose first answer tells about the server."""
@@ -147,11 +144,13 @@ class RedisStore:
         return answers
 
 
-def _below(limit: int, before: int, count: int, until: Optional[float]) -> Range:
+def _below(limit: int, before: int, count: int, present: Optional[Present] = None) -> Range:
     """The lease of a server that has counted so many tickets, and `count` more for it."""
     granted = lease_of_budget(limit, 0, count, Stored(given=before))
     assert granted is not None
-    return Range(granted.first, granted.tickets, until)
+    if present is None:
+        return Range(granted.first, granted.tickets, None)
+    return Range(granted.first, granted.tickets, present.until, present.number)
 
 
 @contextlib.contextmanager

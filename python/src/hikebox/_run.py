@@ -2,6 +2,7 @@
 
 from __future__ import annotations
 
+import errno
 import logging
 import math
 import os
@@ -13,7 +14,10 @@ from dataclasses import dataclass
 from typing import Any, FrozenSet, List, Optional, Sequence, Tuple, Union
 
 from ._deadline import seconds_left
+from ._group import Group
 from ._status_line import StatusLine
+from ._terminal import Terminal
+from ._words import size_text
 from .budget import Budget
 from .errors import StoreError
 from .leased import Leased, LeasedQuota
@@ -30,15 +34,23 @@ TIMED_OUT = 124
 #: The statuses of a command that was not found, and of one that could not be run, as of a shell.
 NOT_FOUND, NOT_RUN = 127, 126
 
-#: What tells a command how many seconds it is until the deadline.
-_LEFT = "HIKEBOX_SECONDS_LEFT"
+#: What tell a command how many seconds it is until the deadline, and the number of its attempt.
+_LEFT, _ATTEMPT = "HIKEBOX_SECONDS_LEFT", "HIKEBOX_ATTEMPT"
 
-#: Signals that end the run: no attempt follows.
+#: Signals that end the run: no attempt follows. After some of them a command gets a SIGKILL where it does not end.
 _ENDING = (signal.SIGINT, signal.SIGTERM, signal.SIGHUP, signal.SIGQUIT)
-#: Signals that are passed on and change nothing else.
+_INSISTING = (signal.SIGTERM, signal.SIGHUP)
+#: Signals that are passed on and change nothing else, and one that stops hikebox with its command.
 _PASSED = (signal.SIGUSR1, signal.SIGUSR2, signal.SIGWINCH, signal.SIGCONT)
-#: The code of a signal that the kernel sent to the whole foreground group, as at control-C.
-_FROM_KERNEL = 0x80
+_STOPPING = signal.SIGTSTP
+#: Those that stop a command which is not in the foreground where it uses the terminal.
+_USING = (signal.SIGTTIN, signal.SIGTTOU)
+
+#: Where a file without a name is kept if TMPDIR says nothing: on a disk, and not in memory, as /tmp may be.
+_KEPT_IN = "/var/tmp"
+#: How many bytes of an attempt's output are held back at most, and how many seconds pass until that is looked at.
+MOST_OUTPUT = 1 << 30
+_LOOKS = 0.1
 
 
 @dataclass
@@ -60,6 +72,8 @@ class RunOptions:
     #: Gives each attempt the whole standard input, and lets out the last attempt's output alone.
     replay_input: bool = False
     last_output: bool = False
+    #: How many bytes of output are held back at most.
+    most_output: int = MOST_OUTPUT
 
 
 class _Failed(Exception):
@@ -76,6 +90,10 @@ class _Ended(BaseException):
 
     def __init__(self, status: int) -> None:
         self.status = status
+
+
+class _OutputTooLong(BaseException):
+    """An attempt had more output than may be held back."""
 
 
 def run_command(command: Sequence[str], options: RunOptions) -> int:
@@ -99,6 +117,9 @@ def run_command(command: Sequence[str], options: RunOptions) -> int:
             runner.tell_end(failed)
         except _Ended as ended:
             status = ended.status
+        except _OutputTooLong:
+            limit = size_text(options.most_output)
+            raise OSError(errno.EFBIG, f"the output is longer than {limit} (--output-limit)") from None
         runner.let_out()
         return status
 
@@ -121,12 +142,16 @@ class _Runner:
         self.options = options
         self.input: Optional[int] = None
         self.output: Optional[int] = None
+        self.number = 0
         self.ended_by: Optional[int] = None
+        #: Whether the command was told to stop, as hikebox was.
+        self.is_stopping = False
+        self.terminal = Terminal()
         #: What is told while it waits, on a terminal.
         self.line = StatusLine(sys.stderr, wanted=not (options.quiet or options.verbose))
         self.waits_for = ""
         self.watched = {signal.SIGCHLD}
-        for number in (*_ENDING, *_PASSED):
+        for number in (*_ENDING, *_PASSED, _STOPPING):
             if signal.getsignal(number) is not signal.SIG_IGN:
                 self.watched.add(number)
 
@@ -136,13 +161,15 @@ class _Runner:
             self.input = _spooled(0)
         if self.options.last_output:
             self.output = _unnamed()
-        self.mask = signal.pthread_sigmask(signal.SIG_BLOCK, self.watched)
+        # (with SIGTTOU hikebox would be stopped as it takes the terminal back)
+        self.mask = signal.pthread_sigmask(signal.SIG_BLOCK, {*self.watched, signal.SIGTTOU})
         return self
 
     def __exit__(self, *_: Any) -> None:
         for file in (self.input, self.output):
             if file is not None:
                 os.close(file)
+        self.terminal.close()
         signal.pthread_sigmask(signal.SIG_SETMASK, self.mask)
 
     def retries(self, error: BaseException) -> bool:
@@ -155,21 +182,29 @@ class _Runner:
 
     def attempt(self) -> None:
         """Runs the command once."""
+        self.number += 1
         try:
-            child = self._spawn()
+            group = self._spawn()
         except FileNotFoundError:
             self._tell(f"{self.command[0]}: command not found", always=True)
             raise _Failed(NOT_FOUND, run=False) from None
         except OSError as error:
             self._tell(f"{self.command[0]}: {error.strerror}", always=True)
             raise _Failed(NOT_RUN, run=False) from None
-        status = self._await(child)
+        self._heed_all(group, is_new=True)
+        try:
+            status = self._await(group)
+        finally:
+            self.terminal.take()
+        self._heed_all(group)
+        if status != 0 or self.ended_by is not None:
+            self._end_rest(group)
         if self.ended_by is not None:
             raise _Ended(status)
         if status != 0:
             raise _Failed(status)
 
-    def _spawn(self) -> int:
+    def _spawn(self) -> Group:
         actions: List[Tuple[Any, ...]] = []
         if self.input is not None:
             os.lseek(self.input, 0, os.SEEK_SET)
@@ -180,36 +215,153 @@ class _Runner:
             actions.append((os.POSIX_SPAWN_DUP2, self.output, 1))
         sys.stdout.flush()
         left = seconds_left()
-        return os.posix_spawnp(
-            self.command[0],
-            self.command,
-            os.environ if left is None else {**os.environ, _LEFT: f"{left:.3f}"},
-            file_actions=actions,
-            setsigmask=list(self.mask),
-            setsigdef=[signal.SIGPIPE, signal.SIGXFSZ],
-        )
+        told = {_ATTEMPT: str(self.number), **({} if left is None else {_LEFT: f"{left:.3f}"})}
+        leader = self.terminal.lead() if self.terminal.is_to_give() else 0
+        try:
+            command = os.posix_spawnp(
+                self.command[0],
+                self.command,
+                {**os.environ, **told},
+                file_actions=actions,
+                setpgroup=leader,
+                setsigmask=list(self.mask),
+                setsigdef=[signal.SIGPIPE, signal.SIGXFSZ, *(_USING if self.terminal.file >= 0 else ())],
+            )
+        except OSError:
+            self.terminal.take()
+            raise
+        return Group(command, leader or command, self.options.timeout, self.options.grace)
 
-    def _await(self, child: int) -> int:
-        """Waits for the child, passing signals on: its status, or that of an attempt that took too long."""
-        limit = self.options.timeout
-        kill_at = None if limit is None else time.monotonic() + limit
-        by = signal.SIGTERM
+    def _await(self, group: Group) -> int:
+        """Waits for the command, and heeds signals meanwhile: its status, or that of an attempt that took too long."""
         timed_out = False
         while True:
-            done, status = os.waitpid(child, os.WNOHANG)
-            if done:
-                code = os.waitstatus_to_exitcode(status)
-                return TIMED_OUT if timed_out else (code if code >= 0 else 128 - code)
-            came = self._signal(kill_at)
+            status = self._look(group)
+            if status is not None:
+                return TIMED_OUT if timed_out else status
+            came = self._signal(self._until(group))
+            if came is not None:
+                self._heed(came, group)
+            elif group.until is not None and time.monotonic() >= group.until:
+                timed_out = timed_out or not group.is_told
+                group.end()
+            elif self.output is not None and os.fstat(self.output).st_size > self.options.most_output:
+                self._end_rest(group)
+                raise _OutputTooLong()
+
+    def _until(self, group: Group) -> Optional[float]:
+        """The moment up to which hikebox waits for a signal."""
+        looks = None if self.output is None else time.monotonic() + _LOOKS
+        moments = [moment for moment in (group.until, looks) if moment is not None]
+        return min(moments) if moments else None
+
+    def _look(self, group: Group) -> Optional[int]:
+        """The status of a command that has ended."""
+        done, status = os.waitpid(group.command, os.WNOHANG | os.WUNTRACED)
+        if not done:
+            return None
+        if os.WIFSTOPPED(status):
+            self._has_stopped(group, os.WSTOPSIG(status))
+            return None
+        code = os.waitstatus_to_exitcode(status)
+        return code if code >= 0 else 128 - code
+
+    def _end_rest(self, group: Group) -> None:
+        """Ends what an attempt left running."""
+        pause = 0.002
+        while group.is_living():
+            if not group.is_told or (group.until is not None and time.monotonic() >= group.until):
+                group.end()
+            until = time.monotonic() + pause
+            came = self._signal(until if group.until is None else min(until, group.until))
+            if came is not None:
+                self._heed(came, group)
+            pause = min(2 * pause, 0.1)
+
+    # Signals
+
+    def _heed_all(self, group: Group, is_new: bool = False) -> None:
+        """Heeds the signals that have come. A new command may have begun after they were sent to its group."""
+        while True:
+            came = signal.sigtimedwait(self.watched, 0)
             if came is None:
-                timed_out = True
-                os.kill(child, by)
-                by, kill_at = signal.SIGKILL, time.monotonic() + self.options.grace
-            elif came.si_signo != signal.SIGCHLD:
-                if came.si_code != _FROM_KERNEL:
-                    os.kill(child, came.si_signo)
-                if came.si_signo in _ENDING:
-                    self.ended_by = came.si_signo
+                return
+            self._heed(came, group, is_new)
+
+    def _heed(self, came: Any, group: Group, is_new: bool = False) -> None:
+        """Does what a signal to hikebox asks for, while it has a command."""
+        number, sender = came.si_signo, came.si_pid
+        if number == signal.SIGCHLD or sender == os.getpid():
+            return
+        by_terminal = sender == self.terminal.witness
+        if number == _STOPPING:
+            self.is_stopping = True
+            group.send(number)
+            return
+        if number == signal.SIGCONT:
+            self._continue(group)
+            return
+        if by_terminal:
+            # (others in hikebox's group would have it from the terminal too)
+            os.killpg(self.terminal.group, number)
+        if is_new or not by_terminal:
+            group.send(number)
+        if number in _ENDING:
+            self.ended_by = number
+            group.send(signal.SIGCONT)
+        if number in _INSISTING and not group.is_told:
+            group.expect_end()
+
+    def _give(self, group: Group) -> None:
+        """Puts a command in the foreground."""
+        self.terminal.give(group.number)
+        group.send(signal.SIGCONT)
+
+    def _has_stopped(self, group: Group, by: int) -> None:
+        """A command was stopped by this signal. Only then does hikebox stop too, so that the command takes nothing of
+        what is typed next."""
+        if by in _USING:
+            self._is_wanted(group)
+        elif self.terminal.holder is not None and not self.terminal.is_here():
+            self._stop(group, whole=True)
+        elif self.is_stopping:
+            self._stop(group, whole=False)
+
+    def _is_wanted(self, group: Group) -> None:
+        """A command was stopped since it uses the terminal, and is not in the foreground."""
+        if self.terminal.is_here():
+            self._give(group)
+            return
+        if self.terminal.is_given():
+            group.send(signal.SIGCONT)
+            return
+        self._stop(group, whole=True)
+        if not self.terminal.is_here() and signal.SIGCONT not in signal.sigpending():
+            # (nobody can continue it, so it is told as the system tells such)
+            group.send(signal.SIGHUP)
+            group.send(signal.SIGCONT)
+
+    def _stop(self, group: Optional[Group], whole: bool) -> None:
+        """Stops hikebox, until somebody continues it, and then its command; with `whole`, all of its own group."""
+        began = time.monotonic()
+        self.is_stopping = False
+        if whole:
+            os.killpg(self.terminal.group, _STOPPING)
+        else:
+            os.kill(os.getpid(), _STOPPING)
+        signal.pthread_sigmask(signal.SIG_UNBLOCK, {_STOPPING})
+        signal.pthread_sigmask(signal.SIG_BLOCK, {_STOPPING})
+        if group is not None:
+            if group.until is not None:
+                group.until += time.monotonic() - began
+            self._continue(group)
+
+    def _continue(self, group: Group) -> None:
+        """Continues a command, in the foreground where hikebox is there."""
+        if self.terminal.is_to_give():
+            self._give(group)
+        else:
+            group.send(signal.SIGCONT)
 
     def wait(self, seconds: float) -> None:
         """Waits between two attempts; a signal that ends the run ends it now."""
@@ -222,6 +374,9 @@ class _Runner:
                 shown = max(1, math.ceil(left - 0.01))
                 self.line.show(f"hikebox: {self.waits_for} in {shown} s")
                 came = self._signal(until - (shown - 1) if self.line.is_on else until)
+                if came is not None and came.si_signo == _STOPPING:
+                    self.line.clear()
+                    self._stop(None, whole=False)
                 if came is not None and came.si_signo in _ENDING:
                     raise _Ended(128 + came.si_signo)
         finally:
@@ -272,7 +427,8 @@ class _Runner:
 
 def _unnamed() -> int:
     """A temporary file without a name."""
-    with tempfile.TemporaryFile() as file:
+    folder = None if "TMPDIR" in os.environ or not os.access(_KEPT_IN, os.W_OK | os.X_OK) else _KEPT_IN
+    with tempfile.TemporaryFile(dir=folder) as file:
         return os.dup(file.fileno())
 
 

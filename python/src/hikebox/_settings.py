@@ -5,25 +5,25 @@ from __future__ import annotations
 import math
 import random as _random
 import time
-from dataclasses import dataclass, field, fields
-from functools import cached_property, partial
-from typing import Any, Callable, Dict, List, Optional, Protocol, Sequence, Tuple, Type, Union
+from functools import cached_property, lru_cache, partial
+from typing import Any, Callable, Dict, FrozenSet, Optional, Protocol, Sequence, Tuple, Type, Union
 
 from . import _kinds
 from ._deadline import Limit
 from ._drawing import ByCall, Drawing
 from ._passes import NO_BUDGET, DrawnOn
 from ._time import FAR, Duration, seconds
+from ._waits import pause_of, sleep_of
 from .budget import Budget
 from .errors import BudgetClosed, TryAgain
 from .policy import Policy
 from .quota import Quota
-from .state import Outcome, RetryState, code_of
+from .state import RetryState, code_of
 
-__all__ = ["Hook", "Hooks", "LONGEST", "On", "Settings", "Stop", "Tickets"]
+__all__ = ["DEFAULTS", "Hook", "Hooks", "MAX_RETRY_AFTER", "On", "Settings", "Stop", "Tickets"]
 
-#: How many seconds `at_least` and `wait` may ask for where nothing else is said: six hours.
-LONGEST = 21600.0
+#: How many seconds `retry_after` and `wait` may ask for by default: six hours.
+MAX_RETRY_AFTER = 21600.0
 
 #: Which exceptions are retried: their types, functions that say so, or a tuple of both.
 On = Union[Type[BaseException], Callable[[Any], Any], Tuple[Union[Type[BaseException], Callable[[Any], Any]], ...]]
@@ -39,12 +39,12 @@ class Tickets(Protocol):
     called once for each call, at its first attempt, or where its `counts_successes` is true at its success.
     """
 
-    def draw(self) -> Optional[int]:
-        """A ticket, or None where there is none."""
+    def draw(self) -> Any:
+        """A ticket, which may be any object, the number 0 too. None, False and a `Refusal` say that there is none."""
 
 
 class Event(Protocol):
-    """An event of threading, asyncio or multiprocessing."""
+    """An event of threading, multiprocessing, asyncio or trio."""
 
     def is_set(self) -> bool:
         """Whether it was set."""
@@ -53,142 +53,208 @@ class Event(Protocol):
 #: What stops a retry: an event that is set, or a function that says so.
 Stop = Union[Event, Callable[[RetryState], bool]]
 
+#: The parameters of a `Retrying` beside its policy, with their defaults.
+DEFAULTS: Dict[str, Any] = {
+    "budget": None,
+    "on": Exception,
+    "on_result": None,
+    "code": None,
+    "retry_after": None,
+    "wait": None,
+    "max_retry_after": MAX_RETRY_AFTER,
+    "deadline": None,
+    "stop": None,
+    "before": None,
+    "after": None,
+    "before_sleep": None,
+    "on_success": None,
+    "fallback": None,
+    "sleep": None,
+    "clock": time.monotonic,
+    "random": _random.random,
+}
 
-@dataclass(frozen=True, eq=False)
+
 class Settings:
-    """What one `Retrying` has. It never changes: a `Retrying` that is changed has another one.
-
-    The first fields are as they were given, and the others follow from them.
-    """
+    """What one `Retrying` has: its parameters as they were given, and what follows from them. It never changes."""
 
     policy: Policy
-    budget: Union[Budget, Quota, Tickets, None] = None
-    on: On = Exception
-    on_result: Optional[Callable[[Any], Any]] = None
-    code: Optional[Callable[[Any], int]] = None
-    at_least: Optional[Callable[[Any], Optional[float]]] = None
-    wait: Optional[Callable[[RetryState], Optional[float]]] = None
-    longest: float = LONGEST
-    deadline: Optional[Duration] = None
-    stop: Optional[Stop] = None
-    before: Hooks = None
-    after: Hooks = None
-    before_sleep: Hooks = None
-    on_success: Hooks = None
-    fallback: Optional[Hook] = None
-    sleep: Optional[Callable[[float], Any]] = None
-    clock: Callable[[], float] = time.monotonic
-    random: Callable[[], float] = _random.random
+    budget: Union[Budget, Quota, Tickets, None]
+    on: On
+    on_result: Optional[Callable[[Any], Any]]
+    code: Optional[Callable[[Any], int]]
+    retry_after: Optional[Callable[[Any], Optional[float]]]
+    wait: Optional[Callable[[RetryState], Optional[float]]]
+    max_retry_after: float
+    deadline: Optional[Duration]
+    stop: Optional[Stop]
+    before: Hooks
+    after: Hooks
+    before_sleep: Hooks
+    on_success: Hooks
+    fallback: Optional[Hook]
+    sleep: Optional[Callable[[float], Any]]
+    clock: Callable[[], float]
+    random: Callable[[], float]
     #: Whether calls are awaited, and with them hooks, tests and sleeps that are coroutines.
-    awaits: bool = False
+    awaits: bool
     #: Whether results are what the policy hears of, and failures end it.
-    repeats: bool = False
+    repeats: bool
 
     #: The hooks, one after another.
-    hooks_before: Tuple[Hook, ...] = field(init=False)
-    hooks_after: Tuple[Hook, ...] = field(init=False)
-    hooks_before_sleep: Tuple[Hook, ...] = field(init=False)
-    hooks_on_success: Tuple[Hook, ...] = field(init=False)
+    hooks_before: Tuple[Hook, ...]
+    hooks_after: Tuple[Hook, ...]
+    hooks_before_sleep: Tuple[Hook, ...]
+    hooks_on_success: Tuple[Hook, ...]
     #: The exceptions that are retried by their type, and functions that are asked of other `Exception`s.
-    types: Tuple[Type[BaseException], ...] = field(init=False)
-    tests: Tuple[Callable[[BaseException], Any], ...] = field(init=False)
+    types: Tuple[Type[BaseException], ...]
+    tests: Tuple[Callable[[BaseException], Any], ...]
     #: Whether what was given as `stop` says so.
-    is_stopped: Optional[Callable[[RetryState], Any]] = field(init=False)
+    is_stopped: Optional[Callable[[RetryState], Any]]
     #: What waits, and what lets others go on where there is no wait.
-    sleeps: Callable[[float], Any] = field(init=False)
-    pause: Optional[Callable[[float], Any]] = field(init=False)
-    #: What the engine's retry draws on by itself. Of a quota it wants moments of that clock, so this retry has to go by
-    #: the same.
-    drawn_on: DrawnOn = field(init=False)
+    sleeps: Callable[[float], Any]
+    pause: Optional[Callable[[float], Any]]
+    #: What the engine's retry draws on by itself. On a quota it draws at moments of that quota's clock, so the retry
+    #: goes by the same one.
+    drawn_on: DrawnOn
     #: What makes a retry's drawing where the engine's retry does not draw itself, or None.
-    drawing: Optional[Callable[[], Drawing]] = field(init=False)
+    drawing: Optional[Callable[[], Drawing]]
     #: What counts a request at the first attempt, and what counts it at the success, where the budget counts any.
-    deposit: Optional[Callable[[], Any]] = field(init=False)
-    deposit_won: Optional[Callable[[], Any]] = field(init=False)
+    deposit: Optional[Callable[[], Any]]
+    deposit_won: Optional[Callable[[], Any]]
     #: Whether a call that succeeds after retries hands its last ticket back.
-    returns_tickets: bool = field(init=False)
+    returns_tickets: bool
     #: Whether nothing is to be done before a first attempt but to count it, nor where it succeeds.
-    is_quiet: bool = field(init=False)
+    is_quiet: bool
     #: Whether nothing is to be called where an attempt fails, but the engine and what draws without a wait.
-    is_plain: bool = field(init=False)
+    is_plain: bool
+    #: Whether `retry_after` or `wait` may ask for a longer wait.
+    asks: bool
     #: The milliseconds of the deadline.
-    most_millis: Optional[int] = field(init=False)
+    deadline_millis: Optional[int]
 
-    def __post_init__(self) -> None:
-        # (the fields of a frozen object, each of which is set once)
-        self.__dict__.update(self._derived())
+    def __init__(self, policy: Any, given: Dict[str, Any], awaits: bool = False, repeats: bool = False) -> None:
+        """Of these parameters, of which those that are left out have their defaults."""
+        own = self.__dict__ = _plain_settings(awaits, repeats).copy()
+        own["policy"] = Policy.of(policy)
+        if given:
+            own.update(given)
+            self._derive([name for name, value in given.items() if value is not DEFAULTS[name]])
+
+    def _derive(self, names: Any) -> None:
+        """Works out what follows from the parameters of these names."""
+        for derive, of in _DERIVED.items():
+            if not of.isdisjoint(names):
+                derive(self)
 
     @cached_property
-    def lanes(self) -> List[int]:
+    def lanes(self) -> Tuple[int, ...]:
         """The lanes of the policy's jitters."""
-        return self.policy.plan.reads[0]
+        return tuple(sorted(self.policy.reads[0]))
 
     @cached_property
     def reads_codes(self) -> bool:
         """Whether the policy reads codes."""
-        return self.policy.plan.reads[1]
+        return self.policy.reads[1]
 
-    def _derived(self) -> Dict[str, Any]:
-        for name in ("on_result", "fallback"):
-            _kinds.look_at_function(name, getattr(self, name), self.awaits)
-        for name in ("code", "at_least", "wait", "clock", "random"):
-            _kinds.look_at_function(name, getattr(self, name), awaits=False)
-        sleeps, pause = _kinds.sleeps_of(self.sleep, self.stop, self.awaits)
-        types, tests = _kinds.parts_of_on(self.on, self.awaits)
-        drawn_on, drawing = _drawn_on(self.budget, self.clock, self.awaits)
-        hooks = {f"hooks_{name}": _kinds.hooks_of(name, getattr(self, name), self.awaits) for name in _HOOKS}
-        deposit, deposit_won = _deposits(self.budget)
-        told = (self.on_result, *hooks["hooks_before"], *hooks["hooks_on_success"])
-        return {
-            **hooks,
-            "policy": Policy.of(self.policy),
-            "longest": _longest_of(self.longest),
-            "most_millis": None if self.deadline is None else seconds(self.deadline, "deadline"),
-            "is_quiet": not self.repeats and all(each is None for each in told),
-            "is_plain": all(each is None for each in (self.stop, self.fallback, self.at_least, self.wait))
-            and not any(hooks.values())
-            and drawing is None,
-            "types": (*types, TryAgain),
-            "tests": tests,
-            "is_stopped": _kinds.stop_of(self.stop),
-            "sleeps": sleeps,
-            "pause": pause,
-            "drawn_on": drawn_on,
-            "drawing": drawing,
-            "deposit": deposit,
-            "deposit_won": deposit_won,
-            "returns_tickets": bool(getattr(self.budget, "returns_tickets", False)),
-        }
+    @property
+    def given(self) -> Dict[str, Any]:
+        """The parameters that are not their defaults, without the policy."""
+        return {name: self.__dict__[name] for name, plain in DEFAULTS.items() if self.__dict__[name] is not plain}
 
     def limit_of(self, start: float) -> Optional[Limit]:
         """The deadline of a retry that began then."""
-        return None if self.most_millis is None else Limit(self.clock, start + self.most_millis / 1000)
+        return None if self.deadline_millis is None else Limit(self.clock, start + self.deadline_millis / 1000)
 
-    def code_for(self, outcome: Optional[Outcome]) -> int:
-        """The number of an outcome, as the policy is given it."""
-        if outcome is None:
-            return 0
-        failure = outcome.exception() if outcome.failed else outcome.result()
+    def code_for(self, failure: Any) -> int:
+        """The number of an exception, or of a result that is not accepted, as the policy is given it."""
         if self.code is None:
             return code_of(failure)
         number = self.code(failure)
         if isinstance(number, bool) or not isinstance(number, int) or not 0 <= number <= FAR:
-            raise ValueError(f"a code is a whole number from 0 to {FAR}, not {number!r}")
+            raise ValueError(f"code: expected a whole number from 0 to {FAR}, got {number!r}")
         return number
 
 
-_HOOKS = ("before", "after", "before_sleep", "on_success")
+def _derive_functions(settings: Settings) -> None:
+    for name in ("code", "retry_after", "wait", "clock", "random"):
+        _kinds.look_at_function(name, getattr(settings, name), awaits=False)
+    for name in ("on_result", "fallback"):
+        _kinds.look_at_function(name, getattr(settings, name), settings.awaits)
+    settings.asks = settings.retry_after is not None or settings.wait is not None
 
-#: The names of the fields that are given.
-GIVEN = tuple(own.name for own in fields(Settings) if own.init and own.name not in ("awaits", "repeats"))
+
+def _derive_on(settings: Settings) -> None:
+    types, settings.tests = _kinds.parts_of_on(settings.on, settings.awaits)
+    settings.types = (*types, TryAgain)
 
 
-def _longest_of(longest: Any) -> float:
-    if longest is None:
+def _derive_hooks(settings: Settings) -> None:
+    settings.hooks_before = _kinds.hooks_of("before", settings.before, settings.awaits)
+    settings.hooks_after = _kinds.hooks_of("after", settings.after, settings.awaits)
+    settings.hooks_before_sleep = _kinds.hooks_of("before_sleep", settings.before_sleep, settings.awaits)
+    settings.hooks_on_success = _kinds.hooks_of("on_success", settings.on_success, settings.awaits)
+
+
+def _derive_times(settings: Settings) -> None:
+    settings.max_retry_after = _max_retry_after_of(settings.max_retry_after)
+    settings.deadline_millis = None if settings.deadline is None else seconds(settings.deadline, "deadline")
+
+
+def _derive_waits(settings: Settings) -> None:
+    settings.is_stopped = _kinds.stop_of(settings.stop, settings.awaits)
+    settings.sleeps = sleep_of(settings.sleep, settings.stop, settings.clock, settings.awaits)
+    settings.pause = pause_of(settings.sleep, settings.awaits)
+
+
+def _derive_budget(settings: Settings) -> None:
+    budget = settings.budget
+    settings.drawn_on, settings.drawing = _drawn_on(budget, settings.clock, settings.awaits)
+    settings.deposit, settings.deposit_won = _deposits(budget)
+    settings.returns_tickets = bool(getattr(budget, "returns_tickets", False))
+
+
+def _derive_shape(settings: Settings) -> None:
+    before, on_success = settings.hooks_before, settings.hooks_on_success
+    called = (settings.stop, settings.fallback, settings.drawing)
+    settings.is_quiet = not (settings.repeats or settings.on_result is not None or before or on_success)
+    settings.is_plain = not (
+        settings.asks
+        or any(each is not None for each in called)
+        or before
+        or on_success
+        or settings.hooks_after
+        or settings.hooks_before_sleep
+    )
+
+
+#: What works out what follows from which parameters, in this order.
+_DERIVED: Dict[Callable[[Settings], None], FrozenSet[str]] = {
+    _derive_functions: frozenset({"code", "retry_after", "wait", "clock", "random", "on_result", "fallback"}),
+    _derive_on: frozenset({"on"}),
+    _derive_hooks: frozenset({"before", "after", "before_sleep", "on_success"}),
+    _derive_times: frozenset({"max_retry_after", "deadline"}),
+    _derive_waits: frozenset({"sleep", "stop", "clock"}),
+    _derive_budget: frozenset({"budget", "clock"}),
+    _derive_shape: frozenset(DEFAULTS) - {"on", "sleep", "random", "max_retry_after", "deadline", "code"},
+}
+
+
+@lru_cache(maxsize=None)
+def _plain_settings(awaits: bool, repeats: bool) -> Dict[str, Any]:
+    """What a `Settings` has whose parameters are all left out, but the policy."""
+    settings = Settings.__new__(Settings)
+    settings.__dict__.update(DEFAULTS, awaits=awaits, repeats=repeats)
+    settings._derive(DEFAULTS.keys())
+    return settings.__dict__
+
+
+def _max_retry_after_of(count: Any) -> float:
+    if count is None:
         return math.inf
-    if isinstance(longest, bool) or not isinstance(longest, (int, float)) or not longest >= 0:
-        raise TypeError(f"longest: a number of seconds is wanted, or None, not {longest!r}")
-    return float(longest)
+    if isinstance(count, bool) or not isinstance(count, (int, float)) or not count >= 0:
+        raise TypeError(f"max_retry_after: expected a number of seconds, or None, got {count!r}")
+    return float(count)
 
 
 def _drawn_on(budget: Any, clock: Any, awaits: bool) -> Tuple[DrawnOn, Optional[Callable[[], Drawing]]]:
@@ -197,7 +263,7 @@ def _drawn_on(budget: Any, clock: Any, awaits: bool) -> Tuple[DrawnOn, Optional[
         return NO_BUDGET, None
     draw = getattr(budget, "draw", None)
     if not callable(draw):
-        raise TypeError(f"a Budget, a Quota, or something with draw(), is wanted, not {budget!r}")
+        raise TypeError(f"budget: expected a Budget, a Quota, or something with draw(), got {budget!r}")
     if isinstance(budget, Budget) or (isinstance(budget, Quota) and budget.clock == clock):
         return budget, None
     if hasattr(budget, "retry_drawing"):

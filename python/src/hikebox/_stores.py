@@ -5,9 +5,10 @@ from __future__ import annotations
 import time
 from typing import Callable, NamedTuple, Optional, Protocol
 
+from .errors import TermsError
 from .quota import Terms
 
-__all__ = ["Present", "QuotaRange", "QuotaStore", "Range", "Store", "present_window", "uptime"]
+__all__ = ["Present", "QuotaRange", "QuotaStore", "Range", "Store", "checked_name", "present_window", "uptime"]
 
 
 def uptime() -> float:
@@ -20,9 +21,10 @@ class Range(NamedTuple):
 
     first: int
     tickets: int
-    #: The moment, by the clock that was handed in, up to which they may be drawn, or None. Where there are none, the
-    #: moment from which on it makes sense to ask again.
+    #: The moment, by the clock that was handed in, at which the window ends, or None where there are no windows.
     until: Optional[float]
+    #: Which window it is.
+    window: int = 0
     #: Whether the store may have lost what it counted of the present window, and so grants nothing of it.
     lost: bool = False
 
@@ -44,9 +46,7 @@ class QuotaRange(NamedTuple):
 class Store(Protocol):
     """Where leases come from."""
 
-    def take(
-        self, name: str, count: int, limit: int, period: Optional[int], clock: Callable[[], float]
-    ) -> Range:
+    def take(self, name: str, count: int, limit: int, period: Optional[int], clock: Callable[[], float]) -> Range:
         """Adds `count` to the count of this name, or of its present window of `period` milliseconds, and gives those
         of the numbers added that are below the limit. A `StoreError` where the store can't be reached, or has lost
         its count."""
@@ -72,9 +72,22 @@ class Present(NamedTuple):
     until: float
 
 
-def present_window(period: int, before: float, moment: float, after: float) -> Present:
-    """The window of so many milliseconds that a moment of the store's clock is in, which was told between these two of
-    the process's."""
-    number = int(moment * 1000 // period)
-    passed = moment - number * period / 1000
+def present_window(period: int, before: float, moment: int, after: float) -> Present:
+    """The window of so many milliseconds that a moment of the store's clock is in, a number of nanoseconds, which was
+    told between these two of the process's."""
+    number, nanos = divmod(moment, period * 10**6)
+    passed = nanos / 1e9
     return Present(number, after - passed, before + period / 1000 - passed)
+
+
+def checked_name(name: str) -> str:
+    """The name of a budget or a quota of a store, or a `TermsError`."""
+    if not isinstance(name, str):
+        raise TypeError(f"expected a name, got {name!r}")
+    try:
+        length = len(name.encode())
+    except UnicodeEncodeError:
+        raise TermsError(f"expected a name in UTF-8, got {name!r}") from None
+    if not 1 <= length <= 255:
+        raise TermsError(f"expected a name of 1 to 255 bytes, got {length}")
+    return name

@@ -1,9 +1,11 @@
-"""The storm of a policy as a program: in Python and in Rust."""
+"""The storm of a policy as a program: as a command, in Python and in Rust; and storms as a scenario."""
 
 from __future__ import annotations
 
+import json
 import re
-from typing import Any, List, Tuple
+import shlex
+from typing import TYPE_CHECKING, Any, Dict, List, Sequence, Tuple
 
 from . import builders
 from ._rust_spelling import duration, spelt_in_rust
@@ -12,11 +14,50 @@ from ._time import seconds_text
 from .policy import Policy
 from .quota import Terms
 
-__all__ = ["in_python", "in_rust"]
+if TYPE_CHECKING:
+    from .storm import Storm
+
+__all__ = ["in_command", "in_python", "in_rust", "in_scenario"]
 
 _COUNTS = ("rate", "together", "seconds", "capacity", "queue", "calls")
 _TIMES = ("patience", "window", "until")
 _PLAIN = Parameters()
+
+
+def in_command(policy: Policy, parameters: Parameters) -> str:
+    """The command that plays the storm and prints it."""
+    words = ["hikebox", "storm"]
+    for name, value in _changed(parameters).items():
+        if isinstance(value, Terms):
+            words += ["--quota", _limit(value)]
+        elif name == "tickets":
+            words += ["--budget", str(value)]
+        elif isinstance(value, tuple):
+            words += [f"--{name}", f"{value[0]}..{value[1]}" + "".join(f"@{percent}" for percent in value[2:])]
+        else:
+            words += [f"--{name}", str(value)]
+    return f"{shlex.join([*words, repr(policy)])}\n"
+
+
+def in_scenario(storms: Sequence[Storm]) -> str:
+    """Storms of the same parameters as the file of a scenario."""
+    parameters = storms[0].parameters._replace(tickets=None)
+    told = {name: list(value) if isinstance(value, tuple) else value for name, value in _changed(parameters).items()}
+    told.setdefault("outage", list(parameters.outage))
+    lines = [{"policy": storm.policy.to_dict(), "limit": _limit(storm.parameters.tickets)} for storm in storms]
+    return json.dumps({"storm": told, "lines": lines}, indent=2) + "\n"
+
+
+def _changed(parameters: Parameters) -> Dict[str, Any]:
+    """The parameters that are not the defaults."""
+    return {name: value for name, value in parameters._asdict().items() if value != getattr(_PLAIN, name)}
+
+
+def _limit(tickets: Any) -> Any:
+    """A limit as the command line and a scenario spell it."""
+    if isinstance(tickets, Terms):
+        return f"{tickets.reserve}/{tickets.share / 10:.12g}%/{tickets.period}ms"
+    return tickets
 
 
 def in_python(policy: Policy, parameters: Parameters) -> str:
@@ -32,7 +73,7 @@ def in_python(policy: Policy, parameters: Parameters) -> str:
 
 
 def _python_arguments(parameters: Parameters) -> List[Tuple[str, str]]:
-    changed = {name: value for name, value in parameters._asdict().items() if value != getattr(_PLAIN, name)}
+    changed = _changed(parameters)
     found = [(name, str(changed[name])) for name in _COUNTS if name in changed]
     found += [(name, seconds_text(changed[name])) for name in _TIMES if changed.get(name) is not None]
     if "outage" in changed:
@@ -68,7 +109,7 @@ def in_rust(policy: Policy, parameters: Parameters) -> str:
 
 
 def _rust_calls(parameters: Parameters) -> List[str]:
-    changed = {name: value for name, value in parameters._asdict().items() if value != getattr(_PLAIN, name)}
+    changed = _changed(parameters)
     found: List[Any] = [f"{name}({changed[name]})" for name in _COUNTS if name in changed]
     found += [f"{name}({duration(changed[name])})" for name in _TIMES if changed.get(name) is not None]
     if "outage" in changed:

@@ -4,16 +4,17 @@ from __future__ import annotations
 
 import argparse
 import re
-from typing import Any, Optional, Tuple, Union
+from typing import Any, List, Optional, Tuple, Union
 
 from . import _words
 from ._engine import MOST_TICKETS
-from ._storm_terms import RANGES, SCENARIOS, Parameters, Slow, Span
+from ._storm_axes import MEASURES
+from ._storm_terms import RANGES, Parameters, Slow, Span
 from ._svg import fitted
 from .errors import BudgetError
 from .quota import Terms, terms_of
 
-__all__ = ["add_storm_options", "parameters_of", "tickets_of"]
+__all__ = ["add_storm_options", "limits_of", "parameters_of", "tickets_of"]
 
 #: So long is the longest text of a budget or a quota.
 _LONGEST = 100
@@ -32,30 +33,54 @@ _HELP = {
 }
 
 
+class _Once(argparse.Action):
+    """Keeps an option's word, which is given once."""
+
+    def __call__(self, parser: Any, namespace: Any, values: Any, option_string: Any = None) -> None:
+        if getattr(namespace, self.dest) is not None:
+            raise argparse.ArgumentError(self, f"expected it once, got {values!r} too")
+        setattr(namespace, self.dest, values)
+
+
 def add_storm_options(storm: argparse.ArgumentParser) -> None:
     """Adds the options that say how a storm is played."""
-    story = "begin with the parameters of a story: outage (where none is named), herd or brown-out"
-    storm.add_argument("--scenario", choices=sorted(SCENARIOS), default="outage", help=story)
+    story = "begin with a story: outage (where none is named), herd or brown-out; or with the scenario of a file"
+    storm.add_argument("--scenario", metavar="NAME|FILE", default="outage", help=story)
     for name, help in _HELP.items():
         metavar = "SEED" if name == "words" else "M" if name in ("patience", "window", "until") else "N"
-        storm.add_argument(f"--{name}", type=_words.number(RANGES[name][1], RANGES[name][0]), metavar=metavar, help=help)
+        storm.add_argument(
+            f"--{name}", type=_words.number(RANGES[name][1], RANGES[name][0]), metavar=metavar, help=help
+        )
     outage = "from when to when the peer refuses all calls, in milliseconds (10000..20000)"
     storm.add_argument("--outage", type=_span, metavar="FROM..TO", help=outage)
     slow = "a brown-out: from when to when the peer works at PERCENT of its capacity"
     storm.add_argument("--slow", type=_slow, metavar="FROM..TO@PERCENT", help=slow)
-    bounds = storm.add_mutually_exclusive_group()
-    budget = "at most N retries of all requests"
-    bounds.add_argument("--budget", type=_words.number(MOST_TICKETS), metavar="N", help=budget)
+    limits: Any = {"dest": "limits", "action": "append", "default": []}
+    budget = "at most N retries of all requests; a storm for each budget and quota that is given"
+    storm.add_argument("--budget", type=_words.number(MOST_TICKETS), metavar="N", help=budget, **limits)
     quota = "at most RESERVE retries in each PERIOD (as 1s), and a SHARE of its requests, as 10/10%/1s"
-    bounds.add_argument("--quota", type=_quota, metavar="RESERVE/SHARE%/PERIOD", help=quota.replace("%", "%%"))
+    shown = quota.replace("%", "%%")
+    storm.add_argument("--quota", type=_quota, metavar="RESERVE/SHARE%/PERIOD", help=shown, **limits)
+    storm.add_argument("--without", action="store_true", help="play each policy without a limit, too")
+    along = "play the storms for each value of a parameter, as rate=200..1600/8 or outage=1000,5000,20000"
+    storm.add_argument("--sweep", action=_Once, metavar="NAME=VALUES", help=along)
+    drawn = "what a sweep tells; may be given again (succeeded)"
+    storm.add_argument("--measure", choices=list(MEASURES), action="append", default=[], help=drawn)
+    border = "the greatest share of a quota, the most retries or the least patience with which the peer recovers"
+    storm.add_argument("--find", choices=["quota", "retries", "patience"], help=border)
 
 
-def parameters_of(given: Any) -> Parameters:
-    """The parameters that were given, or a `StormError`."""
+def limits_of(given: Any) -> List[Union[None, int, Terms]]:
+    """What retries draw on, in a storm each."""
+    limits: List[Union[None, int, Terms]] = list(given.limits)
+    return [None, *limits] if given.without or not limits else limits
+
+
+def parameters_of(given: Any, base: Parameters) -> Parameters:
+    """The parameters that were given over those of a scenario, or a `StormError`."""
     told = {name: getattr(given, name) for name in (*RANGES, "outage", "slow")}
     changed = {name: value for name, value in told.items() if value is not None}
-    tickets = given.budget if given.quota is None else given.quota
-    return SCENARIOS[given.scenario]._replace(tickets=tickets, **changed).checked()
+    return base._replace(**changed).checked()
 
 
 def tickets_of(text: str) -> Union[None, int, Terms]:

@@ -17,8 +17,8 @@ _BEGUN = (("requests", "#0072b2", ""), ("retries", "#e69f00", "//"))
 
 
 def plot(storm: Storm, ax: Any = None) -> Any:
-    """The calls begun as areas, those that succeed as a line, and when the peer was away or slow. A figure of its own has
-    a legend below it."""
+    """The calls begun as areas, those that succeed as a line, and when the peer was away or slow. A figure of its own
+    has a legend below it."""
     if ax is None:
         import matplotlib.pyplot as pyplot
 

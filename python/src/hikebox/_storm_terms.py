@@ -2,13 +2,13 @@
 
 from __future__ import annotations
 
-from typing import Any, Dict, NamedTuple, Optional, Tuple, Union
+from typing import Any, Dict, List, NamedTuple, Optional, Tuple, Union
 
 from . import _engine
 from .errors import StormError
 from .quota import Terms
 
-__all__ = ["MOST_SEED", "RANGES", "SCENARIOS", "Parameters", "Slow", "Span", "tickets_text"]
+__all__ = ["MOST_SEED", "RANGES", "SCENARIOS", "Parameters", "Slow", "Span", "limit_text", "tickets_text"]
 
 #: The most requests of a storm, and the most windows after the first.
 MOST_REQUESTS, MOST_WINDOWS = 1_048_576, 65_536
@@ -80,6 +80,13 @@ class Parameters(NamedTuple):
         slow = self.slow
         return self.capacity * slow.percent / 100 if slow and slow.begins <= moment < slow.ends else self.capacity
 
+    def weather(self) -> List[Tuple[int, int, str, str]]:
+        """The brown-out and the outage, where there are such: from when to when, in words, and their paint."""
+        spans = [(self.outage.begins, self.outage.ends, "peer away", "away")]
+        if self.slow is not None:
+            spans.insert(0, (self.slow.begins, self.slow.ends, f"peer at {self.slow.percent} %", "shade"))
+        return [span for span in spans if span[0] < span[1]]
+
     def checked(self) -> Parameters:
         """The same, where all are within their ranges; otherwise a `StormError` names the first that is not."""
         for name in RANGES:
@@ -136,6 +143,19 @@ def tickets_text(tickets: Union[None, int, Terms]) -> str:
         period = f"{tickets.period / 1000:.12g} s"
         return f"a quota: {tickets.reserve:,} and {tickets.share / 10:.12g} % of the requests in each {period}"
     return f"a budget of {tickets:,}"
+
+
+def limit_text(tickets: Union[None, int, Terms]) -> str:
+    """The same as a title has it.
+
+    >>> limit_text(None), limit_text(5000), limit_text(Terms(10, 100, 1000))
+    ('no limit', 'budget of 5,000', 'quota 10/10%/1s')
+    """
+    if tickets is None:
+        return "no limit"
+    if isinstance(tickets, Terms):
+        return f"quota {tickets.reserve}/{tickets.share / 10:.12g}%/{tickets.period / 1000:.12g}s"
+    return f"budget of {tickets:,}"
 
 
 def _look_at(name: str, number: int, least: int, most: int) -> None:

@@ -2,14 +2,14 @@
 
 from __future__ import annotations
 
-from typing import TYPE_CHECKING, Any, List, Tuple
+from typing import TYPE_CHECKING, List, Optional, Sequence, Tuple
 
 from ._storm_terms import Parameters
 
 if TYPE_CHECKING:
     from .storm import Storm, StormTotals
 
-__all__ = ["beside", "sentences", "setting", "table", "verdict"]
+__all__ = ["beside", "brief_setting", "columns", "recovery_mark", "sentences", "setting", "share_text", "table"]
 
 #: What the totals are called that stand side by side, where that is not their name.
 _LABELS = {
@@ -34,19 +34,21 @@ def _time(milliseconds: int) -> str:
     return f"{milliseconds} ms" if milliseconds < 1000 else f"{milliseconds / 1000:,.12g} s"
 
 
-def verdict(storm: Storm) -> str:
-    """The numbers that say most."""
-    totals = storm.totals
-    won = f"{totals.won:,} of {totals.requests:,} won"
-    return f"{totals.calls_per_request:.2f} calls for each request, {won}, {_recovery(storm)}"
+def share_text(totals: StormTotals) -> str:
+    """The share of the requests that succeeded. It is 100 % only where all did, and 0 % only where none did."""
+    if totals.won in (0, totals.requests):
+        return "100 %" if totals.won else "0 %"
+    return f"{max(0.1, totals.won * 1000 // totals.requests / 10):.1f} %"
 
 
-def _recovery(storm: Storm) -> str:
+def recovery_mark(storm: Storm) -> Tuple[Optional[int], str]:
+    """When the storm recovered, if it did, and that in words: none where there was nothing to recover from."""
+    if not storm.parameters.weather():
+        return None, ""
     recovered = storm.totals.recovered_ms
     if recovered is None:
-        return "never recovered"
-    begins = -(-storm.parameters.over // storm.parameters.window) * storm.parameters.window
-    return "recovered at once" if recovered == begins else f"recovered from {_time(recovered)} on"
+        return None, "not back by the end"
+    return recovered, f"back at {_time(recovered)}"
 
 
 def sentences(storm: Storm) -> List[str]:
@@ -58,8 +60,8 @@ def sentences(storm: Storm) -> List[str]:
         f"{totals.calls:,} calls, {totals.calls_per_request:.2f} for each request; the most in a window "
         f"{totals.most_calls:,}, from {_time(totals.most_from_ms)} on",
         _took(totals),
-        _recovery(storm).capitalize(),
     ]
+    lines += [f"{said[0].upper()}{said[1:]}" for said in [recovery_mark(storm)[1]] if said]
     if storm.parameters.tickets is not None:
         lines.insert(2, f"{totals.tickets:,} tickets given for retries")
     if totals.cut:
@@ -88,6 +90,14 @@ def setting(parameters: Parameters) -> str:
     return f"{come} on {peer}; each call is given up after {_time(parameters.patience)}"
 
 
+def brief_setting(parameters: Parameters) -> str:
+    """The same in a line, without the outage and the brown-out."""
+    times = f"{parameters.together:,} at a time, " if parameters.together > 1 else ""
+    come = f"{parameters.rate:,} requests/s for {parameters.seconds:,} s, {times}"
+    peer = f"capacity {parameters.capacity:,} calls/s, queue {parameters.queue:,}"
+    return f"{come}{peer}, patience {_time(parameters.patience)}"
+
+
 def table(storm: Storm) -> str:
     """The rows in columns, and then what they come to."""
     names = ("from", *storm.rows[0]._fields[1:]) if storm.rows else ()
@@ -95,7 +105,7 @@ def table(storm: Storm) -> str:
     if len(lines) > _MOST_ROWS + 1:
         half = _MOST_ROWS // 2
         lines = [*lines[: half + 1], ("..",) * len(names), *lines[-half:]]
-    return "".join(f"{line}\n" for line in [*_columns(lines), "", *sentences(storm)]).rstrip("\n")
+    return "".join(f"{line}\n" for line in [*columns(lines), "", *sentences(storm)]).rstrip("\n")
 
 
 def beside(storms: List[Storm], names: List[str]) -> str:
@@ -103,12 +113,14 @@ def beside(storms: List[Storm], names: List[str]) -> str:
     heads = [f"{number}: {name}" for number, name in enumerate(names, start=1)]
     lines = [("", *(str(number) for number in range(1, len(storms) + 1)))]
     for field in storms[0].totals.__dataclass_fields__:
-        values = [getattr(storm.totals, field) for storm in storms]
-        lines.append((_LABELS.get(field, field), *(_value(field, value) for value in values)))
-    return "\n".join([*heads, "", *_columns(lines)])
+        lines.append((_LABELS.get(field, field), *(_value(field, storm) for storm in storms)))
+    return "\n".join([*heads, "", *columns(lines)])
 
 
-def _value(field: str, value: Any) -> str:
+def _value(field: str, storm: Storm) -> str:
+    value = getattr(storm.totals, field)
+    if field == "recovered_ms" and not storm.parameters.weather():
+        return "-"
     if field == "hundredths":
         return f"{value / 100:.2f}"
     if isinstance(value, bool):
@@ -118,7 +130,7 @@ def _value(field: str, value: Any) -> str:
     return str(value)
 
 
-def _columns(lines: List[Tuple[str, ...]]) -> List[str]:
+def columns(lines: Sequence[Tuple[str, ...]]) -> List[str]:
     """The lines with their words in columns, the first one to the left and the others to the right."""
     first, *wide = [max(map(len, column)) for column in zip(*lines)]
     return [

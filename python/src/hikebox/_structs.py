@@ -9,7 +9,9 @@ __all__ = [
     "Asking",
     "Course",
     "Event",
+    "Grant",
     "Handle",
+    "LeasedTicket",
     "Line",
     "Next",
     "Place",
@@ -63,8 +65,8 @@ class Usage(Structure):
 
 class Storm(Structure):
     _fields_ = _numbers(
-        "rate together seconds capacity patience queue outage_from outage_to slow_from slow_to slow_percent window until "
-        "calls words draws_on limit reserve share period"
+        "rate together seconds capacity patience queue outage_from outage_to slow_from slow_to slow_percent window "
+        "until calls words draws_on limit reserve share period"
     )
 
 
@@ -102,3 +104,21 @@ class Range(Structure):
     tickets: int
 
     _fields_ = _numbers("first tickets")
+
+
+class LeasedTicket(Structure):
+    window: int
+    number: int
+
+    _fields_ = _numbers("window number")
+
+
+class Grant(Structure):
+    """What a store granted: so many tickets of a window, from `first` on, and the moment at which the window ends."""
+
+    window: int
+    first: int
+    tickets: int
+    until: int
+
+    _fields_ = _numbers("window first tickets until")

@@ -1,29 +1,101 @@
-"""Writes pictures as SVG: text stays text, and the colours are those of a light or a dark ground, as who looks wants."""
+"""Writes pictures as SVG: text stays text, each colour stands at its shape, and a dark ground has its own colours."""
 
 from __future__ import annotations
 
+import re
 import zlib
 from html import escape
-from typing import List
+from typing import Dict, List, NamedTuple, Tuple
 
-__all__ = ["LEAST_WIDTH", "LINE", "MOST_WIDTH", "STYLE", "Picture", "fitted", "headed", "ticks", "width_of", "wrapped"]
+__all__ = [
+    "LEAST_WIDTH",
+    "LINE",
+    "LINES",
+    "MOST_WIDTH",
+    "STYLE",
+    "Picture",
+    "fitted",
+    "headed",
+    "ticks",
+    "width_of",
+    "wrapped",
+]
 
-#: (Colours by Okabe and Ito, which nobody confounds; in black and white the hatches tell them apart.)
-STYLE = """\
-.hb{--ground:#fff;--ink:#1a1a1a;--soft:#595959;--line:#d9d9d9;--shade:#ebebeb;--away:#d2d2d2;--a:#0072b2;--b:#e69f00;--c:#56b4e9;--d:#d55e00}
-@media (prefers-color-scheme:dark){.hb{--ground:#15181c;--ink:#f2f2f2;--soft:#b8bcc2;--line:#3a3f46;--shade:#2b3038;--away:#454c57;\
---a:#4aa8e0;--b:#f0b43c;--c:#2a6f97;--d:#ef7d3c}}
-.hb text{font:12px system-ui,sans-serif;fill:var(--ink)}.hb .soft{fill:var(--soft)}.hb .head{font-weight:600}
-.hb .ground{fill:var(--ground)}.hb .line{stroke:var(--line);fill:none}.hb .axis{stroke:var(--soft);fill:none}
-.hb .shade{fill:var(--shade)}.hb .away{fill:var(--away)}.hb .a{fill:var(--a)}.hb .c{fill:var(--c)}.hb .edge{stroke:var(--ink);stroke-width:.6}
-.hb .bound{stroke:var(--ink);stroke-width:1.6;stroke-dasharray:6 4;fill:none}.hb .band{fill:var(--c);stroke:var(--ink);stroke-width:.8}
-.hb .dot{fill:var(--ink)}.hb .hb-b{fill:var(--b)}.hb .hb-d{fill:var(--d)}.hb .hatch{stroke:var(--ink);stroke-width:1.1}"""
 
+class _Paint(NamedTuple):
+    """The colours of a kind on a light and on a dark ground, and the attributes that are the same on both."""
+
+    light: str
+    dark: str
+    rest: str = ""
+    strokes: bool = False
+
+    def attributes(self) -> str:
+        return f'stroke="{self.light}" fill="none"{self.rest}' if self.strokes else f'fill="{self.light}"{self.rest}'
+
+
+_INK, _SOFT, _GROUND = ("#1a1a1a", "#f2f2f2"), ("#595959", "#b8bcc2"), ("#ffffff", "#15181c")
+_EDGE = ' stroke="#1a1a1a" stroke-width=".6"'
+
+# The fills are colours by Okabe and Ito, which readers with any colour vision tell apart. In black and white the
+# hatches do.
+_PAINTS: Dict[str, _Paint] = {
+    "ink": _Paint(*_INK),
+    "soft": _Paint(*_SOFT),
+    "head": _Paint(*_INK, ' font-weight="600"'),
+    "number": _Paint(*_INK, ' font-weight="600" font-size="14"'),
+    "ground": _Paint(*_GROUND),
+    "dot": _Paint(*_INK),
+    "line": _Paint("#d9d9d9", "#3a3f46", strokes=True),
+    "axis": _Paint(*_SOFT, strokes=True),
+    "bound": _Paint(*_INK, ' stroke-width="1.6" stroke-dasharray="6 4"', strokes=True),
+    "mark": _Paint(*_INK, ' stroke-width="1.6"', strokes=True),
+    "cut": _Paint(*_GROUND, ' stroke-width="2.4"', strokes=True),
+    "shade": _Paint("#ebebeb", "#2b3038"),
+    "away": _Paint("#d2d2d2", "#454c57"),
+    "band": _Paint("#56b4e9", "#2a6f97", _EDGE),
+    "requests": _Paint("#0072b2", "#4aa8e0", _EDGE),
+    "won": _Paint("#009e73", "#1fa97f", _EDGE),
+    "shed": _Paint("#cc79a7", "#d68fb6", _EDGE),
+    "late": _Paint("#f0e442", "#b8ae22", _EDGE),
+    "retries": _Paint("#e69f00", "#f0b43c"),
+    "failed": _Paint("#d55e00", "#ef7d3c"),
+}
+#: The kinds that are hatched, and by how many degrees.
+_HATCHES: Dict[str, int] = {"retries": 45, "failed": -45}
+#: The lines of a chart: colour, dark colour, and dashes.
+_LINES: Tuple[Tuple[str, str, str], ...] = (
+    ("#0072b2", "#4aa8e0", ""),
+    ("#d55e00", "#ef7d3c", "8 3"),
+    ("#009e73", "#1fa97f", "2 3"),
+    ("#a8558a", "#d68fb6", "8 3 2 3"),
+    ("#8a6000", "#f0b43c", "14 4"),
+    ("#1a1a1a", "#f2f2f2", "4 2"),
+    ("#2f7fb0", "#7cc4f5", "1 2"),
+    ("#595959", "#b8bcc2", "10 2 2 2 2 2"),
+)
+for _index, (_light, _dark, _dashes) in enumerate(_LINES):
+    _dashed = f' stroke-dasharray="{_dashes}"' if _dashes else ""
+    _PAINTS[f"line{_index}"] = _Paint(
+        _light, _dark, f' stroke-width="2.2" stroke-linejoin="round"{_dashed}', strokes=True
+    )
+    _PAINTS[f"dot{_index}"] = _Paint(_light, _dark)
+
+
+def _dark_rules() -> str:
+    rules = [f".hb .{kind}{{{'stroke' if paint.strokes else 'fill'}:{paint.dark}}}" for kind, paint in _PAINTS.items()]
+    return "".join(rules) + f".hb .hatch{{stroke:{_INK[0]}}}"
+
+
+#: What a picture looks like on a dark ground. Without it, and in viewers that know no style, it is as on a light one.
+STYLE = f"@media (prefers-color-scheme:dark){{{_dark_rules()}}}"
 
 #: How far lines of text are apart.
 LINE = 16
 #: How wide a picture is.
 LEAST_WIDTH, MOST_WIDTH = 280, 4000
+#: How many lines of a chart have a look of their own.
+LINES = len(_LINES)
 
 
 class Picture:
@@ -35,52 +107,65 @@ class Picture:
         self.title = title
         self.description = description
         #: What its names begin with, so that several pictures can stand in one page.
-        self.mark = f"p{zlib.crc32(f'{width} {title} {description}'.encode()):08x}"
+        self.mark = f"p{zlib.crc32(f'{width} {title} {description}'.encode('utf-8', 'replace')):08x}"
         self._parts: List[str] = []
+        self._hatched: List[str] = []
 
-    def text(self, x: float, y: float, words: str, kind: str = "", anchor: str = "start") -> None:
-        named = f' class="{kind}"' if kind else ""
-        self._parts.append(f'<text x="{x:.1f}" y="{y:.1f}" text-anchor="{anchor}"{named}>{escape(words)}</text>')
+    def text(self, x: float, y: float, words: str, kind: str = "ink", anchor: str = "start") -> None:
+        anchored = "" if anchor == "start" else f' text-anchor="{anchor}"'
+        self._parts.append(f'<text x="{x:.1f}" y="{y:.1f}"{anchored} {self._paint(kind)}>{_spelt(words)}</text>')
 
-    def texts(self, x: float, y: float, lines: List[str], kind: str = "") -> None:
+    def texts(self, x: float, y: float, lines: List[str], kind: str = "ink") -> None:
         """Lines one below the other."""
         for index, line in enumerate(lines):
             self.text(x, y + LINE * index, line, kind)
 
     def box(self, x: float, y: float, width: float, height: float, kind: str) -> None:
-        self._parts.append(f'<rect x="{x:.1f}" y="{y:.1f}" width="{width:.1f}" height="{height:.1f}" {self.paint(kind)}/>')
+        size = f'width="{width:.1f}" height="{height:.1f}"'
+        self._parts.append(f'<rect x="{x:.1f}" y="{y:.1f}" {size} {self._paint(kind)}/>')
 
     def path(self, drawn: str, kind: str) -> None:
-        self._parts.append(f'<path d="{drawn}" {self.paint(kind)}/>')
+        if drawn:
+            self._parts.append(f'<path d="{drawn}" {self._paint(kind)}/>')
 
-    def dot(self, x: float, y: float) -> None:
-        self._parts.append(f'<circle cx="{x:.1f}" cy="{y:.1f}" r="4" class="dot"/>')
+    def dot(self, x: float, y: float, kind: str = "dot", radius: float = 4) -> None:
+        self._parts.append(f'<circle cx="{x:.1f}" cy="{y:.1f}" r="{radius:g}" {self._paint(kind)}/>')
 
-    def paint(self, kind: str) -> str:
-        """How a kind is painted: `b` and `d` are hatched, the others are plain."""
-        if kind in ("b", "d"):
-            return f'fill="url(#{self.mark}{kind})" class="edge"'
-        return f'class="{kind}{" edge" if kind in ("a", "c") else ""}"'
+    def _paint(self, kind: str) -> str:
+        if kind in _HATCHES:
+            if kind not in self._hatched:
+                self._hatched.append(kind)
+            return f'fill="url(#{self.mark}{kind})"{_EDGE}'
+        return f'class="{kind}" {_PAINTS[kind].attributes()}'
+
+    def _hatch(self, kind: str) -> str:
+        return (
+            f'<pattern id="{self.mark}{kind}" width="6" height="6" patternUnits="userSpaceOnUse" '
+            f'patternTransform="rotate({_HATCHES[kind]})"><rect width="6" height="6" class="{kind}" '
+            f'fill="{_PAINTS[kind].light}"/>'
+            '<path d="M0 0V6" class="hatch" stroke="#1a1a1a" stroke-width="1.1"/></pattern>'
+        )
 
     def svg(self, styled: bool = True) -> str:
         """The whole text; without its style where the page that it is put into has that."""
         size = f'width="{self.width}" height="{self.height}" viewBox="0 0 {self.width} {self.height}"'
         named = f'role="img" aria-labelledby="{self.mark}t {self.mark}s"'
-        hatches = "".join(
-            f'<pattern id="{self.mark}{kind}" width="6" height="6" patternUnits="userSpaceOnUse" '
-            f'patternTransform="rotate({turn})"><rect width="6" height="6" class="hb-{kind}"/>'
-            f'<path d="M0 0V6" class="hatch"/></pattern>'
-            for kind, turn in (("b", 45), ("d", -45))
-        )
+        font = 'font-family="system-ui, sans-serif" font-size="12"'
         fits = ' style="max-width:100%;height:auto"' if styled else ""
+        hatches = "".join(self._hatch(kind) for kind in self._hatched)
         head = (
-            f'<svg xmlns="http://www.w3.org/2000/svg" {size} class="hb" {named}{fits}>\n'
-            f'<title id="{self.mark}t">{escape(self.title)}</title>\n'
-            f'<desc id="{self.mark}s">{escape(self.description)}</desc>\n'
-            f"{f'<style>{STYLE}</style>' if styled else ''}\n<defs>{hatches}</defs>\n"
-            f'<rect width="{self.width}" height="{self.height}" class="ground"/>\n'
+            f'<svg xmlns="http://www.w3.org/2000/svg" {size} class="hb" {named} {font}{fits}>\n'
+            f'<title id="{self.mark}t">{_spelt(self.title)}</title>\n'
+            f'<desc id="{self.mark}s">{_spelt(self.description)}</desc>\n'
+            f"{f'<style>{STYLE}</style>' if styled else ''}\n{f'<defs>{hatches}</defs>' if hatches else ''}\n"
+            f'<rect width="{self.width}" height="{self.height}" {self._paint("ground")}/>\n'
         )
         return head + "\n".join(self._parts) + "\n</svg>\n"
+
+
+def _spelt(words: str) -> str:
+    """The text as XML has it: signs that XML does not allow are replaced."""
+    return escape(re.sub("[^\t\n\r\x20-\ud7ff\ue000-\ufffd\U00010000-\U0010ffff]", "\ufffd", words))
 
 
 def width_of(words: str) -> float:
@@ -127,7 +212,7 @@ def ticks(most: float, count: int) -> List[float]:
     >>> ticks(100, 5), ticks(0.7, 4)
     ([0.0, 20.0, 40.0, 60.0, 80.0, 100.0], [0.0, 0.2, 0.4, 0.6, 0.8])
     """
-    step = 10.0 ** -3
+    step = 10.0**-3
     while True:
         for times in (1, 2, 5):
             if step * times * count >= most:

@@ -44,7 +44,7 @@ def milliseconds(count: int) -> Milliseconds:
     True
     """
     if isinstance(count, bool) or not isinstance(count, int):
-        raise TypeError(f"a whole number of milliseconds is wanted, not {count!r}")
+        raise TypeError(f"expected a whole number of milliseconds, got {count!r}")
     return Milliseconds(count)
 
 
@@ -68,7 +68,7 @@ def seconds(duration: Duration, what: str = "") -> int:
         micros = (duration.days * 86400 + duration.seconds) * 1000000 + duration.microseconds
         count, is_less = _rounded(micros, 1000), 0 < micros < 1000
     elif isinstance(duration, bool) or not isinstance(duration, (int, float)):
-        raise TypeError(f"{place}seconds or a timedelta are wanted, not {duration!r}")
+        raise TypeError(f"{place}expected seconds or a timedelta, got {duration!r}")
     elif not math.isfinite(duration):
         raise PolicyError(Fault.OUT_OF_RANGE, hint=f"{place}a duration of {duration!r} seconds")
     elif isinstance(duration, int):

@@ -10,7 +10,7 @@ from .budget import Budget
 from .errors import BudgetError
 from .leased import FileStore, Leased, LeasedQuota
 
-__all__ = ["budget", "duration", "inputs", "number", "quota", "statuses", "terms"]
+__all__ = ["budget", "duration", "inputs", "number", "quota", "size", "size_text", "statuses", "terms"]
 
 
 def number(most: int, least: int = 0) -> Callable[[str], int]:
@@ -41,6 +41,34 @@ def duration(text: str) -> float:
     raise argparse.ArgumentTypeError(f"{text!r} is no number of seconds")
 
 
+_SIZES = {"K": 1 << 10, "M": 1 << 20, "G": 1 << 30}
+_SIZE = re.compile(r"([1-9][0-9]{0,14})([KMG]?)", re.ASCII)
+
+
+def size(text: str) -> int:
+    """A number of bytes, also as `10K`, `10M` or `10G`, by units of 1,024.
+
+    >>> size("10M"), size("7")
+    (10485760, 7)
+    """
+    found = _SIZE.fullmatch(text)
+    if not found:
+        raise argparse.ArgumentTypeError(f"expected a number of bytes, as 500, 10K, 10M or 10G, got {text!r}")
+    return int(found[1]) * _SIZES.get(found[2], 1)
+
+
+def size_text(size: int) -> str:
+    """The shortest spelling of a number of bytes.
+
+    >>> size_text(3 << 20), size_text(1025)
+    ('3M', '1025')
+    """
+    for unit, bytes_of in reversed(list(_SIZES.items())):
+        if size % bytes_of == 0:
+            return f"{size // bytes_of}{unit}"
+    return str(size)
+
+
 def statuses(text: str) -> FrozenSet[int]:
     """Exit statuses, as numbers and ranges: `1,3-5`.
 
@@ -60,20 +88,20 @@ def statuses(text: str) -> FrozenSet[int]:
 
 
 def budget(text: Optional[str]) -> Union[Budget, Leased, None]:
-    """A budget of this run, `N`, or one that all runs with the same file share, `N@FILE`."""
+    """A budget of this run, `N`, or one that all runs with the same folder share, `N@FOLDER`."""
     if text is None:
         return None
     tickets, at, path = text.partition("@")
     if not (tickets.isascii() and tickets.isdigit()):
-        raise BudgetError(f"{text!r} is not N or N@FILE")
+        raise BudgetError(f"{text!r} is not N or N@FOLDER")
     return Leased(FileStore(path), "run", int(tickets), lease=1) if at else Budget(int(tickets))
 
 
 def quota(text: str) -> LeasedQuota:
-    """A quota that all runs with the same file share: `10/20%/60s@FILE`."""
+    """A quota that all runs with the same folder share: `10/20%/60s@FOLDER`."""
     spelt, at, path = text.partition("@")
     if not (at and path):
-        raise BudgetError(f"{text!r} is not RESERVE/SHARE%/PERIOD@FILE, as 10/20%/60s@FILE")
+        raise BudgetError(f"{text!r} is not RESERVE/SHARE%/PERIOD@FOLDER, as 10/20%/60s@FOLDER")
     reserve, share, per = terms(spelt)
     return LeasedQuota(FileStore(path), "run", reserve, share, per, lease=1)
 

@@ -3,13 +3,12 @@
 from __future__ import annotations
 
 from functools import partial
-from typing import Optional
 
-from ._deprecated import deprecated
 from ._engine import MOST_TICKETS, Pass
 from ._granting import Granting
 from ._passes import Passes
-from .errors import BudgetError, TermsError
+from ._tickets import Drawn, Refusal, RefusalReason, Ticket
+from .errors import BudgetError, EngineError, TermsError, TicketError
 
 __all__ = ["Budget"]
 
@@ -23,7 +22,7 @@ class Budget(Granting):
 
     >>> with Budget(2) as budget:
     ...     budget.draw(), budget.draw(), budget.draw()
-    (0, 1, None)
+    (<Ticket 0>, <Ticket 1>, <Refusal: used up>)
     >>> budget.granted
     2
 
@@ -43,7 +42,7 @@ class Budget(Granting):
 
         >>> budget = Budget.rising(0)
         >>> budget.draw(), budget.raise_to(5), budget.draw()
-        (None, 5, 0)
+        (<Refusal: used up>, 5, <Ticket 0>)
         """
         made = cls.__new__(cls)
         made._begin(limit, True)
@@ -51,7 +50,7 @@ class Budget(Granting):
 
     def _begin(self, limit: int, rising: bool) -> None:
         if isinstance(limit, bool) or not isinstance(limit, int):
-            raise TypeError(f"a whole number of tickets is wanted, not {limit!r}")
+            raise TypeError(f"expected a whole number of tickets, got {limit!r}")
         _look_at_limit(limit)
         self._limit = limit
         self._rising = rising
@@ -62,19 +61,22 @@ class Budget(Granting):
         """The most tickets that are drawn: of a rising budget, as of now."""
         return self._limit
 
-    @property
-    def count(self) -> int:
-        """The old name of `granted`."""
-        deprecated("Budget.count", "Budget.granted")
-        return self.granted
-
-    def draw(self) -> Optional[int]:
-        """A ticket, by its number from 0, or None where there is none left."""
-        lent = self.passes.lend()
+    def draw(self) -> Drawn:
+        """A `Ticket`, or a `Refusal`, which is false, where there is none left."""
+        passes = self.passes
+        lent = passes.lend()
         try:
-            return lent.draw()
+            number = lent.draw()
+        except EngineError:
+            passes.look_open()
+            raise
         finally:
-            self.passes.give_back(lent)
+            passes.give_back(lent)
+        return Refusal(RefusalReason.USED_UP) if number is None else Ticket(number, None, self)
+
+    def hand_back(self, ticket: Ticket) -> None:
+        """A `TicketError`: what was drawn of a budget does not come back."""
+        raise TicketError(f"expected a ticket of a quota, got {ticket!r} of a budget, which does not come back")
 
     def raise_to(self, limit: int) -> int:
         """Makes the limit of a rising budget the greater of itself and this one, and answers it."""

@@ -28,7 +28,6 @@ __all__ = [
 ]
 
 
-
 def forever() -> Policy:
     """Goes on at once, for ever. Meet it with something that waits."""
     return Policy.of_node("forever", ())

@@ -18,6 +18,7 @@ __all__ = [
     "StoreLost",
     "StormError",
     "TermsError",
+    "TicketError",
     "TryAgain",
 ]
 
@@ -40,8 +41,8 @@ class PolicyError(HikeboxError, ValueError):
     """A policy was refused.
 
     `fault` says what is wrong, `place` at which node of the policy (`meet[1].cap[1]`, or `line 2, column 7` of a text
-    that is no JSON; empty where it is the whole policy) and `hint` what is wanted there and what was found, or why it is
-    no JSON, as `zsched check` does.
+    that is no JSON; empty where it is the whole policy) and `hint` what was expected there and what was found, or why
+    it is no JSON, as `zsched check` does.
 
     >>> from hikebox import Policy
     >>> Policy.from_dict({"meet": ["forever", {"recur": 3}]})
@@ -66,6 +67,10 @@ class BudgetError(HikeboxError):
 
 class TermsError(BudgetError, ValueError):
     """What a budget or a quota was to be made with is out of range."""
+
+
+class TicketError(BudgetError, ValueError):
+    """A ticket can't be handed back: it came back already, is of another quota, or is of a budget."""
 
 
 class BudgetClosed(BudgetError):

@@ -5,15 +5,27 @@ from __future__ import annotations
 import email.utils
 import time
 from datetime import timezone
-from typing import Any, Callable, Optional
+from typing import Any, Callable, Collection, Optional
 
-__all__ = ["METHODS", "STATUSES", "parse_retry_after", "retry_after", "retry_after_of"]
+__all__ = ["METHODS", "STATUSES", "is_bad", "parse_retry_after", "retry_after", "retry_after_of"]
 
 #: The statuses that the adapters retry where nothing else is said.
 STATUSES = frozenset({429, 502, 503, 504})
 
+#: Those that are retried, whatever else is said, where the answer has a `Retry-After`: urllib3's `Retry` has the same.
+_ASKING = frozenset({413, 429, 503})
+
 #: The methods that may be repeated.
 METHODS = frozenset({"DELETE", "GET", "HEAD", "OPTIONS", "PUT", "TRACE"})
+
+
+def is_bad(status: int, statuses: Collection[int], asks: bool) -> bool:
+    """Whether an answer with this status is retried, where these statuses are, and it has a `Retry-After` or none.
+
+    >>> is_bad(503, {500}, False), is_bad(413, STATUSES, True), is_bad(404, STATUSES, True)
+    (False, True, False)
+    """
+    return status in statuses or (asks and status in _ASKING)
 
 
 def parse_retry_after(text: Optional[str], now: Callable[[], float] = time.time) -> Optional[float]:
@@ -45,7 +57,7 @@ def retry_after_of(response: object) -> Optional[float]:
 
 
 def retry_after(error: BaseException) -> Optional[float]:
-    """For `at_least`: the seconds that the response of an HTTP error asks to wait, where it has a `Retry-After`.
+    """For `retry_after`: the seconds that the response of an HTTP error asks to wait, where it has a `Retry-After`.
 
     It reads the headers of the exception (as of `urllib.error.HTTPError`), or those of its `response` (as of
     `requests` and `httpx`).

@@ -11,7 +11,7 @@
 >>> fetch()
 'fetched'
 >>> budget.draw()
-0
+<Ticket 0>
 >>> quota = LeasedQuota(store, "payments", reserve=100, share=0.2, per=10)
 >>> @retry(recurs(3), budget=quota)
 ... def pay():
@@ -21,26 +21,26 @@
 >>> folder.cleanup()
 
 A store counts the tickets that were leased. A process leases a range, by one atomic step of the store, and only then
-draws from it, by a `Budget` of the engine that has as many tickets as the range. So each ticket is in one lease, and is
-drawn once. What is left of a lease when its process ends is lost.
+draws from it, by a leased pass of the engine. So each ticket is in one lease, and is drawn once. What is left of a
+lease when its process ends is lost.
 """
 
 from __future__ import annotations
 
-import math
+import threading
 from typing import Callable, Optional
 
-from ._deprecated import deprecated, one_of
 from ._file_store import FileStore
 from ._leases import Leases
+from ._leasing import Grant
 from ._redis_store import RedisStore
-from ._requests import Requests
 from ._stores import QuotaRange, QuotaStore, Range, Store, uptime
 from ._time import Duration, seconds, seconds_text
 from .errors import TermsError
 from .quota import Terms, Usage, requests_of, terms_of
 
 __all__ = ["FileStore", "Leased", "LeasedQuota", "QuotaRange", "QuotaStore", "Range", "RedisStore", "Store"]
+
 
 class Leased(Leases):
     """A budget that all processes with the same store and name share. Threads may share it too.
@@ -67,13 +67,10 @@ class Leased(Leases):
         *,
         per: Optional[Duration] = None,
         lease: Optional[int] = None,
-        spare: Optional[int] = None,
+        spare: int = 0,
         again_after: float = 1.0,
         clock: Callable[[], float] = uptime,
-        period: Optional[Duration] = None,
-        reserve: Optional[int] = None,
     ) -> None:
-        per = one_of(per, period, "per, period")
         if isinstance(limit, bool) or not isinstance(limit, int) or not 0 <= limit < 2**52:
             raise TermsError(f"a limit is a whole number from 0 to 2**52 - 1, not {limit!r}")
         millis = None if per is None else seconds(per, "per")
@@ -82,13 +79,7 @@ class Leased(Leases):
         self.store = store
         self.limit = limit
         self.lease = _checked_lease(lease) or max(1, min(1000, limit // 64))
-        super().__init__(name, millis, one_of(spare, reserve, "spare, reserve") or 0, again_after, clock)
-
-    @property
-    def reserve(self) -> int:
-        """The old name of `spare`."""
-        deprecated("Leased.reserve", "Leased.spare")
-        return self.spare
+        super().__init__(name, millis, spare, again_after, clock)
 
     def _take(self) -> Range:
         return self.store.take(self.name, self.lease, self.limit, self.millis, self.clock)
@@ -146,11 +137,12 @@ class LeasedQuota(Leases):
 
     def begin_anew(self) -> None:
         super().begin_anew()
-        self._requests = Requests(self.terms.period / 1000)
+        self._terms_lock = threading.Lock()
         #: How many tickets are leased next.
         self._next = self._lease_of(self.terms.reserve)
-        #: Whether the store had no ticket left when it was asked last.
+        #: Whether the store had no ticket left when it was asked last, and by which terms it was asked.
         self._spent = False
+        self._asked_by = self.terms
 
     @property
     def counts_successes(self) -> bool:
@@ -163,24 +155,16 @@ class LeasedQuota(Leases):
         return self._returns_tickets
 
     def set_terms(self, reserve: Optional[int] = None, share: Optional[float] = None) -> None:
-        """Sets the reserve and the share that this process names to the store, from its next lease on; each process sets
-        its own. A window gives no more than the most generous that were named in it allow. It waits for a store that is
-        being asked."""
-        with self.lock:
+        """Sets the reserve and the share that this process names to the store, from its next lease on. Each process
+        sets its own. A window gives no more than the most generous that were named in it allow."""
+        with self._terms_lock:
             self.terms = self.terms.changed(reserve, share)
-            self._spent = False
-            self.ask_at = -math.inf
+        self._may_ask_again()
 
     def deposit(self, requests: int = 1) -> None:
-        """Counts a request, or so many at once. Calls that are retried under the quota count themselves. The store is not
-        asked."""
-        self._requests.add(self.clock(), requests_of(requests))
-
-    def hand_back(self) -> bool:
-        """Hands the ticket back that was drawn by hand latest, and not used: this process may draw it again while its
-        window lasts, and `granted` is one less. False where none was drawn by hand since one was handed back. Retries
-        under the quota do it by themselves."""
-        return self.hand_back_by_hand()
+        """Counts a request, or so many at once. Calls that are retried under the quota count themselves. The store is
+        not asked."""
+        self.leased.deposit(self.moments.now(), requests_of(requests))
 
     def seen(self) -> Usage:
         """Tells the store the requests that were counted since it was asked last, and answers what it has of its
@@ -191,28 +175,42 @@ class LeasedQuota(Leases):
         requests.
         """
         with self.lock:
-            found = self._asked(0)
-            self._spent = False
-            self.ask_at = -math.inf
+            found = self._asked(self.terms, 0)
+            # (requests are counted apart before and after the end of the window)
+            self.leased.granted(Grant(found.window, 0, 0, self.moments.of(found.until)))
+        self._may_ask_again()
         given = found.first + found.tickets
         left = 0 if found.lost else max(0, self.terms.allowed(found.asked) - given)
-        return Usage(found.window, found.asked, given, left, found.lost)
+        return Usage(found.window, found.asked, given, left, found.lost, found.until)
+
+    def _may_ask_again(self) -> None:
+        self._spent = False
+        self.leased.leave_alone(0)
 
     def _take(self) -> Range:
-        self._spent = False
-        found = self._asked(self._next)
-        self._next = self._lease_of(self.terms.allowed(found.asked))
-        self._spent = found.tickets == 0
-        until = found.until
-        if self._spent and self.terms.share:
-            until = min(until, self.clock() + self.again_after)
-        return Range(found.first, found.tickets, until, found.lost)
+        self._spent, terms = False, self.terms
+        found = self._asked(terms, self._next)
+        self._next = self._lease_of(terms.allowed(found.asked))
+        self._asked_by = terms
+        return Range(found.first, found.tickets, found.until, found.window, found.lost)
 
-    def _asked(self, count: int) -> QuotaRange:
-        return self.store.take_of_quota(self.name, self.terms, count, self._requests.take, self.clock)
+    def _granted_none(self, found: Range) -> None:
+        if self._asked_by is not self.terms:  # they were set meanwhile
+            self._may_ask_again()
+            return
+        self._spent = True
+        if self.terms.share:  # others may tell their requests
+            self.leave_alone(found.until)
 
-    def _may_ask(self) -> bool:
-        return super()._may_ask() or (self._spent and self._requests.count * self.terms.share >= self._next * 1000)
+    def _asked(self, terms: Terms, count: int) -> QuotaRange:
+        return self.store.take_of_quota(self.name, terms, count, self._told, self.clock)
+
+    def _told(self, began: float) -> int:
+        """The requests that were counted since the window began."""
+        return self.leased.tell(self.moments.after(began))
+
+    def _is_worth_asking(self) -> bool:
+        return self._spent and self.leased.seen().untold * self.terms.share >= self._next * 1000
 
     def _lease_of(self, allowed: int) -> int:
         return self.lease or max(1, min(1000, allowed // 64))

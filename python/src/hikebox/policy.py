@@ -4,10 +4,10 @@ from __future__ import annotations
 
 import json
 import os
-from typing import Any, Callable, Dict, Iterable, List, Optional, Tuple, Union
+from typing import Any, Callable, Dict, FrozenSet, Iterable, List, Optional, Tuple, Union
 
 from ._checks import interval, ratio, whole
-from ._nodes import FOLDS
+from ._nodes import FOLDS, MOST_DEPTH, MOST_NODES, reads_of, reads_of_node
 from ._plan import Plan
 from ._preview import Step, played
 from ._spelling import spelt
@@ -31,9 +31,15 @@ class Policy:
     recurs(5) & exponential(0.1, 2).cap(1)
     """
 
-    __slots__ = ("_plan", "__weakref__")
+    __slots__ = ("_plan", "_node", "_nodes", "_depth", "_reads", "__weakref__")
 
-    _plan: Plan
+    #: What the engine has of it, once that is needed.
+    _plan: Optional[Plan]
+    #: Its topmost node, where a builder made it: the name, the parameters, and the policies under it.
+    _node: Optional[Tuple[str, Tuple[Any, ...], Optional[Policy], Optional[Policy]]]
+    _nodes: int
+    _depth: int
+    _reads: Optional[Tuple[FrozenSet[int], bool]]
 
     def __init__(self, *_: Any, **__: Any) -> None:
         raise TypeError("a policy is made by a builder, as recurs(5), or by Policy.from_json, from_dict or from_file")
@@ -41,16 +47,26 @@ class Policy:
     @classmethod
     def _of_plan(cls, plan: Plan) -> Policy:
         policy = object.__new__(cls)
-        policy._plan = plan
+        policy._plan, policy._node, policy._reads = plan, None, None
+        policy._nodes, policy._depth, _ = plan.size()
         return policy
 
     @staticmethod
-    def of_node(name: str, own: Tuple[Any, ...], first: Optional[Policy] = None, second: Optional[Policy] = None) -> Policy:
+    def of_node(
+        name: str, own: Tuple[Any, ...], first: Optional[Policy] = None, second: Optional[Policy] = None
+    ) -> Policy:
         """The policy of a node, with parameters that were looked at, over other policies: for builders."""
         policy = object.__new__(Policy)
-        policy._plan = Plan.of_node(
-            name, own, None if first is None else first._plan, None if second is None else second._plan
-        )
+        policy._plan = policy._reads = None
+        policy._node = (name, own, first, second)
+        nodes = depth = 1
+        if first is not None:
+            nodes, depth = first._nodes + 1, first._depth + 1
+        if second is not None:
+            nodes, depth = nodes + second._nodes, max(depth, second._depth + 1)
+        policy._nodes, policy._depth = nodes, depth
+        if nodes > MOST_NODES or depth > MOST_DEPTH:
+            policy.plan  # (the engine says what is wrong)
         return policy
 
     @classmethod
@@ -62,8 +78,8 @@ class Policy:
         >>> Policy.from_json('{"fixed":0}')
         Traceback (most recent call last):
         ...
-        hikebox.errors.PolicyError: number out of range: "fixed" is spelt {"fixed":D}, D from 1 to 4611686018427387903; \
-found {"fixed":0}
+        hikebox.errors.PolicyError: number out of range: expected {"fixed":D}, D from 1 to \
+4611686018427387903, got {"fixed":0}
         """
         encoded = text.encode("utf-8", "surrogatepass") if isinstance(text, str) else bytes(text)
         return cls._of_plan(Plan.of_text(encoded))
@@ -113,22 +129,22 @@ found {"fixed":0}
                 raise
         if isinstance(value, dict):
             return cls.from_dict(value)
-        raise TypeError(f"a policy, its JSON text or a dict is wanted, not {value!r}")
+        raise TypeError(f"expected a policy, its JSON text or a dict, got {value!r}")
 
     # What it is
 
     def to_json(self) -> str:
         """The policy as JSON, which `from_json` and `zsched plan` read."""
-        return self._plan.text
+        return self.plan.text
 
     def to_dict(self) -> Any:
         """The policy as a value of its own that `from_dict` reads."""
-        return json.loads(self._plan.text)
+        return json.loads(self.plan.text)
 
     @property
     def nodes(self) -> int:
         """How many nodes it has, at most 256."""
-        return self._plan.size()[0]
+        return self.plan.size()[0]
 
     @property
     def depth(self) -> int:
@@ -138,7 +154,7 @@ found {"fixed":0}
         >>> (recurs(5) & spaced(1).cap(2)).depth
         3
         """
-        return self._plan.size()[1]
+        return self.plan.size()[1]
 
     @property
     def most_retries(self) -> Optional[int]:
@@ -148,24 +164,24 @@ found {"fixed":0}
         >>> (recurs(5) & spaced(1)).most_retries, spaced(1).up_to(60).most_retries
         (5, None)
         """
-        return self._plan.size()[2]
+        return self.plan.size()[2]
 
     def __repr__(self) -> str:
-        return spelt(self._plan.tree)
+        return spelt(self.plan.tree)
 
     def __eq__(self, other: object) -> bool:
         if not isinstance(other, Policy):
             return NotImplemented
-        return self._plan.text == other._plan.text
+        return self.plan.text == other.plan.text
 
     def __hash__(self) -> int:
-        return hash(self._plan.text)
+        return hash(self.plan.text)
 
     def __bool__(self) -> bool:
         raise TypeError("policies are joined by & and |: `and`, `or` and `not` would drop one of them")
 
     def __reduce__(self) -> Any:
-        return (Policy.from_json, (self._plan.text,))
+        return (Policy.from_json, (self.plan.text,))
 
     def __copy__(self) -> Policy:
         return self
@@ -175,8 +191,30 @@ found {"fixed":0}
 
     @property
     def plan(self) -> Plan:
-        """What the retries of this package give the engine."""
-        return self._plan
+        """What the retries of this package give the engine, which has it from the first time that it is needed."""
+        plan = self._plan
+        if plan is None:
+            assert self._node is not None
+            name, own, first, second = self._node
+            plan = self._plan = Plan.of_node(
+                name, own, None if first is None else first.plan, None if second is None else second.plan
+            )
+        return plan
+
+    @property
+    def reads(self) -> Tuple[FrozenSet[int], bool]:
+        """The lanes by which its nodes pick at random, and whether one of them reads the code of a failure."""
+        if self._reads is None:
+            if self._node is None:
+                self._reads = reads_of(self.plan.tree)
+            else:
+                name, own, first, second = self._node
+                lanes, codes = reads_of_node(name, own)
+                for policy in (first, second):
+                    if policy is not None:
+                        lanes, codes = lanes | policy.reads[0], codes or policy.reads[1]
+                self._reads = lanes, codes
+        return self._reads
 
     def preview(
         self,
@@ -203,7 +241,7 @@ found {"fixed":0}
         [1000, 2000, None]
         """
         codes = [input] if isinstance(input, int) else list(input)
-        return played(self._plan, steps, seconds(start), seconds(took), codes, random)
+        return played(self.plan, steps, seconds(start), seconds(took), codes, random)
 
     # Two policies
 
@@ -228,7 +266,7 @@ found {"fixed":0}
         """
         made = self._with("follow", other)
         if made is NotImplemented:
-            raise TypeError(f"a policy is wanted, not {other!r}")
+            raise TypeError(f"expected a policy, got {other!r}")
         return made
 
     def _with(self, name: str, other: object) -> Policy:
@@ -257,7 +295,9 @@ found {"fixed":0}
     def jittered(self, least: float = 0.8, most: float = 1.2, *, lane: int = 0) -> Policy:
         """With each delay times a ratio from `least` up to `most`, which a random number picks. JSON's `jitter`.
 
-        The ratios are rounded to thousandths. Jitters of one `lane`, from 0 to 3, pick by the same number.
+        So `jittered()` is 20 % less to 20 % more, `jittered(0, 1)` is full jitter, and `jittered(0.2)` is a ratio from
+        0.2 up to 1.2. The ratios are rounded to thousandths. Jitters of one `lane`, from 0 to 3, pick by the same
+        number.
 
         >>> from hikebox import spaced
         >>> spaced(1).jittered(0.5, 1.5).preview(1, random=lambda: 0.0)[0].delay
@@ -295,7 +335,7 @@ found {"fixed":0}
     def gather(self, fold: str) -> Policy:
         """With the "sum", "count", "max" or "list" of the outputs at the earlier events as output."""
         if fold not in FOLDS:
-            raise PolicyError(Fault.NOT_A_PLAN, hint=f"gather: one of {', '.join(FOLDS)} is wanted, not {fold!r}")
+            raise PolicyError(Fault.NOT_A_PLAN, hint=f"gather: expected one of {', '.join(FOLDS)}, got {fold!r}")
         return Policy.of_node("gather", (fold,), self)
 
     def first(self) -> Policy:
@@ -342,7 +382,7 @@ found {"fixed":0}
     def _gate(self, side: str, want: bool, **tests: Optional[int]) -> Policy:
         given = [(test, number) for test, number in tests.items() if number is not None]
         if len(given) != 1:
-            raise TypeError("one of below, at_least and equal is wanted")
+            raise TypeError("expected one of below, at_least and equal")
         ((test, number),) = given
         bound = whole(number, f"{'while' if want else 'until'}_{side}")
         return Policy.of_node("gate", (side, want, test, bound), self)

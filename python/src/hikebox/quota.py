@@ -14,10 +14,14 @@ from ._engine import LEAST_PERIOD, MOST_SHARE, MOST_TICKETS, Pass
 from ._granting import Granting
 from ._leasing import quota_allows
 from ._passes import Passes
-from ._time import Duration, moment, seconds, seconds_text
-from .errors import PolicyError, TermsError
+from ._tickets import Drawn, Refusal, RefusalReason, Ticket, checked_ticket
+from ._time import FAR, Duration, moment, seconds, seconds_text
+from .errors import EngineError, PolicyError, TermsError
 
 __all__ = ["Quota", "Terms", "Usage", "requests_of", "terms_of"]
+
+#: The engine's number of a ticket is its window times this, and its number there.
+WINDOW = 2**32
 
 
 class Terms(NamedTuple):
@@ -67,8 +71,8 @@ class Usage:
     #: Of a `LeasedQuota`: whether the store may have lost its count of the window, and so grants nothing of it.
     lost: bool = False
     #: When the next window begins, in seconds of the quota's clock. If that is further off than `per`, this window was
-    #: opened by a call whose clock was ahead, or by the requests past the 4,294,967,296 of the window before. None of a
-    #: `LeasedQuota`. It is left out where usages are compared.
+    #: opened by a call whose clock was ahead, or by the requests past the 4,294,967,296 of the window before. It is
+    #: left out where usages are compared.
     next: Optional[float] = field(default=None, compare=False)
 
 
@@ -95,9 +99,9 @@ class Quota(Granting):
         What tells the seconds by which windows go, from what it tells when the quota is made: to be replaced in tests.
 
     A retry that ends while it waits, since it was cancelled or stopped, hands its ticket back: one more may be drawn in
-    the ticket's window then, and `granted` is one less. A retry draws a ticket where its attempt fails, and begins after
-    its delay, maybe in a later window: more retries can begin in a window than it granted. Each call that is retried
-    counts as one request, at its first attempt:
+    the ticket's window then, and `granted` is one less. A retry draws a ticket where its attempt fails, and begins
+    after its delay, maybe in a later window: more retries can begin in a window than it granted. Each call that is
+    retried counts as one request, at its first attempt:
 
     >>> from hikebox import recurs, retry
     >>> quota = Quota(reserve=10, share=0.2, per=10)
@@ -177,10 +181,10 @@ class Quota(Granting):
         now on, in the present window too. What is left out stays, and so do the windows and what they have given.
 
         >>> quota = Quota(reserve=1, share=0, per=60)
-        >>> quota.draw() is not None, quota.draw() is not None
+        >>> bool(quota.draw()), bool(quota.draw())
         (True, False)
         >>> quota.set_terms(reserve=2)
-        >>> quota.draw() is not None, quota.seen().left, quota
+        >>> bool(quota.draw()), quota.seen().left, quota
         (True, 0, <Quota(2, 0, per=60)>)
         """
         with self.passes.root() as root:
@@ -189,60 +193,79 @@ class Quota(Granting):
             self._in_force.terms = terms
 
     def deposit(self, requests: int = 1) -> None:
-        """Counts a request in the present window, or so many at once, as for a dear one. Calls that are retried under the
-        quota count themselves."""
+        """Counts a request in the present window, or so many at once, as for a dear one. Calls that are retried under
+        the quota count themselves."""
         if requests != 1:
             self._deposit_all(requests_of(requests))
             return
-        lent = self.passes.lend()
+        passes = self.passes
+        lent = passes.lend()
         try:
             lent.deposit(moment(self._clock()))
+        except EngineError:
+            passes.look_open()
+            raise
         finally:
-            self.passes.give_back(lent)
+            passes.give_back(lent)
 
     def _deposit_all(self, requests: int) -> None:
         """Counts so many requests, by the pass that counts any number."""
         with self.passes.root() as root:
             root.deposit(moment(self._clock()), c_uint64(requests))
 
-    def draw(self) -> Optional[int]:
-        """A ticket, or None where the present window has none left: a later one may, and so may this one after more
-        requests. Ticket n of a window, from 0, has the number `window * 2**32 + n`; those that are carried to a window,
-        which are drawn first, have the last numbers of the one before.
+    def draw(self) -> Drawn:
+        """A `Ticket`, or a `Refusal`, which is false, where the present window has none left: the next one may, and so
+        may this one after more requests. A window's tickets are numbered from 0; those that are carried to it, which
+        are drawn first, are the last ones of the window before.
 
         >>> quota = Quota(reserve=1, share=0.5, per=60)
-        >>> [quota.draw() is not None for _ in range(2)]
-        [True, False]
-        >>> quota.deposit(2)
-        >>> quota.draw() is not None
-        True
+        >>> ticket = quota.draw()
+        >>> ticket
+        <Ticket 0 of window 0>
+        >>> if not quota.draw():
+        ...     quota.deposit(2)
+        >>> quota.draw()
+        <Ticket 1 of window 0>
         """
-        lent = self.passes.lend()
+        passes, now = self.passes, moment(self._clock())
+        number = None
+        lent = passes.lend()
         try:
-            return lent.draw(moment(self._clock()))
+            number = lent.draw(now)
+            if number is None:
+                return _refusal(lent.seen(now)[-1])
+            ticket = Ticket(number % WINDOW, number // WINDOW, self)
+            ticket.may_come_back_to(passes.keep(lent, ticket, is_of_retry=False))
+            return ticket
+        except EngineError:
+            passes.look_open()
+            raise
         finally:
-            self.passes.give_back(lent)
+            if number is None:
+                passes.give_back(lent)
 
-    def hand_back(self) -> bool:
-        """Hands the latest ticket back that was drawn, and not used: one more may be drawn in its window then, unless
-        it was carried from the one before, and `granted` is one less. False where none was drawn since one was handed
-        back. Retries under the quota do it by themselves.
+    def hand_back(self, ticket: Ticket) -> None:
+        """Hands a ticket back that was drawn by hand, and not used: one more may be drawn in its window then, unless it
+        was carried from the one before, and `granted` is one less. That can be done once, else it is a `TicketError`.
+        `ticket.hand_back()` is the same. Retries under the quota do it by themselves.
 
         >>> quota = Quota(reserve=1, share=0, per=60)
-        >>> quota.draw() is not None, quota.hand_back(), quota.hand_back()
-        (True, True, False)
-        >>> quota.draw() is not None, quota.granted
+        >>> ticket = quota.draw()
+        >>> quota.hand_back(ticket)
+        >>> bool(quota.draw()), quota.granted
         (True, 1)
+        >>> ticket.hand_back()
+        Traceback (most recent call last):
+        ...
+        hikebox.errors.TicketError: expected a ticket that is out, got <Ticket 0 of window 0>, which was handed back
         """
-        return self.passes.hand_back()
+        self.passes.look_open()
+        self.passes.drop(checked_ticket(ticket).comes_back(self), hands_back=True)
 
     def seen(self) -> Usage:
         """What was asked of the present window, what it has given, what it has left, and when the next begins."""
-        lent = self.passes.lend()
-        try:
+        with self.passes.lent() as lent:
             window, asked, given, left, after = lent.seen(moment(self._clock()))
-        finally:
-            self.passes.give_back(lent)
         return Usage(window, asked, given, left, next=after / 1000)
 
     def expression(self) -> str:
@@ -267,6 +290,10 @@ class _InForce:
         self.terms = terms
 
 
+def _refusal(next_window: int) -> Refusal:
+    return Refusal(RefusalReason.USED_UP, None if next_window == FAR else next_window / 1000)
+
+
 def _first_pass(clock: Callable[[], float], in_force: _InForce, carries: bool) -> Pass:
     return Pass.of_quota(moment(clock()), *in_force.terms, carries)
 
@@ -284,7 +311,7 @@ def terms_of(reserve: int, share: float, per: Duration) -> Terms:
 def requests_of(requests: int) -> int:
     """A number of requests that are counted at once, or a `TermsError`."""
     if isinstance(requests, bool) or not isinstance(requests, int):
-        raise TypeError(f"a whole number of requests is wanted, not {requests!r}")
+        raise TypeError(f"expected a whole number of requests, got {requests!r}")
     if not 0 <= requests <= MOST_TICKETS:
         raise TermsError(f"from 0 to {MOST_TICKETS} requests are counted at once, not {requests}")
     return requests
@@ -292,7 +319,7 @@ def requests_of(requests: int) -> int:
 
 def _reserve_of(reserve: int) -> int:
     if isinstance(reserve, bool) or not isinstance(reserve, int):
-        raise TypeError(f"a whole number of retries is wanted as the reserve, not {reserve!r}")
+        raise TypeError(f"expected a whole number of retries as the reserve, got {reserve!r}")
     if not 0 <= reserve <= MOST_TICKETS:
         raise TermsError(f"a reserve is from 0 to {MOST_TICKETS} retries a window, not {reserve}")
     return reserve
@@ -300,7 +327,7 @@ def _reserve_of(reserve: int) -> int:
 
 def _share_of(share: float) -> int:
     if isinstance(share, bool) or not isinstance(share, (int, float)):
-        raise TypeError(f"a number of retries a request is wanted as the share, not {share!r}")
+        raise TypeError(f"expected a number of retries a request as the share, got {share!r}")
     if not (math.isfinite(share) and 0 <= share <= MOST_SHARE / 1000):
         raise TermsError(f"a share is from 0 to {MOST_SHARE // 1000} retries a request, not {share!r}")
     thousandths = round(share * 1000)

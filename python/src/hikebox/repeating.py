@@ -6,8 +6,10 @@ from typing import Any, Callable, Dict, Union, cast
 
 from ._drivers import not_awaitable
 from ._kinds import is_async, look_at_function
+from ._retried import Decorator
+from ._settings import DEFAULTS
 from .policy import Policy
-from .retrying import AsyncRetrying, BaseRetrying, Decorator, Retrying, decorator
+from .retrying import AsyncRetrying, BaseRetrying, Retrying, decorator, look_at_names
 
 __all__ = ["AsyncRepeating", "Repeating", "poll_until", "repeat"]
 
@@ -29,7 +31,7 @@ class Repeating(Retrying):
     _REPEATS = True
 
     def __init__(self, policy: Union[Policy, str, bytes, Dict[str, Any]], **how: Any) -> None:
-        super().__init__(policy, **_without_on(how))
+        super().__init__(policy, **_without_on(type(self).__name__, how))
 
 
 class AsyncRepeating(AsyncRetrying):
@@ -40,12 +42,13 @@ class AsyncRepeating(AsyncRetrying):
     _REPEATS = True
 
     def __init__(self, policy: Union[Policy, str, bytes, Dict[str, Any]], **how: Any) -> None:
-        super().__init__(policy, **_without_on(how))
+        super().__init__(policy, **_without_on(type(self).__name__, how))
 
 
-def _without_on(how: Dict[str, Any]) -> Dict[str, Any]:
+def _without_on(called: str, how: Dict[str, Any]) -> Dict[str, Any]:
+    look_at_names(called, how, DEFAULTS)
     if how.pop("on", ()) != ():
-        raise TypeError("on: a repetition ends with the first exception; retry what it calls")
+        raise TypeError(f"{called}() takes no `on`: it ends with the first exception; retry what it calls")
     return {**how, "on": ()}
 
 
@@ -81,6 +84,7 @@ def poll_until(
     'done'
     """
     look_at_function("accepts", accepts, awaits=True)
+    look_at_names("poll_until", how, [name for name in DEFAULTS if name != "on_result"])
 
     def refuses(result: Any) -> Any:
         return not not_awaitable(accepts(result))

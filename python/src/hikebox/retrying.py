@@ -6,6 +6,7 @@ import functools
 import inspect
 import random as _random
 import time
+from types import FunctionType
 from typing import (
     TYPE_CHECKING,
     Any,
@@ -16,9 +17,10 @@ from typing import (
     Coroutine,
     Dict,
     Generic,
+    Iterable,
     Iterator,
+    NoReturn,
     Optional,
-    Protocol,
     Type,
     TypeVar,
     Union,
@@ -28,8 +30,9 @@ from typing import (
 
 from ._attempts import AsyncAttempts, Attempt, Attempts
 from ._drivers import run, run_async
-from ._kinds import is_async
-from ._settings import GIVEN, LONGEST, Hook, Hooks, On, Settings, Stop, Tickets
+from ._kinds import is_async, is_generator
+from ._retried import Decorator, Retried
+from ._settings import DEFAULTS, MAX_RETRY_AFTER, Hook, Hooks, On, Settings, Stop, Tickets
 from ._time import Duration
 from .budget import Budget
 from .policy import Policy
@@ -40,47 +43,47 @@ __all__ = ["AsyncRetrying", "Attempt", "BaseRetrying", "Retried", "Retrying", "T
 
 Value = TypeVar("Value")
 Result = TypeVar("Result")
-Answer = TypeVar("Answer", covariant=True)
-Wrapped = TypeVar("Wrapped", bound=Callable[..., Any])
+First = TypeVar("First")
 Self = TypeVar("Self", bound="BaseRetrying")
+
+
+def _named_after(kind: type, init: Any) -> Any:
+    """The same `__init__`, which errors call by the name of this class."""
+    own = FunctionType(init.__code__, init.__globals__, "__init__", init.__defaults__, init.__closure__)
+    own.__kwdefaults__, own.__annotations__, own.__doc__ = init.__kwdefaults__, init.__annotations__, init.__doc__
+    own.__module__, own.__qualname__ = kind.__module__, f"{kind.__qualname__}.__init__"
+    own.__dict__.update(init.__dict__)
+    return own
+
+
+#: The parameters of a `Retrying`.
+_PARAMETERS = [
+    inspect.Parameter("policy", inspect.Parameter.POSITIONAL_OR_KEYWORD),
+    *(inspect.Parameter(name, inspect.Parameter.KEYWORD_ONLY, default=plain) for name, plain in DEFAULTS.items()),
+]
+
+
+def look_at_names(called: str, given: Iterable[str], known: Iterable[str]) -> None:
+    """Refuses a keyword argument that what was called does not have."""
+    for name in given:
+        if name not in known:
+            import difflib
+
+            near = difflib.get_close_matches(name, known, 1)
+            hint = f"; did you mean {near[0]!r}?" if near else ""
+            raise TypeError(f"{called}() got an unexpected keyword argument {name!r}{hint}")
+
 
 if TYPE_CHECKING:
     from typing_extensions import Concatenate, ParamSpec
 
+    from ._retried import RetriedFunction, TakesAny
+
     Parameters = ParamSpec("Parameters")
-    Others = ParamSpec("Others")
-
-    class Retried(Protocol[Parameters, Answer]):
-        """A function that is retried at each call."""
-
-        __name__: str
-        #: How it is retried, with its `statistics`. What is set on it counts for later calls.
-        retry: BaseRetrying
-
-        def retry_with(self, **changes: Any) -> Retried[Parameters, Answer]:
-            """The same function with these parameters of `Retrying` in the place of its own."""
-
-        def __call__(self, *args: Parameters.args, **kwargs: Parameters.kwargs) -> Answer:
-            """Calls the function until it succeeds."""
-
-        @overload
-        def __get__(self: Retried[Parameters, Answer], instance: None, owner: Any) -> Retried[Parameters, Answer]:
-            ...
-
-        @overload
-        def __get__(
-            self: Retried[Concatenate[Any, Others], Answer], instance: object, owner: Any
-        ) -> Retried[Others, Answer]:
-            ...
-
-else:
-
-    class Retried:
-        """A function that is retried at each call: it has `retry` and `retry_with(..)`."""
 
 
 class Setting(Generic[Value]):
-    """A parameter of a `Retrying`. Where it is set, the new value counts for the calls that begin from then on."""
+    """A parameter of a `Retrying`, which is read and never set."""
 
     name: str
 
@@ -98,8 +101,12 @@ class Setting(Generic[Value]):
     def __get__(self, retrying: Any, owner: Any = None) -> Any:
         return self if retrying is None else getattr(retrying.settings, self.name)
 
-    def __set__(self, retrying: BaseRetrying, value: Value) -> None:
-        retrying.change(**{self.name: value})
+    def __set__(self, retrying: BaseRetrying, value: Value) -> NoReturn:
+        name = self.name
+        raise AttributeError(
+            f"a {type(retrying).__name__} does not change: make another one by retrying.copy({name}=..), "
+            f"or a function by fn.retry_with({name}=..)"
+        )
 
 
 class BaseRetrying:
@@ -111,26 +118,27 @@ class BaseRetrying:
         A `Budget` or a `Quota` that all calls share, or other `Tickets`; None for none. Each call is a request of a
         quota.
     `on`
-        Which exceptions are retried: a type, a function of the exception, or a tuple of such. All others are raised at
-        once. Functions are asked of each `Exception`, and never of a `KeyboardInterrupt`, a `SystemExit` or a task's
-        cancellation: a type may name these.
+        Which exceptions are retried: a type, a function of the exception, or a tuple of such; `Exception` by default.
+        All others are raised at once. Functions are asked about each `Exception`, and never about a
+        `KeyboardInterrupt`, a `SystemExit` or a task's cancellation: a type may name these.
     `on_result`
         A function of the result that says whether the call is to be retried.
     `code`
         A function that gives the number by which the policy knows a failure: an exception, or a result that
         `on_result` refused. `code_of` where it is None.
-    `at_least`, `wait`
+    `retry_after`, `wait`
         Functions of the exception, and of the `RetryState`, that give the seconds that are waited at least, or None:
         as `Retry-After`. The policy's wait is the least.
-    `longest`
+    `max_retry_after`
         How many seconds these two may ask for, at most; None for any number.
     `deadline`
-        No attempt is planned to begin later than this after the first one began: seconds, or a `timedelta`. Where the
-        policy, `at_least` or `wait` would have it so, the retry ends as where the policy is done, and draws no ticket.
-        It takes a node of the policy. `seconds_left()` tells the call how long it has.
+        No attempt but the first begins later than this after the first one began: seconds, or a `timedelta`. Where the
+        policy, `retry_after` or `wait` would have it so, the retry ends at once and draws no ticket; where it wakes too
+        late, it ends and its ticket comes back. `seconds_left()` tells the call how long it has.
     `stop`
-        What ends a retry, though its policy goes on: an event of threading or asyncio that is set, which ends its wait
-        too, or a function of the `RetryState`, asked after each attempt that failed and each wait.
+        What ends a retry, though its policy goes on: an event of threading or multiprocessing (in coroutines also of
+        asyncio or trio) that is set, which ends its wait too, or a function of the `RetryState`, asked after each
+        attempt that failed and each wait.
     `before`, `after`, `before_sleep`, `on_success`
         Functions of the `RetryState`, or lists of them, called before each attempt, after each that failed, before each
         wait, and where a call succeeded in the end.
@@ -138,7 +146,8 @@ class BaseRetrying:
         A function of the `RetryState` whose result is given in the end, in the place of the last exception.
     `sleep`, `clock`, `random`
         What waits so many seconds, tells the seconds, and gives numbers from 0 up to 1: to be replaced in tests.
-        Where `sleep` comes back too early by `clock`, the retry goes on as if it had not.
+        Where `sleep` comes back too early by `clock`, the retry goes on as if it had not. Beside an event, a `sleep`
+        of your own that blocks is called for at most 0.05 s at a time.
     """
 
     __slots__ = ("settings", "counts", "__weakref__")
@@ -152,9 +161,9 @@ class BaseRetrying:
     on = Setting[On]()
     on_result = Setting[Optional[Callable[[Any], Any]]]()
     code = Setting[Optional[Callable[[Any], int]]]()
-    at_least = Setting[Optional[Callable[[Any], Optional[float]]]]()
+    retry_after = Setting[Optional[Callable[[Any], Optional[float]]]]()
     wait = Setting[Any]()
-    longest = Setting[Optional[float]]()
+    max_retry_after = Setting[Optional[float]]()
     deadline = Setting[Optional[Duration]]()
     stop = Setting[Any]()
     before = Setting[Hooks]()
@@ -166,81 +175,105 @@ class BaseRetrying:
     clock = Setting[Callable[[], float]]()
     random = Setting[Callable[[], float]]()
 
-    def __init__(
-        self,
-        policy: Union[Policy, str, bytes, Dict[str, Any]],
-        *,
-        budget: Union[Budget, Quota, Tickets, None] = None,
-        on: On = Exception,
-        on_result: Optional[Callable[[Any], Any]] = None,
-        code: Optional[Callable[[Any], int]] = None,
-        at_least: Optional[Callable[[Any], Optional[float]]] = None,
-        wait: Optional[Callable[[Any], Optional[float]]] = None,
-        longest: Optional[float] = LONGEST,
-        deadline: Optional[Duration] = None,
-        stop: Optional[Stop] = None,
-        before: Hooks = None,
-        after: Hooks = None,
-        before_sleep: Hooks = None,
-        on_success: Hooks = None,
-        fallback: Optional[Hook] = None,
-        sleep: Optional[Callable[[float], Any]] = None,
-        clock: Callable[[], float] = time.monotonic,
-        random: Callable[[], float] = _random.random,
-    ) -> None:
-        given = locals()
-        #: What it was made with, and what follows from it.
-        self.settings = self._settings_of({name: given[name] for name in GIVEN})
-        #: What is counted of its calls.
-        self.counts = Counts()
+    if TYPE_CHECKING:
 
-    def _settings_of(self, given: Dict[str, Any]) -> Settings:
-        return Settings(**given, awaits=self._AWAITS, repeats=self._REPEATS)
+        def __init__(
+            self,
+            policy: Union[Policy, str, bytes, Dict[str, Any]],
+            *,
+            budget: Union[Budget, Quota, Tickets, None] = None,
+            on: On = Exception,
+            on_result: Optional[Callable[[Any], Any]] = None,
+            code: Optional[Callable[[Any], int]] = None,
+            retry_after: Optional[Callable[[Any], Optional[float]]] = None,
+            wait: Optional[Callable[[Any], Optional[float]]] = None,
+            max_retry_after: Optional[float] = MAX_RETRY_AFTER,
+            deadline: Optional[Duration] = None,
+            stop: Optional[Stop] = None,
+            before: Hooks = None,
+            after: Hooks = None,
+            before_sleep: Hooks = None,
+            on_success: Hooks = None,
+            fallback: Optional[Hook] = None,
+            sleep: Optional[Callable[[float], Any]] = None,
+            clock: Callable[[], float] = time.monotonic,
+            random: Callable[[], float] = _random.random,
+        ) -> None:
+            ...
+
+    else:
+
+        def __init__(self, policy, **given):
+            if given:
+                look_at_names(type(self).__name__, given, DEFAULTS)
+            self.settings = Settings(policy, given, self._AWAITS, self._REPEATS)
+            self.counts = Counts()
+
+        own = inspect.Parameter("self", inspect.Parameter.POSITIONAL_OR_KEYWORD)
+        __init__.__signature__ = inspect.Signature([own, *_PARAMETERS])
+        del own
+
+    #: What it was made with, and what follows from it.
+    settings: Settings
+    #: What is counted of its calls.
+    counts: Counts
+
+    def __init_subclass__(cls, **how: Any) -> None:
+        super().__init_subclass__(**how)
+        if "__init__" not in cls.__dict__:
+            setattr(cls, "__init__", _named_after(cls, getattr(cls, "__init__")))
 
     @property
     def given(self) -> Dict[str, Any]:
-        """The parameters that it has."""
-        return {name: getattr(self.settings, name) for name in GIVEN}
-
-    def change(self, **changes: Any) -> None:
-        """Changes these parameters, for the calls that begin from then on."""
-        self.settings = self._settings_of({**self.given, **changes})
+        """The policy, and the parameters that are not their defaults."""
+        return {"policy": self.settings.policy, **self.settings.given}
 
     def copy(self: Self, **changes: Any) -> Self:
         """The same with these parameters in the place of its own, and counts of its own."""
+        look_at_names("copy", changes, ("policy", *DEFAULTS))
         return type(self)(**{**self.given, **changes})
 
     def __copy__(self: Self) -> Self:
         return self.copy()
 
     def __reduce__(self) -> Any:
-        plain = _defaults()
-        return _made, (type(self), {name: own for name, own in self.given.items() if own is not plain.get(name)})
-
-    def __setattr__(self, name: str, value: Any) -> None:
-        try:
-            super().__setattr__(name, value)
-        except AttributeError:
-            raise AttributeError(f"a {type(self).__name__} has no {name!r}: {', '.join(GIVEN)} can be set") from None
+        return _made, (type(self), self.given)
 
     @property
     def statistics(self) -> Statistics:
         """Counts over all calls that are over, from all threads."""
         return self.counts.seen()
 
+    @overload
+    def wraps(self, fn: TakesAny[Result]) -> Retried[..., Result]:
+        ...
+
+    @overload
+    def wraps(  # type: ignore[misc]
+        self, fn: Callable[Concatenate[First, Parameters], Result]
+    ) -> RetriedFunction[First, Parameters, Result]:
+        ...
+
+    @overload
     def wraps(self, fn: Callable[Parameters, Result]) -> Retried[Parameters, Result]:
+        ...
+
+    def wraps(self, fn: Any) -> Any:
         """The function, retried at each call; with `retry`, this object, and `retry_with(..)`, a copy with changes."""
-        inner: Any = fn
-        if isinstance(inner, (classmethod, staticmethod)):
-            return cast("Retried[Parameters, Result]", type(inner)(self.wraps(inner.__func__)))
-        if not callable(inner):
-            raise TypeError(f"a function is wanted, not {inner!r}")
-        if inspect.isgeneratorfunction(inner) or inspect.isasyncgenfunction(inner):
+        if isinstance(fn, (classmethod, staticmethod)):
+            return type(fn)(self.wraps(fn.__func__))
+        if not callable(fn):
+            raise TypeError(f"expected a function, got {fn!r}")
+        if is_generator(fn):
             raise TypeError("a generator runs after its call has returned: retry what it calls")
-        wrapped = self._wrapped(inner)
-        wrapped.retry = self
-        wrapped.retry_with = lambda **changes: self.copy(**changes).wraps(inner)
-        return cast("Retried[Parameters, Result]", wrapped)
+
+        def retry_with(**changes: Any) -> Any:
+            look_at_names("retry_with", changes, ("policy", *DEFAULTS))
+            return self.copy(**changes).wraps(fn)
+
+        wrapped = self._wrapped(fn)
+        wrapped.retry, wrapped.retry_with = self, retry_with
+        return wrapped
 
     def _wrapped(self, fn: Any) -> Any:
         raise NotImplementedError
@@ -248,14 +281,6 @@ class BaseRetrying:
     def __repr__(self) -> str:
         budget = f", budget={self.budget!r}" if self.budget is not None else ""
         return f"{type(self).__name__}({self.policy!r}{budget})"
-
-
-#: The parameters that say how to retry.
-_PARAMETERS = list(inspect.signature(BaseRetrying.__init__).parameters.values())[1:]
-
-
-def _defaults() -> Dict[str, Any]:
-    return {own.name: own.default for own in _PARAMETERS}
 
 
 def _made(kind: Type[BaseRetrying], given: Dict[str, Any]) -> BaseRetrying:
@@ -300,13 +325,17 @@ class Retrying(BaseRetrying):
 
     def _wrapped(self, fn: Any) -> Any:
         if is_async(fn):
-            raise TypeError(f"{fn!r} is a coroutine function: AsyncRetrying is for these")
+            raise TypeError(f"{fn!r} is a coroutine function: AsyncRetrying is for those")
 
         @functools.wraps(fn)
         def wrapped(*args: Any, **kwargs: Any) -> Any:
             return run(self, fn, args, kwargs)
 
         return wrapped
+
+
+#: Of the many coroutines that may wait at once.
+_NO_KEYWORDS: Dict[str, Any] = {}
 
 
 class AsyncRetrying(BaseRetrying):
@@ -323,17 +352,19 @@ class AsyncRetrying(BaseRetrying):
     >>> asyncio.run(main())
     3
 
-    It waits by `asyncio.sleep`; `sleep=trio.sleep` makes it one for trio. Hooks, `on`, `on_result` and `fallback` may be
-    coroutine functions.
+    It waits as `asyncio.sleep` does; `sleep=trio.sleep` makes it one for trio. Hooks, `on`, `on_result` and `fallback`
+    may be coroutine functions.
     """
 
     __slots__ = ()
 
     _AWAITS = True
 
-    def __call__(self, fn: Callable[..., Awaitable[Result]], /, *args: Any, **kwargs: Any) -> Coroutine[Any, Any, Result]:
+    def __call__(
+        self, fn: Callable[..., Awaitable[Result]], /, *args: Any, **kwargs: Any
+    ) -> Coroutine[Any, Any, Result]:
         """Awaits the coroutine function's calls until one succeeds; in the end its last exception is raised."""
-        return run_async(self, fn, args, kwargs)
+        return run_async(self, fn, args, kwargs or _NO_KEYWORDS)
 
     #: The same, by its name.
     call = __call__
@@ -343,7 +374,7 @@ class AsyncRetrying(BaseRetrying):
 
     def _wrapped(self, fn: Any) -> Any:
         if not is_async(inspect.unwrap(fn)):
-            raise TypeError(f"{fn!r} is no coroutine function: Retrying is for these")
+            raise TypeError(f"{fn!r} is not a coroutine function: Retrying is for functions")
 
         @functools.wraps(fn)
         async def wrapped(*args: Any, **kwargs: Any) -> Any:
@@ -364,13 +395,6 @@ def _takes_what(
         return fn
 
     return give
-
-
-class Decorator(Protocol):
-    """What makes a function one that is retried."""
-
-    def __call__(self, fn: Callable[Parameters, Result]) -> Retried[Parameters, Result]:
-        """The function, retried at each call."""
 
 
 @_takes_what(BaseRetrying.__init__)
@@ -395,7 +419,8 @@ def retry(policy: Union[Policy, str, bytes, Dict[str, Any]], **how: Any) -> Deco
 def decorator(plain: Type[BaseRetrying], awaits: Type[BaseRetrying], name: str, policy: Any, how: Any) -> Decorator:
     """The decorator that makes one of the two, by what it is given."""
     if not isinstance(policy, Policy) and (callable(policy) or isinstance(policy, (classmethod, staticmethod))):
-        raise TypeError(f"a policy is wanted: @{name}(recurs(3) & spaced(1)), with parentheses")
+        raise TypeError(f"{name}() expected a policy, got {policy!r}: write @{name}(recurs(3) & spaced(1))")
+    look_at_names(name, how, DEFAULTS)
     read = Policy.of(policy)
 
     def decorate(fn: Any) -> Any:

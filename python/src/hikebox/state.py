@@ -10,6 +10,7 @@ from typing import TYPE_CHECKING, Any, Callable, Dict, Mapping, NamedTuple, Opti
 
 from ._deadline import Limit
 from ._forks import begins_anew_in_a_child
+from ._tickets import Refusal
 from ._time import FAR
 
 if TYPE_CHECKING:
@@ -25,6 +26,8 @@ class Ending(enum.Enum):
     WON = "won"
     #: The last call failed, and the policy did not go on. Of a repetition: the policy did not go on.
     SCHEDULE_DONE = "the policy was done"
+    #: The last call failed, or of a repetition succeeded, and the next one would have begun past the deadline.
+    DEADLINE = "the deadline left no time for another attempt"
     #: The last call failed, the policy went on, and the budget had no ticket.
     BUDGET_REFUSED = "the budget had no ticket"
     #: The last call failed in a way that `on` does not name.
@@ -49,7 +52,7 @@ ENDINGS: Tuple[Optional[Ending], ...] = (
     Ending.NO_MEMORY,
     None,
     Ending.CLOCK_WENT_BACK,
-    Ending.SCHEDULE_DONE,
+    Ending.DEADLINE,
 )
 
 
@@ -76,6 +79,10 @@ class Outcome:
     def exception(self) -> Optional[BaseException]:
         """The exception, or None where it gave a result."""
         return self._error
+
+    def told(self) -> Any:
+        """The exception, or the result where there is none."""
+        return self._result if self._error is None else self._error
 
     def result(self) -> Any:
         """The result; raises the exception where there is one."""
@@ -111,11 +118,11 @@ class RetryState:
         "start_time",
         "attempt_number",
         "outcome",
-        "outcome_timestamp",
         "seconds_since_start",
         "idle_for",
         "upcoming_sleep",
         "granted",
+        "refusal",
         "ending",
         "limit",
     )
@@ -140,8 +147,6 @@ class RetryState:
         self.attempt_number = 1
         #: How the present attempt went, where it is over. None again once the last exception was raised.
         self.outcome: Optional[Outcome] = None
-        #: When the last attempt that is over ended, by the retry's clock.
-        self.outcome_timestamp: Optional[float] = None
         #: From the start of the first attempt to the end of the last one that is over.
         self.seconds_since_start: Optional[float] = None
         #: How many seconds were waited between attempts, with the wait that is to come.
@@ -150,6 +155,8 @@ class RetryState:
         self.upcoming_sleep = 0.0
         #: How many retries were granted: tickets drawn.
         self.granted = 0
+        #: Why there was no ticket, where what it draws on says so, as leases do.
+        self.refusal: Optional[Refusal] = None
         #: How it ended, or None where it is not over.
         self.ending: Optional[Ending] = None
         #: Its deadline, where it has one.
@@ -167,9 +174,16 @@ class RetryState:
         return None if self.limit is None else self.limit.left()
 
     @property
+    def outcome_timestamp(self) -> Optional[float]:
+        """When the last attempt that is over ended, by the retry's clock."""
+        return None if self.seconds_since_start is None else self.start_time + self.seconds_since_start
+
+    @property
     def code(self) -> int:
         """The code of the present outcome, which the policy is given."""
-        return 0 if self.retry_object is None else self.retry_object.settings.code_for(self.outcome)
+        if self.retry_object is None or self.outcome is None:
+            return 0
+        return self.retry_object.settings.code_for(self.outcome.told())
 
     @property
     def name(self) -> str:
@@ -248,6 +262,7 @@ class Statistics:
     #: Calls that ended so.
     won: int = 0
     schedule_done: int = 0
+    deadline: int = 0
     budget_refused: int = 0
     not_retried: int = 0
     cancelled: int = 0
@@ -274,46 +289,55 @@ _BROKEN = (Ending.NO_MEMORY, Ending.CLOCK_WENT_BACK)
 _NAMED = tuple(ending.name.lower() for ending in Ending if ending not in _BROKEN)
 
 
-_NO_ENDINGS: Dict[Ending, int] = dict.fromkeys(Ending, 0)
+class _Lock:
+    """The lock of all counts, which is held for a few additions; a forked child has another one.
+
+    The same thread takes it again where a retry that nobody holds any more is counted meanwhile.
+    """
+
+    def __init__(self) -> None:
+        self.begin_anew()
+        begins_anew_in_a_child(self)
+
+    def begin_anew(self) -> None:
+        self.held = threading.RLock()
+
+
+_lock = _Lock()
 
 
 class Counts:
     """The counts behind `Statistics`, shared by threads."""
 
-    __slots__ = ("add_success", "_lock", "_looks", "_calls", "_attempts", "_idle_for", "_endings", "__weakref__")
+    __slots__ = ("add_success", "_looks", "_calls", "_attempts", "_idle_for", "_endings")
 
     def __init__(self) -> None:
         #: Counts a call that succeeded at its first attempt: in one step, without a lock.
         self.add_success = itertools.count().__next__
         #: How often that was called to look at the count alone.
         self._looks = 0
-        self._lock = threading.RLock()
-        #: All other calls.
+        #: All other calls, and how they ended.
         self._calls = 0
         self._attempts = 0
         self._idle_for = 0.0
-        self._endings = _NO_ENDINGS.copy()
-        begins_anew_in_a_child(self)
-
-    def begin_anew(self) -> None:
-        """Takes a new lock, as in a forked child, and goes on counting."""
-        self._lock = threading.RLock()
+        self._endings: Dict[Ending, int] = {}
 
     def add(self, attempts: int, idle_for: float, ending: Ending) -> None:
         """Counts a call that is over."""
-        with self._lock:
+        with _lock.held:
             self._calls += 1
             self._attempts += attempts
             self._idle_for += idle_for
-            self._endings[ending] += 1
+            self._endings[ending] = self._endings.get(ending, 0) + 1
 
     def seen(self) -> Statistics:
         """The counts as of now."""
-        with self._lock:
-            named = {ending.name.lower(): count for ending, count in self._endings.items() if ending not in _BROKEN}
+        with _lock.held:
+            counts = self._endings
+            named = {ending.name.lower(): counts.get(ending, 0) for ending in Ending if ending not in _BROKEN}
             at_once = self.add_success() - self._looks
             self._looks += 1
             named["won"] += at_once
-            broken = sum(self._endings[ending] for ending in _BROKEN)
+            broken = sum(counts.get(ending, 0) for ending in _BROKEN)
             calls, attempts = self._calls + at_once, self._attempts + at_once
             return Statistics(calls, attempts, self._idle_for, broken=broken, **named)

@@ -96,14 +96,18 @@ class Storm:
 
     def to_json(self) -> str:
         """The rows and the totals as JSON on one line, as `zsched storm --json` prints it."""
-        totals = {name.replace("_ms", ""): value for name, value in vars(self.totals).items()}
-        return json.dumps({"windows": self.rows, "totals": totals}, separators=(",", ":"))
+        return json.dumps({"windows": self.rows, "totals": self.totals_dict()}, separators=(",", ":"))
 
-    def svg(self, *others: Storm, width: int = 760) -> str:
-        """The picture as SVG so many units wide, with other storms below it on the same axes."""
+    def totals_dict(self) -> Dict[str, Any]:
+        """The totals by their names in JSON."""
+        return {name.replace("_ms", ""): value for name, value in vars(self.totals).items()}
+
+    def svg(self, *others: Storm, width: int = 760, detail: bool = False, title: Optional[str] = None) -> str:
+        """The picture as SVG so many units wide, with other storms beside it on the same scales. `detail` tells apart
+        why calls failed, and `title` stands in the place of the policy that the storms share."""
         from ._storm_picture import storm_picture
 
-        return storm_picture([self, *others], width=width)
+        return storm_picture([self, *others], width=width, detail=detail, title=title)
 
     def _repr_svg_(self) -> str:
         return self.svg()
@@ -122,8 +126,11 @@ class Storm:
 
     def __repr__(self) -> str:
         totals = self.totals
-        back = "never recovered" if totals.recovered_ms is None else f"recovered at {totals.recovered_ms} ms"
-        return f"<Storm of {totals.requests} requests, {totals.calls} calls, {back}: {self.policy!r}>"
+        said = [f"{totals.requests} requests", f"{totals.won} succeeded", f"{totals.calls} calls"]
+        if self.parameters.weather():
+            recovered = totals.recovered_ms
+            said.append("not back by the end" if recovered is None else f"back at {recovered} ms")
+        return f"<Storm of {', '.join(said)}: {self.policy!r}>"
 
 
 def storm(
@@ -226,7 +233,7 @@ def _totals(found: _engine.Totals) -> StormTotals:
 
 def _whole(name: str, number: Any, most: Optional[int] = None) -> int:
     if isinstance(number, bool) or not isinstance(number, int):
-        raise TypeError(f"{name}: a whole number is wanted, not {number!r}")
+        raise TypeError(f"{name}: expected a whole number, got {number!r}")
     if most is not None and not 0 <= number <= most:
         raise StormError(name, f"{number} is not from 0 to {most}")
     return number
@@ -244,14 +251,14 @@ def _time(name: str, duration: Duration) -> int:
 def _parts(name: str, given: Any, count: int) -> List[Any]:
     if not isinstance(given, (tuple, list)) or len(given) != count:
         wanted = "(from, to)" if count == 2 else "(from, to, share of the capacity)"
-        raise TypeError(f"{name}: {wanted} is wanted, not {given!r}")
+        raise TypeError(f"{name}: expected {wanted}, got {given!r}")
     return list(given)
 
 
 def _slow(slow: Any) -> Slow:
     begins, ends, share = _parts("slow", slow, 3)
     if isinstance(share, bool) or not isinstance(share, (int, float)):
-        raise TypeError(f"slow: a share of the capacity is wanted, not {share!r}")
+        raise TypeError(f"slow: expected a share of the capacity, got {share!r}")
     if not 0.01 <= share <= 1:
         raise StormError("slow", f"a share of the capacity is from 0.01 to 1, not {share!r}")
     return Slow(_time("slow", begins), _time("slow", ends), round(share * 100))

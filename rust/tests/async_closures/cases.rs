@@ -14,7 +14,11 @@ async fn an_async_closure_changes_what_it_borrows_across_a_wait() {
         client.push('!');
         tokio::time::sleep(Duration::from_millis(1)).await;
         log.push(client.len());
-        if log.len() < 3 { Err("not yet") } else { Ok(client.clone()) }
+        if log.len() < 3 {
+            Err("not yet")
+        } else {
+            Ok(client.clone())
+        }
     })
     .await;
     assert_eq!(value.as_deref(), Ok("client!!!"));
@@ -35,7 +39,7 @@ async fn an_async_closure_is_retried_by_a_method_of_its_own_and_as_often_as_one_
     .await;
     assert_eq!(result, Err(RetryError::NotRetried(3)));
 
-    let mut retrying = Retrying::new(&policy, &Unlimited);
+    let retrying = Retrying::new(&policy, &Unlimited);
     for _ in 0..2 {
         assert_eq!(retrying.call_async(async || Err::<(), _>("no")).await, Err(RetryError::ScheduleDone("no")));
     }

@@ -5,9 +5,9 @@ use sched_cli_plan::PrintFault;
 use std::alloc::Global;
 use std::process::Abort;
 
-const JOB: &str = r#"a job is {"plan":PLAN,"runs":[RUN,..]}"#;
+const JOB: &str = r#"expected {"plan":PLAN,"runs":[RUN,..]}"#;
 
-const RUN: &str = r#"a run is {"won":CODE} or {"lost":CODE}, CODE from 0 to 4611686018427387903"#;
+const RUN: &str = r#"expected {"won":CODE} or {"lost":CODE}, CODE from 0 to 4611686018427387903"#;
 
 #[test]
 fn jobs_that_have_not_their_form(rt: HostRuntime) {
@@ -56,10 +56,10 @@ fn numbers_of_jobs_and_runs_out_of_range(rt: HostRuntime) {
     let alloc = rt.alloc();
     let fault = Err(PrintFault::OutOfRange);
     let many = repeated(&rt, alloc, "[", "7,", 4096, "7]");
-    let line = "top: at most 4096 jobs are wanted, 4097 found\n";
+    let line = "top: expected at most 4096 jobs, got 4097\n";
     tells(&rt, alloc, &many, line, fault);
     let text = repeated(&rt, alloc, r#"[{"plan":7,"runs":["#, "7,", 64, "7]}]");
-    let line = "[0].runs: 1 to 64 runs are wanted, 65 found\n";
+    let line = "[0].runs: expected 1 to 64 runs, got 65\n";
     tells(&rt, alloc, &text, line, fault);
 }
 
@@ -69,12 +69,12 @@ fn a_job_without_a_run_and_a_code_out_of_range(rt: HostRuntime) {
         (
             r#"[{"plan":"forever","runs":[{"won":1}]},{"plan":"forever","runs":[{"won":1}]},
                 {"plan":"forever","runs":[{"won":1}]},{"plan":7,"runs":[]}]"#,
-            "[3].runs: 1 to 64 runs are wanted, 0 found\n",
+            "[3].runs: expected 1 to 64 runs, got 0\n",
         ),
         (
             r#"[{"plan":7,"runs":[{"lost":0},{"lost":1},{"won":4611686018427387904},7]}]"#,
-            "[0].runs[2]: a run is {\"won\":CODE} or {\"lost\":CODE}, CODE from 0 to 4611686018427387903; \
-                found {\"won\":4611686018427387904}\n",
+            "[0].runs[2]: expected {\"won\":CODE} or {\"lost\":CODE}, CODE from 0 to 4611686018427387903, \
+                got {\"won\":4611686018427387904}\n",
         ),
     ];
     refuses(&rt, rt.alloc(), &table, PrintFault::OutOfRange);
@@ -86,7 +86,7 @@ fn a_job_s_plan_has_its_place_in_the_job(rt: HostRuntime) {
     let table = [
         (
             r#"[{"plan":7,"runs":[{"won":1}]}]"#,
-            "[0].plan: a plan is a string or an object of one member; found 7\n",
+            "[0].plan: expected a plan, a string or an object with one member, got 7\n",
         ),
         (
             r#"[{"plan":"forever","runs":[{"won":1}]},
@@ -97,8 +97,8 @@ fn a_job_s_plan_has_its_place_in_the_job(rt: HostRuntime) {
     refuses(&rt, alloc, &table, PrintFault::NotAPlan);
     let table = [(
         r#"[{"plan":{"first":{"fixed":0}},"runs":[{"won":1}]}]"#,
-        "[0].plan.first: \"fixed\" is spelt {\"fixed\":D}, D from 1 to 4611686018427387903; \
-            found {\"fixed\":0}\n",
+        "[0].plan.first: expected {\"fixed\":D}, D from 1 to 4611686018427387903, \
+            got {\"fixed\":0}\n",
     )];
     refuses(&rt, alloc, &table, PrintFault::OutOfRange);
 }
@@ -121,11 +121,11 @@ fn the_fault_of_a_text_that_should_be_jobs(rt: HostRuntime) {
         ("[", "not JSON: line 1, column 1: the text ends too soon"),
         (
             r#"{"recurs":3}"#,
-            r#"top: jobs are an array, with a job for each item; found {"recurs":3}"#,
+            r#"top: expected an array of jobs, got {"recurs":3}"#,
         ),
         (
             r#"[{"plan":"forever","runs":[]}]"#,
-            "[0].runs: 1 to 64 runs are wanted, 0 found",
+            "[0].runs: expected 1 to 64 runs, got 0",
         ),
     ];
     for (text, wanted) in &table {

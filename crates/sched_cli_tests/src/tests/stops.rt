@@ -41,8 +41,8 @@ const TEXTS: [(&str, &str, &str, u8); 9] = [
     (
         "zsched plan",
         r#"{"first":{"fixed":0}}"#,
-        "zsched: number out of range\nfirst: \"fixed\" is spelt {\"fixed\":D}, D from 1 to 4611686018427387903; \
-         found {\"fixed\":0}",
+        "zsched: number out of range\nfirst: expected {\"fixed\":D}, D from 1 to 4611686018427387903, \
+         got {\"fixed\":0}",
         3,
     ),
     (
@@ -54,19 +54,19 @@ const TEXTS: [(&str, &str, &str, u8); 9] = [
     (
         "zsched plan",
         "[]",
-        "zsched: not a plan\ntop: a plan is a string or an object of one member; found []",
+        "zsched: not a plan\ntop: expected a plan, a string or an object with one member, got []",
         3,
     ),
     (
         "zsched pool",
         "{}",
-        "zsched: not a plan\ntop: jobs are an array, with a job for each item; found {}",
+        "zsched: not a plan\ntop: expected an array of jobs, got {}",
         3,
     ),
     (
         "zsched pool --quota 1/2/300",
         r#"[{"plan":"forever","runs":[]}]"#,
-        "zsched: number out of range\n[0].runs: 1 to 64 runs are wanted, 0 found",
+        "zsched: number out of range\n[0].runs: expected 1 to 64 runs, got 0",
         3,
     ),
     ("zsched check", "7", "zsched: not a plan", 3),

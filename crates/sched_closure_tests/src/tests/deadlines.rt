@@ -111,16 +111,16 @@ fn no_deadline_ends_nothing(rt: HostRuntime) {
 #[test]
 fn no_call_of_a_repeat_is_planned_past_the_deadline(rt: HostRuntime) {
     let until = until(&rt, rt.alloc(), 50, Some(1250));
-    let mut repeat = Machine::repeating(until);
-    let came = repeated(&rt, &mut repeat, &mut clock_at(&rt, 1000), NEVER);
+    let (came, repeat) = repeated(&rt, until, &mut clock_at(&rt, 1000), NEVER);
     assert_came(&rt, came, How::ScheduleDone, Ok(3), 1200);
     assert_late(&rt, repeat.driver(), Some(1300));
 }
 
-// A clock that wakes 200 milliseconds late.
+// A clock that wakes so many milliseconds late.
 #[derive(Drop)]
 struct Late {
     now: Moment,
+    by: Millis,
 }
 
 impl Clock for Late {
@@ -133,16 +133,41 @@ impl Clock for Late {
     }
 
     fn wait_until(&mut self, until: Moment) -> Moment {
-        self.now = until.plus(Millis::from(200));
+        self.now = until.plus(self.by);
         self.now
     }
 }
 
-// The call that was planned at 1100 is begun at 1300, past the deadline; none is planned after it.
+fn late_from(rt: &impl Abort, at: u64, by: u32) -> Late {
+    Late {
+        now: moment(rt, at),
+        by: Millis::from(by),
+    }
+}
+
+// The call that was planned at 1100 would begin at 1300, past the deadline: it is not made, and its ticket was drawn.
 #[test]
-fn a_clock_that_wakes_late_begins_its_call(rt: HostRuntime) {
-    let now = moment(&rt, 1000);
-    let (came, retry) = retried_until(&rt, &mut Late { now }, 50, Some(1250));
-    assert_came(&rt, came, How::ScheduleDone, Err(2), 1300);
-    assert_late(&rt, retry.driver(), Some(1400));
+fn no_call_begins_past_the_deadline(rt: HostRuntime) {
+    let mut late = late_from(&rt, 1000, 200);
+    let (came, retry) = retried_until(&rt, &mut late, 50, Some(1250));
+    assert_came(&rt, came, How::DeadlinePassed, Err(1), 1300);
+    assert_granted(&rt, &retry, 1);
+    assert_late(&rt, retry.driver(), None);
+}
+
+// The call that was planned at 1100 begins at 1250, which is in time; the next start is 1350.
+#[test]
+fn a_call_that_is_late_but_in_time_is_made(rt: HostRuntime) {
+    let mut late = late_from(&rt, 1000, 150);
+    let (came, retry) = retried_until(&rt, &mut late, 50, Some(1250));
+    assert_came(&rt, came, How::ScheduleDone, Err(2), 1250);
+    assert_late(&rt, retry.driver(), Some(1350));
+}
+
+#[test]
+fn no_call_of_a_repeat_begins_past_the_deadline(rt: HostRuntime) {
+    let until = until(&rt, rt.alloc(), 50, Some(1399));
+    let (came, repeat) = repeated(&rt, until, &mut late_from(&rt, 1000, 100), NEVER);
+    assert_came(&rt, came, How::DeadlinePassed, Ok(2), 1400);
+    assert_late(&rt, repeat.driver(), None);
 }

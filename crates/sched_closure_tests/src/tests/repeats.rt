@@ -10,16 +10,16 @@ fn assert_last(rt: &impl Abort, alloc: Global, stepper: &Stepper, want: &str) {
 
 #[test]
 fn a_closure_is_called_again_after_each_success(rt: HostRuntime) {
-    let mut repeat = Machine::repeating(stepper(&rt, rt.alloc(), 3));
-    let came = repeated(&rt, &mut repeat, &mut clock_at(&rt, 1000), NEVER);
+    let driver = stepper(&rt, rt.alloc(), 3);
+    let (came, repeat) = repeated(&rt, driver, &mut clock_at(&rt, 1000), NEVER);
     assert_came(&rt, came, How::ScheduleDone, Ok(4), 1300);
     assert_last(&rt, rt.alloc(), repeat.driver(), "(3, 3)");
 }
 
 #[test]
 fn the_first_failure_ends_a_repeat(rt: HostRuntime) {
-    let mut repeat = Machine::repeating(stepper(&rt, rt.alloc(), 9));
-    let came = repeated(&rt, &mut repeat, &mut clock_at(&rt, 0), 2);
+    let driver = stepper(&rt, rt.alloc(), 9);
+    let (came, _) = repeated(&rt, driver, &mut clock_at(&rt, 0), 2);
     assert_came(&rt, came, How::Failed, Err(3), 200);
 }
 
@@ -38,12 +38,12 @@ fn while_accepted(alloc: Global) -> Result<Plan, PlanFault> {
 #[test]
 fn a_schedule_is_given_each_answer(rt: HostRuntime) {
     let alloc = rt.alloc();
-    let mut repeat = Machine::repeating(stepper_of(&rt, alloc, while_accepted(alloc)));
+    let driver = stepper_of(&rt, alloc, while_accepted(alloc));
     let mut clock = clock_at(&rt, 0);
     let mut left = 3u32;
-    let ending = repeat_call(
+    let (ending, _) = repeat_call(
         &rt,
-        &mut repeat,
+        driver,
         &mut clock,
         &mut MidWords,
         || -> Result<u32, ()> {
@@ -58,11 +58,11 @@ fn a_schedule_is_given_each_answer(rt: HostRuntime) {
 // Each call takes 50 milliseconds, and the schedule's 100 count from its end.
 #[test]
 fn a_delay_of_a_repeat_begins_where_its_call_ends(rt: HostRuntime) {
-    let mut repeat = Machine::repeating(stepper(&rt, rt.alloc(), 2));
+    let driver = stepper(&rt, rt.alloc(), 2);
     let now = Cell::new(moment(&rt, 0));
-    let ending = repeat_call(
+    let (ending, _) = repeat_call(
         &rt,
-        &mut repeat,
+        driver,
         &mut Shared { moment: &now },
         &mut MidWords,
         || -> Result<(), u32> {
@@ -76,13 +76,13 @@ fn a_delay_of_a_repeat_begins_where_its_call_ends(rt: HostRuntime) {
 
 #[test]
 fn a_clock_that_goes_back_breaks_a_repeat(rt: HostRuntime) {
-    let mut repeat = Machine::repeating(stepper(&rt, rt.alloc(), 9));
+    let driver = stepper(&rt, rt.alloc(), 9);
     let now = Cell::new(moment(&rt, 500));
     let back = moment(&rt, 7);
     let mut calls = 0u32;
-    let ending = repeat_call(
+    let (ending, _) = repeat_call(
         &rt,
-        &mut repeat,
+        driver,
         &mut Shared { moment: &now },
         &mut MidWords,
         || -> Result<(), u32> {
@@ -101,8 +101,7 @@ fn a_clock_that_goes_back_breaks_a_repeat(rt: HostRuntime) {
 #[test]
 fn a_repeat_has_no_last_event(rt: HostRuntime) {
     let polling = stepper_of(&rt, rt.alloc(), Plan::spaced(1000));
-    let mut repeat = Machine::repeating(polling);
-    let came = repeated(&rt, &mut repeat, &mut clock_at(&rt, 0), 200_000);
+    let (came, _) = repeated(&rt, polling, &mut clock_at(&rt, 0), 200_000);
     assert_came(&rt, came, How::Failed, Err(200_001), 200_000_000);
 }
 
@@ -110,8 +109,7 @@ fn a_repeat_has_no_last_event(rt: HostRuntime) {
 #[test]
 fn a_journal_of_a_repeat_has_an_end(rt: HostRuntime) {
     let journal = driver_of(&rt, rt.alloc(), Plan::spaced(1000));
-    let mut repeat = Machine::repeating(journal);
-    let came = repeated(&rt, &mut repeat, &mut clock_at(&rt, 0), NEVER);
+    let (came, repeat) = repeated(&rt, journal, &mut clock_at(&rt, 0), NEVER);
     let full = How::Broken(RunFault::JournalFull);
     assert_came(&rt, came, full, Ok(65_537), 65_536_000);
     assert_full(&rt, repeat.driver());

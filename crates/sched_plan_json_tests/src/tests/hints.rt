@@ -26,7 +26,7 @@ fn a_plan_has_no_fault_and_another_text_its_first(rt: HostRuntime) {
         ),
         (
             "[]",
-            "top: a plan is a string or an object of one member; found []",
+            "top: expected a plan, a string or an object with one member, got []",
         ),
         (
             r#"{"meet":["forever",{"cap":[5,{"exponental":[1,2]}]}]}"#,
@@ -34,7 +34,7 @@ fn a_plan_has_no_fault_and_another_text_its_first(rt: HostRuntime) {
         ),
         (
             r#"{"first":{"join":[{"fixed":0},"never"]}}"#,
-            "first.join[0]: \"fixed\" is spelt {\"fixed\":D}, D from 1 to 4611686018427387903; found {\"fixed\":0}",
+            "first.join[0]: expected {\"fixed\":D}, D from 1 to 4611686018427387903, got {\"fixed\":0}",
         ),
         (
             r#"{"and":[]}"#,
@@ -50,8 +50,8 @@ fn a_plan_has_no_fault_and_another_text_its_first(rt: HostRuntime) {
         ),
         (
             r#"{"exponential":[100,1.5]}"#,
-            "top: \"exponential\" is spelt {\"exponential\":[D,F]}, D from 0 to 4611686018427387903, F from 1 to 1000; \
-             found {\"exponential\":[100,1.5]}; a factor of 1.5 is 1500 in \"exponential_milli\"",
+            "top: expected {\"exponential\":[D,F]}, D from 0 to 4611686018427387903, F from 1 to 1000, \
+             got {\"exponential\":[100,1.5]}; a factor of 1.5 is 1500 in \"exponential_milli\"",
         ),
     ];
     for (text, wanted) in &table {

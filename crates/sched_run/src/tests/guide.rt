@@ -76,14 +76,7 @@ fn repeat_a_call(rt: HostRuntime) {
     let mut clock = VirtualClock::at(moment(&rt, 0));
     let plan = while_accepted(alloc).expect(&rt, "the plan is built");
     let stepper = Stepper::new(alloc, plan).expect(&rt, "there is memory");
-    let mut repeat = Machine::repeating(stepper);
-    let ending = repeat_call(
-        &rt,
-        &mut repeat,
-        &mut clock,
-        &mut MidWords,
-        || statuses.ask(),
-    );
+    let (ending, _) = repeat_call(&rt, stepper, &mut clock, &mut MidWords, || statuses.ask());
     assert!(rt; matches!(ending, RepeatCallEnding::ScheduleDone(200)));
     assert_eq!(rt; clock.now().get(), 3000);
 }

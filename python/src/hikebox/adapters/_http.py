@@ -1,50 +1,261 @@
-"""What the adapters for httpx and aiohttp have in common."""
+"""The core of the adapters for requests, httpx and aiohttp: a call, its attempts, and the requests of its redirects."""
 
 from __future__ import annotations
 
-from typing import Any, Callable, Collection, Dict, List, Optional, Type, TypeVar, Union
+import inspect
+import weakref
+from functools import partial
+from typing import Any, ClassVar, Collection, Dict, Generator, Optional, Type, Union
 
-from ..http import retry_after_of
+from .._course import Ask, Course, Steps
+from .._deadline import enter, leave
+from .._drivers import answer_of, not_awaitable
+from ..errors import ResultRefused
+from ..http import is_bad, retry_after, retry_after_of
 from ..policy import Policy
-from ..retrying import BaseRetrying
-from ..state import RetryState
+from ..retrying import BaseRetrying, look_at_names
+from ..state import Ending, Outcome, RetryState, Statistics
 
-__all__ = ["made_for", "without_repeating"]
+__all__ = ["DRAIN_BYTES", "DRAIN_SECONDS", "Call", "PolicyClient", "drive", "drive_async"]
 
-Kind = TypeVar("Kind", bound=BaseRetrying)
+#: A body that nobody wants is read to its end where it is that short and comes that fast, so that its connection serves
+#: the next attempt too. Any other is cut off, with its connection.
+DRAIN_BYTES = 65536
+DRAIN_SECONDS = 0.5
+
+#: Where a request keeps the call that it belongs to.
+_KEY = "hikebox"
+
+#: The parameters of `Retrying`, without `self`.
+_PARAMETERS = frozenset(inspect.signature(BaseRetrying.__init__).parameters) - {"self"}
 
 
-def made_for(
-    kind: Type[Kind],
-    policy: Union[Policy, str, bytes, Dict[str, Any]],
-    on_status: Collection[int],
-    status_of: Callable[[Any], int],
-    let_go: Callable[[Any], Any],
-    how: Dict[str, Any],
-) -> Kind:
-    """A `Retrying` whose results are responses, of which those with a bad status are retried.
+class Call:
+    """One call of a client: its first request, and those to which redirects lead.
 
-    A response that another attempt follows is let go before the wait, which is at least what its `Retry-After` asks
-    for.
+    They are one request of a quota, have one deadline, and share the number of retries that the policy has.
     """
-    statuses = frozenset(on_status)
 
-    def wait(state: RetryState) -> Optional[float]:
-        outcome = state.outcome
-        return None if outcome is None or outcome.failed else retry_after_of(outcome.result())
+    __slots__ = ("owner", "start", "limit", "retries", "hops", "request", "leads_on")
 
-    def lets_go(state: RetryState) -> Any:
-        outcome = state.outcome
-        return None if outcome is None or outcome.failed else let_go(outcome.result())
+    def __init__(self, owner: BaseRetrying) -> None:
+        settings = owner.settings
+        self.owner = owner
+        self.start = settings.clock()
+        self.limit = settings.limit_of(self.start)
+        #: Retries that its requests had so far.
+        self.retries = 0
+        #: Requests that it had so far, each counted once.
+        self.hops = 0
+        #: The latest of them.
+        self.request: Any = None
+        #: Whether the answer to that is a redirect, which may be followed.
+        self.leads_on = False
 
-    theirs = how.pop("before_sleep", None)
-    hooks: List[Any] = list(theirs) if isinstance(theirs, (list, tuple)) else [] if theirs is None else [theirs]
-    given: Dict[str, Any] = {"wait": wait, **how, "before_sleep": [*hooks, lets_go]}
-    return kind(policy, on_result=lambda response: status_of(response) in statuses, **given)
+    @classmethod
+    def of(cls, owner: BaseRetrying, kept: Dict[str, Any], request: Any) -> Call:
+        """The call that a request belongs to. `kept` is a dict that clients hand on from a request to its redirects."""
+        call: Optional[Call] = kept.get(_KEY)
+        if call is None or not call.leads_on or call.owner is not owner or call.request() is request:
+            call = kept[_KEY] = Call(owner)
+        call.request = weakref.ref(request)
+        call.leads_on = False
+        return call
+
+    def leave(self, kept: Dict[str, Any]) -> None:
+        """Its request is over: it goes on only where that leads on."""
+        if not self.leads_on:
+            kept.pop(_KEY, None)
+
+    def __reduce__(self) -> Any:
+        return type(None), ()  # a request that is copied or pickled begins another call
+
+    def is_late(self) -> bool:
+        """Whether its deadline has passed before a redirect could be followed."""
+        return self.hops > 0 and self.limit is not None and self.limit.left() <= 0
+
+    def is_spent(self) -> bool:
+        """Whether its requests before have had all the retries that the policy has."""
+        most = self.owner.policy.most_retries
+        return self.hops > 1 and most is not None and self.retries >= most
 
 
-def without_repeating(retrying: Kind, on: Any) -> Kind:
-    """The same for a request that must not be made twice: it is retried where it was never sent."""
-    careful = retrying.copy(on=on, on_result=None)
-    careful.counts = retrying.counts
-    return careful
+class PolicyClient:
+    """Makes the requests of a client, and retries them."""
+
+    #: What retries them, and what it retries where nothing is said.
+    _KIND: ClassVar[Type[BaseRetrying]]
+    _ON: ClassVar[Any]
+
+    def __init__(
+        self,
+        policy: Union[Policy, str, bytes, Dict[str, Any]],
+        on_status: Collection[int],
+        methods: Collection[str],
+        read_up_to: Optional[int],
+        how: Dict[str, Any],
+    ) -> None:
+        name = type(self).__name__
+        if "on_result" in how:
+            raise TypeError(f"{name}() takes no on_result: on_status says which answers are retried")
+        look_at_names(name, how, {*_PARAMETERS, *inspect.signature(type(self)).parameters})
+        if read_up_to is not None and (type(read_up_to) is not int or read_up_to < 0):
+            raise TypeError(f"read_up_to: expected a number of bytes or None, got {read_up_to!r}")
+        self.on_status = frozenset(on_status)
+        self.methods = frozenset(method.upper() for method in methods)
+        self.read_up_to = read_up_to
+        given: Dict[str, Any] = {"on": self._ON, "wait": _asked_for, **how}
+        #: What retries the requests.
+        self.retrying = self._KIND(policy, **given, on_result=self.is_refused)
+        # (a request that must not be made twice is retried where it was never sent)
+        self._careful = self.retrying.copy(on=self._was_not_sent, on_result=None)
+        self._careful.counts = self.retrying.counts
+
+    @property
+    def statistics(self) -> Statistics:
+        """Counts over all requests that are over. A request to which a redirect leads is one of its own."""
+        return self.retrying.statistics
+
+    def attempts(self, call: Call, request: Any, may_repeat: bool) -> Steps[Any]:
+        """The steps of one request of a call; their answer is its response."""
+        if call.is_late():
+            raise self._too_late(request)
+        owner = self.retrying if may_repeat else self._careful
+        course = Course(owner, self._attempt, (request,), start=call.start, limit=call.limit)
+        token = None if call.limit is None else enter(call.limit)
+        try:
+            yield from _begins(call, course)
+            goes_on = True
+            while goes_on:
+                yield from self._one_attempt(call, course, request)
+                goes_on = yield from _settled(course.begins())
+            return answer_of(course)
+        except ResultRefused as refused:
+            return self._refused(refused.result, request)
+        finally:
+            if token is not None:
+                leave(token)
+            course.close()
+
+    def _one_attempt(self, call: Call, course: Course, request: Any) -> Steps[None]:
+        """Makes one attempt and judges it. The last one's error is raised."""
+        course.ends_now = call.is_spent()
+        try:
+            response = yield self._attempt, request
+        except BaseException as error:
+            if not (yield from _settled(course.raised(error))):
+                raise
+        else:
+            if self._leads_on(response) and not self.is_refused(response):
+                course.over, course.answer = True, Outcome(response)
+                course.state.ending = Ending.WON
+                call.leads_on = True
+                return
+            yield from course.returned(response)
+            if not course.over:
+                yield partial(self._let_go, request), response
+        if not course.over:
+            call.retries += 1
+
+    def is_refused(self, response: Any) -> bool:
+        """Whether the status of a response is retried."""
+        status = getattr(response, "status_code", None)
+        return is_bad(response.status if status is None else status, self.on_status, "Retry-After" in response.headers)
+
+    # What each client does in its own way
+
+    def _attempt(self, request: Any) -> Any:
+        """Makes the request once."""
+        raise NotImplementedError
+
+    def _let_go(self, request: Any, response: Any) -> Any:
+        """Lets a response go that another attempt follows, and its connection serve that where it can."""
+        raise NotImplementedError
+
+    def _leads_on(self, response: Any) -> bool:
+        """Whether the client may follow the response to another request, as a redirect."""
+        return False
+
+    def _was_not_sent(self, error: BaseException) -> bool:
+        """Whether the request was never sent."""
+        raise NotImplementedError
+
+    def _too_late(self, request: Any) -> Exception:
+        """What is raised where the deadline has passed before a redirect could be followed."""
+        raise NotImplementedError
+
+    def _refused(self, response: Any, request: Any) -> Any:
+        """What comes of a last response whose status is retried."""
+        return response
+
+    def is_read(self, response: Any) -> bool:
+        """Whether the body of a response is read as part of the attempt."""
+        if self.is_refused(response):
+            return False
+        if self.read_up_to is None:
+            return True
+        length = response.headers.get("Content-Length", "")
+        return length.isascii() and length.isdigit() and int(length) <= self.read_up_to
+
+
+def _asked_for(state: RetryState) -> Optional[float]:
+    """The seconds that a `Retry-After` asks for: that of a response, or of an error's."""
+    outcome = state.outcome
+    if outcome is None:
+        return None
+    error = outcome.exception()
+    return retry_after_of(outcome.result()) if error is None else retry_after(error)
+
+
+def _begins(call: Call, course: Course) -> Steps[None]:
+    """What comes before the first attempt of a request."""
+    call.hops += 1
+    settings = course.settings
+    if call.hops == 1 and settings.deposit is not None:
+        settings.deposit()
+    for hook in settings.hooks_before:
+        yield hook, course.state
+
+
+def _settled(steps: Union[bool, Steps[bool]]) -> Steps[bool]:
+    return steps if isinstance(steps, bool) else (yield from steps)
+
+
+def drive(steps: Generator[Ask, Any, Any]) -> Any:
+    """Does what the steps ask for, and gives their answer. What is raised meanwhile they hear of."""
+    answer: Any = None
+    error: Optional[BaseException] = None
+    try:
+        while True:
+            function, argument = steps.send(answer) if error is None else steps.throw(error)
+            answer, error = None, None
+            try:
+                answer = not_awaitable(function(argument))
+            except BaseException as raised:
+                error = raised
+    except StopIteration as done:
+        return done.value
+    finally:
+        del error
+        steps.close()
+
+
+async def drive_async(steps: Generator[Ask, Any, Any]) -> Any:
+    """The same, where some of it is awaited."""
+    answer: Any = None
+    error: Optional[BaseException] = None
+    try:
+        while True:
+            function, argument = steps.send(answer) if error is None else steps.throw(error)
+            answer, error = None, None
+            try:
+                answer = function(argument)
+                if hasattr(type(answer), "__await__"):
+                    answer = await answer
+            except BaseException as raised:
+                error = raised
+    except StopIteration as done:
+        return done.value
+    finally:
+        del error
+        steps.close()

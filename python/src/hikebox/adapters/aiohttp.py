@@ -12,38 +12,53 @@
 from __future__ import annotations
 
 import asyncio
-from typing import Any, Collection, Dict, Generator, Union, cast
+from typing import Any, Collection, Dict, Generator, List, Optional, Union
 
 import aiohttp
+from aiohttp.base_protocol import BaseProtocol
 
-from ..errors import ResultRefused
+from .._deadline import seconds_left
 from ..http import METHODS, STATUSES
 from ..policy import Policy
 from ..retrying import AsyncRetrying
-from ..state import Statistics
-from ._http import made_for, without_repeating
+from ._http import DRAIN_BYTES, DRAIN_SECONDS, Call, PolicyClient, drive_async
 
 __all__ = ["PolicySession"]
 
 #: What is raised where a request was never sent.
 _NOT_SENT = (aiohttp.ClientConnectorError,)
+#: Connections that broke or took too long.
+_BROKEN = (aiohttp.ClientConnectionError, aiohttp.ClientPayloadError, asyncio.TimeoutError)
 #: Bodies that may be sent twice.
 _KEPT = (bytes, bytearray, str, dict, list, tuple, type(None))
 
 
-class PolicySession:
+class PolicySession(PolicyClient):
     """Makes the requests of a session, and retries them by a policy, under a budget.
 
     `on`, `on_status`
-        The errors and the statuses that are retried: connections that broke or took too long, and 429, 502, 503, 504.
+        The errors and the statuses to retry: broken connections and timeouts, and 429, 502, 503, 504. A 413 is retried
+        too if it has a `Retry-After`.
     `methods`
-        The methods that may be repeated. Of others, and where the body is a stream or a form, a request is retried only
-        where no connection was made.
+        The methods that may be repeated. A request with another method, or with a stream or a form as its body, is
+        retried only if no connection was made.
+    `read_up_to`
+        A body with a `Content-Length` up to this many bytes is read within the attempt, so a body that breaks is
+        retried. None reads every body, also an endless one, such as a stream of events.
 
-    It takes what `AsyncRetrying` takes too, as `budget`. The wait is the policy's, and at least what `Retry-After` asks
-    for, up to `longest` seconds; the policy is given the response's status as code. In the end the last response is
-    given, or the last error raised. The session stays its owner's, who closes it.
+    It takes the parameters of `AsyncRetrying` too, such as `budget` and `deadline`. Each wait is the policy's, or the
+    `Retry-After` of the response where that is longer, up to `max_retry_after` seconds. The policy's input is the
+    status of the response. When the retry ends, you get the last response, or the last error is raised.
+
+    With a `deadline`, the time that is left is the timeout of each attempt, unless the client's own is shorter. An
+    attempt follows redirects, and a retry begins with the first request again.
+
+    Statuses are retried before `raise_for_status`, of the session or the request, raises for the last one. You close
+    the session yourself.
     """
+
+    _KIND = AsyncRetrying
+    _ON = _BROKEN
 
     def __init__(
         self,
@@ -52,18 +67,11 @@ class PolicySession:
         *,
         on_status: Collection[int] = STATUSES,
         methods: Collection[str] = METHODS,
+        read_up_to: Optional[int] = 65536,
         **how: Any,
     ) -> None:
+        super().__init__(policy, on_status, methods, read_up_to, how)
         self.session = session
-        self.methods = frozenset(methods)
-        how.setdefault("on", (aiohttp.ClientConnectionError, aiohttp.ClientPayloadError, asyncio.TimeoutError))
-        #: How it retries.
-        self.retrying = made_for(AsyncRetrying, policy, on_status, _status_of, _let_go, how)
-
-    @property
-    def statistics(self) -> Statistics:
-        """Counts over all requests."""
-        return self.retrying.statistics
 
     def request(self, method: str, url: Any, **how: Any) -> PolicyRequest:
         """A request, to be awaited or entered, as that of a session."""
@@ -97,42 +105,95 @@ class PolicySession:
         """A PUT request."""
         return self.request("PUT", url, **how)
 
+    async def _made(self, request: PolicyRequest) -> aiohttp.ClientResponse:
+        """The response to a request, or to the last attempt of it."""
+        call = Call(self.retrying)
+        may_repeat = request.method in self.methods and isinstance(request.how.get("data"), _KEPT)
+        response: aiohttp.ClientResponse = await drive_async(self.attempts(call, request, may_repeat))
+        if self.is_refused(response):
+            await request.checks(response)
+        return response
+
+    def _attempt(self, request: PolicyRequest) -> Any:
+        left = seconds_left()
+        return self._sent(request) if left is None else asyncio.wait_for(self._sent(request), left)
+
+    async def _sent(self, request: PolicyRequest) -> aiohttp.ClientResponse:
+        how = {**request.how, "raise_for_status": False}
+        response = await self.session.request(request.method, request.url, **how)
+        if self.is_refused(response):
+            return response
+        try:
+            await request.checks(response)
+            if self.is_read(response):
+                response.content = _as_stream(await response.content.read())
+        except BaseException:
+            response.close()
+            raise
+        return response
+
+    async def _let_go(self, request: PolicyRequest, response: aiohttp.ClientResponse) -> None:
+        body = None
+        try:
+            body = await asyncio.wait_for(_drained(response), DRAIN_SECONDS)
+        except (aiohttp.ClientError, asyncio.TimeoutError):
+            pass  # nobody wants it
+        finally:
+            response.release()
+        if body is not None:
+            response.content = _as_stream(body)
+
+    def _was_not_sent(self, error: BaseException) -> bool:
+        return isinstance(error, _NOT_SENT)
+
 
 class PolicyRequest:
     """A request that is made once it is awaited, or entered by `async with`, which lets its response go."""
 
-    __slots__ = ("_client", "_method", "_url", "_how", "_response")
+    __slots__ = ("method", "url", "how", "_client", "_response", "_check")
 
     def __init__(self, client: PolicySession, method: str, url: Any, how: Dict[str, Any]) -> None:
+        self.method = method.upper()
+        self.url = url
+        self.how = how
         self._client = client
-        self._method = method.upper()
-        self._url = url
-        self._how = how
+        own = how.get("raise_for_status")
+        self._check: Any = client.session.raise_for_status if own is None else own
 
-    async def _made(self) -> aiohttp.ClientResponse:
-        client = self._client
-        retrying = client.retrying
-        if self._method not in client.methods or not isinstance(self._how.get("data"), _KEPT):
-            retrying = without_repeating(retrying, _NOT_SENT)
-        try:
-            return await retrying(client.session.request, self._method, self._url, **self._how)
-        except ResultRefused as refused:
-            return cast(aiohttp.ClientResponse, refused.result)
+    async def checks(self, response: aiohttp.ClientResponse) -> None:
+        """Raises for the status of a response, where the session or the request asks for that."""
+        if callable(self._check):
+            await self._check(response)
+        elif self._check:
+            response.raise_for_status()
 
     def __await__(self) -> Generator[Any, Any, aiohttp.ClientResponse]:
-        return self._made().__await__()
+        return self._client._made(self).__await__()
 
     async def __aenter__(self) -> aiohttp.ClientResponse:
-        self._response = await self._made()
+        self._response = await self._client._made(self)
         return self._response
 
     async def __aexit__(self, *_: Any) -> None:
         self._response.release()
 
 
-def _status_of(response: aiohttp.ClientResponse) -> int:
-    return int(response.status)
+async def _drained(response: aiohttp.ClientResponse) -> Optional[bytes]:
+    """What is left of a body, where it is short: it can be read, should no other attempt follow after all."""
+    parts: List[bytes] = []
+    read = 0
+    async for part in response.content.iter_any():
+        parts.append(part)
+        read += len(part)
+        if read > DRAIN_BYTES:
+            return None
+    return b"".join(parts)
 
 
-def _let_go(response: aiohttp.ClientResponse) -> None:
-    response.release()
+def _as_stream(body: bytes) -> aiohttp.StreamReader:
+    """A body that was read, to be read again."""
+    loop = asyncio.get_running_loop()
+    stream = aiohttp.StreamReader(BaseProtocol(loop), len(body) + 1, loop=loop)
+    stream.feed_data(body)
+    stream.feed_eof()
+    return stream

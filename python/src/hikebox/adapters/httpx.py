@@ -9,124 +9,232 @@
 
 from __future__ import annotations
 
-from typing import Any, Collection, Dict, Optional, Union, cast
+import time
+from typing import Any, Collection, Dict, List, Optional, Union
 
 import httpx
 
-from ..errors import ResultRefused
+from .._deadline import seconds_left
 from ..http import METHODS, STATUSES
 from ..policy import Policy
 from ..retrying import AsyncRetrying, Retrying
-from ..state import Statistics
-from ._http import made_for, without_repeating
+from ._http import DRAIN_BYTES, DRAIN_SECONDS, Call, PolicyClient, drive, drive_async
 
 __all__ = ["AsyncPolicyTransport", "PolicyTransport"]
 
 #: What is raised where a request was never sent.
 _NOT_SENT = (httpx.ConnectError, httpx.ConnectTimeout, httpx.PoolTimeout)
+#: Connections that broke or took too long.
+_BROKEN = (httpx.NetworkError, httpx.TimeoutException, httpx.RemoteProtocolError, httpx.ProxyError)
+#: The least timeout that a client takes.
+_HAIR = 0.001
 
 
-class PolicyTransport(httpx.BaseTransport):
-    """Retries a client's requests by a policy, under a budget.
+class _Timeouts(Dict[str, Optional[float]]):
+    """The timeouts of a request, each of them at most what the attempt has left at the time, or what `most` says."""
 
-    `transport`
-        What makes the requests: `httpx.HTTPTransport()` where it is None.
-    `on`, `on_status`
-        The errors and the statuses that are retried: httpx's errors of transports, and 429, 502, 503 and 504.
-    `methods`
-        The methods that may be repeated. Of others, and where the body is a stream, a request is retried only where no
-        connection was made.
+    most: Optional[float] = None
 
-    It takes what `Retrying` takes too, as `budget`. The wait is the policy's, and at least what `Retry-After` asks for,
-    up to `longest` seconds; the policy is given the response's status as code. In the end the last response is given,
-    or the last error raised.
-    """
+    def get(self, name: str, default: Any = None) -> Any:
+        own = super().get(name, default)
+        bounds = [bound for bound in (own, seconds_left(), self.most) if bound is not None]
+        return max(min(bounds), _HAIR) if bounds else None
+
+    def __getitem__(self, name: str) -> Any:
+        return self.get(name)
+
+
+class _PolicyTransport(PolicyClient):
+    """What both transports have in common."""
+
+    _ON = _BROKEN
 
     def __init__(
         self,
         policy: Union[Policy, str, bytes, Dict[str, Any]],
         *,
-        transport: Optional[httpx.BaseTransport] = None,
+        transport: Any = None,
         on_status: Collection[int] = STATUSES,
         methods: Collection[str] = METHODS,
+        read_up_to: Optional[int] = 65536,
         **how: Any,
     ) -> None:
-        self.transport = httpx.HTTPTransport() if transport is None else transport
-        self.methods = frozenset(methods)
-        how.setdefault("on", httpx.TransportError)
-        #: How it retries.
-        self.retrying = made_for(Retrying, policy, on_status, _status_of, _close, how)
+        super().__init__(policy, on_status, methods, read_up_to, how)
+        self.transport = self._own() if transport is None else transport
 
-    @property
-    def statistics(self) -> Statistics:
-        """Counts over all requests."""
-        return self.retrying.statistics
+    def _own(self) -> Any:
+        """The transport where none is named."""
+        raise NotImplementedError
+
+    def _steps(self, request: httpx.Request) -> Any:
+        """The steps for a request of a client."""
+        # (a request hands its extensions on to those to which redirects lead)
+        extensions = request.extensions = {**request.extensions}
+        extensions["timeout"] = _Timeouts(extensions.get("timeout") or {})
+        call = Call.of(self.retrying, extensions, request)
+        may_repeat = request.method.upper() in self.methods and isinstance(request.stream, httpx.ByteStream)
+        return self.attempts(call, request, may_repeat)
+
+    def _leads_on(self, response: httpx.Response) -> bool:
+        return bool(response.has_redirect_location)
+
+    def _was_not_sent(self, error: BaseException) -> bool:
+        return isinstance(error, _NOT_SENT)
+
+    def _too_late(self, request: httpx.Request) -> Exception:
+        late: Exception = httpx.ReadTimeout("the deadline passed before a redirect was followed", request=request)
+        return late
+
+
+class PolicyTransport(_PolicyTransport, httpx.BaseTransport):
+    """Retries a client's requests by a policy, under a budget.
+
+    `transport`
+        Makes the requests; `httpx.HTTPTransport()` by default.
+    `on`, `on_status`
+        The errors and the statuses to retry: broken connections and timeouts, and 429, 502, 503, 504. A 413 is retried
+        too if it has a `Retry-After`.
+    `methods`
+        The methods that may be repeated. A request with another method, or with a stream as its body, is retried only
+        if no connection was made.
+    `read_up_to`
+        A body with a `Content-Length` up to this many bytes is read within the attempt, so a body that breaks is
+        retried. None reads every body, also an endless one, such as a stream of events.
+
+    It takes the parameters of `Retrying` too, such as `budget` and `deadline`. Each wait is the policy's, or the
+    `Retry-After` of the response where that is longer, up to `max_retry_after` seconds. The policy's input is the
+    status of the response. When the retry ends, you get the last response, or the last error is raised.
+
+    With a `deadline`, the time that is left is the timeout of each attempt, unless the client's own is shorter. The
+    requests of a redirect share the deadline and the number of retries, and count as one request of a quota.
+    """
+
+    _KIND = Retrying
+
+    def _own(self) -> httpx.BaseTransport:
+        return httpx.HTTPTransport()
 
     def handle_request(self, request: httpx.Request) -> httpx.Response:
         """The response to a request, or to the last attempt of it."""
-        retrying = self.retrying
-        if not _may_repeat(request, self.methods):
-            retrying = without_repeating(retrying, _NOT_SENT)
+        response: httpx.Response = drive(self._steps(request))
+        return response
+
+    def _attempt(self, request: httpx.Request) -> httpx.Response:
+        response = self.transport.handle_request(request)
+        if self.is_read(response):
+            body = _Body(request)
+            try:
+                for part in response.stream:
+                    body.add(part)
+            finally:
+                response.stream.close()
+            response.stream = body.as_stream()
+        return response
+
+    def _let_go(self, request: httpx.Request, response: httpx.Response) -> None:
+        timeouts = request.extensions["timeout"]
+        timeouts.most = DRAIN_SECONDS
+        until = time.monotonic() + DRAIN_SECONDS
+        kept = _Kept()
         try:
-            return retrying(self.transport.handle_request, request)
-        except ResultRefused as refused:
-            return cast(httpx.Response, refused.result)
+            for part in response.stream:
+                if kept.is_too_large(part) or time.monotonic() > until:
+                    break
+            else:
+                kept.is_whole = True
+        except httpx.HTTPError:
+            pass  # nobody wants it
+        finally:
+            response.stream.close()
+            timeouts.most = None
+        response.stream = kept.in_place_of(response.stream)
 
     def close(self) -> None:
         """Closes the transport that makes the requests."""
         self.transport.close()
 
 
-class AsyncPolicyTransport(httpx.AsyncBaseTransport):
+class AsyncPolicyTransport(_PolicyTransport, httpx.AsyncBaseTransport):
     """The same for `httpx.AsyncClient`: `transport` is an `httpx.AsyncHTTPTransport()`."""
 
-    def __init__(
-        self,
-        policy: Union[Policy, str, bytes, Dict[str, Any]],
-        *,
-        transport: Optional[httpx.AsyncBaseTransport] = None,
-        on_status: Collection[int] = STATUSES,
-        methods: Collection[str] = METHODS,
-        **how: Any,
-    ) -> None:
-        self.transport = httpx.AsyncHTTPTransport() if transport is None else transport
-        self.methods = frozenset(methods)
-        how.setdefault("on", httpx.TransportError)
-        #: How it retries.
-        self.retrying = made_for(AsyncRetrying, policy, on_status, _status_of, _aclose, how)
+    _KIND = AsyncRetrying
 
-    @property
-    def statistics(self) -> Statistics:
-        """Counts over all requests."""
-        return self.retrying.statistics
+    def _own(self) -> httpx.AsyncBaseTransport:
+        return httpx.AsyncHTTPTransport()
 
     async def handle_async_request(self, request: httpx.Request) -> httpx.Response:
         """The response to a request, or to the last attempt of it."""
-        retrying = self.retrying
-        if not _may_repeat(request, self.methods):
-            retrying = without_repeating(retrying, _NOT_SENT)
+        response: httpx.Response = await drive_async(self._steps(request))
+        return response
+
+    async def _attempt(self, request: httpx.Request) -> httpx.Response:
+        response = await self.transport.handle_async_request(request)
+        if self.is_read(response):
+            body = _Body(request)
+            try:
+                async for part in response.stream:
+                    body.add(part)
+            finally:
+                await response.stream.aclose()
+            response.stream = body.as_stream()
+        return response
+
+    async def _let_go(self, request: httpx.Request, response: httpx.Response) -> None:
+        timeouts = request.extensions["timeout"]
+        timeouts.most = DRAIN_SECONDS
+        until = time.monotonic() + DRAIN_SECONDS
+        kept = _Kept()
         try:
-            return await retrying(self.transport.handle_async_request, request)
-        except ResultRefused as refused:
-            return cast(httpx.Response, refused.result)
+            async for part in response.stream:
+                if kept.is_too_large(part) or time.monotonic() > until:
+                    break
+            else:
+                kept.is_whole = True
+        except httpx.HTTPError:
+            pass  # nobody wants it
+        finally:
+            await response.stream.aclose()
+            timeouts.most = None
+        response.stream = kept.in_place_of(response.stream)
 
     async def aclose(self) -> None:
         """Closes the transport that makes the requests."""
         await self.transport.aclose()
 
 
-def _status_of(response: httpx.Response) -> int:
-    return int(response.status_code)
+class _Kept:
+    """A body that was let go: it can be read where it is short, should no other attempt follow after all."""
+
+    def __init__(self) -> None:
+        self.parts: List[bytes] = []
+        self.size = 0
+        self.is_whole = False
+
+    def is_too_large(self, part: bytes) -> bool:
+        """Takes one more part: whether it is too much to keep."""
+        self.parts.append(part)
+        self.size += len(part)
+        return self.size > DRAIN_BYTES
+
+    def in_place_of(self, stream: Any) -> Any:
+        """The body, or where it was not read to its end, the stream that was closed."""
+        return httpx.ByteStream(b"".join(self.parts)) if self.is_whole else stream
 
 
-def _close(response: httpx.Response) -> None:
-    response.close()
+class _Body:
+    """A body that is read as part of the attempt."""
 
+    def __init__(self, request: httpx.Request) -> None:
+        self.request = request
+        self.parts: List[bytes] = []
 
-async def _aclose(response: httpx.Response) -> None:
-    await response.aclose()
+    def add(self, part: bytes) -> None:
+        """Takes one more part, where the deadline has not passed."""
+        left = seconds_left()
+        if left is not None and left <= 0:
+            raise httpx.ReadTimeout("the deadline passed while the body was read", request=self.request)
+        self.parts.append(part)
 
-
-def _may_repeat(request: httpx.Request, methods: Collection[str]) -> bool:
-    """Whether the request may be made twice: its method allows that, and its body is still there."""
-    return request.method in methods and isinstance(request.stream, httpx.ByteStream)
+    def as_stream(self) -> httpx.ByteStream:
+        """The body, to be read again."""
+        return httpx.ByteStream(b"".join(self.parts))

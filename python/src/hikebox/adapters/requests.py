@@ -8,62 +8,211 @@
 
 from __future__ import annotations
 
-import inspect
+import io
+import time
+from http.client import HTTPException
 from typing import Any, Collection, Dict, Optional, Union
 
+import requests
 from requests.adapters import HTTPAdapter
+from requests.utils import rewind_body
+from urllib3.exceptions import ConnectTimeoutError, HTTPError, MaxRetryError, ProxyError, ResponseError
+from urllib3.response import HTTPResponse
+from urllib3.util.timeout import Timeout
 
-from ..budget import Budget
+from .._deadline import seconds_left
+from ..http import METHODS, STATUSES
 from ..policy import Policy
-from ..quota import Quota
-from ..retrying import Retrying, Tickets
-from ..state import Statistics
-from .urllib3 import STATUSES, PolicyRetry
+from ..retrying import Retrying
+from ._http import DRAIN_BYTES, DRAIN_SECONDS, Call, PolicyClient, drive
 
 __all__ = ["PolicyAdapter"]
 
-#: What is HTTPAdapter's own; all else is the retry's.
-_ADAPTERS = frozenset(inspect.signature(HTTPAdapter.__init__).parameters)
+#: The parameters of HTTPAdapter that a PolicyAdapter takes.
+_POOLS = ("pool_connections", "pool_maxsize", "pool_block")
+_BROKEN = (requests.ConnectionError, requests.Timeout, requests.exceptions.ChunkedEncodingError)
+#: The least timeout that a client takes.
+_HAIR = 0.001
 
 
-class PolicyAdapter(HTTPAdapter):
-    """Retries a session's requests by a policy, under a budget, as `hikebox.adapters.urllib3.PolicyRetry` does.
+class _Hop:
+    """A request of a session, and how it is sent."""
 
-    It takes what that takes, and what `HTTPAdapter` takes; a `deadline` counts from the request's beginning. In the end the session gives the last response, or raises
-    what requests raises for the last failure. A session with one can be copied, and pickled where its budget can.
+    def __init__(self, request: Any, stream: bool, how: Dict[str, Any]) -> None:
+        self.request = request
+        self.stream = stream
+        self.how = how
+        self.attempts = 0
+
+
+class PolicyAdapter(PolicyClient, HTTPAdapter):
+    """Retries a session's requests by a policy, under a budget.
+
+    `on`, `on_status`
+        The errors and the statuses to retry: broken connections and timeouts, and 429, 502, 503, 504. A 413 is retried
+        too if it has a `Retry-After`.
+    `methods`
+        The methods that may be repeated. A request with another method, or with a body that can't be sent again, is
+        retried only if no connection was made.
+    `raise_on_status`
+        Whether to raise `requests.exceptions.RetryError` if the last response has such a status.
+
+    The body is read within the attempt, so a body that breaks is retried, unless you asked for `stream=True`. The
+    adapter takes `pool_connections`, `pool_maxsize` and `pool_block` of `HTTPAdapter`.
+
+    It takes the parameters of `Retrying` too, such as `budget` and `deadline`. Each wait is the policy's, or the
+    `Retry-After` of the response where that is longer, up to `max_retry_after` seconds. The policy's input is the
+    status of the response. When the retry ends, you get the last response, or the last error is raised.
+
+    With a `deadline`, the time that is left is the timeout of each attempt, unless the client's own is shorter. The
+    requests of a redirect share the deadline and the number of retries, and count as one request of a quota. You
+    can copy a session with an adapter, and pickle it if its budget can be pickled.
     """
+
+    _KIND = Retrying
+    _ON = _BROKEN
+    __attrs__ = [
+        *HTTPAdapter.__attrs__,
+        "on_status",
+        "methods",
+        "read_up_to",
+        "raise_on_status",
+        "retrying",
+        "_careful",
+    ]
 
     def __init__(
         self,
         policy: Union[Policy, str, bytes, Dict[str, Any]],
         *,
-        budget: Union[Budget, Quota, Tickets, None] = None,
         on_status: Collection[int] = STATUSES,
-        **kw: Any,
+        methods: Collection[str] = METHODS,
+        raise_on_status: bool = False,
+        **how: Any,
     ) -> None:
-        own = {name: kw.pop(name) for name in list(kw) if name in _ADAPTERS}
-        super().__init__(max_retries=PolicyRetry(policy, budget=budget, on_status=on_status, **kw), **own)
+        pools = {name: how.pop(name) for name in _POOLS if name in how}
+        PolicyClient.__init__(self, policy, on_status, methods, None, how)
+        self.raise_on_status = raise_on_status
+        HTTPAdapter.__init__(self, **pools)
 
-    @property
-    def max_retries(self) -> Any:
-        """The `Retry` of a request that begins now."""
-        retries = self._retries
-        return retries.begun() if isinstance(retries, PolicyRetry) else retries
+    def send(
+        self,
+        request: Any,
+        stream: bool = False,
+        timeout: Any = None,
+        verify: Any = True,
+        cert: Any = None,
+        proxies: Any = None,
+    ) -> Any:
+        """The response to a request, or to the last attempt of it."""
+        how = {"timeout": timeout, "verify": verify, "cert": cert, "proxies": proxies}
+        # (a request and those to which redirects lead have one `hooks`)
+        call = Call.of(self.retrying, request.hooks, request)
+        try:
+            return drive(self.attempts(call, _Hop(request, stream, how), self._may_repeat(request)))
+        finally:
+            call.leave(request.hooks)
 
-    @max_retries.setter
-    def max_retries(self, retries: Any) -> None:
-        self._retries = retries
+    def _may_repeat(self, request: Any) -> bool:
+        """Whether the request may be made twice: its method allows that, and its body is still there."""
+        body = request.body
+        is_kept = body is None or isinstance(body, (bytes, str)) or isinstance(request._body_position, int)
+        return str(request.method).upper() in self.methods and is_kept
 
-    @property
-    def retrying(self) -> Optional[Retrying]:
-        """How it retries: what is set on it counts for later requests."""
-        retries: Any = self.max_retries
-        retrying: Optional[Retrying] = retries.retrying
-        return retrying
+    def _attempt(self, hop: _Hop) -> Any:
+        hop.attempts += 1
+        if hop.attempts > 1 and isinstance(hop.request._body_position, int):
+            rewind_body(hop.request)
+        left = seconds_left()
+        how = hop.how if left is None else {**hop.how, "timeout": _at_most(hop.how["timeout"], left)}
+        response = HTTPAdapter.send(self, hop.request, stream=hop.stream, **how)
+        if not hop.stream and not self.is_refused(response):
+            _read(response)
+        return response
 
-    @property
-    def statistics(self) -> Statistics:
-        """Counts over all requests that are over."""
-        retries: Any = self.max_retries
-        statistics: Statistics = retries.statistics
-        return statistics
+    def _let_go(self, hop: _Hop, response: Any) -> None:
+        raw = response.raw
+        kept = _drain(raw)
+        response.close()
+        if kept is not None:
+            # it can be read, should no other attempt follow after all
+            response.raw = HTTPResponse(io.BytesIO(kept), raw.headers, raw.status, preload_content=False)
+
+    def _leads_on(self, response: Any) -> bool:
+        return bool(response.is_redirect)
+
+    def _was_not_sent(self, error: BaseException) -> bool:
+        if isinstance(error, requests.ConnectTimeout):
+            return True
+        reason = getattr(error.args[0], "reason", None) if error.args else None
+        if isinstance(reason, ProxyError):
+            reason = reason.original_error
+        return isinstance(error, requests.ConnectionError) and isinstance(reason, ConnectTimeoutError)
+
+    def _too_late(self, hop: _Hop) -> Exception:
+        text = "the deadline passed before a redirect was followed"
+        late: Exception = requests.ReadTimeout(text, request=hop.request)
+        return late
+
+    def _refused(self, response: Any, hop: _Hop) -> Any:
+        if not self.raise_on_status:
+            return response
+        _drain(response.raw)
+        response.close()
+        reason = ResponseError(ResponseError.SPECIFIC_ERROR.format(status_code=response.status_code))
+        pool: Any = None
+        raise requests.exceptions.RetryError(MaxRetryError(pool, hop.request.url, reason), request=hop.request)
+
+
+def _at_most(timeout: Any, left: float) -> Timeout:
+    """The timeout of an attempt that has so many seconds left."""
+    left = max(left, _HAIR)
+    if isinstance(timeout, Timeout):
+        made = timeout.clone()
+        if not isinstance(made.total, (int, float)) or made.total > left:
+            made.total = left
+        return made
+    connect, read = timeout if isinstance(timeout, tuple) else (timeout, timeout)
+    return Timeout(total=left, connect=connect, read=read)
+
+
+def _read(response: Any) -> None:
+    """Reads a body, which requests keeps. urllib3 before version 2 takes one that is cut short for a whole one."""
+    response.content
+    missing = getattr(response.raw, "length_remaining", None)
+    if missing:
+        response.close()
+        raise requests.exceptions.ChunkedEncodingError(f"the body was cut short, {missing} bytes before its end")
+
+
+def _drain(raw: Any) -> Optional[bytes]:
+    """Reads what is left of a body, where it is short and comes fast, so that its connection can be used again."""
+    body = getattr(raw, "_original_response", None)
+    socket = getattr(getattr(raw, "connection", None), "sock", None)
+    if body is None or socket is None:
+        return None
+    before = socket.gettimeout()
+    try:
+        socket.settimeout(DRAIN_SECONDS)
+        kept = _read_to_end(body)
+        if kept is not None:
+            raw.read(decode_content=False)  # which gives the connection back
+        return kept
+    except (OSError, HTTPException, HTTPError):
+        return None  # nobody wants it
+    finally:
+        socket.settimeout(before)
+
+
+def _read_to_end(body: Any) -> Optional[bytes]:
+    """What is left of a body whose end comes soon enough."""
+    until = time.monotonic() + DRAIN_SECONDS
+    kept = bytearray()
+    while body.length != 0:
+        part = body.read1(4096)
+        kept += part
+        if not part:
+            break
+        if len(kept) > DRAIN_BYTES or time.monotonic() > until:
+            return None
+    return bytes(kept)

@@ -35,10 +35,10 @@ __all__ = ["before_deposit", "stop_and_wait"]
 def stop_and_wait(policy: Union[Policy, str, bytes, Dict[str, Any]], **how: Any) -> Tuple[stop_base, wait_base]:
     """The `stop` and the `wait` of a policy, for one `tenacity.retry` or `Retrying`; both are to be given to it.
 
-    `how` is what `hikebox.Retrying` takes: `budget`, `code`, `at_least`, `deadline`, `clock`, `random`. The policy is asked once
-    for each attempt that tenacity finds failed, whichever of the two tenacity asks first. Other stops and waits may
-    be joined by tenacity's `|` and `+`. They hear of no call that succeeds, and of no wait that ends too early: where the
-    budget is a quota, `before_deposit` counts the requests, at their first attempts, and no ticket comes back.
+    `how` is what `hikebox.Retrying` takes: `budget`, `code`, `retry_after`, `deadline`, `clock`, `random`. The policy
+    is asked once for each attempt that tenacity finds failed, whichever of the two tenacity asks first. You may join
+    other stops and waits by tenacity's `|` and `+`. They hear of no call that succeeds, and of no wait that ends too
+    early: with a quota, `before_deposit` counts the requests, at their first attempts, and no ticket comes back.
     """
     shared = _Shared(Retrying(policy, **how))
     return _Stop(shared), _Wait(shared)
@@ -94,10 +94,10 @@ class _Shared:
         if answer.attempt == state.attempt_number or not answer.goes_on:
             return answer
         course = answer.course
-        if answer.attempt:
-            course.waited()
-        answer.attempt = state.attempt_number
-        answer.goes_on = settle(course.judges(_outcome(state.outcome)))
+        # (tenacity has made the attempt, which may have begun past the deadline)
+        is_late = answer.attempt > 0 and not course.waited()
+        course.state.attempt_number = answer.attempt = state.attempt_number
+        answer.goes_on = not is_late and settle(course.judges(_outcome(state.outcome)))
         answer.delay = settle(course.delay()) if answer.goes_on else 0.0
         if answer.goes_on:
             course.uses_ticket()

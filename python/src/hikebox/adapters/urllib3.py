@@ -7,25 +7,31 @@
 
 from __future__ import annotations
 
+import inspect
 from typing import Any, Collection, Dict, Optional, Union
 
 from urllib3.exceptions import MaxRetryError, ResponseError
 from urllib3.util.retry import Retry
 
 from .._course import Course
-from .._deprecated import one_of
 from .._drivers import settle
 from ..budget import Budget
-from ..http import METHODS, STATUSES, parse_retry_after
+from ..http import METHODS, STATUSES, is_bad, parse_retry_after
 from ..policy import Policy
 from ..quota import Quota
-from ..retrying import Retrying, Tickets
-from ..state import Outcome, Statistics
+from ..retrying import Retrying, Tickets, look_at_names
+from ..state import Ending, Outcome, Statistics
 
-__all__ = ["PolicyRetry", "STATUSES"]
+__all__ = ["PolicyRetry"]
 
 #: What of `Retrying` a `PolicyRetry` takes: the rest is the request's own.
-_HOW = ("longest", "deadline", "stop", "after", "before_sleep", "on_success", "sleep", "clock", "random")
+_HOW = ("max_retry_after", "deadline", "stop", "after", "before_sleep", "on_success", "sleep", "clock", "random")
+#: The parameters of urllib3's `Retry`, and those of them in whose place the policy is.
+_RETRYS = frozenset(inspect.signature(Retry.__init__).parameters) - {"self"}
+_BACKOFFS = ("backoff_factor", "backoff_max", "backoff_jitter")
+#: How many redirects are followed where nothing is said: as many as by urllib3's `Retry`.
+_REDIRECTS = 10
+_REDIRECT_STATUSES = frozenset({301, 302, 303, 307, 308})
 
 
 class _BadStatus(Exception):
@@ -37,19 +43,34 @@ class _BadStatus(Exception):
         self.retry_after = retry_after
 
 
+class _Call:
+    """One call of a pool, from its first answer on: its first request, and those to which redirects lead."""
+
+    __slots__ = ("start", "retries")
+
+    def __init__(self, start: float) -> None:
+        self.start = start
+        #: Retries that its requests had so far.
+        self.retries = 0
+
+
 class PolicyRetry(Retry):
     """Retries requests by a policy, under a budget.
 
-    Retried are connections that were not made; for the methods of `allowed_methods` also those that broke, and
-    responses with a status of `on_status`. Its wait is the policy's, and at least what the response's `Retry-After`
-    asks for, up to `longest` seconds. The policy is given the response's status as code, and 0 for a connection. In the
-    end the last response is given, or the last exception raised, as urllib3 does; with `raise_on_status` it is a
-    `MaxRetryError` in both cases. Redirects are followed and counted as by `Retry`. Under a quota a request counts when
-    it has its first response, or fails to get one.
+    It retries a connection that was not made. For the methods of `allowed_methods` it also retries a connection that
+    broke, and a response with a status of `on_status`, for which `status_forcelist` is urllib3's name. Each wait is the
+    policy's, or the `Retry-After` of the response where that is longer, up to `max_retry_after` seconds. The policy's
+    input is the status of the response, and 0 for a connection.
 
-    It takes the hooks `after`, `before_sleep` and `on_success`, and `deadline`, `stop`, `sleep`, `clock` and `random`, as
-    `Retrying` does; a deadline counts from the first failure, since urllib3 tells no earlier moment (`PolicyAdapter`
-    knows one). One object serves any number of requests and threads; `statistics` counts them.
+    When the retry ends, a `MaxRetryError` is raised, for a status too; with `raise_on_status=False` you get the last
+    response. Redirects are followed as by `Retry`: 10 of them, or as many as `redirect` and `total` allow. The requests
+    of a redirect share the deadline and the number of retries, and count as one request of a quota, which counts it at
+    its first response or failure.
+
+    It takes the hooks `after`, `before_sleep` and `on_success`, and `deadline`, `stop`, `sleep`, `clock` and `random`,
+    as `Retrying` does. urllib3 doesn't tell a `Retry` when a request begins, and a `Retry` can't set a timeout. So a
+    deadline counts from the first response or failure, and does not end an attempt; `PolicyAdapter`, for requests, does
+    both. Any number of requests and threads can share one object; `statistics` counts them.
     """
 
     def __init__(
@@ -57,44 +78,34 @@ class PolicyRetry(Retry):
         policy: Union[Policy, str, bytes, Dict[str, Any], None] = None,
         *,
         budget: Union[Budget, Quota, Tickets, None] = None,
-        on_status: Collection[int] = STATUSES,
-        longest_retry_after: Optional[float] = None,
+        on_status: Optional[Collection[int]] = None,
         **kw: Any,
     ) -> None:
         how = {name: kw.pop(name) for name in _HOW if name in kw}
-        if longest_retry_after is not None:
-            how["longest"] = one_of(how.get("longest"), longest_retry_after, "longest, longest_retry_after")
-        kw.setdefault("total", None)
-        kw.setdefault("raise_on_status", False)
-        kw.setdefault("status_forcelist", frozenset(on_status))
+        if policy is not None:
+            kw = _retrys(type(self).__name__, on_status, kw)
         super().__init__(**kw)
         #: How it retries, or None where it is a `Retry` without a policy.
         self.retrying: Optional[Retrying] = None
         if policy is not None:
-            self.retrying = Retrying(policy, budget=budget, code=_code, at_least=_asked_for, **how)
-        #: The retry of one request that is under way, and when it began, where that is known.
+            self.retrying = Retrying(policy, budget=budget, code=_code, retry_after=_asked_for, **how)
+        #: The call that is under way, once that is known, and the retry of its present request.
+        self._call: Optional[_Call] = None
         self._course: Optional[Course] = None
-        self._start: Optional[float] = None
+        #: What is raised where the deadline has passed before the next attempt could begin.
+        self._late: Exception = MaxRetryError(None, "", None)
 
     @property
     def statistics(self) -> Statistics:
-        """Counts over all requests that are over."""
+        """Counts over all requests that are over. A request to which a redirect leads may be one of its own."""
         return Statistics() if self.retrying is None else self.retrying.statistics
 
     def new(self, **kw: Any) -> PolicyRetry:
         """A copy with other counts, for the next attempt of the same request."""
         made: PolicyRetry = super().new(**kw)
         made.retrying = self.retrying
+        made._call = self._call
         made._course = self._course
-        made._start = self._start
-        return made
-
-    def begun(self) -> PolicyRetry:
-        """That of a request which begins now."""
-        if self.retrying is None or self.retrying.deadline is None:
-            return self
-        made = self.new()
-        made._start = self.retrying.clock()
         return made
 
     def is_retry(self, method: str, status_code: int, has_retry_after: bool = False) -> bool:
@@ -109,18 +120,20 @@ class PolicyRetry(Retry):
         allowed: Any = getattr(self, "allowed_methods", METHODS)
         if allowed and method.upper() not in allowed:
             return False
-        if status_code in self.status_forcelist:
-            return True
-        asked = self.respect_retry_after_header and has_retry_after
-        return bool(asked and status_code in self.RETRY_AFTER_STATUS_CODES)
+        return is_bad(status_code, self.status_forcelist, self.respect_retry_after_header and has_retry_after)
 
     def _succeeds(self, status: int) -> None:
         """The request is over, with this response."""
         if self.retrying is None:
             return
-        course, self._course = self._course or Course(self.retrying, start=self._start), None
+        course = self._course or self._begun()
+        self._course = None
         try:
-            settle(course.returned(status))
+            if status in _REDIRECT_STATUSES:
+                # (neither a success nor a failure: what it leads to is)
+                course.over, course.state.ending = True, Ending.WON
+            else:
+                settle(course.returned(status))
         finally:
             course.close()
 
@@ -134,30 +147,56 @@ class PolicyRetry(Retry):
         _stacktrace: Any = None,
     ) -> Any:
         """The `Retry` for one more attempt; raises `MaxRetryError` where the policy or the budget is done."""
-        redirected = error is None and response is not None and response.get_redirect_location()
+        redirected = error is None and response is not None and bool(response.get_redirect_location())
         try:
             made: Any = super().increment(method, url, response, error, _pool, _stacktrace)
         except Exception:
             if self._course is not None:
                 self._course.close()
             raise
-        if redirected or self.retrying is None:
+        if self.retrying is None:
             return made
-        failure: BaseException
+        if redirected:
+            made._call = self._follows(response, _pool, url)
+            return made
+        failure = _failure_of(response, error, self.respect_retry_after_header)
         if error is not None:
             self._deposit()
-            failure, reason = error, error
-        else:
-            status = 0 if response is None else response.status
-            asked = None if response is None else parse_retry_after(response.headers.get("Retry-After"))
-            failure = _BadStatus(status, asked if self.respect_retry_after_header else None)
-            reason = ResponseError(ResponseError.SPECIFIC_ERROR.format(status_code=status))
-        course = Course(self.retrying, start=self._start) if self._course is None else self._course
-        if not settle(course.judges(Outcome(error=failure, attempt_number=course.state.attempt_number))):
+        course = self._begun() if self._course is None else self._course
+        made._call = self._call or _Call(course.state.start_time)
+        if not self._goes_on(course, made._call, failure):
             course.close()
-            raise MaxRetryError(_pool, url, reason)
+            raise MaxRetryError(_pool, url, _reason_of(response, error))
+        made._call.retries += 1
         made._course = course
+        made._late = MaxRetryError(_pool, url, _reason_of(response, error))
         return made
+
+    def _begun(self) -> Course:
+        """The retry of a request that has its first answer now."""
+        assert self.retrying is not None
+        return Course(self.retrying, start=None if self._call is None else self._call.start)
+
+    def _goes_on(self, course: Course, call: _Call, failure: BaseException) -> bool:
+        """Whether one more attempt follows this failure."""
+        assert self.retrying is not None
+        outcome = Outcome(error=failure, attempt_number=course.state.attempt_number)
+        most = self.retrying.policy.most_retries
+        course.ends_now = most is not None and call.retries >= most
+        return bool(settle(course.judges(outcome)))
+
+    def _follows(self, response: Any, pool: Any, url: Any) -> _Call:
+        """The call of a request whose redirect is followed, where its deadline has not passed."""
+        assert self.retrying is not None
+        settings = self.retrying.settings
+        call: Optional[_Call] = self._call or getattr(response.retries, "_call", None)
+        call = _Call(settings.clock()) if call is None else call
+        limit = settings.limit_of(call.start)
+        if limit is not None and limit.left() <= 0:
+            if self._course is not None:
+                self._course.close()
+            raise MaxRetryError(pool, url, ResponseError("the deadline passed before a redirect was followed"))
+        return call
 
     def sleep(self, response: Any = None) -> None:
         """Waits for the next attempt."""
@@ -168,12 +207,52 @@ class PolicyRetry(Retry):
         delay = settle(course.delay())
         if delay > 0:
             course.settings.sleeps(delay)
-        course.waited()
+        if not course.waited():
+            course.close()
+            raise self._late
 
     def _deposit(self) -> None:
         """Counts a request, if this was its first attempt."""
-        if self._course is None and self.retrying is not None and self.retrying.settings.deposit is not None:
+        if self._call is None and self.retrying is not None and self.retrying.settings.deposit is not None:
             self.retrying.settings.deposit()
+
+
+def _retrys(owner: str, on_status: Optional[Collection[int]], kw: Dict[str, Any]) -> Dict[str, Any]:
+    """The parameters of urllib3's `Retry`, of those that were given with a policy."""
+    for name in kw:
+        if name in _BACKOFFS:
+            raise TypeError(f"{owner}() takes no {name}: the policy says how long to wait, as exponential(0.2)")
+    look_at_names(owner, kw, {*_RETRYS, *_HOW} - {*_BACKOFFS})
+    if on_status is not None and "status_forcelist" in kw:
+        raise TypeError(f"{owner}() takes on_status or status_forcelist, which mean the same, and got both")
+    made: Dict[str, Any] = {
+        "total": None,
+        "status_forcelist": frozenset(STATUSES if on_status is None else on_status),
+        **kw,
+    }
+    if made["total"] is None and made.get("redirect") is None:
+        made["redirect"] = _REDIRECTS
+    return made
+
+
+def _failure_of(response: Any, error: Any, heeds_retry_after: bool) -> BaseException:
+    """What failed, as the policy is given it."""
+    if error is not None:
+        failure: BaseException = error
+        return failure
+    status = 0 if response is None else response.status
+    asked = None if response is None else parse_retry_after(response.headers.get("Retry-After"))
+    return _BadStatus(status, asked if heeds_retry_after else None)
+
+
+def _reason_of(response: Any, error: Any) -> Exception:
+    """What urllib3 gives as the reason of a `MaxRetryError`."""
+    if error is not None:
+        reason: Exception = error
+    else:
+        status = 0 if response is None else response.status
+        reason = ResponseError(ResponseError.SPECIFIC_ERROR.format(status_code=status))
+    return reason
 
 
 def _asked_for(error: BaseException) -> Optional[float]:

@@ -1,33 +1,39 @@
 "use strict";
 
-// What is on the page: the story and what was changed of it, and the two sides with a policy and a limit each.
-const state = { story: "outage", storm: {}, sides: [{ text: "", limit: "" }, { text: "", limit: "" }] };
+// What is on the page: the story, what was changed of its numbers, and the two sides with a policy and a limit each.
+const state = { story: "quota", storm: {}, sides: [{ text: "", limit: "" }, { text: "", limit: "" }], along: "rate" };
 const page = crypto.randomUUID();
-let known = { stories: {}, ranges: {}, cookbook: [] };
+let known = { stories: {}, ranges: {}, cookbook: [], along: {} };
 
 // Name, label, and the least and the most of the slider; a time is in milliseconds. `part` is one of an outage or a brown-out.
 const CONTROLS = [
   { name: "rate", label: "Requests per second", least: 1, most: 20000 },
-  { name: "together", label: "Requests that come at one moment", least: 1, most: 20000 },
-  { name: "seconds", label: "For how many seconds requests come", least: 1, most: 600 },
   { name: "capacity", label: "Calls that the peer can do per second", least: 1, most: 20000 },
-  { name: "patience", label: "A client gives a call up after, ms", least: 1, most: 60000 },
-  { name: "queue", label: "Calls that may stand at the peer", least: 0, most: 100000 },
   { name: "outage", part: 0, label: "The peer is away from, ms", step: 500, most: 120000 },
   { name: "outage", part: 1, label: "The peer is away to, ms", step: 500, most: 120000 },
   { name: "slow", part: 0, label: "The peer is slow from, ms", step: 500, most: 120000 },
   { name: "slow", part: 1, label: "The peer is slow to, ms", step: 500, most: 120000 },
   { name: "slow", part: 2, label: "It works then at, % of its capacity", least: 1, step: 1, most: 100 },
+  { name: "patience", label: "A client gives a call up after, ms", least: 1, most: 60000 },
+  { name: "queue", label: "Calls that may stand at the peer", least: 0, most: 100000 },
+  { name: "together", label: "Requests that come at one moment", least: 1, most: 20000 },
+  { name: "seconds", label: "For how many seconds requests come", least: 1, most: 600 },
   { name: "window", label: "A step of the picture, ms", least: 1, most: 60000 },
   { name: "until", label: "Nothing is played after, ms", least: 0, step: 1000, most: 600000 },
   { name: "calls", label: "Cut after so many calls", least: 1, most: 16777216 },
   { name: "words", label: "Seed of the random words", least: 0, step: 1, most: 100 },
 ];
+const PARTS = { outage: 2, slow: 3 };
+const HOUR = 3600000;
 const PLAIN_SLOW = [0, 0, 100];
 const SIDES = ["a", "b"];
+const KINDS = { command: "command line", python: "Python", rust: "Rust", json: "JSON of the policy" };
+// From this width on a picture has its loads, and not its verdicts alone.
+const WIDE = 600;
 
 const byId = (id) => document.getElementById(id);
 const idOf = (control) => control.name + (control.part === undefined ? "" : control.part);
+const say = (place, said) => { if (place.textContent !== said) place.textContent = said; };
 
 async function ask(name, asked, signal) {
   const answer = await fetch(name, {
@@ -42,11 +48,13 @@ function later(milliseconds, run) {
   return () => { clearTimeout(timer); timer = setTimeout(run, milliseconds); };
 }
 
-// ---- The storm's parameters
+// ---- The storm's numbers
+
+const story = () => known.stories[state.story];
 
 function whole(name) {
   if (name in state.storm) return state.storm[name];
-  return name === "until" ? whole("seconds") * 1000 + 60000 : known.stories[state.story][name];
+  return name === "until" ? whole("seconds") * 1000 + 60000 : story().storm[name];
 }
 
 function valueOf(control) {
@@ -62,6 +70,12 @@ function setValue(control, value) {
     parts[control.part] = value;
     state.storm[control.name] = parts;
   }
+}
+
+function rangeOf(control) {
+  if (control.part === 2) return [1, 100];
+  const [least, most] = known.ranges[control.name] || [0, HOUR];
+  return [least, Math.min(most, Number.MAX_SAFE_INTEGER)];
 }
 
 // Sliders go by steps, or from the least to the most by ratios, with two digits that count.
@@ -81,51 +95,62 @@ function toSlider(control, value) {
   return Math.round(200 * Math.log(value / least) / Math.log(control.most / least));
 }
 
-function makeControls() {
-  for (const control of CONTROLS) {
-    const id = idOf(control);
-    const box = document.createElement("div");
-    box.className = "control";
-    const label = document.createElement("label");
-    label.htmlFor = id;
-    label.id = id + "-label";
-    label.textContent = control.label;
-    const slider = document.createElement("input");
-    Object.assign(slider, { type: "range", id: id + "-slider", min: control.step ? control.least || 0 : 0,
-      max: control.step ? control.most : 200, step: control.step || 1 });
-    slider.setAttribute("aria-labelledby", label.id);
-    const number = document.createElement("input");
-    const [least, most] = known.ranges[control.name] || [control.least || 0, ""];
-    Object.assign(number, { type: "number", id, min: least, max: most, step: 1, inputMode: "numeric" });
-    slider.addEventListener("input", () => change(control, fromSlider(control, Number(slider.value)), slider));
-    number.addEventListener("input", () => {
-      if (number.value !== "" && Number.isSafeInteger(Number(number.value))) change(control, Number(number.value), number);
-    });
-    box.append(label, slider, number);
-    byId("controls").append(box);
-  }
+function makeControl(control) {
+  const id = idOf(control);
+  const box = document.createElement("div");
+  box.className = "control";
+  const label = document.createElement("label");
+  Object.assign(label, { htmlFor: id, id: id + "-label", textContent: control.label });
+  const slider = document.createElement("input");
+  Object.assign(slider, { type: "range", id: id + "-slider", min: control.step ? control.least || 0 : 0,
+    max: control.step ? control.most : 200, step: control.step || 1 });
+  slider.setAttribute("aria-labelledby", label.id);
+  const number = document.createElement("input");
+  Object.assign(number, { type: "text", id, inputMode: "numeric", autocomplete: "off" });
+  const fault = document.createElement("span");
+  Object.assign(fault, { className: "fault", id: id + "-fault" });
+  fault.setAttribute("role", "status");
+  number.setAttribute("aria-describedby", fault.id);
+  slider.addEventListener("input", () => { take(control, String(fromSlider(control, Number(slider.value)))); showControls(number); });
+  number.addEventListener("input", () => { take(control, number.value); showControls(number); });
+  box.append(label, slider, number, fault);
+  return box;
 }
 
-function change(control, value, source) {
-  setValue(control, value);
-  showControls(source);
-  stormChanged();
+// Takes what stands in a box: a number that is right is played, and of another one the fault is told beside it.
+function take(control, text) {
+  const [least, most] = rangeOf(control), spelt = text.trim(), number = byId(idOf(control));
+  const isRight = /^\d{1,16}$/.test(spelt) && Number(spelt) >= least && Number(spelt) <= most;
+  if (number.value !== text) number.value = text;
+  const range = `from ${least.toLocaleString("en")} to ${most.toLocaleString("en")}`;
+  tell(number, byId(number.id + "-fault"), isRight ? "" : `expected a whole number ${range}, got ${spelt ? `'${spelt.slice(0, 40)}'` : "nothing"}`);
+  if (isRight) { setValue(control, Number(spelt)); stormChanged(); } else { showStale(); }
 }
 
-function showControl(control, source) {
-  const id = idOf(control), value = valueOf(control);
-  const slider = byId(id + "-slider"), number = byId(id);
-  if (source !== slider) slider.value = toSlider(control, value);
-  if (source !== number) number.value = value;
+// Tells the fault of an input beside it.
+function tell(input, place, fault) {
+  input.setAttribute("aria-invalid", String(Boolean(fault)));
+  say(place, fault);
+}
+
+function showControl(control, typed) {
+  const id = idOf(control), value = valueOf(control), slider = byId(id + "-slider"), number = byId(id);
+  if (document.activeElement !== slider || typed !== number) slider.value = toSlider(control, value);
+  if (typed !== number && number.getAttribute("aria-invalid") !== "true") number.value = value;
   slider.setAttribute("aria-valuetext", value.toLocaleString("en"));
 }
 
-function showControls(source) {
+function showControls(typed) {
   for (const radio of document.querySelectorAll("[name=story]")) radio.checked = radio.value === state.story;
-  CONTROLS.forEach((control) => showControl(control, source));
+  CONTROLS.forEach((control) => showControl(control, typed));
 }
 
-function asked() {
+function clearFaults() {
+  for (const control of CONTROLS) tell(byId(idOf(control)), byId(idOf(control) + "-fault"), "");
+  say(byId("storm-fault"), "");
+}
+
+function stormAsked() {
   const storm = {};
   for (const name of new Set(CONTROLS.map((control) => control.name))) storm[name] = whole(name);
   if (storm.slow && storm.slow[0] === storm.slow[1]) storm.slow = null;
@@ -133,47 +158,34 @@ function asked() {
   return storm;
 }
 
+const sidesAsked = () => state.sides.map((side) => side.text.trim() ? side : { text: "", limit: "" });
+
 // ---- The sides
 
-function makeSides() {
-  SIDES.forEach((name, index) => {
-    const part = byId("side").content.cloneNode(true).querySelector(".side");
-    part.id = "side-" + name;
-    const head = part.querySelector("h2");
-    head.textContent = "Policy " + name.toUpperCase();
-    head.id = name + "-head";
-    part.setAttribute("aria-labelledby", head.id);
-    const text = part.querySelector("textarea");
-    text.id = name + "-text";
-    part.querySelector(".text-label").htmlFor = text.id;
-    part.querySelector(".fault").id = name + "-fault";
-    text.setAttribute("aria-describedby", name + "-fault");
-    part.querySelector(".limit-fault").id = name + "-limit-fault";
-    const limit = part.querySelector(".limit");
-    limit.id = name + "-limit";
-    limit.setAttribute("aria-describedby", name + "-limit-fault");
-    const cookbook = part.querySelector(".cookbook");
-    cookbook.id = name + "-cookbook";
-    for (const [title, spelt] of known.cookbook) cookbook.append(new Option(title, spelt));
-    cookbook.addEventListener("change", () => {
-      if (cookbook.value) { text.value = cookbook.value; text.dispatchEvent(new Event("input")); }
-    });
-    text.addEventListener("input", () => {
-      state.sides[index].text = text.value;
-      mark(part, null);
-      showChosen(part);
-      sideChanged(index);
-    });
-    text.addEventListener("scroll", () => { part.querySelector(".editor pre").scrollTop = text.scrollTop; });
-    limit.addEventListener("input", () => { state.sides[index].limit = limit.value; sideChanged(index); });
-    for (const program of part.querySelectorAll(".program")) {
-      const title = program.querySelector("h4").textContent;
-      program.querySelector("button").setAttribute("aria-label", `Copy the ${title} of policy ${name.toUpperCase()}`);
-      program.querySelector("pre").setAttribute("aria-label", `${title} of policy ${name.toUpperCase()}`);
-      program.querySelector("button").addEventListener("click", () => copy(program.querySelector("pre").textContent, title));
-    }
-    byId("sides").append(part);
+function makeSide(name, index) {
+  const part = byId("side").content.cloneNode(true).querySelector(".side");
+  part.id = "side-" + name;
+  const find = (selector, id) => Object.assign(part.querySelector(selector), { id: `${name}-${id}` });
+  const head = find("h2", "head"), text = find("textarea", "text"), limit = find(".limit", "limit"), cookbook = find(".cookbook", "cookbook");
+  head.textContent = "Policy " + name.toUpperCase();
+  part.setAttribute("aria-labelledby", head.id);
+  part.querySelector(".text-label").htmlFor = text.id;
+  text.setAttribute("aria-describedby", find(".text-fault", "fault").id);
+  limit.setAttribute("aria-describedby", find(".limit-fault", "limit-fault").id);
+  for (const [title, spelt] of known.cookbook) cookbook.append(new Option(title, spelt));
+  cookbook.addEventListener("change", () => {
+    if (cookbook.value) { text.value = cookbook.value; text.dispatchEvent(new Event("input")); }
   });
+  text.addEventListener("input", () => {
+    state.sides[index].text = text.value;
+    mark(part, null);
+    showChosen(part);
+    sideChanged(index);
+  });
+  text.addEventListener("scroll", () => { part.querySelector(".editor pre").scrollTop = text.scrollTop; });
+  limit.addEventListener("input", () => { state.sides[index].limit = limit.value; sideChanged(index); });
+  part.querySelector("details").addEventListener("toggle", () => planLater[index]());
+  byId("sides").append(part);
 }
 
 function partOf(index) { return byId("side-" + SIDES[index]); }
@@ -207,43 +219,35 @@ function mark(part, fault) {
   below.scrollTop = text.scrollTop;
 }
 
-function say(place, said) { if (place.textContent !== said) place.textContent = said; }
-
 function draw(figure, picture) {
   if (!picture) { figure.replaceChildren(); return; }
   const drawn = new DOMParser().parseFromString(picture, "image/svg+xml").documentElement;
   figure.replaceChildren(document.importNode(drawn, true));
 }
 
-function widthOf(figure) { return Math.max(280, Math.min(2000, Math.floor(figure.clientWidth) || 560)); }
+function widthOf(figure) { return Math.max(280, Math.min(2000, Math.floor(figure.clientWidth) || 340)); }
 
 const planTurns = [0, 0];
 
 async function plan(index) {
   const part = partOf(index), side = state.sides[index], turn = ++planTurns[index];
   const limit = part.querySelector(".limit"), figure = part.querySelector(".plan");
-  if (!side.text.trim()) {
-    mark(part, null);
-    say(part.querySelector(".fault"), "");
-    say(part.querySelector(".limit-fault"), "");
-    limit.setAttribute("aria-invalid", "false");
-    draw(figure, "");
-    return;
-  }
-  let answer;
-  try {
-    answer = await ask("plan", { ...side, width: widthOf(figure) });
-  } catch (error) {
-    say(part.querySelector(".fault"), error.message);
-    return;
+  let answer = { limit_fault: "", picture: "" };
+  if (side.text.trim()) {
+    try {
+      answer = await ask("plan", { ...side, width: widthOf(figure) });
+    } catch (error) {
+      say(part.querySelector(".text-fault"), error.message);
+      return;
+    }
   }
   if (turn !== planTurns[index]) return;
-  limit.setAttribute("aria-invalid", String(Boolean(answer.limit_fault)));
-  say(part.querySelector(".limit-fault"), answer.limit_fault || "");
+  tell(limit, part.querySelector(".limit-fault"), answer.limit_fault || "");
   mark(part, answer.fault || null);
-  say(part.querySelector(".fault"), answer.fault ? `${answer.fault.said}: ${answer.fault.hint}` : "");
+  say(part.querySelector(".text-fault"), answer.fault ? `${answer.fault.said}: ${answer.fault.hint}` : "");
   figure.classList.toggle("stale", Boolean(answer.fault));
-  if (!answer.fault) draw(figure, answer.picture);
+  if (!answer.fault && part.querySelector("details").open) draw(figure, answer.picture);
+  showStale();
 }
 
 const planLater = SIDES.map((_, index) => later(120, () => plan(index)));
@@ -270,10 +274,9 @@ async function play() {
   const mine = playing = new AbortController();
   const slow = setTimeout(() => busy("Playing the storm; what you type or move breaks it off."), 1000);
   try {
-    const sides = state.sides.map((side) => side.text.trim() ? side : { text: "", limit: "" });
-    const width = widthOf(partOf(0).querySelector(".played"));
-    const answer = await ask("storm", { page, sides, storm: asked(), width }, mine.signal);
-    if (playing === mine) showPlayed(answer);
+    const width = widthOf(byId("played"));
+    const answer = await ask("storm", { page, sides: sidesAsked(), storm: stormAsked(), width, is_brief: width < WIDE }, mine.signal);
+    if (playing === mine) { showPlayed(answer); sweepLater(); }
   } catch (error) {
     if (playing === mine && error.name !== "AbortError") say(byId("storm-fault"), error.message);
   } finally {
@@ -285,63 +288,147 @@ async function play() {
 function busy(said) {
   byId("busy").hidden = !said;
   say(byId("busy-said"), said);
-  for (const figure of document.querySelectorAll(".played")) figure.setAttribute("aria-busy", String(Boolean(said)));
+  byId("played").setAttribute("aria-busy", String(Boolean(said)));
 }
 
 function showPlayed(answer) {
   const fault = answer.fault;
-  say(byId("storm-fault"), fault ? (fault.name ? `${fault.name}: ${fault.said}` : fault.said) : "");
-  for (const control of CONTROLS) byId(idOf(control)).setAttribute("aria-invalid", String(Boolean(fault && fault.name === control.name)));
-  if (fault) return;
-  answer.sides.forEach((side, index) => {
-    const part = partOf(index);
-    const played = part.querySelector(".played");
-    const has = state.sides[index].text.trim() !== "";
-    if (side || !has) draw(played, side && side.picture);
-    played.classList.toggle("stale", !side && has);
-    part.querySelector(".lines").replaceChildren(...(side ? side.lines : []).map((line) => {
-      const item = document.createElement("li");
-      item.textContent = line.replace(/(\d) (ms|s)\b/g, "$1\u00a0$2");
-      return item;
-    }));
-    const programs = part.querySelectorAll(".program pre");
-    ["json", "python", "rust"].forEach((kind, at) => { programs[at].textContent = side ? side[kind] : ""; });
-  });
+  say(byId("storm-fault"), fault && !CONTROLS.some((control) => control.name === fault.name) ? fault.said : "");
+  for (const control of CONTROLS.filter((control) => fault && control.name === fault.name)) {
+    tell(byId(idOf(control)), byId(idOf(control) + "-fault"), fault.said);
+  }
+  const isWhole = !fault && answer.sides.every((side, index) => side || !state.sides[index].text.trim());
+  if (isWhole) clearPlayedFaults();
+  // (a side that is faulty as it is typed keeps the picture that it had)
+  if (isWhole || (!fault && !byId("played").firstChild)) {
+    draw(byId("played"), answer.picture);
+    answer.sides.forEach(showSide);
+    scenario = answer.scenario;
+  }
+  showStale();
 }
 
-// ---- Links
+// Numbers that were wrong together are right again.
+function clearPlayedFaults() {
+  for (const control of CONTROLS) {
+    const number = byId(idOf(control));
+    if (/^\d+$/.test(number.value.trim()) && Number(number.value) === valueOf(control)) tell(number, byId(number.id + "-fault"), "");
+  }
+}
+
+let scenario = "";
+const programs = [null, null];
+
+function showSide(side, index) {
+  const name = SIDES[index], letter = name.toUpperCase();
+  programs[index] = side;
+  say(byId(name + "-brief"), side ? `${letter}: ${side.brief}`.replace(/(\d) (ms|s|%)/g, "$1\u00a0$2") : "");
+  byId(name + "-lines").replaceChildren(...(side ? side.lines : []).map((line) => {
+    const item = document.createElement("li");
+    item.textContent = `${letter}: ${line}`.replace(/(\d) (ms|s)\b/g, "$1\u00a0$2");
+    return item;
+  }));
+}
+
+// Says that the picture is not of what stands in the boxes, where one of these is faulty.
+function showStale() {
+  const isFaulty = document.querySelector(".controls [aria-invalid=true]") !== null;
+  say(byId("stale"), isFaulty ? "This picture is of the last numbers and policies that were right. What is wrong is marked." : "");
+  byId("played").classList.toggle("stale", isFaulty);
+}
+
+// ---- Along a parameter
+
+let sweeping = null;
+const sweepLater = later(600, sweep);
+
+async function sweep() {
+  if (sweeping) sweeping.abort();
+  const mine = sweeping = new AbortController();
+  byId("swept").setAttribute("aria-busy", "true");
+  try {
+    const asked = { page, along: state.along, sides: sidesAsked(), storm: stormAsked(), width: Math.min(640, widthOf(byId("swept"))) };
+    const answer = await ask("sweep", asked, mine.signal);
+    if (sweeping !== mine) return;
+    draw(byId("swept"), answer.picture);
+    say(byId("swept-said"), answer.fault ? `${answer.fault.name}: ${answer.fault.said}` : answer.said);
+  } catch (error) {
+    if (sweeping === mine && error.name !== "AbortError") say(byId("swept-said"), error.message);
+  } finally {
+    if (sweeping === mine) byId("swept").setAttribute("aria-busy", "false");
+  }
+}
+
+// ---- Links and copies
 
 function keepLink() {
   const told = new URLSearchParams();
   told.set("story", state.story);
   for (const [name, value] of Object.entries(state.storm)) {
-    if (String(value) !== String(known.stories[state.story][name])) told.set(name, Array.isArray(value) ? value.join("-") : value);
+    if (String(value) !== String(story().storm[name])) told.set(name, Array.isArray(value) ? value.join("-") : value);
   }
   state.sides.forEach((side, index) => {
-    if (side.text) told.set(SIDES[index], side.text);
+    told.set(SIDES[index], side.text);
     if (side.limit) told.set(SIDES[index] + "-limit", side.limit);
   });
+  if (state.along !== "rate") told.set("along", state.along);
   history.replaceState(null, "", "#" + told);
 }
 
-function readLink() {
-  const told = new URLSearchParams(location.hash.slice(1));
-  if (!told.has("story")) return false;
-  state.story = told.get("story") in known.stories ? told.get("story") : "outage";
+function beginWith(name) {
+  state.story = name;
   state.storm = {};
-  for (const control of CONTROLS) {
-    const value = told.get(control.name);
-    if (value === null) continue;
-    const numbers = value.split("-").map(Number);
-    const wanted = { outage: 2, slow: 3 }[control.name] || 1;
-    if (numbers.length !== wanted || !numbers.every((number) => Number.isSafeInteger(number) && number >= 0)) continue;
-    state.storm[control.name] = wanted === 1 ? numbers[0] : numbers;
+  state.sides = story().sides.map((side) => ({ ...side }));
+  clearFaults();
+}
+
+// Takes what the link carries. What is wrong in it is told at its box, or above the page.
+function readLink() {
+  const told = new URLSearchParams(location.hash.slice(1)), unknown = [];
+  const named = told.get("story");
+  beginWith(named in known.stories ? named : "quota");
+  if (named !== null && !(named in known.stories)) unknown.push(`story=${named}`);
+  if (SIDES.some((name) => told.has(name))) {
+    state.sides = SIDES.map((name) => ({ text: told.get(name) || "", limit: told.get(name + "-limit") || "" }));
   }
-  state.sides = SIDES.map((name) => ({ text: told.get(name) || "", limit: told.get(name + "-limit") || "" }));
-  return true;
+  if (told.get("along") in known.along) state.along = told.get("along");
+  showControls();
+  for (const [name, value] of told) {
+    const controls = CONTROLS.filter((control) => control.name === name);
+    const texts = PARTS[name] ? value.split("-") : [value];
+    controls.forEach((control, index) => take(control, index < texts.length ? texts[index] : ""));
+    if (!controls.length && !["story", "along", ...SIDES, ...SIDES.map((side) => side + "-limit")].includes(name)) unknown.push(name);
+  }
+  say(byId("said"), unknown.length ? `The link has what this page does not know: ${unknown.join(", ").slice(0, 80)}.` : "");
+  byId("along").value = state.along;
+  showControls();
+  showSides();
+}
+
+function makeCopies() {
+  const group = (title, buttons) => {
+    const row = document.createElement("div");
+    row.className = "copy";
+    row.append(title, ...buttons.map(([what, label, text]) => {
+      const button = document.createElement("button");
+      Object.assign(button, { type: "button", textContent: what });
+      button.setAttribute("aria-label", label);
+      button.addEventListener("click", () => copy(text(), label));
+      return button;
+    }));
+    byId("copies").append(row);
+  };
+  SIDES.forEach((name, index) => {
+    const letter = name.toUpperCase();
+    group(`${letter}:`, Object.entries(KINDS).map(([kind, title]) =>
+      [title, `The ${title} of ${letter}`, () => programs[index] ? programs[index][kind] : ""]));
+  });
+  group("Both:", [["JSON of the scenario", "The JSON of the scenario", () => scenario]]);
 }
 
 async function copy(text, what) {
+  byId("copied").hidden = false;
+  say(byId("copied"), text);
   try {
     await navigator.clipboard.writeText(text);
     say(byId("said"), `${what} is copied.`);
@@ -350,13 +437,14 @@ async function copy(text, what) {
   }
 }
 
-function begin() {
-  if (!readLink()) {
-    const full = known.cookbook.find(([title]) => title === "Eight retries with full jitter")[1];
-    state.sides = [{ text: full, limit: "" }, { text: full, limit: "10/10%/1s" }];
+function makeStories() {
+  for (const [name, { title }] of Object.entries(known.stories)) {
+    const label = document.createElement("label"), radio = document.createElement("input");
+    Object.assign(radio, { type: "radio", name: "story", value: name });
+    radio.addEventListener("change", () => { beginWith(name); showControls(); showSides(); });
+    label.append(radio, " " + title);
+    byId("stories").append(label);
   }
-  showControls();
-  showSides();
 }
 
 async function start() {
@@ -366,18 +454,19 @@ async function start() {
     say(byId("said"), error.message);
     return;
   }
-  makeControls();
-  makeSides();
-  for (const radio of document.querySelectorAll("[name=story]")) {
-    radio.addEventListener("change", () => { state.story = radio.value; state.storm = {}; showControls(); stormChanged(); });
-  }
+  makeStories();
+  byId("numbers").append(...CONTROLS.map(makeControl));
+  SIDES.forEach(makeSide);
+  makeCopies();
+  for (const [name, title] of Object.entries(known.along)) byId("along").append(new Option(title, name));
+  byId("along").addEventListener("change", () => { state.along = byId("along").value; keepLink(); sweep(); });
   byId("copy-link").addEventListener("click", () => { keepLink(); copy(location.href, "The link"); });
-  addEventListener("hashchange", () => { if (readLink()) { showControls(); showSides(); } });
+  addEventListener("hashchange", readLink);
   let wide = innerWidth;
   addEventListener("resize", later(300, () => {
-    if (innerWidth !== wide) { wide = innerWidth; state.sides.forEach((_, index) => sideChanged(index)); }
+    if (innerWidth !== wide) { wide = innerWidth; SIDES.forEach((_, index) => sideChanged(index)); }
   }));
-  begin();
+  readLink();
 }
 
 start();

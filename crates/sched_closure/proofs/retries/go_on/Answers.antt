@@ -4,7 +4,7 @@ use Rattle.sched_task_law.specs.Kind.{a_retry}
 use Rattle.sched_run_machine.specs.Machine.{begins, Machine}
 use Rattle.sched_closure.specs.Turns.{calling}
 use Rattle.sched_closure.specs.Calls.{machine_turning}
-use Rattle.sched_closure.proofs.First.{idle_turn, run_turn, whatever_before}
+use Rattle.sched_closure.proofs.First.{idle_turn, run_turn}
 use Rattle.sched_closure.proofs.Unbegun.{broken_at_once}
 use Rattle.sched_closure.proofs.Goes.{none_waited, goes_so}
 use Rattle.sched_closure.proofs.retries.go_on.Given.{C-step}
@@ -26,7 +26,7 @@ returns-in_default-clause-unbegun g c = λ clock call told gave. (
 
 pub returns-clause-begun : goal.returns-clause-begun
 returns-clause-begun g c = λ clock call told gave.
-    let on = machine_turning g.D.Draws.grants (a_retry g.S.Drives.keeps) g.S.Drives.stands g.S.Drives.goes_by in
+    let on = machine_turning g.D.Draws.grants (a_retry g.S.Drives.keeps) g.S.Drives.stands g.S.Drives.goes_by g.S.Drives.ends in
     let began : Tick = record { now = c.args.first.0; words = c.four_words.result } in
     let ended : Tick = record { now = c.now.result; words = c.four_words-2.result } in
     let made = begins g.D.Draws.grants c.in-Ok.driver c.in-Ok.drawing in
@@ -41,7 +41,7 @@ returns-clause-begun g c = λ clock call told gave.
     c.args.clock.now c.now.new.self (g.G.Rng.stream c.four_words.new.rng) (g.G.Rng.stream c.four_words-2.new.rng) call c.args.call None ended
     fault (λ v st. none_waited v.past (sym st.under_way ∙ runs)) runs gave c.now.ensures c.four_words-2.ensures
     (rw (← c.ran_of.ensures) c.tell.ensures.polls) in
-    let so = goes_so g.S.Drives.stands g.S.Drives.keeps g.S.Drives.goes_by g.D.Draws.grants g.K.Clock.tells g.K.Clock.waits (C-step g)
+    let so = goes_so g.S.Drives.stands g.S.Drives.keeps g.S.Drives.goes_by g.S.Drives.ends g.D.Draws.grants g.K.Clock.tells g.K.Clock.waits (C-step g)
     g.I.Coded.coded g.F.Coded.coded made c.match-tell.retry clock c.match-tell.clock (g.G.Rng.stream c.args.words.now)
     (g.G.Rng.stream c.match-tell.words) call in
     let plan = g.S.Drives.plan c.match-tell.retry.driver in
@@ -58,15 +58,13 @@ returns-clause-begun g c = λ clock call told gave.
             c.retry_ending-ending.ensures.gave over c.begun-retry.ensures.stands goes,
       )
       | in-None w ↦ (
-          let rest = w.call_on-outcome.ensures.turns in
-          let moved = whatever_before on g.K.Clock.tells g.K.Clock.waits (C-step g) g.I.Coded.coded g.F.Coded.coded (Some fault)
-          w.call_on-outcome.result _ rest.0 _ rest.2 refl refl in (
+          let rest = w.call_on-outcome.ensures.turns in (
             (c.in-Ok.driver, c.in-Ok.drawing),
             c.alloc-alloc.result,
             c.in-Ok.ensures,
             rest.1,
             so rest.1 (began ∷ ended ∷ rest.0) c.match-tell.outcome c.retry_ending-ending.result plan
-                (rw (w.retry-is, w.clock-is, w.words-is, w.outcome-is) (between, first, (then, second, moved)))
+                (rw (w.retry-is, w.clock-is, w.words-is, w.outcome-is) (between, first, (then, second, rest.2)))
                 c.retry_ending-ending.ensures.gave over c.begun-retry.ensures.stands goes,
           )
           )

@@ -23,6 +23,7 @@ report_poll-requires g c =
     let r = c.self.inside in
     let polled = c.poll_run-polled in record {
       looks = rw c.if-stays.false at c.stays.ensures.looks;
+      in_time = refl;
       unended = c.stays.ensures.unended c.if-stays.false;
       idle = λ none. c.self.invariant.0.under_way
           ∙ idle_by g.X.Item.Coded.coded g.X.Fault.Coded.coded r.runner polled.new.self c.args.tick.now polled.result polled.ensures.polls none;

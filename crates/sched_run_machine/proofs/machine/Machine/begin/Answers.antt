@@ -3,7 +3,7 @@ use Rattle.sched_run_machine.proofs.machine.Machine.begin.Goals as goal
 
 pub returns-clause-polls : goal.returns-clause-polls
 returns-clause-polls g c =
-    begins_run g.R.Drives.stands (g.A.Aims.kind g.R.Drives.keeps) g.R.Drives.goes_by g.D.Draws.grants g.met.D.Draws.lawful (g.met.A.Aims.alone g.R.Drives.keeps) _ c.args._tick.now c.args.self.now c.self.view_is c.requires
+    begins_run g.R.Drives.stands (g.A.Aims.kind g.R.Drives.keeps) g.R.Drives.goes_by g.D.Draws.grants g.met.D.Draws.lawful (g.met.A.Aims.alone g.R.Drives.keeps) _ c.args._tick.now c.args.self.now c.self.view_is c.requires.looks
 
 pub invariant_of-self : goal.invariant_of-self
 invariant_of-self g c =

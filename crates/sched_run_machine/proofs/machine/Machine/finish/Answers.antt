@@ -5,7 +5,7 @@ pub returns-clause-polls : goal.returns-clause-polls
 returns-clause-polls g c =
     let ended = c.end_run-self-inside in
     rw c.saturating_add-self-inside.ensures
-    (ends_run g.R.Drives.stands (g.A.Aims.kind g.R.Drives.keeps) g.R.Drives.goes_by g.D.Draws.grants g.met.D.Draws.lawful (g.met.A.Aims.alone g.R.Drives.keeps) _ c.args.tick.now c.args.self.now c.self.view_is c.requires
+    (ends_run g.R.Drives.stands (g.A.Aims.kind g.R.Drives.keeps) g.R.Drives.goes_by g.D.Draws.grants g.met.D.Draws.lawful (g.met.A.Aims.alone g.R.Drives.keeps) _ c.args.tick.now c.args.self.now c.self.view_is c.requires.looks
     c.args.ran ended.result ended.new.driver ended.new.drawing ended.ensures.ends ended.ensures.stands ended.ensures.narrows)
 
 pub invariant_of-self : goal.invariant_of-self

@@ -1,0 +1,6 @@
+use Rattle.sched_handle.proofs.Undrawn.{none-drawn}
+use Rattle.sched_handle.proofs.leases.drawn.Goals as goal
+
+pub returns-in-Err : goal.returns-in-Err
+returns-in-Err c =
+    none-drawn _ _ _ c.in-Err.why c.undrawn.result c.undrawn.ensures c.in-Err.ensures.err.0 c.in-Err.ensures.err.1

@@ -1,0 +1,9 @@
+//! What holds of the delays of plans, on every history. Each function does nothing: its contract is a law.
+#![tactic(auto)]
+
+ghost use Rattle.sched_plan_laws.specs.Delays.{DecorrelatedIsBounded};
+
+/// Each delay of `Plan::decorrelated` lies between its base and its longest delay, whatever the random words.
+pub fn decorrelated_is_bounded()
+    ensures { DecorrelatedIsBounded }
+{}

@@ -1,0 +1,91 @@
+#compdef hikebox
+# Completion of hikebox for zsh: commands, options, and what an option takes.
+local -a commands picture
+local context state state_descr line
+typeset -A opt_args
+commands=(
+  'run:run a command until it succeeds'
+  'plan:play a policy and print what it does'
+  'check:say what a policy is, or where it is wrong'
+  'storm:play what a policy does to a peer that fails for a while'
+  'lab:serve a page on which policies and storms are tried'
+)
+picture=(
+  '--svg[write the picture into this file]:file:_files'
+  '--width[how wide the picture is]:number:'
+)
+
+_hikebox_scenarios() { _alternative 'names:scenario:(outage herd brown-out)' 'files:file:_files' }
+
+_arguments -C '(- *)'{-h,--help}'[print help]' '(- *)--version[print the version]' '1:command:->command' '*::word:->word'
+case $state in
+  command) _describe -t commands command commands ;;
+  word)
+    case $words[1] in
+      run)
+        _arguments -S '(- *)'{-h,--help}'[print help]' \
+          '--policy[when to run it again]:policy:_files' \
+          '(--quota)--budget[at most so many retries, over all runs that name the folder]:N or N@FOLDER:' \
+          '(--budget)--quota[so many retries in each period, and a share of the runs]:RESERVE/SHARE%/PERIOD@FOLDER:' \
+          '--on[retry only these statuses]:statuses, as 1,3-5:' \
+          '--timeout[how long an attempt may take]:seconds:' \
+          '--kill-after[how long after SIGTERM a SIGKILL follows]:seconds:' \
+          '--deadline[begin no attempt later than this]:seconds:' \
+          '--replay-input[give each attempt the whole standard input]' \
+          '--last-output[print the standard output of the last attempt only]' \
+          '--output-limit[fail where an attempt has more output]:size, as 10M:' \
+          '(-q --quiet -v --verbose)'{-v,--verbose}'[say on standard error what happens]' \
+          '(-q --quiet -v --verbose)'{-q,--quiet}'[show no line while it waits]' \
+          '(-)1:command: _command_names -e' '*::argument:_normal'
+        ;;
+      plan)
+        _arguments -S '(- *)'{-h,--help}'[print help]' $picture \
+          '--steps[how many failures to play at most]:number:' \
+          '--from[the moment of the first failure]:milliseconds:' \
+          '--took[how long each further call takes]:milliseconds:' \
+          '(--inputs)--input[the code of each failure]:number:' \
+          '(--input)--inputs[the codes of the failures, in turn]:numbers, as 503,404:' \
+          '(--words)--word[each random word]:number:' \
+          '(--word)--words[other random words, by a seed]:seed:' \
+          '*:policy:_files'
+        ;;
+      check) _arguments -S '(- *)'{-h,--help}'[print help]' '1:policy:_files' ;;
+      storm)
+        _arguments -S '(- *)'{-h,--help}'[print help]' $picture \
+          '--scenario[begin with a story, or with the scenario of a file]:scenario:_hikebox_scenarios' \
+          '--rate[requests a second]:number:' \
+          '--together[requests that come at one moment]:number:' \
+          '--seconds[for how many seconds requests come]:number:' \
+          '--capacity[calls that the peer can do in a second]:number:' \
+          '--patience[when a client gives a call up]:milliseconds:' \
+          '--queue[calls of work that may stand at the peer]:number:' \
+          '--window[how long a line of the report is]:milliseconds:' \
+          '--until[the moment after which nothing is played]:milliseconds:' \
+          '--calls[stop before the call after so many]:number:' \
+          '--words[the seed of the random words]:seed:' \
+          '--outage[when the peer refuses all calls]:FROM..TO:' \
+          '--slow[when the peer works at a part of its capacity]:FROM..TO@PERCENT:' \
+          '*--budget[at most so many retries of all requests]:number:' \
+          '*--quota[so many retries in each period, and a share of the requests]:RESERVE/SHARE%/PERIOD:' \
+          '--without[play each policy without a limit, too]' \
+          '--sweep[play the storms for each value of a parameter]:NAME=VALUES, as rate=200..1600/8:' \
+          '*--measure[what a sweep tells]:measure:(succeeded calls recovery slowest)' \
+          '--find[the limit with which the peer recovers]:limit:(quota retries patience)' \
+          '*--compare[play this policy too]:policy:_files' \
+          '(--json --svg --bars)--csv[print the lines as comma-separated values]' \
+          '(--csv --svg --bars)--json[print the lines and totals as JSON]' \
+          '(--csv --json --svg)--bars[print each window with a bar of its calls]' \
+          '--detail[show in the picture why calls failed]' \
+          '--title[the title of the picture]:text:' \
+          '*--name[what a picture or a table calls a storm]:text:' \
+          '*:policy:_files'
+        ;;
+      lab)
+        _arguments -S '(- *)'{-h,--help}'[print help]' \
+          '--port[the port on 127.0.0.1]:number:' \
+          '--no-browser[print the address, and open no browser]' \
+          '1:link:'
+        ;;
+    esac
+    ;;
+esac

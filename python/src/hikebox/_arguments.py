@@ -1,0 +1,57 @@
+"""A parser of command lines that takes each word as it is spelt, and names the nearest one where it knows none."""
+
+from __future__ import annotations
+
+import argparse
+import difflib
+import sys
+from typing import Any, Callable, Iterable, List, NoReturn, Optional
+
+__all__ = ["Parser"]
+
+
+class Parser(argparse.ArgumentParser):
+    """A parser without abbreviations.
+
+    `prints` writes a text on standard output and gives the program's status, as of a stream that can't be written.
+    """
+
+    prints: Callable[[str], int]
+
+    def __init__(self, **how: Any) -> None:
+        super().__init__(allow_abbrev=False, **how)
+
+    def read(self, words: Optional[List[str]]) -> Any:
+        """The parsed command line. A word that nobody takes ends the program."""
+        words = sys.argv[1:] if words is None else words
+        given, rest = self.parse_known_args(words)
+        if rest:
+            owner = self if words[0] == rest[0] else given.parser
+            owner.refuse(rest[0])
+        return given
+
+    def refuse(self, word: str) -> NoReturn:
+        """Ends the program for a word that there is not."""
+        if not word.startswith("-"):
+            self.error(f"unexpected word {word!r}")
+        name = word.partition("=")[0]
+        known = [option for action in self._actions for option in action.option_strings]
+        self.error(f"there is no option {name}{_nearest(name, known)}")
+
+    def _check_value(self, action: argparse.Action, value: Any) -> None:
+        if isinstance(action.choices, dict) and value not in action.choices:
+            self.error(f"there is no command {value!r}{_nearest(value, action.choices)}")
+        super()._check_value(action, value)
+
+    def _print_message(self, message: str, file: Any = None) -> None:
+        if file is sys.stdout and message:
+            status = type(self).prints(message)
+            if status != 0:
+                raise SystemExit(status)
+        else:
+            super()._print_message(message, file)
+
+
+def _nearest(word: str, known: Iterable[str]) -> str:
+    near = difflib.get_close_matches(word, list(known), 1)
+    return f"; did you mean {near[0]}?" if near else ""

@@ -1,0 +1,154 @@
+"""The parameters along which storms are played, and the numbers that are drawn of them."""
+
+from __future__ import annotations
+
+import re
+from typing import TYPE_CHECKING, Any, Callable, Dict, List, NamedTuple, Optional, Tuple
+
+from ._storm_terms import RANGES, Parameters, Span
+from .errors import StormError
+from .quota import Terms
+
+if TYPE_CHECKING:
+    from .storm import Storm
+
+__all__ = ["AXES", "MEASURES", "MOST_VALUES", "NEVER", "Axis", "Measure", "values_of"]
+
+#: So many values has a sweep at most.
+MOST_VALUES = 64
+#: What a measure gives where the storm has no such moment.
+NEVER = float("inf")
+
+
+def _plain(name: str) -> Callable[[Parameters, int], Parameters]:
+    def put(parameters: Parameters, value: int) -> Parameters:
+        changed: Dict[str, Any] = {name: value}
+        return parameters._replace(**changed)
+
+    return put
+
+
+def _clients(parameters: Parameters, value: int) -> Parameters:
+    return parameters._replace(rate=value, together=value)
+
+
+def _outage(parameters: Parameters, value: int) -> Parameters:
+    begins = parameters.outage.begins
+    return parameters._replace(outage=Span(begins, begins + value))
+
+
+def _share(parameters: Parameters, value: int) -> Parameters:
+    tickets = parameters.tickets
+    return parameters._replace(tickets=tickets._replace(share=value)) if isinstance(tickets, Terms) else parameters
+
+
+def _reserve(parameters: Parameters, value: int) -> Parameters:
+    tickets = parameters.tickets
+    return parameters._replace(tickets=tickets._replace(reserve=value)) if isinstance(tickets, Terms) else parameters
+
+
+def _budget(parameters: Parameters, value: int) -> Parameters:
+    return parameters._replace(tickets=value) if isinstance(parameters.tickets, int) else parameters
+
+
+class Axis(NamedTuple):
+    """A parameter. Its values are whole numbers of the engine's units, of which `unit` are one as it is told."""
+
+    title: str
+    most: int
+    put: Callable[[Parameters, int], Parameters]
+    unit: int = 1
+
+    def shown(self, value: int) -> str:
+        """The value as a person reads it."""
+        return f"{value / self.unit:,.12g}"
+
+
+#: The parameters by the names that the command line gives them.
+AXES: Dict[str, Axis] = {
+    "rate": Axis("requests a second", RANGES["rate"][1], _plain("rate")),
+    "clients": Axis("clients at once", RANGES["rate"][1], _clients),
+    "together": Axis("requests that come at one moment", RANGES["together"][1], _plain("together")),
+    "seconds": Axis("seconds for which requests come", RANGES["seconds"][1], _plain("seconds")),
+    "capacity": Axis("the peer's capacity, in calls a second", RANGES["capacity"][1], _plain("capacity")),
+    "queue": Axis("the peer's queue, in calls", RANGES["queue"][1], _plain("queue")),
+    "patience": Axis("the clients' patience, in seconds", RANGES["patience"][1], _plain("patience"), 1000),
+    "outage": Axis("length of the outage, in seconds", 3_600_000, _outage, 1000),
+    "share": Axis("share of the quota, in % of the requests", 1_000_000, _share, 10),
+    "reserve": Axis("reserve of the quota", 2**32, _reserve),
+    "budget": Axis("budget", 2**32, _budget),
+}
+
+
+class Measure(NamedTuple):
+    """A number of a storm."""
+
+    title: str
+    #: The number; `NEVER` where the storm never came to it, and None where it has none.
+    of: Callable[["Storm"], Optional[float]]
+    #: The greatest that it can be, if any.
+    most: Optional[float] = None
+
+
+def _succeeded(storm: Storm) -> Optional[float]:
+    return 100 * storm.totals.won / storm.totals.requests if storm.totals.requests else None
+
+
+def _recovery(storm: Storm) -> Optional[float]:
+    if not storm.parameters.weather():
+        return None
+    recovered = storm.totals.recovered_ms
+    return NEVER if recovered is None else (recovered - storm.parameters.over) / 1000
+
+
+def _slowest(storm: Storm) -> Optional[float]:
+    slowest = storm.totals.slowest_ms
+    return None if slowest is None else slowest / 1000
+
+
+#: The measures by the names that the command line gives them.
+MEASURES: Dict[str, Measure] = {
+    "succeeded": Measure("requests that succeeded, in %", _succeeded, 100.0),
+    "calls": Measure("calls for each request", lambda storm: storm.totals.calls_per_request),
+    "recovery": Measure("seconds to recovery", _recovery),
+    "slowest": Measure("slowest success, in seconds", _slowest),
+}
+
+
+def values_of(text: str) -> Tuple[str, List[int]]:
+    """The name and the values of a sweep, as `NAME=FROM..TO/COUNT` or `NAME=A,B,C` spell them, in the units of the
+    command line: milliseconds for times, and per cent for a share.
+
+    >>> values_of("rate=200..1600/8")
+    ('rate', [200, 400, 600, 800, 1000, 1200, 1400, 1600])
+    >>> values_of("share=0,2.5,10")
+    ('share', [0, 25, 100])
+    """
+    name, equals, spelt = text.partition("=")
+    if name not in AXES or not equals:
+        raise StormError(
+            "sweep", f"expected NAME=FROM..TO/COUNT or NAME=A,B,C, got {text!r}; NAME is {', '.join(AXES)}"
+        )
+    grain = 10 if name == "share" else 1
+    span = re.fullmatch(r"([0-9.]+?)\.\.([0-9.]+)/([0-9]{1,4})", spelt)
+    if span is None:
+        return name, _checked([_number(word, grain) for word in spelt.split(",")])
+    begins, ends, count = _number(span[1], grain), _number(span[2], grain), int(span[3])
+    if not 2 <= count <= MOST_VALUES or begins >= ends:
+        raise StormError("sweep", f"expected FROM below TO and a COUNT from 2 to {MOST_VALUES}, got {spelt!r}")
+    return name, _checked([round(begins + (ends - begins) * index / (count - 1)) for index in range(count)])
+
+
+def _number(word: str, grain: int) -> int:
+    pattern = r"[0-9]{1,12}" if grain == 1 else r"[0-9]{1,12}(\.[0-9])?"
+    if not re.fullmatch(pattern, word):
+        kind = "a whole number" if grain == 1 else "a number with at most one decimal"
+        raise StormError("sweep", f"expected {kind}, got {word!r}")
+    return round(float(word) * grain)
+
+
+def _checked(values: List[int]) -> List[int]:
+    """The values, where each is greater than the one before."""
+    if not 1 <= len(values) <= MOST_VALUES or any(high <= low for low, high in zip(values, values[1:])):
+        raise StormError("sweep", f"expected 1 to {MOST_VALUES} values, each greater than the one before, got {values}")
+    return values

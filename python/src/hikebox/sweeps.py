@@ -1,0 +1,285 @@
+"""Storms along a parameter: the same storms for each of its values, and the value at which a storm stops recovering."""
+
+from __future__ import annotations
+
+import csv
+import io
+import json
+from dataclasses import dataclass
+from typing import Any, Callable, Dict, Iterable, List, Optional, Sequence, Tuple, Union
+
+from ._checks import whole
+from ._storm_axes import AXES, MEASURES, MOST_VALUES, NEVER
+from ._storm_cores import Told, play_all, silent
+from ._storm_heads import names_of
+from ._storm_terms import Parameters, limit_text
+from ._storm_words import columns, recovery_mark, share_text
+from ._time import seconds as in_milliseconds
+from .builders import recurs
+from .errors import StormError
+from .policy import Policy
+from .quota import Terms
+from .storm import Storm, play
+
+__all__ = ["Found", "Sweep", "find", "sweep"]
+
+#: The parameters whose values are seconds in Python.
+_TIMES = ("patience", "outage")
+
+
+@dataclass(frozen=True, repr=False)
+class Sweep:
+    """Storms along a parameter. `str` prints a table of the shares that succeeded, and a notebook shows a picture."""
+
+    #: The name of the parameter, and its values in the engine's units: milliseconds, and thousandths of a share.
+    parameter: str
+    values: Tuple[int, ...]
+    #: What tells each line from the others.
+    names: Tuple[str, ...]
+    #: A line for each storm that was given, with a storm for each value.
+    lines: Tuple[Tuple[Storm, ...], ...]
+
+    def numbers(self, measure: str) -> List[List[Optional[float]]]:
+        """The numbers of a measure, a list for each line: `succeeded` in per cent, `calls` for each request, seconds to
+        `recovery` (infinite where a storm does not recover), and the `slowest` success in seconds."""
+        if measure not in MEASURES:
+            raise StormError("measure", f"expected one of {', '.join(MEASURES)}, got {measure!r}")
+        return [[MEASURES[measure].of(storm) for storm in line] for line in self.lines]
+
+    def svg(self, *measures: str, width: int = 760, title: Optional[str] = None) -> str:
+        """The picture as SVG so many units wide, with a panel for each measure; the shares that succeeded where none is
+        named."""
+        from ._sweep_picture import sweep_picture
+
+        return sweep_picture(self, measures or ("succeeded",), width=width, title=title)
+
+    def _repr_svg_(self) -> str:
+        return self.svg()
+
+    def to_csv(self) -> str:
+        """A line for each storm: the value, the policy, the limit and the totals."""
+        text = io.StringIO()
+        writer = csv.writer(text, lineterminator="\n")
+        totals = [name.replace("_ms", "") for name in vars(self.lines[0][0].totals)]
+        writer.writerow([self.parameter, "policy", "limit", *totals])
+        for line in self.lines:
+            for value, storm in zip(self.values, line):
+                limit = limit_text(storm.parameters.tickets)
+                writer.writerow([self._shown(value), repr(storm.policy), limit, *vars(storm.totals).values()])
+        return text.getvalue()
+
+    def to_json(self) -> str:
+        """The same as JSON on one line."""
+        lines = [
+            {
+                "policy": json.loads(line[0].policy.to_json()),
+                "limit": limit_text(line[0].parameters.tickets),
+                "totals": [storm.totals_dict() for storm in line],
+            }
+            for line in self.lines
+        ]
+        told = {"parameter": self.parameter, "values": [self._number(value) for value in self.values], "lines": lines}
+        return json.dumps(told, separators=(",", ":"))
+
+    def table(self, *measures: str) -> str:
+        """A table for each measure: a row for each value, and a column for each line."""
+        policies = {repr(line[0].policy) for line in self.lines}
+        heads = [*policies] if len(policies) == 1 else []
+        heads += [f"{number}: {name}" for number, name in enumerate(self.names, start=1)]
+        parts = ["\n".join(heads)]
+        for measure in measures or ("succeeded",):
+            rows = [(self.parameter, *(str(number) for number in range(1, len(self.lines) + 1)))]
+            numbers = self.numbers(measure)
+            rows += [
+                (self._shown(value), *(_cell(line[index]) for line in numbers))
+                for index, value in enumerate(self.values)
+            ]
+            parts.append("\n".join([MEASURES[measure].title, *columns(rows)]))
+        return "\n\n".join(parts)
+
+    def __str__(self) -> str:
+        return self.table()
+
+    def __repr__(self) -> str:
+        return f"<Sweep of {len(self.lines) * len(self.values)} storms along {self.parameter}>"
+
+    def _number(self, value: int) -> float:
+        """The value in the units of the command line."""
+        return value / 10 if self.parameter == "share" else value
+
+    def _shown(self, value: int) -> str:
+        return f"{self._number(value):.12g}"
+
+
+def _cell(number: Optional[float]) -> str:
+    if number is None:
+        return "-"
+    return "never" if number == NEVER else f"{number:.2f}"
+
+
+def sweep(storms: Union[Storm, Iterable[Storm]], **values: Iterable[Any]) -> Sweep:
+    """Plays these storms again for each value of one parameter, on all cores. Each storm is a line.
+
+    The parameter is one of `storm` by its name there (`rate`, `together`, `seconds`, `capacity`, `patience`, `queue`);
+    `outage`, how long it is; `clients`, so many requests that come at one moment; or `share`, `reserve` or `budget`, of
+    the limits that have it.
+
+    >>> from hikebox import Quota, exponential, recurs, storm
+    >>> policy = recurs(8) & exponential(0.1, 2).cap(10).jittered(0, 1)
+    >>> swept = sweep([storm(policy), storm(policy, budget=Quota(10, 0.1, 1))], rate=[400, 800])
+    >>> [[round(share, 1) for share in line] for line in swept.numbers("succeeded")]
+    [[22.7, 18.4], [83.3, 83.3]]
+    """
+    given = [storms] if isinstance(storms, Storm) else list(storms)
+    if len(values) != 1 or not given:
+        raise TypeError(f"expected storms and one parameter with its values, got {len(given)} and {sorted(values)}")
+    ((name, asked),) = values.items()
+    if name not in AXES:
+        raise TypeError(f"expected one of {', '.join(AXES)}, got {name!r}")
+    bases = [(each.policy, each.parameters) for each in given]
+    names = names_of(given)
+    return swept(bases, name, [_whole(name, value) for value in asked], names)
+
+
+def _whole(name: str, value: Any) -> int:
+    """A value in the engine's units."""
+    if name in _TIMES:
+        return in_milliseconds(value)
+    if name == "share":
+        return in_milliseconds(value)
+    return whole(value, f"sweep: {name}", 0, AXES[name].most)
+
+
+def swept(
+    storms: Sequence[Tuple[Policy, Parameters]],
+    name: str,
+    values: Sequence[int],
+    names: Sequence[str] = (),
+    told: Told = silent,
+) -> Sweep:
+    """Plays storms along values in the engine's units. `told` is called after each storm, with how many are done."""
+    if not 1 <= len(values) <= MOST_VALUES:
+        raise StormError("sweep", f"expected 1 to {MOST_VALUES} values, got {len(values)}")
+    if all(AXES[name].put(how, value) == how for _, how in storms for value in (0, 1)):
+        raise StormError("sweep", f"{name}: expected a storm with a limit that has it, got none")
+    wanted = [(policy, AXES[name].put(how, value).checked()) for policy, how in storms for value in values]
+    played = play_all(wanted, told)
+    lines = [played[at : at + len(values)] for at in range(0, len(played), len(values))]
+    return Sweep(name, tuple(values), tuple(names or names_of([line[0] for line in lines])), tuple(map(tuple, lines)))
+
+
+# The value at which a storm stops recovering
+
+
+@dataclass(frozen=True)
+class Found:
+    """A border: with `value` the storm recovers, and with the next one tried it does not. None where it never does."""
+
+    #: `quota`, `retries` or `patience`.
+    what: str
+    #: The last value with which the storm recovers: a share in thousandths, retries, or milliseconds.
+    value: Optional[int]
+    #: The storms that were tried, by their values.
+    tried: Tuple[Tuple[int, Storm], ...]
+
+    def to_json(self) -> str:
+        """The answer and the storms that were tried, as JSON on one line."""
+        tried = [{"value": value, "totals": storm.totals_dict()} for value, storm in self.tried]
+        return json.dumps({"find": self.what, "value": self.value, "tried": tried}, separators=(",", ":"))
+
+    def __str__(self) -> str:
+        goal = _GOALS[self.what]
+        answer = "none" if self.value is None else goal.shown(self.value)
+        rows = [(goal.column, "succeeded", "for each", "recovery")]
+        for value, storm in sorted(self.tried, key=lambda each: each[0]):
+            totals = storm.totals
+            said = recovery_mark(storm)[1] or "-"
+            rows.append((goal.shown(value), share_text(totals), f"{totals.calls_per_request:.2f}", said))
+        return "\n".join([f"{goal.title}: {answer}", "", *columns(rows)])
+
+
+@dataclass(frozen=True)
+class _Goal:
+    """What is looked for: between which values, and on which side storms recover."""
+
+    title: str
+    column: str
+    least: int
+    most: int
+    #: Whether small values recover and great ones don't.
+    wants_most: bool
+    put: Callable[[Policy, Parameters, int], Tuple[Policy, Parameters]]
+    shown: Callable[[int], str]
+
+
+def _with_share(policy: Policy, parameters: Parameters, value: int) -> Tuple[Policy, Parameters]:
+    tickets = parameters.tickets
+    terms = tickets if isinstance(tickets, Terms) else Terms(10, 0, 1000)
+    return policy, parameters._replace(tickets=terms._replace(share=value))
+
+
+def _with_retries(policy: Policy, parameters: Parameters, value: int) -> Tuple[Policy, Parameters]:
+    return policy & recurs(value), parameters
+
+
+def _with_patience(policy: Policy, parameters: Parameters, value: int) -> Tuple[Policy, Parameters]:
+    return policy, parameters._replace(patience=value)
+
+
+_GOALS: Dict[str, _Goal] = {
+    "quota": _Goal(
+        "greatest share of a quota with which the peer recovers",
+        "share",
+        0,
+        10_000,
+        True,
+        _with_share,
+        lambda value: f"{value / 10:.12g} %",
+    ),
+    "retries": _Goal(
+        "most retries of a request with which the peer recovers", "retries", 0, 64, True, _with_retries, str
+    ),
+    "patience": _Goal(
+        "least patience with which the peer recovers", "patience", 1, 60_000, False, _with_patience, "{} ms".format
+    ),
+}
+
+
+def find(storm: Storm, what: str) -> Found:
+    """The greatest share of a quota (`what` is `"quota"`), the most retries (`"retries"`) or the least patience
+    (`"patience"`) with which the peer of this storm still recovers, by bisection. The storm is tried with the value and
+    with the next one. A quota has the reserve and the window of the storm's, or 10 and a second where it has none.
+
+    >>> from hikebox import recurs, spaced, storm
+    >>> find(storm(recurs(8) & spaced(0.1)), "retries").value
+    6
+    """
+    return find_from(storm.policy, storm.parameters, what)
+
+
+def find_from(policy: Policy, parameters: Parameters, what: str, told: Told = silent) -> Found:
+    """The same of a storm that was not played. `told` is called after each that is."""
+    if what not in _GOALS:
+        raise StormError("find", f"expected one of {', '.join(_GOALS)}, got {what!r}")
+    if not parameters.weather():
+        raise StormError("find", "expected a storm with an outage or a brown-out, got one without")
+    goal = _GOALS[what]
+    tried: Dict[int, Storm] = {}
+
+    def recovers(value: int) -> bool:
+        tried[value] = play(*goal.put(policy, parameters, value))
+        told(len(tried), (goal.most - goal.least).bit_length() + 2)
+        return tried[value].totals.recovered_ms is not None and not tried[value].totals.cut
+
+    good, bad = (goal.least, goal.most) if goal.wants_most else (goal.most, goal.least)
+    if not recovers(good):
+        return Found(what, None, tuple(tried.items()))
+    if recovers(bad):
+        return Found(what, bad, tuple(tried.items()))
+    while abs(good - bad) > 1:
+        middle = (good + bad) // 2
+        if recovers(middle):
+            good = middle
+        else:
+            bad = middle
+    return Found(what, good, tuple(tried.items()))

@@ -1,0 +1,290 @@
+"""An exception that a signal handler raises, at any step inside the package: no pass and no ticket is lost for good."""
+
+from __future__ import annotations
+
+import gc
+import os
+import signal
+import sys
+import time
+from pathlib import Path
+from typing import Any, Callable, Dict, Iterator, List, Set, Tuple
+
+import pytest
+
+import hikebox
+from hikebox import AsyncRetrying, Budget, Quota, Retrying, _course, _machine, recurs, spaced, state
+from hikebox.leased import FileStore, Leased, LeasedQuota
+
+
+@pytest.fixture(autouse=True)
+def no_lock_is_left() -> Iterator[None]:
+    """Renews the lock of all counts: a trace, unlike a signal, may interrupt the end of a `with`."""
+    yield
+    state._lock.begin_anew()
+
+
+#: More tickets than are drawn before the test draws the rest.
+MANY = 1_000_000
+
+
+class Interrupt(BaseException):
+    """What the handler raises."""
+
+
+class Fails(Exception):
+    """What a call raises."""
+
+
+def fails() -> Any:
+    raise Fails()
+
+
+#: How many exceptions come through, or in how many seconds at most.
+OFTEN, SECONDS = 1000, 30
+
+
+def interrupted(call: Callable[[], Any]) -> None:
+    """Calls this again and again, while a timer of 0.1 ms raises exceptions inside the package."""
+    package = os.path.dirname(hikebox.__file__)
+
+    def handler(number: int, frame: Any) -> None:
+        if frame.f_code.co_filename.startswith(package):
+            raise Interrupt()
+
+    came_through, until = 0, time.monotonic() + SECONDS
+    # (one that is raised in a finalizer goes no further; pytest would keep it, with its frames)
+    hook, sys.unraisablehook = sys.unraisablehook, lambda unraisable: None
+    before = signal.signal(signal.SIGALRM, handler)
+    signal.setitimer(signal.ITIMER_REAL, 0.0001, 0.0001)
+    try:
+        while came_through < OFTEN and time.monotonic() < until:
+            try:
+                call()
+            except (Interrupt, SystemError):
+                # (on a busy machine the next signal comes in the handler, and Python makes a SystemError of it)
+                came_through += 1
+    finally:
+        signal.setitimer(signal.ITIMER_REAL, 0)
+        signal.signal(signal.SIGALRM, before)
+        sys.unraisablehook = hook
+    assert came_through > OFTEN / 10
+
+
+def retries(budget: Any, **how: Any) -> Callable[[], Any]:
+    retrying = Retrying(recurs(2), budget=budget, **how)
+
+    def call() -> None:
+        try:
+            retrying(fails)
+        except Fails:
+            pass
+
+    return call
+
+
+def loops(budget: Any) -> Callable[[], Any]:
+    def call() -> None:
+        for attempt in Retrying(recurs(2), budget=budget, fallback=lambda state: None):
+            with attempt:
+                fails()
+
+    return call
+
+
+def draws(budget: Any) -> Callable[[], Any]:
+    def call() -> None:
+        kept = [budget.draw() for _ in range(3)]
+        kept.clear()
+
+    return call
+
+
+def hands_back(quota: Any) -> Callable[[], Any]:
+    def call() -> None:
+        tickets = [quota.draw() for _ in range(3)]
+        quota.deposit()
+        tickets[1].hand_back()
+
+    return call
+
+
+def by_another_clock(quota: Any) -> Callable[[], Any]:
+    return retries(quota, clock=lambda: time.monotonic())
+
+
+BUDGETS: Dict[str, Callable[[], Any]] = {
+    "budget": lambda: Budget(MANY),
+    "rising": lambda: Budget.rising(MANY),
+    "quota": lambda: Quota(MANY, 0, 10**6),
+}
+CALLS: Dict[str, Tuple[Callable[[Any], Callable[[], Any]], str]] = {
+    "retries": (retries, "budget rising quota"),
+    "loops": (loops, "budget quota"),
+    "draws": (draws, "budget rising quota"),
+    "tickets that come back": (hands_back, "quota"),
+    "another clock": (by_another_clock, "quota"),
+}
+
+
+@pytest.mark.parametrize("call, kind", [(call, kind) for call, (_, kinds) in CALLS.items() for kind in kinds.split()])
+def test_nothing_is_lost(call: str, kind: str) -> None:
+    budget: Any = BUDGETS[kind]()
+    interrupted(CALLS[call][0](budget))
+    gc.collect()
+    granted = budget.granted
+    # what is left is drawn; each ticket was drawn once then, and the number of all is exact
+    rest = 0
+    while budget.draw():
+        rest += 1
+    assert granted + rest == MANY == budget.granted == budget.close()
+
+
+class Waits:
+    """Something to await that waits once."""
+
+    def __await__(self) -> Any:
+        yield
+
+
+async def fails_later() -> Any:
+    raise Fails()
+
+
+def interrupted_at(step: int, run: Callable[[], Any]) -> bool:
+    """Runs this, and raises an exception at so many steps inside the package: whether there were as many."""
+    package = os.path.dirname(hikebox.__file__)
+    left = [step]
+
+    def trace(frame: Any, event: str, _: Any) -> Any:
+        if not frame.f_code.co_filename.startswith(package):
+            return None
+        if event == "line":
+            left[0] -= 1
+            if left[0] == 0:
+                raise Interrupt()
+        return trace
+
+    before = sys.gettrace()
+    sys.settrace(trace)
+    try:
+        run()
+    except Interrupt:
+        pass
+    finally:
+        sys.settrace(before)
+    return left[0] <= 0
+
+
+def test_a_machine_serves_one_retry_at_a_time_whatever_step_is_interrupted(monkeypatch: Any) -> None:
+    monkeypatch.setattr(_course, "is_crowded", lambda: True)
+    retrying = AsyncRetrying(recurs(2) & spaced(0.001), sleep=lambda seconds: Waits())
+
+    def run() -> None:
+        coroutine = retrying(fails_later)
+        try:
+            while True:
+                coroutine.send(None)
+        except Fails:
+            pass
+
+    for step in range(1, 10_000):
+        reached = interrupted_at(step, run)
+        gc.collect()
+        pool = _machine._machines
+        assert len({id(machine) for machine in pool}) == len(pool), step
+        assert not any(machine.handle.held for machine in pool), step
+        if not reached:
+            break
+    assert step > 200
+    run()
+
+
+def test_the_engines_retry_of_a_machine_that_is_lost_is_freed() -> None:
+    freed: List[Any] = []
+
+    class Watched(_machine.Machine):
+        def __del__(self, *how: Any) -> None:
+            super().__del__(*how)
+            freed.append(self.handle.held)
+
+    machine = Watched()
+    machine.begin_unlimited(recurs(1).plan)
+    assert machine.handle.held
+    del machine
+    assert freed == [None]
+
+
+@pytest.mark.parametrize("kind", ["budget", "quota"])
+def test_a_close_that_is_interrupted_can_be_made_again(kind: str) -> None:
+    closed: List[int] = []
+
+    def call() -> None:
+        budget: Any = BUDGETS[kind]()
+        tickets = [budget.draw() for _ in range(5)]
+        closed.append(-1)
+        while closed[-1] < 0:
+            try:
+                closed[-1] = budget.close()
+            except Interrupt:
+                pass
+        tickets.clear()
+
+    interrupted(call)
+    assert set(closed) <= {-1, 5} and closed.count(5) > 100
+
+
+def open_files() -> int:
+    return len(os.listdir("/proc/self/fd"))
+
+
+#: (a `with` of an earlier Python may leave its lock held where a signal handler raises)
+RELEASES = pytest.mark.skipif(
+    sys.version_info < (3, 11), reason="with statements release their lock from Python 3.11 on"
+)
+
+
+@RELEASES
+@pytest.mark.parametrize("lease", [1, 20])
+def test_leases_go_on_and_no_ticket_is_drawn_twice(lease: int, tmp_path: Path) -> None:
+    budget = Leased(FileStore(tmp_path / "counts"), "a", MANY, lease=lease, per=10**6)
+    drawn: List[int] = []
+
+    def call() -> None:
+        ticket = budget.draw()
+        assert ticket
+        drawn.append(ticket.number)
+
+    before = open_files()
+    interrupted(call)
+    gc.collect()
+    assert open_files() <= before
+    call()
+    assert len(drawn) == len(set(drawn)) <= budget.granted
+    # and for others: no lock is left behind
+    other = Leased(FileStore(tmp_path / "counts", patience=20), "a", MANY, lease=lease, per=10**6)
+    ticket = other.draw()
+    assert ticket and ticket.number not in drawn
+
+
+@RELEASES
+def test_leased_tickets_come_back_once(tmp_path: Path) -> None:
+    quota = LeasedQuota(FileStore(tmp_path / "counts"), "a", MANY, 1, 10**6, lease=5)
+    out: Set[int] = set()
+
+    def call() -> None:
+        for keeps in (True, False, False):
+            ticket = quota.draw()
+            quota.deposit()
+            assert ticket and ticket.number not in out
+            if keeps:
+                out.add(ticket.number)
+            else:
+                ticket.hand_back()
+
+    interrupted(call)
+    interrupted(retries(quota))
+    gc.collect()
+    for _ in range(100):
+        call()
+    assert len(out) <= quota.granted

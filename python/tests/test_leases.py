@@ -1,0 +1,419 @@
+"""Leases: why there is no ticket, tickets that come back, threads that don't wait, forks, and requests by windows."""
+
+from __future__ import annotations
+
+import asyncio
+import os
+import shutil
+import threading
+import time
+from pathlib import Path
+from typing import Any, Callable, List, Optional
+
+import pytest
+
+from draws import number
+from hikebox import (
+    AsyncRetrying,
+    Ending,
+    Refusal,
+    RefusalReason,
+    Retrying,
+    StoreError,
+    StoreLost,
+    Ticket,
+    TicketError,
+    recurs,
+    state_of,
+)
+from hikebox.leased import FileStore, Leased, LeasedQuota, QuotaRange, Range
+from hikebox.quota import Terms
+
+#: A window that no test sees the end of.
+LONG = 1_000_000.0
+
+
+def refusal(drawn: Any) -> Any:
+    assert isinstance(drawn, Refusal) and not drawn
+    return drawn.reason, drawn.again_at
+
+
+class Counting:
+    """A store in memory, with windows of its own clock, that can fail, and can be slow."""
+
+    def __init__(self, clock: Callable[[], float]) -> None:
+        self.clock = clock
+        self.given = 0
+        self.asked = 0
+        self.window = 0
+        self.calls = 0
+        self.error: Optional[StoreError] = None
+        self.lost = False
+        #: What a call waits for, and what it sets before.
+        self.may_answer: Any = None
+        self.was_asked = threading.Event()
+
+    def _comes(self, period: Optional[int]) -> float:
+        self.calls += 1
+        if self.may_answer is not None:
+            self.was_asked.set()
+            assert self.may_answer.wait(20)
+        if self.error is not None:
+            raise self.error
+        if period is None:
+            return 0.0
+        window = int(self.clock() * 1000) // period
+        if window != self.window:
+            self.window, self.given, self.asked = window, 0, 0
+        return (window + 1) * period / 1000
+
+    def take(self, name: str, count: int, limit: int, period: Optional[int], clock: Any) -> Range:
+        until = self._comes(period)
+        first, tickets = self.given, max(0, min(count, limit - self.given))
+        self.given += tickets
+        return Range(first, tickets, None if period is None else until, self.window)
+
+    def take_of_quota(self, name: str, terms: Terms, count: int, asked: Any, clock: Any) -> QuotaRange:
+        until = self._comes(terms.period)
+        if self.lost:
+            return QuotaRange(0, 0, until, self.window, 0, lost=True)
+        self.asked += asked(until - terms.period / 1000)
+        first, tickets = self.given, max(0, min(count, terms.allowed(self.asked) - self.given))
+        self.given += tickets
+        return QuotaRange(first, tickets, until, self.window, self.asked)
+
+
+class Clock:
+    def __init__(self) -> None:
+        self.now = 0.0
+
+    def __call__(self) -> float:
+        return self.now
+
+
+@pytest.fixture
+def now() -> Clock:
+    return Clock()
+
+
+# Why there is none
+
+
+def test_why_a_budget_has_none(now: Clock) -> None:
+    store = Counting(now)
+    budget = Leased(store, "a", 1, clock=now)
+    assert budget.draw()
+    assert refusal(budget.draw()) == (RefusalReason.USED_UP, None)
+    by_windows = Leased(store, "b", 1, per=10, clock=now)
+    store.given = 0
+    now.now = 12.0
+    assert repr(by_windows.draw()) == "<Ticket 0 of window 1>"
+    assert refusal(by_windows.draw()) == (RefusalReason.USED_UP, 20.0)
+    now.now = 19.999
+    assert not by_windows.draw() and store.calls == 4
+    now.now = 20.0
+    assert number(by_windows.draw()) == 0
+
+
+def test_why_a_quota_has_none(now: Clock) -> None:
+    store = Counting(now)
+    quota = LeasedQuota(store, "a", 1, 0, 10, clock=now)
+    assert quota.draw()
+    assert refusal(quota.draw()) == (RefusalReason.USED_UP, 10.0)
+    # with a share others may tell the store of requests
+    quota = LeasedQuota(store, "a", 1, 0.5, 10, clock=now, again_after=2)
+    assert refusal(quota.draw()) == (RefusalReason.USED_UP, 2.0)
+    now.now = 9.0
+    assert refusal(quota.draw()) == (RefusalReason.USED_UP, 10.0)
+    usage = quota.seen()
+    assert (usage.window, usage.next) == (0, 10.0)
+    store.lost = True
+    assert refusal(quota.draw()) == (RefusalReason.LOST, 10.0)
+    store.lost, now.now = False, 10.0
+    assert quota.draw() and quota.seen().next == 20.0
+
+
+def test_why_there_is_none_where_the_store_fails(now: Clock) -> None:
+    store = Counting(now)
+    store.error = StoreError("gone")
+    budget, quota = Leased(store, "a", 9, clock=now), LeasedQuota(store, "a", 9, 1, 10, clock=now, again_after=3)
+    for leased, again_at in ((budget, 1.0), (quota, 3.0)):
+        drawn: Any = leased.draw()
+        assert refusal(drawn) == (RefusalReason.UNREACHABLE, again_at) and drawn.error is store.error
+        assert repr(drawn) == f"<Refusal: the store can't be reached until {again_at:.3f}>"
+    now.now = 4.0
+    store.error = StoreLost("no count")
+    drawn = budget.draw()
+    assert refusal(drawn) == (RefusalReason.LOST, 5.0) and drawn.error is store.error
+    now.now = 5.0
+    store.error = None
+    assert budget.draw() and quota.draw()
+    quota.set_terms(reserve=0)
+    store.given = 9
+    drawn = LeasedQuota(store, "a", 9, 1, 10, clock=now).draw()
+    assert refusal(drawn) == (RefusalReason.USED_UP, 6.0) and drawn.error is None
+
+
+def test_a_damaged_file_is_told(tmp_path: Path) -> None:
+    store = FileStore(tmp_path / "counts")
+    quota = LeasedQuota(store, "a", 9, 1, LONG, lease=1)
+    assert quota.draw()
+    (slot,) = (tmp_path / "counts").glob("*/*")
+    slot.write_bytes(b"")
+    drawn: Any = quota.draw()
+    assert drawn.reason is RefusalReason.LOST and "expected the slot of" in str(drawn.error)
+
+
+@pytest.mark.parametrize("awaits", [False, True])
+def test_a_retry_says_why_it_got_no_ticket(awaits: bool, now: Clock, caplog: Any) -> None:
+    def fails() -> Any:
+        raise KeyError()
+
+    async def fails_later() -> Any:
+        raise KeyError()
+
+    store = Counting(now)
+    quota = LeasedQuota(store, "a", 1, 0, 10, clock=now)
+    for reason, error, retries in (("used up", None, 1), ("the store can't be reached", StoreError("gone"), 0)):
+        store.error = error
+        with pytest.raises(KeyError) as caught:
+            if awaits:
+                asyncio.run(AsyncRetrying(recurs(9), budget=quota)(fails_later))
+            else:
+                Retrying(recurs(9), budget=quota)(fails)
+        state = state_of(caught.value)
+        assert state is not None and state.refusal is not None
+        assert (state.ending, state.granted) == (Ending.BUDGET_REFUSED, retries)
+        assert (state.refusal.reason.value, state.refusal.error) == (reason, error)
+        assert f"the budget had no ticket ({reason})" in caplog.records[-1].getMessage()
+        now.now += 10
+
+
+# Tickets that come back
+
+
+def test_a_leased_ticket_comes_back_once_and_in_its_window(now: Clock) -> None:
+    quota = LeasedQuota(Counting(now), "a", 3, 0, 10, lease=3, clock=now)
+    first, second, third = [quota.draw() for _ in range(3)]
+    assert first and second and third and not quota.draw()
+    second.hand_back()
+    with pytest.raises(TicketError, match="which was handed back"):
+        second.hand_back()
+    assert quota.granted == 2
+    again = quota.draw()
+    assert number(again) == 1 and not quota.draw()
+    # the ticket that was handed back is not the one that was drawn again
+    with pytest.raises(TicketError):
+        second.hand_back()
+    assert quota.granted == 3 and not quota.draw()
+    now.now = 10.0
+    # its window is over, so nobody draws it again
+    first.hand_back()
+    assert quota.granted == 2
+    later = [quota.draw() for _ in range(4)]
+    assert [(number(ticket), ticket.window) for ticket in later if ticket] == [(0, 1), (1, 1), (2, 1)]
+    # one of the window before does not give the same number of this one back
+    third.hand_back()
+    assert quota.granted == 5 and not quota.draw()
+
+
+def test_a_budgets_leased_tickets_do_not_come_back(now: Clock) -> None:
+    budget = Leased(Counting(now), "a", 3, clock=now)
+    ticket = budget.draw()
+    assert ticket
+    with pytest.raises(TicketError, match="expected a ticket of a quota"):
+        ticket.hand_back()
+    assert budget.granted == 1
+
+
+def test_tickets_without_the_store_come_back_to_what_is_spared(now: Clock) -> None:
+    store = Counting(now)
+    store.error = StoreError("gone")
+    quota = LeasedQuota(store, "a", 9, 1, 10, spare=2, clock=now)
+    first, second = quota.draw(), quota.draw()
+    assert first and second and (first.number, first.window, second.number) == (-1, None, -2) and not quota.draw()
+    first.hand_back()
+    assert [number(quota.draw()) for _ in range(2)] == [-1, None]
+    now.now = 10.0
+    second.hand_back()
+    assert [number(quota.draw()) for _ in range(3)] == [-1, -2, None]
+    assert quota.granted == 3
+
+
+def test_a_ticket_of_the_process_before_a_fork_does_not_come_back(tmp_path: Path) -> None:
+    quota = LeasedQuota(FileStore(tmp_path / "counts"), "a", 2, 0, LONG, lease=2)
+    ticket = quota.draw()
+    assert ticket
+    child = os.fork()
+    if child == 0:
+        status = 1
+        try:
+            with pytest.raises(TicketError, match="before the fork"):
+                ticket.hand_back()
+            status = 0 if quota.granted == 0 and not quota.draw() else 2
+        finally:
+            os._exit(status)
+    assert os.waitstatus_to_exitcode(os.waitpid(child, 0)[1]) == 0
+    ticket.hand_back()
+    assert [number(quota.draw()) for _ in range(3)] == [0, 1, None]
+
+
+# Threads
+
+
+def test_nobody_waits_for_the_store_who_has_a_ticket_at_hand(now: Clock) -> None:
+    store = Counting(now)
+    quota = LeasedQuota(store, "a", 4, 1, 10, lease=2, clock=now)
+    first, second = quota.draw(), quota.draw()
+    assert first and second
+    store.may_answer = threading.Event()
+    drawn: List[Any] = []
+    asking = threading.Thread(target=lambda: drawn.append(quota.draw()))
+    asking.start()
+    assert store.was_asked.wait(20)
+    # the other thread waits for the store, and none of this does
+    first.hand_back()
+    assert number(quota.draw()) == 0
+    second.hand_back()
+
+    async def draw() -> Any:
+        return await quota.draw_async()
+
+    assert number(asyncio.run(draw())) == 1
+    quota.deposit(3)
+    quota.set_terms(reserve=5)
+    assert quota.granted == 2
+    assert asking.is_alive()
+    store.may_answer.set()
+    asking.join()
+    assert number(drawn[0]) == 2 and quota.granted == 3
+    # the requests that were counted meanwhile, and the terms that were set, count from the next lease on
+    assert [number(quota.draw()) for _ in range(6)] == [3, 4, 5, 6, 7, None]
+
+
+def test_terms_that_are_set_while_the_store_says_that_there_is_none(now: Clock) -> None:
+    store = Counting(now)
+    quota = LeasedQuota(store, "a", 0, 0, 10, lease=1, clock=now)
+    store.may_answer = threading.Event()
+    drawn: List[Any] = []
+    asking = threading.Thread(target=lambda: drawn.append(quota.draw()))
+    asking.start()
+    assert store.was_asked.wait(20)
+    quota.set_terms(reserve=1)
+    store.may_answer.set()
+    asking.join()
+    assert drawn[0] or quota.draw()
+
+
+@pytest.mark.parametrize("lease", [1, 7])
+def test_8_threads_that_draw_and_hand_back(lease: int, tmp_path: Path) -> None:
+    quota = LeasedQuota(FileStore(tmp_path / "counts"), "a", 2000, 0, LONG, lease=lease)
+    kept: List[Ticket] = []
+
+    def work() -> None:
+        for turn in range(400):
+            ticket = quota.draw()
+            assert ticket
+            if turn % 2:
+                ticket.hand_back()
+            else:
+                kept.append(ticket)
+
+    threads = [threading.Thread(target=work) for _ in range(8)]
+    for thread in threads:
+        thread.start()
+    for thread in threads:
+        thread.join()
+    numbers = [ticket.number for ticket in kept]
+    assert len(numbers) == 1600 == len(set(numbers)) == quota.granted
+    rest = []
+    while True:
+        ticket = quota.draw()
+        if not ticket:
+            break
+        rest.append(ticket.number)
+    assert sorted(numbers + rest) == list(range(2000))
+
+
+# Windows, and leases that are over
+
+
+def test_leases_and_windows_that_are_over_take_no_memory(now: Clock) -> None:
+    import resource
+
+    def used() -> int:
+        return int(Path("/proc/self/statm").read_text().split()[1]) * resource.getpagesize()
+
+    store = Counting(now)
+    quota = LeasedQuota(store, "a", 10**6, 1, 1, lease=1, clock=now)
+    budget = Leased(Counting(now), "a", 10**9, lease=1, clock=now)
+
+    def turns() -> None:
+        for _ in range(5000):
+            now.now += 0.25
+            quota.deposit()
+            assert quota.draw() and budget.draw()
+
+    turns()
+    before = used()
+    for _ in range(3):
+        turns()
+    assert used() - before < 2**20
+    assert quota.granted == 20_000 == budget.granted
+
+
+def test_requests_count_in_the_window_in_which_they_were_made(now: Clock) -> None:
+    store = Counting(now)
+    quota = LeasedQuota(store, "a", 0, 1, 16, clock=now, again_after=0.001)
+    assert quota.seen().asked == 0
+    now.now = 15.9
+    quota.deposit(5)
+    now.now = 16.0
+    quota.deposit(2)
+    # the five were told to no window: theirs is over
+    assert quota.seen().asked == 2
+    now.now = 31.5
+    quota.deposit(3)
+    assert quota.seen().asked == 5
+    quota.deposit(4)
+    now.now = 32.0
+    assert quota.seen().asked == 0
+
+
+def test_a_deleted_folder_begins_anew_and_what_was_leased_goes_on(tmp_path: Path, caplog: Any) -> None:
+    quota = LeasedQuota(FileStore(tmp_path / "counts"), "a", 6, 0, LONG, lease=3)
+    held = [quota.draw(), quota.draw()]
+    shutil.rmtree(tmp_path / "counts")
+    assert [number(quota.draw()) for _ in range(8)] == [2, 0, 1, 2, 3, 4, 5, None]
+    assert [record.getMessage() for record in caplog.records] == ["a: the store began anew"]
+    assert quota.granted == 9
+    for ticket in held:
+        assert ticket
+        ticket.hand_back()
+    assert not quota.draw() and quota.granted == 7
+
+
+def test_a_clock_that_goes_back_and_leaps(now: Clock) -> None:
+    store = Counting(lambda: 5.0)
+    quota = LeasedQuota(store, "a", 6, 0, 10, lease=2, clock=now)
+    for leap in (0.0, -1e6, 3.0, -5.0, 1.0, 2.0):
+        now.now = leap
+        assert number(quota.draw()) is not None
+    now.now = 1e9
+    assert not quota.draw()
+
+
+def test_a_thread_that_waited_takes_what_another_one_leased(now: Clock) -> None:
+    store = Counting(now)
+    quota = LeasedQuota(store, "a", 100, 0, 10, lease=50, clock=now)
+    store.may_answer = threading.Event()
+    drawn: List[Any] = []
+    threads = [threading.Thread(target=lambda: drawn.append(quota.draw())) for _ in range(8)]
+    for thread in threads:
+        thread.start()
+    assert store.was_asked.wait(20)
+    time.sleep(0.1)
+    store.may_answer.set()
+    for thread in threads:
+        thread.join()
+    assert sorted(ticket.number for ticket in drawn) == list(range(8)) and store.calls == 1

@@ -1,0 +1,243 @@
+//! What a process holds of a limit that a store keeps: leases of its tickets, and when the store is asked for the next.
+
+use crate::budget::BudgetError;
+use crate::clock::whole_millis;
+use crate::engine::{Drawn, Grant, Handle, LeasedKind, Taken, Ticket as Named, FAR};
+use crate::store::StoreError;
+use crate::system::PerProcess;
+use crate::ticket::{Drawer, NoTicket, StoreFailure, Ticket};
+use crate::uptime::{now, Window};
+use std::fmt;
+use std::sync::{Mutex, MutexGuard, PoisonError};
+use std::time::Duration;
+
+/// How long a store that failed, or that had nothing left, is left alone unless it is said.
+pub(crate) const AGAIN_AFTER: Duration = Duration::from_secs(1);
+/// How many leases in a row may be over before a ticket is drawn of them.
+const TRIES: usize = 3;
+
+/// A process's share of a limit. A forked child begins with none.
+pub(crate) struct Share {
+    /// How many milliseconds a window is long, where there are windows.
+    period: Option<u64>,
+    leases: PerProcess<Leases>,
+}
+
+/// What this process holds. Nobody who has a ticket at hand waits for one who asks the store.
+struct Leases {
+    held: Mutex<Held>,
+    /// Locked by the one thread that asks the store; those that need its answer wait here.
+    asking: Mutex<()>,
+}
+
+struct Held {
+    pass: Handle<LeasedKind>,
+    drawer: Drawer,
+    /// Why the store is left alone, where it failed.
+    failure: Option<StoreFailure>,
+    /// Whether it had nothing left, and then for how many requests it is asked all the same.
+    worth_asking: Option<u64>,
+}
+
+/// What a store answers.
+pub(crate) struct Answer {
+    pub(crate) window: Option<Window>,
+    pub(crate) first: u64,
+    pub(crate) tickets: u64,
+    /// How long it is left alone at most, where it has no ticket.
+    pub(crate) again_after: Duration,
+    /// For how many requests more it may have one.
+    pub(crate) worth_asking: Option<u64>,
+}
+
+/// Tells the requests that were counted since a window of the store began: none is told again.
+pub(crate) type Tell<'a> = &'a dyn Fn(&Window) -> u64;
+
+impl Share {
+    pub(crate) fn new(period: Option<u64>) -> Self {
+        Self { period, leases: PerProcess::new(Leases::new(period)) }
+    }
+
+    /// A ticket at hand, or of the lease for which `ask` asks the store.
+    pub(crate) fn draw(
+        &self,
+        again_after: Duration,
+        ask: impl Fn(Tell<'_>) -> Result<Answer, StoreError>,
+    ) -> Result<Ticket, NoTicket> {
+        let leases = self.leases();
+        if let Some(drawn) = leases.draw(self.period) {
+            return drawn;
+        }
+        let asking = lock(&leases.asking);
+        for _ in 0..TRIES {
+            // (another thread may have had an answer meanwhile)
+            if let Some(drawn) = leases.draw(self.period) {
+                return drawn;
+            }
+            match ask(&|window| leases.tell(window)) {
+                Ok(answer) if leases.granted(self.period, &answer) => (),
+                Ok(_) => break,
+                Err(error) => return Err(leases.failed(StoreFailure::new(error), again_after)),
+            }
+        }
+        drop(asking);
+        leases.draw(self.period).unwrap_or_else(|| Err(leases.used_up(self.period, again_after)))
+    }
+
+    /// Asks the store, and takes no ticket of the window that it answers.
+    pub(crate) fn ask<T>(
+        &self,
+        ask: impl FnOnce(Tell<'_>) -> Result<(Window, T), StoreError>,
+    ) -> Result<(Window, T), StoreError> {
+        let leases = self.leases();
+        let _asking = lock(&leases.asking);
+        let answer = ask(&|window| leases.tell(window))?;
+        let held = &mut *lock(&leases.held);
+        held.pass.granted(&Grant::none_of(&answer.0));
+        held.may_ask();
+        Ok(answer)
+    }
+
+    /// The store may be asked at the next draw.
+    pub(crate) fn may_ask(&self) {
+        lock(&self.leases().held).may_ask();
+    }
+
+    /// Takes a ticket back, where it is this process's, of the present window, and not back yet.
+    pub(crate) fn hand_back(&self, ticket: Ticket) -> Result<(), Ticket> {
+        let held = &mut *lock(&self.leases().held);
+        let named = Named { window: ticket.window(), number: ticket.number() };
+        if ticket.is_of(held.drawer) && held.pass.hand_back(named) {
+            Ok(())
+        } else {
+            Err(ticket)
+        }
+    }
+
+    /// Counts so many requests.
+    pub(crate) fn deposit(&self, requests: u32) {
+        // (where the uptime can't be told, none is counted)
+        if let Ok(now) = now() {
+            lock(&self.leases().held).pass.deposit(now, requests.into());
+        }
+    }
+
+    #[inline]
+    fn leases(&self) -> &Leases {
+        self.leases.get(|| Leases::new(self.period))
+    }
+}
+
+impl Leases {
+    fn new(period: Option<u64>) -> Self {
+        Self { held: Mutex::new(Held::new(period)), asking: Mutex::new(()) }
+    }
+
+    /// A ticket at hand, or why there is none. `None` where the store may be asked.
+    fn draw(&self, period: Option<u64>) -> Option<Result<Ticket, NoTicket>> {
+        let held = &mut *lock(&self.held);
+        let now = match now() {
+            Ok(now) => now,
+            Err(error) => return Some(Err(NoTicket::failed(error))),
+        };
+        match held.pass.draw(now) {
+            Drawn::Ticket(Named { window, number }) => Some(Ok(Ticket::drawn(held.drawer, window, number))),
+            Drawn::LeaseWanted => None,
+            Drawn::NoMemory => Some(Err(NoTicket::failed(BudgetError::NoMemory))),
+            Drawn::NotBefore(_) if held.is_worth_asking() => {
+                held.may_ask();
+                None
+            }
+            Drawn::NotBefore(again) => {
+                let next_in = Duration::from_millis(again.saturating_sub(now));
+                Some(Err(match held.failure.clone() {
+                    Some(failure) => NoTicket::StoreFailed { failure, next_in: Some(next_in) },
+                    None => NoTicket::UsedUp { next_in: period.map(|_| next_in) },
+                }))
+            }
+        }
+    }
+
+    /// The requests that were counted since the window began, and not told before.
+    fn tell(&self, window: &Window) -> u64 {
+        lock(&self.held).pass.tell(window.from)
+    }
+
+    /// Takes a store's answer, and says whether it has a ticket.
+    fn granted(&self, period: Option<u64>, answer: &Answer) -> bool {
+        let held = &mut *lock(&self.held);
+        let until = answer.window.map_or(FAR, |window| window.until.min(FAR));
+        let window = answer.window.map_or(0, |window| window.number);
+        let grant = Grant { window, first: answer.first, tickets: answer.tickets, until };
+        if held.pass.granted(&grant) == Taken::HeldAlready {
+            // (the store was taken away, and has begun anew: so does this process)
+            *held = Held::new(period);
+            held.pass.granted(&grant);
+        }
+        held.failure = None;
+        held.worth_asking = None;
+        if answer.tickets == 0 {
+            held.pass.leave_alone(later(answer.again_after).min(until));
+            held.worth_asking = answer.worth_asking;
+        }
+        answer.tickets > 0
+    }
+
+    /// Leaves a store alone of which no lease lasted until a ticket was drawn, or that had nothing left.
+    fn used_up(&self, period: Option<u64>, again_after: Duration) -> NoTicket {
+        lock(&self.held).pass.leave_alone(later(again_after));
+        NoTicket::UsedUp { next_in: period.map(|_| again_after) }
+    }
+
+    /// The store failed, and is left alone for so long.
+    fn failed(&self, failure: StoreFailure, again_after: Duration) -> NoTicket {
+        let held = &mut *lock(&self.held);
+        held.pass.leave_alone(later(again_after));
+        held.failure = Some(failure.clone());
+        held.worth_asking = None;
+        NoTicket::StoreFailed { failure, next_in: Some(again_after) }
+    }
+}
+
+impl Held {
+    fn new(period: Option<u64>) -> Self {
+        let pass = Handle::leased(period).expect("memory for a leased pass");
+        Self { pass, drawer: Drawer::new(), failure: None, worth_asking: None }
+    }
+
+    fn may_ask(&mut self) {
+        self.pass.leave_alone(0);
+        self.failure = None;
+        self.worth_asking = None;
+    }
+
+    /// Whether the requests that were counted meanwhile may give a ticket.
+    fn is_worth_asking(&mut self) -> bool {
+        match self.worth_asking {
+            Some(requests) => self.pass.untold() >= requests,
+            None => false,
+        }
+    }
+}
+
+impl Grant {
+    /// No ticket of a window, which is told by it.
+    fn none_of(window: &Window) -> Self {
+        Self { window: window.number, first: 0, tickets: 0, until: window.until.min(FAR) }
+    }
+}
+
+/// The moment after so long.
+fn later(wait: Duration) -> u64 {
+    now().unwrap_or(0).saturating_add(whole_millis(wait)).min(FAR)
+}
+
+impl fmt::Debug for Share {
+    fn fmt(&self, f: &mut fmt::Formatter<'_>) -> fmt::Result {
+        f.debug_struct("Share").finish_non_exhaustive()
+    }
+}
+
+fn lock<T>(shared: &Mutex<T>) -> MutexGuard<'_, T> {
+    shared.lock().unwrap_or_else(PoisonError::into_inner)
+}

@@ -1,0 +1,127 @@
+//! The bytes of a slot: two copies of one record, each with a checksum.
+
+use crate::engine::Stored;
+use crate::uptime::{Boot, Window};
+use std::fs::File;
+use std::os::unix::fs::FileExt;
+
+/// How many bytes a slot has, and each of its copies.
+pub(crate) const SIZE: u64 = 2 * COPY;
+pub(crate) const COPY: u64 = 512;
+
+const MAGIC: &[u8; 16] = b"hikebox slot 1\n\0";
+const TURN: usize = 16;
+const WINDOW: usize = 24;
+const GIVEN: usize = 32;
+const ASKED: usize = 40;
+const BOOT: usize = 48;
+const LENGTH: usize = 84;
+const KEY: usize = 88;
+const CHECK: usize = 508;
+/// How many bytes there are for a key.
+const MOST_KEY: usize = 416;
+
+/// What a slot keeps: what it is of, its counts, and how often they changed.
+#[derive(Clone, Debug, PartialEq, Eq)]
+pub(crate) struct Record {
+    key: String,
+    turn: u64,
+    boot: Boot,
+    window: u64,
+    given: u64,
+    asked: u64,
+}
+
+impl Record {
+    /// One of this key, which has at most 416 bytes, with nothing counted.
+    pub(crate) fn new(key: &str, window: Option<&Window>) -> Self {
+        debug_assert!(key.len() <= MOST_KEY);
+        let mut record = Self { key: key.to_owned(), turn: 0, boot: [0; 36], window: 0, given: 0, asked: 0 };
+        record.be_of(window);
+        record
+    }
+
+    /// The copy of the slot that was written last, of those that are right: of this key, where one is named. `None` where
+    /// neither is, or the file is not as long as a slot.
+    pub(crate) fn read(slot: &File, key: Option<&str>) -> Option<Self> {
+        let mut bytes = [0; SIZE as usize];
+        if slot.metadata().ok()?.len() != SIZE {
+            return None;
+        }
+        slot.read_exact_at(&mut bytes, 0).ok()?;
+        let copies = bytes.chunks_exact(COPY as usize).filter_map(Self::of_bytes);
+        copies.filter(|copy| key.map_or(true, |key| copy.key == key)).max_by_key(|copy| copy.turn)
+    }
+
+    fn of_bytes(copy: &[u8]) -> Option<Self> {
+        let number = |at: usize| copy.get(at..at + 8)?.try_into().map(u64::from_le_bytes).ok();
+        let check = u32::from_le_bytes(copy.get(CHECK..)?.try_into().ok()?);
+        if !copy.starts_with(MAGIC) || crc32fast::hash(&copy[..CHECK]) != check {
+            return None;
+        }
+        let length = usize::from(u16::from_le_bytes(copy[LENGTH..LENGTH + 2].try_into().ok()?));
+        let key = std::str::from_utf8(copy[KEY..KEY + MOST_KEY].get(..length)?).ok()?.to_owned();
+        let boot = copy[BOOT..LENGTH].try_into().ok()?;
+        Some(Self {
+            key,
+            turn: number(TURN)?,
+            boot,
+            window: number(WINDOW)?,
+            given: number(GIVEN)?,
+            asked: number(ASKED)?,
+        })
+    }
+
+    pub(crate) fn to_bytes(&self) -> [u8; COPY as usize] {
+        let mut copy = [0; COPY as usize];
+        let mut put = |at: usize, bytes: &[u8]| copy[at..at + bytes.len()].copy_from_slice(bytes);
+        put(0, MAGIC);
+        for (at, number) in [(TURN, self.turn), (WINDOW, self.window), (GIVEN, self.given), (ASKED, self.asked)] {
+            put(at, &number.to_le_bytes());
+        }
+        put(BOOT, &self.boot);
+        put(LENGTH, &(self.key.len() as u16).to_le_bytes());
+        put(KEY, self.key.as_bytes());
+        let check = crc32fast::hash(&copy[..CHECK]);
+        copy[CHECK..].copy_from_slice(&check.to_le_bytes());
+        copy
+    }
+
+    /// What is stored as a whole, or of the window that was counted last: nothing where that is of another start of the
+    /// machine.
+    pub(crate) fn stored(&self, window: Option<&Window>) -> Stored {
+        if window.map_or(true, |window| window.boot == self.boot) {
+            Stored { window: self.window, given: self.given, asked: self.asked }
+        } else {
+            Stored::default()
+        }
+    }
+
+    /// The next turn, with these counts, as a whole or of a window.
+    pub(crate) fn set(&mut self, window: Option<&Window>, stored: Stored) {
+        self.turn += 1;
+        self.be_of(window);
+        (self.window, self.given, self.asked) = (stored.window, stored.given, stored.asked);
+    }
+
+    fn be_of(&mut self, window: Option<&Window>) {
+        if let Some(Window { boot, number, .. }) = window {
+            (self.boot, self.window) = (*boot, *number);
+        }
+    }
+
+    /// Whether its window is over for good at this moment, and the next one is: of another start of the machine each is.
+    /// What has no windows is never over.
+    pub(crate) fn is_over(&self, boot: &Boot, now: u64) -> bool {
+        match self.period() {
+            Some(period) => self.boot != *boot || self.window.saturating_add(2).saturating_mul(period) <= now,
+            None => false,
+        }
+    }
+
+    /// How many milliseconds its windows are long, as its key says.
+    fn period(&self) -> Option<u64> {
+        let key = self.key.strip_prefix("windows of ").or_else(|| self.key.strip_prefix("quota of "))?;
+        key.split_once(" ms of ")?.0.parse().ok()
+    }
+}

@@ -1,0 +1,71 @@
+//! The waits of a policy, one after another.
+
+use crate::grants::Unlimited;
+use crate::machine::{Machine, Report, Step};
+use crate::policy::Policy;
+use std::fmt;
+use std::iter::FusedIterator;
+use std::time::Duration;
+
+/// The waits that a policy plans, where each call fails at once: see [`Policy::waits`].
+#[must_use = "iterators do nothing unless they are asked"]
+pub struct Waits {
+    /// `None` where the policy is done.
+    machine: Option<Machine>,
+    now: Duration,
+}
+
+impl Policy {
+    /// The waits that it plans one after another, where each call fails at once with the code 0: without an end, where the
+    /// policy has none. Each time that it is asked, jitters take other random words. It is for libraries that take their
+    /// delays from an iterator.
+    ///
+    /// ```
+    /// use hikebox::{Policy, Schedule};
+    /// use std::time::Duration;
+    ///
+    /// let back_off = Schedule::exponential(Duration::from_millis(100), 2).cap(Duration::from_millis(300));
+    /// let policy = Policy::new(&(Schedule::recurs(4) & back_off))?;
+    /// let waits: Vec<_> = policy.waits().map(|wait| wait.as_millis()).collect();
+    /// assert_eq!(waits, [100, 200, 300, 300]);
+    /// # Ok::<(), hikebox::PolicyError>(())
+    /// ```
+    ///
+    /// # Panics
+    ///
+    /// Where memory is wanting.
+    pub fn waits(&self) -> Waits {
+        let mut machine = Machine::new(self, &Unlimited).expect("memory for a machine");
+        let begun = machine.step(Duration::ZERO, None);
+        debug_assert_eq!(begun, Step::Run);
+        Waits { machine: Some(machine), now: Duration::ZERO }
+    }
+}
+
+impl Iterator for Waits {
+    type Item = Duration;
+
+    fn next(&mut self) -> Option<Duration> {
+        let machine = self.machine.as_mut()?;
+        let began = self.now;
+        match machine.step(began, Some(Report::Lost(0))) {
+            Step::Run => return Some(Duration::ZERO),
+            Step::Wait(until) => self.now = until,
+            Step::Over(_) => {
+                self.machine = None;
+                return None;
+            }
+        }
+        let begun = machine.step(self.now, None);
+        debug_assert_eq!(begun, Step::Run);
+        Some(self.now - began)
+    }
+}
+
+impl FusedIterator for Waits {}
+
+impl fmt::Debug for Waits {
+    fn fmt(&self, f: &mut fmt::Formatter<'_>) -> fmt::Result {
+        f.debug_struct("Waits").field("now", &self.now).finish_non_exhaustive()
+    }
+}

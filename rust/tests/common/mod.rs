@@ -1,0 +1,48 @@
+//! What several tests use.
+#![allow(dead_code, unused_macros)]
+
+use hikebox::{NoTicket, Ticket};
+use std::path::PathBuf;
+use std::{env, fs};
+
+/// A folder of a test's own, which is taken away in the end.
+pub struct Scratch(pub PathBuf);
+
+impl Scratch {
+    pub fn new(name: &str) -> Self {
+        let path = env::temp_dir().join(format!("hikebox-{name}-{}", std::process::id()));
+        let _ = fs::remove_dir_all(&path);
+        Self(path)
+    }
+}
+
+impl Drop for Scratch {
+    fn drop(&mut self) {
+        let _ = fs::remove_dir_all(&self.0);
+    }
+}
+
+/// The number of a ticket that was drawn, or `None` where all are used up.
+#[track_caller]
+pub fn number(drawn: Result<Ticket, NoTicket>) -> Option<u64> {
+    match drawn {
+        Ok(ticket) => Some(ticket.number()),
+        Err(NoTicket::UsedUp { .. }) => None,
+        Err(failed) => panic!("{failed}"),
+    }
+}
+
+/// A draw for which the store fails with an error of this pattern.
+macro_rules! assert_store_fails {
+    ($drawn:expr, $pattern:pat $(if $also:expr)?) => {{
+        let failed = $drawn.unwrap_err();
+        let error = failed.failure().and_then(|failure| failure.get().downcast_ref::<hikebox::StoreError>());
+        assert!(matches!(error, Some($pattern) $(if $also)?), "{failed}");
+    }};
+}
+
+/// The ticket that was drawn of a pass, as its window and its number there, `window << 32 | number`.
+#[track_caller]
+pub fn ticket(drawn: Result<Ticket, NoTicket>) -> Option<u64> {
+    drawn.ok().map(|ticket| ticket.window() << 32 | ticket.number())
+}

@@ -1,0 +1,169 @@
+//! Forked children: random words, budgets and quotas of their own, and no lock that another thread held at the fork.
+#![cfg(feature = "leased")]
+
+use hikebox::{retry, Budget, Pass, Policy, Quota, QuotaPass, RetryError, Retrying};
+use std::cell::RefCell;
+use std::io::{Read, Write};
+use std::os::unix::net::UnixStream;
+use std::panic::{catch_unwind, AssertUnwindSafe};
+use std::sync::atomic::{AtomicBool, Ordering};
+use std::thread;
+use std::time::Duration;
+
+/// What a forked child makes of this, as text; it has twenty seconds.
+fn in_child(makes: impl FnOnce() -> String) -> String {
+    let (mut reader, mut writer) = UnixStream::pair().unwrap();
+    // SAFETY: the child allocates, which the system's allocator allows, and uses what is tested.
+    match unsafe { libc::fork() } {
+        0 => {
+            // SAFETY: the child ends here, with no destructor of the parent's run.
+            unsafe { libc::alarm(20) };
+            let said = catch_unwind(AssertUnwindSafe(makes)).unwrap_or_else(|_| "it panicked".to_owned());
+            writer.write_all(said.as_bytes()).unwrap();
+            unsafe { libc::_exit(0) }
+        }
+        child => {
+            drop(writer);
+            let mut said = String::new();
+            reader.read_to_string(&mut said).unwrap();
+            // SAFETY: it is a child of this process that was not waited for.
+            unsafe { libc::waitpid(child, std::ptr::null_mut(), 0) };
+            said
+        }
+    }
+}
+
+/// The waits of a policy with jitter.
+fn waits() -> String {
+    let policy: Policy = r#"{"meet":[{"recurs":5},{"jitter":[0,0,10000,{"spaced":1000}]}]}"#.parse().unwrap();
+    let (waits, budget) = (RefCell::new(vec![]), Budget::new(5).unwrap());
+    let ended = Retrying::new(&policy, &budget)
+        .notify(|_, wait| waits.borrow_mut().push(wait))
+        .sleep(|_| ())
+        .call(|| Err::<(), _>(()));
+    assert_eq!(ended, Err(RetryError::ScheduleDone(())));
+    format!("{:?}", waits.into_inner())
+}
+
+fn drawn(pass: &mut Pass) -> usize {
+    std::iter::from_fn(|| pass.draw().ok()).count()
+}
+
+fn drawn_of(pass: &mut QuotaPass) -> usize {
+    std::iter::from_fn(|| pass.draw().ok()).count()
+}
+
+#[test]
+fn each_child_has_a_jitter_of_its_own() {
+    waits();
+    let mut all = vec![in_child(waits), in_child(waits), in_child(|| in_child(waits)), waits()];
+    all.sort();
+    all.dedup();
+    assert_eq!(all.len(), 4, "{all:?}");
+}
+
+/// Draws of a budget of five, of which the parent drew three.
+#[test]
+fn a_budget_begins_anew_in_a_child() {
+    let budget = Budget::rising(3).unwrap();
+    assert_eq!(budget.raise(5).unwrap(), 5);
+    let mut pass = budget.pass().unwrap();
+    assert!((0..3).all(|_| pass.draw().is_ok()));
+    let child = in_child(|| {
+        let drew = (drawn(&mut pass), drawn(&mut budget.pass().unwrap()), pass.count());
+        let grandchild = in_child(|| drawn(&mut budget.pass().unwrap()).to_string());
+        format!("{drew:?} {grandchild}")
+    });
+    assert_eq!(child, "(5, 0, 5) 5");
+    assert_eq!((drawn(&mut pass), pass.count()), (2, 5));
+    drop(pass);
+    assert_eq!(budget.close().ok(), Some(5));
+}
+
+#[test]
+fn a_child_closes_its_own() {
+    let (budget, quota) = (Budget::new(5).unwrap(), Quota::new(5, 0.0, Duration::from_secs(3600)).unwrap());
+    assert_eq!(drawn(&mut budget.pass().unwrap()), 5);
+    assert_eq!(drawn_of(&mut quota.pass().unwrap()), 5);
+    let (of_child, of_childs_quota) = (budget, quota);
+    let child = in_child(move || {
+        let drew = drawn(&mut of_child.pass().unwrap());
+        format!("{drew} {:?} {:?}", of_child.close().ok(), of_childs_quota.close().ok())
+    });
+    assert_eq!(child, "5 Some(5) Some(0)");
+}
+
+#[test]
+fn a_quota_begins_anew_in_a_child_by_the_terms_in_force() {
+    let quota = Quota::carrying(9, 0.5, Duration::from_secs(3600)).unwrap();
+    quota.set_terms(3, 0.25).unwrap();
+    let mut pass = quota.pass().unwrap();
+    (0..8).for_each(|_| quota.deposit());
+    assert_eq!(drawn_of(&mut pass), 5);
+    let child = in_child(|| {
+        let before = quota.seen();
+        let first = drawn_of(&mut pass);
+        (0..4).for_each(|_| quota.deposit());
+        let more = drawn_of(&mut quota.pass().unwrap());
+        format!("{} {} {first} {more} {}", before.asked, before.given, quota.seen().asked)
+    });
+    assert_eq!(child, "0 0 3 1 4");
+    drop(pass);
+    assert_eq!((quota.seen().asked, quota.close().ok()), (8, Some(5)));
+}
+
+/// A call that forks: both go on with the retry, and the child's tickets are not the parent's.
+#[test]
+fn a_retry_under_way_goes_on_in_the_child_and_in_the_parent() {
+    let policy: Policy = r#"{"recurs":4}"#.parse().unwrap();
+    let budget = Budget::new(100).unwrap();
+    let (mut runs, mut child) = (0, None);
+    let ended = retry(&policy, &budget, || {
+        runs += 1;
+        if runs == 2 {
+            // SAFETY: the child goes on with the retry, and ends below.
+            child = Some(unsafe { libc::fork() });
+        }
+        Err::<(), _>("busy")
+    });
+    let counted = (ended == Err(RetryError::ScheduleDone("busy")), runs, budget.granted());
+    if child == Some(0) {
+        let is_right = counted == (true, 5, 0);
+        // SAFETY: the child ends here.
+        unsafe { libc::_exit(i32::from(!is_right)) }
+    }
+    let mut status = 1;
+    // SAFETY: it is a child of this process that was not waited for.
+    unsafe { libc::waitpid(child.unwrap(), &mut status, 0) };
+    assert_eq!((status, counted), (0, (true, 5, 4)));
+    assert_eq!(budget.close().ok(), Some(4));
+}
+
+#[test]
+fn a_child_waits_for_no_lock_that_another_thread_held_at_the_fork() {
+    let policy: Policy = r#"{"recurs":2}"#.parse().unwrap();
+    let (budget, quota) = (Budget::new(1 << 32).unwrap(), Quota::new(1 << 32, 0.5, Duration::from_secs(3600)).unwrap());
+    let fails = || {
+        let of_budget = retry(&policy, &budget, || Err::<(), _>("busy"));
+        let of_quota = retry(&policy, &quota, || Err::<(), _>("busy"));
+        assert_eq!((&of_budget, &of_quota), (&Err(RetryError::ScheduleDone("busy")), &of_budget));
+    };
+    let is_over = AtomicBool::new(false);
+    thread::scope(|scope| {
+        for _ in 0..3 {
+            scope.spawn(|| {
+                while !is_over.load(Ordering::Relaxed) {
+                    fails();
+                }
+            });
+        }
+        for _ in 0..150 {
+            let child = in_child(|| {
+                fails();
+                format!("{} {}", budget.granted(), quota.granted())
+            });
+            assert_eq!(child, "2 2");
+        }
+        is_over.store(true, Ordering::Relaxed);
+    });
+}

@@ -1,0 +1,98 @@
+//! Folders of slots that this crate and the Python package of the repository share.
+#![cfg(feature = "leased")]
+
+mod common;
+
+use common::{number, Scratch};
+use hikebox::{Leased, LeasedQuota};
+use std::path::{Path, PathBuf};
+use std::process::Command;
+use std::time::Duration;
+use std::{env, fs};
+
+/// The Python package beside this crate, and the engine's library; `None` in a copy of the crate alone.
+fn package() -> Option<(PathBuf, PathBuf)> {
+    let crate_folder = Path::new(env!("CARGO_MANIFEST_DIR"));
+    let top = crate_folder.ancestors().find(|folder| folder.join("python/src/hikebox").is_dir())?;
+    let library = env::var_os("HIKEBOX_LIB_DIR").map_or_else(|| top.join("dist"), PathBuf::from).join("libhikebox.so");
+    Some((top.join("python/src"), library))
+}
+
+/// What this program of Python prints, which has a store of this folder.
+fn python((package, library): &(PathBuf, PathBuf), folder: &Path, program: &str) -> Vec<String> {
+    let begins =
+        "import sys\nfrom hikebox.leased import FileStore, Leased, LeasedQuota\nstore = FileStore(sys.argv[1])\n\
+                  def number(ticket):\n    return getattr(ticket, 'number', ticket)\n";
+    let output = Command::new("python3")
+        .args(["-c", &format!("{begins}{program}")])
+        .arg(folder)
+        .env("PYTHONPATH", package)
+        .env("HIKEBOX_LIBRARY", library)
+        .output()
+        .unwrap();
+    assert!(output.status.success(), "{}", String::from_utf8_lossy(&output.stderr));
+    String::from_utf8(output.stdout).unwrap().lines().map(str::to_owned).collect()
+}
+
+/// The files of a folder: their paths in it, and what they have.
+fn files(folder: &Path) -> Vec<(PathBuf, Vec<u8>)> {
+    let entries = |folder: &Path| fs::read_dir(folder).unwrap().map(|entry| entry.unwrap().path()).collect::<Vec<_>>();
+    let all = entries(folder).into_iter().flat_map(|subfolder| entries(&subfolder));
+    let mut files: Vec<_> =
+        all.map(|path| (path.strip_prefix(folder).unwrap().to_owned(), fs::read(&path).unwrap())).collect();
+    files.sort();
+    files
+}
+
+const DRAWS_OF_PYTHON: &str = "
+budget = Leased(store, 'näme', 100, lease=1)
+windows = Leased(store, 'näme', 100, per=1000000, lease=1)
+quota = LeasedQuota(store, 'näme', 4, 0.5, 1000000, lease=1)
+quota.deposit(6)
+print(number(budget.draw()), number(windows.draw()), number(quota.draw()))
+";
+
+/// The same of this crate.
+fn draws(folder: &Path) -> Vec<String> {
+    let long = Duration::from_secs(1_000_000);
+    let budget = Leased::new(folder, "näme", 100).unwrap().lease(1);
+    let windows = Leased::new(folder, "näme", 100).unwrap().in_each(long).lease(1);
+    let quota = LeasedQuota::new(folder, "näme", 4, 0.5, long).unwrap().lease(1);
+    quota.deposit_of(6);
+    let drawn = [budget.draw(), windows.draw(), quota.draw()].map(|drawn| number(drawn).unwrap().to_string());
+    vec![drawn.join(" ")]
+}
+
+#[test]
+fn both_write_the_same_bytes() {
+    let package = match package() {
+        Some(package) => package,
+        None => return eprintln!("skipped: no Python package beside the crate"),
+    };
+    let (own, pythons) = (Scratch::new("own"), Scratch::new("pythons"));
+    assert_eq!(draws(&own.0), ["0 0 0"]);
+    assert_eq!(python(&package, &pythons.0, DRAWS_OF_PYTHON), ["0 0 0"]);
+    let (own, pythons) = (files(&own.0), files(&pythons.0));
+    assert_eq!(own.len(), 3);
+    assert_eq!(own, pythons);
+}
+
+#[test]
+fn both_draw_in_turns_of_one_folder() {
+    let package = match package() {
+        Some(package) => package,
+        None => return eprintln!("skipped: no Python package beside the crate"),
+    };
+    for begins in [true, false] {
+        let folder = Scratch::new("both");
+        for turn in 0..4 {
+            let drawn =
+                if (turn % 2 == 0) == begins { draws(&folder.0) } else { python(&package, &folder.0, DRAWS_OF_PYTHON) };
+            assert_eq!(drawn, [format!("{turn} {turn} {turn}")]);
+        }
+        // of the 24 requests that all told, and the reserve of 4
+        let quota = LeasedQuota::new(&folder.0, "näme", 4, 0.5, Duration::from_secs(1_000_000)).unwrap();
+        let usage = quota.seen().unwrap();
+        assert_eq!((usage.asked, usage.given, usage.left), (24, 4, 12));
+    }
+}
