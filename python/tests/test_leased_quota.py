@@ -482,33 +482,42 @@ def test_a_quota_in_redis(redis_server: Any) -> None:
     # no ticket of a window that may have begun before the server did
     assert not LeasedQuota(store, "a", 9, 1, 60).draw()
     assert server.client().keys("*") == []
-    time.sleep(3.2)
-    first = LeasedQuota(store, "a", 4, 0.5, 3, lease=2, again_after=0.01)
+    time.sleep(5.2)
     decoding = redis.Redis(host="127.0.0.1", port=server.port, decode_responses=True)
-    second = LeasedQuota(RedisStore(decoding), "a", 4, 0.5, 3, lease=2, again_after=0.01)
-    while time.time() % 3 > 0.1:
-        time.sleep(0.01)
-    assert [number(first.draw()) for _ in range(2)] == [0, 1]
-    assert [number(second.draw()) for _ in range(3)] == [2, 3, None]
-    for _ in range(3):
-        first.deposit()
-        second.deposit()
-    assert second.seen().left == 1
-    usage = first.seen()
-    assert usage == Usage(window=usage.window, asked=6, given=4, left=3)
-    assert usage.window == int(time.time() // 3)
-    assert [number(first.draw()), number(second.draw()), number(first.draw())] == [4, 6, 5]
-    (key,) = server.client().keys("*")
-    assert key == b"hikebox:{a}:quota:3000:%d" % usage.window
-    assert 3000 < server.client().pttl(key) <= 6000
-    assert server.client().hgetall(key) == {b"asked": b"6", b"given": b"7"}
-    drawn = first.draw()
-    while time.time() // 3 == usage.window:
-        assert not drawn
+
+    def in_one_window(name: str) -> Any:
+        """The quota, what was drawn and seen in a window of it, and that window: none if it ended before."""
+        first = LeasedQuota(store, name, 4, 0.5, 3, lease=2, again_after=0.01)
+        second = LeasedQuota(RedisStore(decoding), name, 4, 0.5, 3, lease=2, again_after=0.01)
+        while time.time() % 3 > 0.1:
+            time.sleep(0.01)
+        window = int(time.time() // 3)
+        drawn = [number(quota.draw()) for quota in (first, first, second, second, second)]
+        for _ in range(3):
+            first.deposit()
+            second.deposit()
+        seen = [second.seen(), first.seen()]
+        drawn += [number(quota.draw()) for quota in (first, second, first)]
+        key = "hikebox:{%s}:quota:3000:%d" % (name, window)
+        kept = (server.client().pttl(key), server.client().hgetall(key))
+        return first, drawn, seen, kept, window if time.time() // 3 == window else None
+
+    for name in "abcdef":
+        first, drawn, (of_second, of_first), (milliseconds, counts), window = in_one_window(name)
+        if window is not None:
+            break
+    assert drawn == [0, 1, 2, 3, None, 4, 6, 5]
+    assert of_second.left == 1
+    assert of_first == Usage(window=window, asked=6, given=4, left=3)
+    assert 3000 < milliseconds <= 6000
+    assert counts == {b"asked": b"6", b"given": b"7"}
+    ticket = first.draw()
+    while time.time() // 3 == window:
+        assert not ticket
         time.sleep(0.05)
-        drawn = first.draw()
+        ticket = first.draw()
     # (the window may have ended since it was drawn, or just before)
-    assert number(drawn or first.draw()) == 0
+    assert number(ticket or first.draw()) == 0
 
 
 def test_the_script_rounds_as_a_quota_does(redis_server: Any) -> None:
