@@ -351,4 +351,4 @@ def test_streams_that_fail() -> None:
     command = [sys.executable, "-m", "hikebox", *words]
     with open("/dev/full", "w") as full:
         done = subprocess.run(command, stdout=full, stderr=subprocess.PIPE, text=True, env=python_environment())
-    assert done.returncode == 4 and done.stderr.startswith("hikebox: a stream failed")
+    assert (done.returncode, done.stderr) == (4, "hikebox: write failed: standard output: No space left on device\n")

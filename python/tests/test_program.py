@@ -196,15 +196,17 @@ def test_only_the_program_has_its_signals() -> None:
 
 
 def test_the_nearest_word_is_named() -> None:
-    for words, command, said in (
-        (["rnu", "--", "true"], "", "there is no command 'rnu'; did you mean run?"),
-        (["xyzzy"], "", "there is no command 'xyzzy'"),
+    wrong: List[Tuple[List[str], str, str]] = [
+        (["rnu", "--", "true"], "", "expected a command (run, plan, check, storm, lab), got 'rnu'; did you mean run?"),
+        (["xyzzy"], "", "expected a command (run, plan, check, storm, lab), got 'xyzzy'"),
+        ([], "", "expected a command (run, plan, check, storm, lab), got none"),
         (["run", "--polcy", "recurs(1)", "--", "true"], " run", "there is no option --polcy; did you mean --policy?"),
         (["run", "--polcy=recurs(1)", "--", "true"], " run", "there is no option --polcy; did you mean --policy?"),
         (["plan", "--xyzzy"], " plan", "there is no option --xyzzy"),
         (["check", "recurs(1)", "recurs(2)"], " check", "unexpected word 'recurs(2)'"),
         (["--versoin", "plan", "recurs(1)"], "", "there is no option --versoin; did you mean --version?"),
-    ):
+    ]
+    for words, command, said in wrong:
         status, output, errors = hikebox(*words)
         assert (status, output) == (2, "") and errors.endswith(f"hikebox{command}: error: {said}\n"), (words, errors)
 

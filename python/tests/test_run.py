@@ -132,16 +132,16 @@ def closed(words: List[str], closes: str, **how: Any) -> "subprocess.CompletedPr
 )
 def test_a_closed_output_is_told_in_a_line(words: List[str]) -> None:
     done = closed(words, ">&-")
-    assert (done.returncode, done.stderr) == (4, b"hikebox: write failed\n")
+    assert (done.returncode, done.stderr) == (4, b"hikebox: write failed: standard output: Bad file descriptor\n")
     with open("/dev/full", "wb") as full:
         how: Any = {"env": python_environment(), "stderr": subprocess.PIPE}
         done = subprocess.run([*PROGRAM, *words], stdout=full, **how)
-    assert (done.returncode, done.stderr) == (4, b"hikebox: write failed\n")
+    assert (done.returncode, done.stderr) == (4, b"hikebox: write failed: standard output: No space left on device\n")
 
 
 def test_a_page_whose_address_nobody_reads() -> None:
     done = closed(["lab", "--no-browser"], ">&-")
-    assert (done.returncode, done.stderr) == (4, b"hikebox: lab: Bad file descriptor\n")
+    assert (done.returncode, done.stderr) == (4, b"hikebox: lab: write failed: standard output: Bad file descriptor\n")
 
 
 def test_a_command_has_the_streams_that_hikebox_has(tmp_path: Path) -> None:
@@ -155,7 +155,9 @@ def test_a_command_has_the_streams_that_hikebox_has(tmp_path: Path) -> None:
     done = closed(["run", "--policy", "recurs(1)", "--", "sh", "-c", "echo hi"], ">&-")
     assert done.returncode != 0 and b"Traceback" not in done.stderr
     done = closed(["run", "--last-output", "--", "echo", "hi"], ">&-")
-    assert (done.returncode, done.stderr) == (4, b"hikebox: a stream failed: Bad file descriptor\n")
+    assert (done.returncode, done.stderr) == (4, b"hikebox: write failed: standard output: Bad file descriptor\n")
+    done = closed(["run", "--replay-input", "--", "cat"], "<&-")
+    assert (done.returncode, done.stderr) == (4, b"hikebox: read failed: standard input: Bad file descriptor\n")
     done = closed(["plan"], "<&-")
     assert done.stderr == b"hikebox: read failed: standard input: Bad file descriptor\n"
 
@@ -173,7 +175,7 @@ def test_output_is_held_back_up_to_a_limit(tmp_path: Path) -> None:
         process = subprocess.Popen(command, stdout=out, stderr=subprocess.PIPE, env=python_environment())
         _, errors = process.communicate(timeout=60)
     assert process.returncode == 4
-    assert errors == b"hikebox: a stream failed: the output is longer than 3M (--output-limit)\n"
+    assert errors == b"hikebox: the output is longer than 3M (--output-limit)\n"
     assert (tmp_path / "out").stat().st_size == 0
     whole = hikebox(*words, "head -c 3000000 /dev/zero | tr '\\0' x")
     assert (whole[0], len(whole[1])) == (0, 3_000_000)

@@ -268,6 +268,7 @@ def test_a_cut_storm_has_a_status_of_its_own() -> None:
     assert json.loads(told)["totals"]["cut"] is True
 
 
+COUNTED = "expected FROM below TO and a COUNT from 2 to 64, as rate=200..1600/8"
 NAMES = "rate, clients, together, seconds, capacity, queue, patience, outage, share, reserve, budget"
 
 
@@ -305,16 +306,26 @@ NAMES = "rate, clients, together, seconds, capacity, queue, patience, outage, sh
         (["--detail"], "detail: it is of a picture of storms"),
         (["--find", "retries", "recurs(1)", "recurs(2)"], "storm: --find is of one storm, not 2"),
         (["--find", "quota", "--csv"], "storm: --find prints text or --json"),
+        (["--sweep", "rats=1,2"], "sweep: expected a parameter, as rate=200..1600/8, got 'rats'"),
         (
-            ["--sweep", "rats=1,2"],
-            f"sweep: expected NAME=FROM..TO/COUNT or NAME=A,B,C, got 'rats=1,2'; NAME is {NAMES}",
+            ["--sweep", "recurs(3)"],
+            f"sweep: expected a parameter (one of {NAMES}), as rate=200..1600/8, got 'recurs(3)'",
         ),
-        (["--sweep", "rate"], f"sweep: expected NAME=FROM..TO/COUNT or NAME=A,B,C, got 'rate'; NAME is {NAMES}"),
-        (["--sweep", "rate=5..1/3"], "sweep: expected FROM below TO and a COUNT from 2 to 64, got '5..1/3'"),
-        (["--sweep", "rate=1..5/65"], "sweep: expected FROM below TO and a COUNT from 2 to 64, got '1..5/65'"),
-        (["--sweep", "rate=1,x"], "sweep: expected a whole number, got 'x'"),
-        (["--sweep", "rate=2,1"], "sweep: expected 1 to 64 values, each greater than the one before, got [2, 1]"),
-        (["--sweep", "share=0.25"], "sweep: expected a number with at most one decimal, got '0.25'"),
+        (["--sweep", "rate"], "sweep: expected values, as rate=200..1600/8, got none"),
+        (["--sweep", "outage="], "sweep: expected values, as outage=1000,5000,20000, got none"),
+        (
+            ["--sweep", "outage=10000..20000"],
+            "sweep: expected a count of values after '10000..20000', as outage=10000..20000/8, got none",
+        ),
+        (["--sweep", "rate=5..1/3"], f"sweep: {COUNTED}, got '5..1/3'"),
+        (["--sweep", "rate=1..5/65"], f"sweep: {COUNTED}, got '1..5/65'"),
+        (["--sweep", "rate=1..5/x"], f"sweep: {COUNTED}, got '1..5/x'"),
+        (["--sweep", "rate=1,x"], "sweep: expected whole numbers, as rate=200..1600/8, got 'x'"),
+        (
+            ["--sweep", "clients at once=2,1"],
+            "sweep: expected 1 to 64 values, each greater than the one before, as clients=100,1000,10000, got [2, 1]",
+        ),
+        (["--sweep", "share=0.25"], "sweep: expected numbers with at most one decimal, as share=0..20/5, got '0.25'"),
         (["--name", "a", "--name", "b"], "name: expected as many names as storms, 1, got 2"),
     ],
     ids=str,

@@ -94,12 +94,14 @@ def test_what_is_no_sweep_is_refused() -> None:
 def test_it_is_told_as_a_table_csv_and_json() -> None:
     swept = sweep(two(), rate=[50, 100])
     lines = str(swept).splitlines()
-    assert lines[:3] == ["recurs(3)", "1: no limit", "2: quota 10/10%/1s"]
     # 50 or 100 of 250 or 500 requests come in the outage, and fail; of 15 and 20 tickets none saves one.
-    assert [line.split() for line in lines[-3:]] == [
-        ["rate", "1", "2"],
-        ["50", "80.00", "80.00"],
-        ["100", "80.00", "80.00"],
+    assert lines == [
+        "recurs(3)",
+        "",
+        "requests that succeeded, in %",
+        "rate  no limit  quota 10/10%/1s",
+        "50       80.00            80.00",
+        "100      80.00            80.00",
     ]
     rows = list(csv.DictReader(io.StringIO(swept.to_csv())))
     assert [(row["rate"], row["limit"]) for row in rows] == [
@@ -220,6 +222,14 @@ def test_names_stand_in_tables_and_pictures(capsys: pytest.CaptureFixture[str]) 
         assert {"wild", "tame"} <= set(texts(parsed(capsys.readouterr().out)))
 
 
+def test_names_that_have_no_room_stand_above_the_table() -> None:
+    wide = sweep([storm(recurs(3), **BRIEF), storm(FULL & recurs(3), **BRIEF)], rate=[50])
+    # Of 250 requests the 50 of the second without the peer fail, also after retries at once.
+    assert str(wide).splitlines()[:2] == ["1: recurs(3)", f"2: {FULL & recurs(3)!r}"]
+    assert [line.split()[:2] for line in str(wide).splitlines()[-2:]] == [["rate", "1"], ["50", "80.00"]]
+    assert "\u00a0" not in str(wide)
+
+
 def test_equal_storms_of_a_sweep_are_played_once(monkeypatch: pytest.MonkeyPatch) -> None:
     from hikebox import _storm_cores
     from hikebox.storm import play
@@ -272,7 +282,7 @@ def test_a_scenario_is_a_file(tmp_path: Path, capsys: pytest.CaptureFixture[str]
     assert main(["storm", "--scenario", file, "--rate", "50", "--json", "recurs(0)"]) == 0
     assert json.loads(capsys.readouterr().out)["totals"]["requests"] == 250
     assert main(["storm", "--scenario", file, "--budget", "1", "--sweep", "rate=10,20"]) == 0
-    assert capsys.readouterr().out.startswith("recurs(3)\n1: budget of 1\n2: budget of 1\n")
+    assert capsys.readouterr().out.splitlines()[3] == "rate  budget of 1  budget of 1"
 
 
 BAD_SCENARIOS: List[Tuple[Any, str]] = [

@@ -25,6 +25,8 @@ class Parser(argparse.ArgumentParser):
         """The parsed command line. A word that nobody takes ends the program."""
         words = sys.argv[1:] if words is None else words
         given, rest = self.parse_known_args(words)
+        if given.parser is self and not rest:
+            self.error(f"expected a command ({', '.join(self._commands())}), got none")
         if rest:
             owner = self if words[0] == rest[0] else given.parser
             owner.refuse(rest[0])
@@ -40,8 +42,12 @@ class Parser(argparse.ArgumentParser):
 
     def _check_value(self, action: argparse.Action, value: Any) -> None:
         if isinstance(action.choices, dict) and value not in action.choices:
-            self.error(f"there is no command {value!r}{_nearest(value, action.choices)}")
+            names = ", ".join(action.choices)
+            self.error(f"expected a command ({names}), got {value!r}{_nearest(value, action.choices)}")
         super()._check_value(action, value)
+
+    def _commands(self) -> List[str]:
+        return [name for action in self._actions if isinstance(action.choices, dict) for name in action.choices]
 
     def _print_message(self, message: str, file: Any = None) -> None:
         if file is sys.stdout and message:

@@ -14,6 +14,7 @@ from ._plan_picture import plan_picture
 from ._arguments import Parser
 from ._run import MOST_OUTPUT, RunOptions, run_command
 from ._seeded import seeded
+from ._storm_axes import axes_text
 from ._storm_command import result_of
 from ._storm_options import add_storm_options
 from ._streams import settle
@@ -53,11 +54,16 @@ examples:
   hikebox run --quota 10/20%/1h@/run/lock/jobs -- ./job   # each hour 10 over all runs, and one for every five runs
 """
 
-_STORM = """\
-Plays many requests under one policy, on a peer that fails for a while: no call is made, and no time passes. Times are
-in milliseconds. A line is a window of time, by its first moment. Requests and retries count in the window in which they
-begin, calls in the one in which they end: succeeded, refused in the outage, shed since the queue was full, or late,
-since the client gave up. The status is 6 where a storm was cut.
+_STORM = f"""\
+Plays a storm: requests come to a peer that fails for a while, and each retries by your policy. It makes no call and
+takes no time. All times are in milliseconds.
+
+Each line of the report is a window of time, named by its first moment. A request or a retry counts in the window in
+which it begins. A call counts in the window in which it ends: it succeeded, was refused in the outage, was shed because
+the queue was full, or was late because its client had given up. The status is 6 if a storm was cut by --calls.
+
+--sweep plays the storms for each value of a parameter, as NAME=FROM..TO/COUNT or NAME=A,B,C:
+{axes_text()}
 
 examples:
   hikebox storm 'recurs(8) & exponential(0.1, 2).cap(10).jittered(0, 1)'
@@ -106,7 +112,7 @@ def _parser() -> Parser:
     parser = Parser(prog="hikebox", description="Retries commands by policies, within limits.")
     parser.set_defaults(parser=parser)
     parser.add_argument("--version", action="version", version=f"hikebox {VERSION}")
-    commands = parser.add_subparsers(required=True, metavar="COMMAND")
+    commands = parser.add_subparsers(metavar="COMMAND")
     for adds in (_add_run, _add_plan, _add_check, _add_storm, _add_lab):
         adds(commands)
     return parser
@@ -178,37 +184,37 @@ def _add_check(commands: Any) -> None:
 def _add_storm(commands: Any) -> None:
     storm = commands.add_parser(
         "storm",
-        help="play what a policy does to a peer that fails for a while",
+        help="show what a policy does to a peer that fails for a while",
         usage="hikebox storm [OPTION..] [POLICY..]",
         epilog=_STORM,
         formatter_class=argparse.RawDescriptionHelpFormatter,
     )
     add_storm_options(storm)
-    compare = "play this policy too, as one more POLICY; may be given again"
+    compare = "play this policy too; you can give it again"
     storm.add_argument("--compare", metavar="POLICY", action="append", default=[], help=compare)
     forms = storm.add_mutually_exclusive_group()
-    forms.add_argument("--csv", action="store_true", help="print the lines of one storm, or a sweep, as CSV")
+    forms.add_argument("--csv", action="store_true", help="print the windows of one storm, or a sweep, as CSV")
     forms.add_argument(
-        "--json", action="store_true", help="print the lines and totals of one storm, or a sweep, as JSON"
+        "--json", action="store_true", help="print the windows and totals of one storm, or a sweep, as JSON"
     )
-    forms.add_argument("--svg", metavar="FILE", help="write the picture into this file; - is standard output")
-    shown = "print each window with a bar of its calls, in colour on a terminal where NO_COLOR is not set"
+    forms.add_argument("--svg", metavar="FILE", help="write a picture to this file; - is standard output")
+    shown = "print each window with a bar of its calls, in colour on a terminal unless NO_COLOR is set"
     forms.add_argument("--bars", action="store_true", help=shown)
-    columns = "how wide the picture is, from 280 to 4000 (760), or a line of --bars, from 72 to 1000 (80)"
+    columns = "the width of the picture, from 280 to 4000 (760), or of the lines of --bars, from 72 to 1000 (80)"
     storm.add_argument("--width", metavar="N", type=_words.number(MOST_WIDTH, 72), help=columns)
-    storm.add_argument("--detail", action="store_true", help="tell apart in the picture why calls failed")
-    storm.add_argument("--title", metavar="TEXT", help="what the picture says in the place of the policy")
-    name = "what a picture or a table calls a storm; may be given again, for each storm in turn"
+    storm.add_argument("--detail", action="store_true", help="show in the picture why calls failed")
+    storm.add_argument("--title", metavar="TEXT", help="the title of the picture, in place of the policy")
+    name = "the name of a storm in a picture or a table; give one for each storm"
     storm.add_argument("--name", metavar="TEXT", action="append", help=name)
     storm.add_argument(
-        "file", nargs="*", metavar="POLICY", help="as for plan; of several the totals stand side by side"
+        "file", nargs="*", metavar="POLICY", help="as for plan; with several, the totals are printed side by side"
     )
     storm.set_defaults(does=_storm, parser=storm)
 
 
 def _add_lab(commands: Any) -> None:
     lab = commands.add_parser(
-        "lab", help="serve a page on this machine on which policies and storms are tried, until Ctrl-C"
+        "lab", help="serve a page on which you try policies and storms, on this machine, until Ctrl-C"
     )
     lab.add_argument(
         "link", nargs="?", default="", metavar="LINK", help="a link of the page, of any run: open what it carries"
@@ -255,7 +261,7 @@ def _run(given: Any) -> int:
     try:
         return run_command(command, options)
     except OSError as error:
-        return _fails(f"a stream failed: {error.strerror}", BAD_STREAM)
+        return _fails(str(error.strerror), BAD_STREAM)
 
 
 def _plan(given: Any) -> int:
@@ -324,9 +330,9 @@ def _prints(text: str) -> int:
         sys.stdout.write(text)
         sys.stdout.flush()
         return 0
-    except OSError:
+    except OSError as error:
         _drops_unwritten()
-        return _fails("write failed", BAD_STREAM)
+        return _fails(f"write failed: standard output: {error.strerror}", BAD_STREAM)
 
 
 def _drops_unwritten() -> None:

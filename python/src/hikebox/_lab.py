@@ -20,6 +20,7 @@ from urllib.parse import quote
 
 from ._lab_answers import BadRequest, plan_answer, start_answer
 from ._lab_players import BrokenOff, Players, is_readable
+from ._streams import named
 from ._svg import STYLE
 
 __all__ = ["Lab", "run_lab"]
@@ -211,7 +212,8 @@ def run_lab(port: int = 0, link: str = "", opens: bool = True) -> int:
     _, mark, carried = link.partition("#")
     address = lab.address + mark + quote(carried, safe="%=&+-._~()*!',;:@/?")
     try:
-        print(f"hikebox lab: {address} (Ctrl-C ends it)", flush=True)
+        with named("write failed: standard output"):
+            print(f"hikebox lab: {address} (Ctrl-C ends it)", flush=True)
         with tempfile.TemporaryDirectory(prefix="hikebox-lab-") as folder:
             if opens and _has_screen():
                 door = _door(Path(folder), address)

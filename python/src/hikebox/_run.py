@@ -16,6 +16,7 @@ from typing import Any, FrozenSet, List, Optional, Sequence, Tuple, Union
 from ._deadline import seconds_left
 from ._group import Group
 from ._status_line import StatusLine
+from ._streams import named
 from ._terminal import Terminal
 from ._words import size_text
 from .budget import Budget
@@ -399,7 +400,7 @@ class _Runner:
         if self.output is None:
             return
         os.lseek(self.output, 0, os.SEEK_SET)
-        with os.fdopen(os.dup(self.output), "rb") as held:
+        with os.fdopen(os.dup(self.output), "rb") as held, named("write failed: standard output"):
             while True:
                 part = held.read(1 << 16)
                 if not part:
@@ -428,7 +429,7 @@ class _Runner:
 def _unnamed() -> int:
     """A temporary file without a name."""
     folder = None if "TMPDIR" in os.environ or not os.access(_KEPT_IN, os.W_OK | os.X_OK) else _KEPT_IN
-    with tempfile.TemporaryFile(dir=folder) as file:
+    with named("a temporary file can't be made"), tempfile.TemporaryFile(dir=folder) as file:
         return os.dup(file.fileno())
 
 
@@ -436,10 +437,12 @@ def _spooled(source: int) -> int:
     """All that can be read of a file, in a temporary one."""
     file = _unnamed()
     while True:
-        part = os.read(source, 1 << 16)
+        with named("read failed: standard input"):
+            part = os.read(source, 1 << 16)
         if not part:
             return file
-        _write_all(file, part)
+        with named("write failed: temporary file"):
+            _write_all(file, part)
 
 
 def _write_all(file: int, text: bytes) -> None:

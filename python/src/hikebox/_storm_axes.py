@@ -2,6 +2,7 @@
 
 from __future__ import annotations
 
+import difflib
 import re
 from typing import TYPE_CHECKING, Any, Callable, Dict, List, NamedTuple, Optional, Tuple
 
@@ -12,7 +13,7 @@ from .quota import Terms
 if TYPE_CHECKING:
     from .storm import Storm
 
-__all__ = ["AXES", "MEASURES", "MOST_VALUES", "NEVER", "Axis", "Measure", "values_of"]
+__all__ = ["AXES", "MEASURES", "MOST_VALUES", "NEVER", "Axis", "Measure", "axes_text", "values_of"]
 
 #: So many values has a sweep at most.
 MOST_VALUES = 64
@@ -57,6 +58,8 @@ class Axis(NamedTuple):
     title: str
     most: int
     put: Callable[[Parameters, int], Parameters]
+    #: Values as `--sweep` takes them.
+    example: str
     unit: int = 1
 
     def shown(self, value: int) -> str:
@@ -66,18 +69,26 @@ class Axis(NamedTuple):
 
 #: The parameters by the names that the command line gives them.
 AXES: Dict[str, Axis] = {
-    "rate": Axis("requests a second", RANGES["rate"][1], _plain("rate")),
-    "clients": Axis("clients at once", RANGES["rate"][1], _clients),
-    "together": Axis("requests that come at one moment", RANGES["together"][1], _plain("together")),
-    "seconds": Axis("seconds for which requests come", RANGES["seconds"][1], _plain("seconds")),
-    "capacity": Axis("the peer's capacity, in calls a second", RANGES["capacity"][1], _plain("capacity")),
-    "queue": Axis("the peer's queue, in calls", RANGES["queue"][1], _plain("queue")),
-    "patience": Axis("the clients' patience, in seconds", RANGES["patience"][1], _plain("patience"), 1000),
-    "outage": Axis("length of the outage, in seconds", 3_600_000, _outage, 1000),
-    "share": Axis("share of the quota, in % of the requests", 1_000_000, _share, 10),
-    "reserve": Axis("reserve of the quota", 2**32, _reserve),
-    "budget": Axis("budget", 2**32, _budget),
+    "rate": Axis("requests a second", RANGES["rate"][1], _plain("rate"), "200..1600/8"),
+    "clients": Axis("clients at once", RANGES["rate"][1], _clients, "100,1000,10000"),
+    "together": Axis("requests that come at one moment", RANGES["together"][1], _plain("together"), "1,10,100"),
+    "seconds": Axis("seconds for which requests come", RANGES["seconds"][1], _plain("seconds"), "30,60,120"),
+    "capacity": Axis(
+        "the peer's capacity, in calls a second", RANGES["capacity"][1], _plain("capacity"), "500..2000/4"
+    ),
+    "queue": Axis("the peer's queue, in calls", RANGES["queue"][1], _plain("queue"), "0,500,5000"),
+    "patience": Axis(
+        "the clients' patience, in seconds", RANGES["patience"][1], _plain("patience"), "100..1000/10", 1000
+    ),
+    "outage": Axis("length of the outage, in seconds", 3_600_000, _outage, "1000,5000,20000", 1000),
+    "share": Axis("share of the quota, in % of the requests", 1_000_000, _share, "0..20/5", 10),
+    "reserve": Axis("reserve of the quota", 2**32, _reserve, "0,10,100"),
+    "budget": Axis("budget", 2**32, _budget, "0,1000,5000"),
 }
+#: Other names of these.
+_TITLES = {axis.title: name for name, axis in AXES.items()}
+#: The values that are spelt in milliseconds.
+_IN_MILLISECONDS = ("patience", "outage")
 
 
 class Measure(NamedTuple):
@@ -115,40 +126,69 @@ MEASURES: Dict[str, Measure] = {
 }
 
 
+def axes_text() -> str:
+    """What can be swept, a line for each parameter, with an example of its values."""
+    lines = [(f"{name}={axis.example}", _meaning(name)) for name, axis in AXES.items()]
+    return "\n".join(f"  {spelt:<24}{meaning}" for spelt, meaning in lines)
+
+
+def _meaning(name: str) -> str:
+    title = AXES[name].title
+    return title.replace("in seconds", "in milliseconds") if name in _IN_MILLISECONDS else title
+
+
 def values_of(text: str) -> Tuple[str, List[int]]:
     """The name and the values of a sweep, as `NAME=FROM..TO/COUNT` or `NAME=A,B,C` spell them, in the units of the
     command line: milliseconds for times, and per cent for a share.
 
     >>> values_of("rate=200..1600/8")
     ('rate', [200, 400, 600, 800, 1000, 1200, 1400, 1600])
+    >>> values_of("clients at once=10,100")
+    ('clients', [10, 100])
     >>> values_of("share=0,2.5,10")
     ('share', [0, 25, 100])
     """
-    name, equals, spelt = text.partition("=")
-    if name not in AXES or not equals:
-        raise StormError(
-            "sweep", f"expected NAME=FROM..TO/COUNT or NAME=A,B,C, got {text!r}; NAME is {', '.join(AXES)}"
-        )
+    spelt_name, _, spelt = text.partition("=")
+    name = _name_of(spelt_name.strip())
+    if not spelt:
+        raise StormError("sweep", f"expected values, as {name}={AXES[name].example}, got none")
     grain = 10 if name == "share" else 1
-    span = re.fullmatch(r"([0-9.]+?)\.\.([0-9.]+)/([0-9]{1,4})", spelt)
-    if span is None:
-        return name, _checked([_number(word, grain) for word in spelt.split(",")])
-    begins, ends, count = _number(span[1], grain), _number(span[2], grain), int(span[3])
-    if not 2 <= count <= MOST_VALUES or begins >= ends:
-        raise StormError("sweep", f"expected FROM below TO and a COUNT from 2 to {MOST_VALUES}, got {spelt!r}")
-    return name, _checked([round(begins + (ends - begins) * index / (count - 1)) for index in range(count)])
+    begins_spelt, dots, rest = spelt.partition("..")
+    if not dots:
+        return name, _checked(name, [_number(name, word, grain) for word in spelt.split(",")])
+    ends_spelt, slash, count = rest.partition("/")
+    if not slash:
+        raise StormError("sweep", f"expected a count of values after {spelt!r}, as {name}={spelt}/8, got none")
+    begins, ends = _number(name, begins_spelt, grain), _number(name, ends_spelt, grain)
+    steps = int(count) - 1 if re.fullmatch("[0-9]{1,4}", count) else 0
+    if not 1 <= steps < MOST_VALUES or begins >= ends:
+        expected = f"expected FROM below TO and a COUNT from 2 to {MOST_VALUES}"
+        raise StormError("sweep", f"{expected}, as {name}={AXES[name].example}, got {spelt!r}")
+    return name, _checked(name, [round(begins + (ends - begins) * index / steps) for index in range(steps + 1)])
 
 
-def _number(word: str, grain: int) -> int:
+def _name_of(spelt: str) -> str:
+    """The parameter that a name means. Where there is none, the error names the nearest one."""
+    known = {**_TITLES, **{name: name for name in AXES}}
+    if spelt in known:
+        return known[spelt]
+    near = difflib.get_close_matches(spelt, known, 1)
+    names = "" if near else f" (one of {', '.join(AXES)})"
+    name = known[near[0]] if near else "rate"
+    raise StormError("sweep", f"expected a parameter{names}, as {name}={AXES[name].example}, got {spelt!r}")
+
+
+def _number(name: str, word: str, grain: int) -> int:
     pattern = r"[0-9]{1,12}" if grain == 1 else r"[0-9]{1,12}(\.[0-9])?"
     if not re.fullmatch(pattern, word):
-        kind = "a whole number" if grain == 1 else "a number with at most one decimal"
-        raise StormError("sweep", f"expected {kind}, got {word!r}")
+        kind = "whole numbers" if grain == 1 else "numbers with at most one decimal"
+        raise StormError("sweep", f"expected {kind}, as {name}={AXES[name].example}, got {word!r}")
     return round(float(word) * grain)
 
 
-def _checked(values: List[int]) -> List[int]:
+def _checked(name: str, values: List[int]) -> List[int]:
     """The values, where each is greater than the one before."""
     if not 1 <= len(values) <= MOST_VALUES or any(high <= low for low, high in zip(values, values[1:])):
-        raise StormError("sweep", f"expected 1 to {MOST_VALUES} values, each greater than the one before, got {values}")
+        expected = f"expected 1 to {MOST_VALUES} values, each greater than the one before"
+        raise StormError("sweep", f"{expected}, as {name}={AXES[name].example}, got {values}")
     return values

@@ -22,13 +22,13 @@ _LONGEST = 100
 _HELP = {
     "rate": "requests a second (800)",
     "together": "requests that come at one moment (1)",
-    "seconds": "for how many seconds requests come (60)",
-    "capacity": "calls that the peer can do in a second (1000)",
-    "patience": "after how many milliseconds a client gives a call up (500)",
-    "queue": "calls of work that may stand at the peer (5000)",
-    "window": "how many milliseconds a line of the report is (1000)",
-    "until": "the moment after which nothing is played (a minute after the last request)",
-    "calls": "cut the storm before the call after so many (16777216)",
+    "seconds": "how long requests come, in seconds (60)",
+    "capacity": "calls a second that the peer can do (1000)",
+    "patience": "how long a client waits for a call, in milliseconds (500)",
+    "queue": "calls that the peer queues at most (5000)",
+    "window": "the length of a window of the report, in milliseconds (1000)",
+    "until": "when the storm ends, in milliseconds (a minute after the last request)",
+    "calls": "cut the storm after this many calls (16777216)",
     "words": "the seed of the random words (0)",
 }
 
@@ -44,29 +44,29 @@ class _Once(argparse.Action):
 
 def add_storm_options(storm: argparse.ArgumentParser) -> None:
     """Adds the options that say how a storm is played."""
-    story = "begin with a story: outage (where none is named), herd or brown-out; or with the scenario of a file"
+    story = "start from the parameters of outage (the default), herd or brown-out, or from a JSON file"
     storm.add_argument("--scenario", metavar="NAME|FILE", default="outage", help=story)
     for name, help in _HELP.items():
         metavar = "SEED" if name == "words" else "M" if name in ("patience", "window", "until") else "N"
         storm.add_argument(
             f"--{name}", type=_words.number(RANGES[name][1], RANGES[name][0]), metavar=metavar, help=help
         )
-    outage = "from when to when the peer refuses all calls, in milliseconds (10000..20000)"
+    outage = "when the peer refuses all calls, in milliseconds (10000..20000)"
     storm.add_argument("--outage", type=_span, metavar="FROM..TO", help=outage)
-    slow = "a brown-out: from when to when the peer works at PERCENT of its capacity"
+    slow = "when the peer works at PERCENT of its capacity, in milliseconds (never)"
     storm.add_argument("--slow", type=_slow, metavar="FROM..TO@PERCENT", help=slow)
     limits: Any = {"dest": "limits", "action": "append", "default": []}
-    budget = "at most N retries of all requests; a storm for each budget and quota that is given"
+    budget = "limit all retries to N; each --budget and --quota is a storm of its own"
     storm.add_argument("--budget", type=_words.number(MOST_TICKETS), metavar="N", help=budget, **limits)
-    quota = "at most RESERVE retries in each PERIOD (as 1s), and a SHARE of its requests, as 10/10%/1s"
+    quota = "limit the retries in each PERIOD to RESERVE and a SHARE of its requests, as 10/10%/1s"
     shown = quota.replace("%", "%%")
     storm.add_argument("--quota", type=_quota, metavar="RESERVE/SHARE%/PERIOD", help=shown, **limits)
-    storm.add_argument("--without", action="store_true", help="play each policy without a limit, too")
-    along = "play the storms for each value of a parameter, as rate=200..1600/8 or outage=1000,5000,20000"
+    storm.add_argument("--without", action="store_true", help="also play each policy without a limit")
+    along = "play the storms for each value of a parameter, as rate=200..1600/8 (see below)"
     storm.add_argument("--sweep", action=_Once, metavar="NAME=VALUES", help=along)
-    drawn = "what a sweep tells; may be given again (succeeded)"
+    drawn = "what a sweep shows (succeeded); you can give it again"
     storm.add_argument("--measure", choices=list(MEASURES), action="append", default=[], help=drawn)
-    border = "the greatest share of a quota, the most retries or the least patience with which the peer recovers"
+    border = "find the greatest share of a quota, the most retries or the least patience with which the peer recovers"
     storm.add_argument("--find", choices=["quota", "retries", "patience"], help=border)
 
 

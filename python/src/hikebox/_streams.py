@@ -1,11 +1,22 @@
-"""Standard streams that hikebox was started without."""
+"""Standard streams: those that hikebox was started without, and those that fail."""
 
 from __future__ import annotations
 
 import os
 import sys
+from contextlib import contextmanager
+from typing import Iterator
 
-__all__ = ["settle"]
+__all__ = ["named", "settle"]
+
+
+@contextmanager
+def named(what: str) -> Iterator[None]:
+    """Has an error of the system say what failed, such as `write failed: standard output`."""
+    try:
+        yield
+    except OSError as error:
+        raise OSError(error.errno, f"{what}: {error.strerror}") from error
 
 
 def settle() -> None:

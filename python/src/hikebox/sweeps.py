@@ -25,6 +25,8 @@ __all__ = ["Found", "Sweep", "find", "sweep"]
 
 #: The parameters whose values are seconds in Python.
 _TIMES = ("patience", "outage")
+#: So many columns has a terminal at least.
+_COLUMNS = 80
 
 
 @dataclass(frozen=True, repr=False)
@@ -82,20 +84,25 @@ class Sweep:
         return json.dumps(told, separators=(",", ":"))
 
     def table(self, *measures: str) -> str:
-        """A table for each measure: a row for each value, and a column for each line."""
+        """A table for each measure: a row for each value, and a column for each line. A column has its line's name, or
+        its number where a terminal of 80 columns has no room for the names."""
+        tables = [(MEASURES[measure].title, self._rows(measure)) for measure in measures or ("succeeded",)]
+        names = [name.replace("\u00a0", " ") for name in self.names]
+        numbers = [str(number) for number in range(1, len(names) + 1)]
+        has_room = all(len(columns([(self.parameter, *names), *rows])[0]) <= _COLUMNS for _, rows in tables)
         policies = {repr(line[0].policy) for line in self.lines}
-        heads = [*policies] if len(policies) == 1 else []
-        heads += [f"{number}: {name}" for number, name in enumerate(self.names, start=1)]
-        parts = ["\n".join(heads)]
-        for measure in measures or ("succeeded",):
-            rows = [(self.parameter, *(str(number) for number in range(1, len(self.lines) + 1)))]
-            numbers = self.numbers(measure)
-            rows += [
-                (self._shown(value), *(_cell(line[index]) for line in numbers))
-                for index, value in enumerate(self.values)
-            ]
-            parts.append("\n".join([MEASURES[measure].title, *columns(rows)]))
-        return "\n\n".join(parts)
+        above = [*policies] if len(policies) == 1 else []
+        above += [] if has_room else [f"{number}: {name}" for number, name in zip(numbers, names)]
+        heads = (self.parameter, *(names if has_room else numbers))
+        parts = ["\n".join([title, *columns([heads, *rows])]) for title, rows in tables]
+        return "\n\n".join(["\n".join(above), *parts] if above else parts)
+
+    def _rows(self, measure: str) -> List[Tuple[str, ...]]:
+        """A row for each value: the value, and the measure of each line."""
+        lines = self.numbers(measure)
+        return [
+            (self._shown(value), *(_cell(line[index]) for line in lines)) for index, value in enumerate(self.values)
+        ]
 
     def __str__(self) -> str:
         return self.table()
