@@ -120,7 +120,7 @@ static uint64_t call(struct on *on, uint64_t *state, uint64_t failures) {
 
 static uint64_t calls(const char *what, const char *name, uint64_t many) {
     struct on on = {HIKEBOX_INIT, HIKEBOX_INIT, name[0] == 'q'};
-    uint64_t state = 1, done = 0, tickets = what[0] == 'r' ? 0 : HIKEBOX_MOST_TICKETS;
+    uint64_t state = 1, done = 0, tickets = what[0] == 'r' ? 0 : HIKEBOX_MAX_TICKETS;
     hikebox_place place;
     check(hikebox_policy_read("\"forever\"", 9, &on.policy, &place));
     if (name[0] == 'b')

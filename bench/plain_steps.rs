@@ -5,10 +5,10 @@
 use std::hint::black_box;
 use std::io::Write;
 
-const FAR: u64 = (1 << 62) - 1;
+const MAX_NUMBER: u64 = (1 << 62) - 1;
 
 fn plus(a: u64, b: u64) -> u64 {
-    (a + b).min(FAR)
+    (a + b).min(MAX_NUMBER)
 }
 
 #[derive(Clone)]
@@ -51,7 +51,7 @@ fn fixed_next(length: u64, planned: Option<(u64, u64)>, now: u64) -> (u64, u64) 
 fn jittered(delay: u64, least: u64, most: u64, word: u32) -> u64 {
     let word = u128::from(word);
     let weight = u128::from(least) * ((1 << 32) - word) + u128::from(most) * word;
-    (u128::from(delay) * weight / (1000 << 32)).min(u128::from(FAR)) as u64
+    (u128::from(delay) * weight / (1000 << 32)).min(u128::from(MAX_NUMBER)) as u64
 }
 
 impl Schedule {
@@ -78,7 +78,7 @@ impl Schedule {
             }
             Schedule::Exponential { delay, factor, .. } => {
                 let wait = *delay;
-                *delay = wait.saturating_mul(*factor).min(FAR);
+                *delay = wait.saturating_mul(*factor).min(MAX_NUMBER);
                 (Value::Num(wait), Some(plus(now, wait)))
             }
             Schedule::Meet(both) => {
@@ -208,8 +208,8 @@ fn retry() -> Schedule {
     let waits = Schedule::Add { more: 5, inner: Box::new(exponential(100, 2)) };
     let waits = Schedule::Cap { most: 1000, inner: Box::new(waits) };
     let waits = Schedule::Jitter { lane: 0, least: 800, most: 1200, inner: Box::new(waits) };
-    let waits = Schedule::Within { length: FAR, first: None, inner: Box::new(waits) };
-    Schedule::Second(Box::new(meet(recurs(FAR), waits)))
+    let waits = Schedule::Within { length: MAX_NUMBER, first: None, inner: Box::new(waits) };
+    Schedule::Second(Box::new(meet(recurs(MAX_NUMBER), waits)))
 }
 
 fn rounds() -> Schedule {
@@ -219,7 +219,7 @@ fn rounds() -> Schedule {
 
 fn named(plan: &str) -> Schedule {
     match plan {
-        "pair" => meet(recurs(FAR), spaced(1)),
+        "pair" => meet(recurs(MAX_NUMBER), spaced(1)),
         "fixed" => Schedule::Fixed { count: 0, length: 3, planned: None },
         "crossed" => Schedule::Follow { crossed: false, both: Box::new((tree(6, false), spaced(1))) },
         "exponential" => exponential(1, 1),

@@ -19,7 +19,7 @@
  *             sleep_until(next.until);
  *     }
  *
- * Moments, durations and codes are whole numbers from 0 to HIKEBOX_FAR; moments and durations are in
+ * Moments, durations and codes are whole numbers from 0 to HIKEBOX_MAX_NUMBER; moments and durations are in
  * milliseconds. Which moment is 0 is the program's choice, as the start of the process; moments given to one
  * retry never fall.
  *
@@ -78,7 +78,7 @@ extern "C" {
 #define HIKEBOX_VERSION_NUMBER (HIKEBOX_VERSION_MAJOR * 1000000 + HIKEBOX_VERSION_MINOR * 1000 + HIKEBOX_VERSION_PATCH)
 
 /* The last moment, the longest duration and the greatest code: 2^62 - 1. */
-#define HIKEBOX_FAR UINT64_C(4611686018427387903)
+#define HIKEBOX_MAX_NUMBER UINT64_C(4611686018427387903)
 
 /* The deadline of a retry that has none. */
 #define HIKEBOX_NO_DEADLINE UINT64_MAX
@@ -87,16 +87,16 @@ extern "C" {
 #define HIKEBOX_NO_BOUND UINT64_MAX
 
 /* The most events of a course. */
-#define HIKEBOX_MOST_STEPS 4096
+#define HIKEBOX_MAX_STEPS 4096
 
 /* The most tickets of a budget, and the greatest reserve of a quota: 2^32. */
-#define HIKEBOX_MOST_TICKETS UINT64_C(4294967296)
+#define HIKEBOX_MAX_TICKETS UINT64_C(4294967296)
 
 /* The greatest share of a quota, in thousandths of a ticket a request: 1000 tickets. */
-#define HIKEBOX_MOST_SHARE UINT64_C(1000000)
+#define HIKEBOX_MAX_SHARE UINT64_C(1000000)
 
 /* The shortest period of a quota, in milliseconds. */
-#define HIKEBOX_LEAST_PERIOD UINT64_C(100)
+#define HIKEBOX_MIN_PERIOD UINT64_C(100)
 
 /* What a call answers. */
 typedef uint32_t hikebox_status;
@@ -112,7 +112,7 @@ enum {
     HIKEBOX_FULL = 3,
     /* The system gave no memory. */
     HIKEBOX_NO_MEMORY = 4,
-    /* A moment, an input, a code or a period is above HIKEBOX_FAR; or a deadline is, and is not HIKEBOX_NO_DEADLINE. */
+    /* A moment, an input, a code or a period is above HIKEBOX_MAX_NUMBER; or a deadline is, and is not HIKEBOX_NO_DEADLINE. */
     HIKEBOX_TOO_LARGE = 5,
     /* There are more bytes than room for them. */
     HIKEBOX_NO_ROOM = 6,
@@ -131,7 +131,7 @@ enum {
     /* The window is before the one that a store counts. */
     HIKEBOX_BACKWARDS = 20,
 
-    /* The limit is above HIKEBOX_MOST_TICKETS. */
+    /* The limit is above HIKEBOX_MAX_TICKETS. */
     HIKEBOX_LIMIT_TOO_LARGE = 30,
     /* There is no limit that can be raised: the budget keeps its limit, or the pass is of no budget. */
     HIKEBOX_FIXED = 31,
@@ -142,11 +142,11 @@ enum {
     HIKEBOX_TOO_MANY_PASSES = 33,
     /* Another pass of the budget or of the quota is held somewhere, or was freed. */
     HIKEBOX_PASSES_OUT = 34,
-    /* The quota's reserve is above HIKEBOX_MOST_TICKETS. */
+    /* The quota's reserve is above HIKEBOX_MAX_TICKETS. */
     HIKEBOX_RESERVE_TOO_LARGE = 35,
-    /* The quota's share is above HIKEBOX_MOST_SHARE. */
+    /* The quota's share is above HIKEBOX_MAX_SHARE. */
     HIKEBOX_SHARE_TOO_LARGE = 36,
-    /* The quota's period is below HIKEBOX_LEAST_PERIOD. */
+    /* The quota's period is below HIKEBOX_MIN_PERIOD. */
     HIKEBOX_PERIOD_TOO_SHORT = 37,
     /* A step of a quota lost 64 races with others. */
     HIKEBOX_RACES_LOST = 38,
@@ -258,7 +258,7 @@ HIKEBOX_CHECKED hikebox_status hikebox_policy_size(hikebox_policy *policy, uint6
 
 /* How a policy is stepped along a course. */
 typedef struct {
-    /* For how many events at most, 0 to HIKEBOX_MOST_STEPS. */
+    /* For how many events at most, 0 to HIKEBOX_MAX_STEPS. */
     uint64_t steps;
     /* The moment of the first event. */
     uint64_t from;
@@ -315,7 +315,7 @@ hikebox_status hikebox_policy_free(hikebox_policy *policy);
  *
  * A quota cuts time into windows of `period` milliseconds, which begin at its multiples. In each it gives out at most
  * `reserve` tickets, and `share` thousandths of a ticket for each request that was counted in it so far, rounded down;
- * never more than HIKEBOX_MOST_TICKETS. A ticket that comes back, by hikebox_pass_hand_back, is given out once more: so the
+ * never more than HIKEBOX_MAX_TICKETS. A ticket that comes back, by hikebox_pass_hand_back, is given out once more: so the
  * draws of a window are at most that, and one for each ticket that was handed back in it. What a window has left is lost with it, unless the quota carries. The program
  * counts each request once, before its first run, by hikebox_pass_deposit.
  *
@@ -418,7 +418,7 @@ typedef struct {
     uint64_t given;
     /* The tickets that it may yet give for the requests counted, and those carried to it. */
     uint64_t left;
-    /* When the next window begins; HIKEBOX_FAR of the last. */
+    /* When the next window begins; HIKEBOX_MAX_NUMBER of the last. */
     uint64_t next;
 } hikebox_usage;
 
@@ -440,7 +440,7 @@ HIKEBOX_CHECKED hikebox_status hikebox_pass_close(hikebox_pass *pass, uint64_t *
 hikebox_status hikebox_pass_free(hikebox_pass *pass);
 
 /* How many tickets a window of so many requests may give, by a quota with this reserve and this share: `reserve`, and
- * `share` thousandths of a ticket for each request, of which HIKEBOX_MOST_TICKETS count; at most HIKEBOX_MOST_TICKETS.
+ * `share` thousandths of a ticket for each request, of which HIKEBOX_MAX_TICKETS count; at most HIKEBOX_MAX_TICKETS.
  * It is always HIKEBOX_OK. */
 HIKEBOX_CHECKED hikebox_status hikebox_quota_allows(uint64_t reserve, uint64_t share, uint64_t asked,
                                                     uint64_t *tickets);
@@ -532,7 +532,7 @@ typedef struct {
 } hikebox_ticket;
 
 /* What a store granted: `tickets` numbers of a window from `first` on, or none, and the moment at which the window ends, by
- * the program's clock: HIKEBOX_FAR where there are no windows. */
+ * the program's clock: HIKEBOX_MAX_NUMBER where there are no windows. */
 typedef struct {
     uint64_t window;
     uint64_t first;
@@ -746,7 +746,7 @@ typedef struct {
     uint64_t words;
     /* HIKEBOX_ON_NOTHING, HIKEBOX_ON_BUDGET or HIKEBOX_ON_QUOTA. */
     uint64_t draws_on;
-    /* Of a budget: at most HIKEBOX_MOST_TICKETS. */
+    /* Of a budget: at most HIKEBOX_MAX_TICKETS. */
     uint64_t limit;
     /* Of a quota: as hikebox_quota_new takes them. */
     uint64_t reserve;

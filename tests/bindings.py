@@ -36,7 +36,7 @@ STRUCTS = {
     "grant": "Grant",
 }
 #: Constants of Rust that are not named as the header's.
-NAMES = {"FAR": "HIKEBOX_FAR", "MOST_TICKETS": "HIKEBOX_MOST_TICKETS"}
+NAMES = {"MAX_NUMBER": "HIKEBOX_MAX_NUMBER", "MAX_TICKETS": "HIKEBOX_MAX_TICKETS"}
 
 
 def without_comments(text):

@@ -90,7 +90,7 @@ static void refused(void) {
     hikebox_policy policy = HIKEBOX_INIT;
     hikebox_retry machine = HIKEBOX_INIT;
     hikebox_grant lent = {1, 2, 3, 4};
-    uint64_t told = 77, far = HIKEBOX_FAR + 1;
+    uint64_t told = 77, far = HIKEBOX_MAX_NUMBER + 1;
     wants(hikebox_leased_new(far, &leased), HIKEBOX_TOO_LARGE);
     draws(&leased, 0, HIKEBOX_EMPTY, 0, 0);
     draws(&leased, far, HIKEBOX_TOO_LARGE, 0, 0);
@@ -102,12 +102,12 @@ static void refused(void) {
     wants(hikebox_leased_seen(&leased, &told, &lent.first, &lent.tickets), HIKEBOX_EMPTY);
     wants(hikebox_leased_lend(&leased, 1, &lent), HIKEBOX_EMPTY);
     wants(hikebox_leased_free(&leased), HIKEBOX_EMPTY);
-    wants(hikebox_leased_new(HIKEBOX_FAR, &leased), HIKEBOX_OK);
+    wants(hikebox_leased_new(HIKEBOX_MAX_NUMBER, &leased), HIKEBOX_OK);
     wants(hikebox_leased_new(0, &leased), HIKEBOX_FULL);
     takes(&leased, HIKEBOX_TOO_LARGE, 0, 0, 1, far);
     takes(&leased, HIKEBOX_TOO_LARGE, 0, UINT64_MAX, 1, 0);
-    takes(&leased, HIKEBOX_OK, 0, UINT64_MAX - 1, 1, HIKEBOX_FAR);
-    draws(&leased, HIKEBOX_FAR - 1, HIKEBOX_OK, 0, UINT64_MAX - 1);
+    takes(&leased, HIKEBOX_OK, 0, UINT64_MAX - 1, 1, HIKEBOX_MAX_NUMBER);
+    draws(&leased, HIKEBOX_MAX_NUMBER - 1, HIKEBOX_OK, 0, UINT64_MAX - 1);
     comes_back(&leased, HIKEBOX_NOT_OUT, 0, UINT64_MAX);
     wants(hikebox_leased_leave_alone(&leased, far), HIKEBOX_TOO_LARGE);
     wants(hikebox_leased_deposit(&leased, far, 1), HIKEBOX_TOO_LARGE);
@@ -141,8 +141,8 @@ static void lease(hikebox_leased *leased) {
     pthread_mutex_lock(&store.lock);
     wants(hikebox_lease_of_budget(LIMIT, &asking, &store.stored, &range), HIKEBOX_OK);
     pthread_mutex_unlock(&store.lock);
-    takes(leased, HIKEBOX_OK, 0, range.first, range.tickets, HIKEBOX_FAR);
-    if (range.tickets > 0) takes(leased, HIKEBOX_HELD_ALREADY, 0, range.first, range.tickets, HIKEBOX_FAR);
+    takes(leased, HIKEBOX_OK, 0, range.first, range.tickets, HIKEBOX_MAX_NUMBER);
+    if (range.tickets > 0) takes(leased, HIKEBOX_HELD_ALREADY, 0, range.first, range.tickets, HIKEBOX_MAX_NUMBER);
 }
 
 // Draws what there is with a pass of its own, and hands every third ticket back.

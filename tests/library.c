@@ -334,11 +334,11 @@ static int handles(void) {
     wants(hikebox_pass_count(&pass, &number), HIKEBOX_OK);
     holds(number == 0);
     // Numbers and reports that are none, and reports out of turn.
-    wants(hikebox_retry_poll(&machine, HIKEBOX_FAR + 1, no_words, 0, 0, &next), HIKEBOX_TOO_LARGE);
-    wants(hikebox_retry_poll(&machine, 0, no_words, HIKEBOX_LOST, HIKEBOX_FAR + 1, &next), HIKEBOX_TOO_LARGE);
+    wants(hikebox_retry_poll(&machine, HIKEBOX_MAX_NUMBER + 1, no_words, 0, 0, &next), HIKEBOX_TOO_LARGE);
+    wants(hikebox_retry_poll(&machine, 0, no_words, HIKEBOX_LOST, HIKEBOX_MAX_NUMBER + 1, &next), HIKEBOX_TOO_LARGE);
     wants(hikebox_retry_poll(&machine, 0, no_words, 3, 0, &next), HIKEBOX_NO_SUCH_REPORT);
     wants(hikebox_retry_poll(&machine, 0, no_words, HIKEBOX_WON, 0, &next), HIKEBOX_NO_RUN);
-    wants(hikebox_retry_poll(&machine, 0, no_words, HIKEBOX_NO_REPORT, HIKEBOX_FAR + 1, &next), HIKEBOX_OK);
+    wants(hikebox_retry_poll(&machine, 0, no_words, HIKEBOX_NO_REPORT, HIKEBOX_MAX_NUMBER + 1, &next), HIKEBOX_OK);
     holds(next.what == HIKEBOX_RUN && next.runs == 0);
     wants(hikebox_retry_poll(&machine, 9, no_words, HIKEBOX_LOST, 5, &next), HIKEBOX_OK);
     holds(next.what == HIKEBOX_RUN && next.granted == 1 && next.runs == 1);
@@ -349,8 +349,8 @@ static int handles(void) {
     wants(hikebox_retry_poll(&machine, 0, no_words, HIKEBOX_NO_REPORT, 0, &next), HIKEBOX_OK);
     holds(next.what == HIKEBOX_OVER && next.how == HIKEBOX_ENDED_BACKWARDS && next.granted == 1 && next.runs == 2);
     // Budgets: what a limit may be, and when one is closed.
-    wants(hikebox_budget_fixed(HIKEBOX_MOST_TICKETS + 1, &part), HIKEBOX_LIMIT_TOO_LARGE);
-    wants(hikebox_pass_raise(&pass, HIKEBOX_MOST_TICKETS + 1, &number), HIKEBOX_LIMIT_TOO_LARGE);
+    wants(hikebox_budget_fixed(HIKEBOX_MAX_TICKETS + 1, &part), HIKEBOX_LIMIT_TOO_LARGE);
+    wants(hikebox_pass_raise(&pass, HIKEBOX_MAX_TICKETS + 1, &number), HIKEBOX_LIMIT_TOO_LARGE);
     wants(hikebox_pass_raise(&pass, 2, &number), HIKEBOX_OK);
     holds(number == 3);
     wants(hikebox_pass_raise(&pass, 4, &number), HIKEBOX_OK);
@@ -477,7 +477,7 @@ static void closes_at(int line, hikebox_pass *quota, uint64_t wanted) {
 // What a quota may be made with.
 static void terms(void) {
     hikebox_pass quota = HIKEBOX_INIT;
-    uint64_t tickets = HIKEBOX_MOST_TICKETS, share = HIKEBOX_MOST_SHARE, far = HIKEBOX_FAR;
+    uint64_t tickets = HIKEBOX_MAX_TICKETS, share = HIKEBOX_MAX_SHARE, far = HIKEBOX_MAX_NUMBER;
     for (int carries = 0; carries < 2; carries++) {
         wants(hikebox_quota_new(far + 1, tickets + 1, share + 1, 0, carries, &quota), HIKEBOX_TOO_LARGE);
         wants(hikebox_quota_new(0, tickets + 1, share + 1, 0, carries, &quota), HIKEBOX_RESERVE_TOO_LARGE);
@@ -489,8 +489,8 @@ static void terms(void) {
     }
     holds(quota.held == NULL);
     wants(hikebox_quota_new(0, tickets, share, far, false, &quota), HIKEBOX_OK);
-    sees(&quota, far - 1, 0, 0, 0, HIKEBOX_MOST_TICKETS, far);
-    sees(&quota, far, 1, 0, 0, HIKEBOX_MOST_TICKETS, far);
+    sees(&quota, far - 1, 0, 0, 0, HIKEBOX_MAX_TICKETS, far);
+    sees(&quota, far, 1, 0, 0, HIKEBOX_MAX_TICKETS, far);
     closes(&quota, 0);
     wants(hikebox_quota_new(far, 1, 0, 100, false, &quota), HIKEBOX_OK);
     draws(&quota, far, 0);
@@ -521,7 +521,7 @@ static void windows(void) {
     wants(hikebox_pass_deposit(&quota, 250, 1), HIKEBOX_OK);
     sees(&quota, 200, 2, 1, 0, 2, 300);
     draws(&quota, 300, first_of(3));
-    wants(hikebox_pass_draw(&quota, HIKEBOX_FAR + 1, &ticket), HIKEBOX_TOO_LARGE);
+    wants(hikebox_pass_draw(&quota, HIKEBOX_MAX_NUMBER + 1, &ticket), HIKEBOX_TOO_LARGE);
     closes(&quota, 6);
     wants(hikebox_quota_new(0, 0, 1000, 100, false, &quota), HIKEBOX_OK);
     wants(hikebox_pass_draw(&quota, 5, &ticket), HIKEBOX_NO_TICKET);
@@ -545,12 +545,12 @@ static void windows(void) {
     sees(&quota, 1700000000200, 5000, 0, 1, 0, 1700000500100);
     closes(&quota, 2);
     wants(hikebox_quota_new(0, 1, 0, 100, false, &quota), HIKEBOX_OK);
-    draws(&quota, HIKEBOX_FAR, first_of(2999999999));
-    sees(&quota, 0, 2999999999, 0, 1, 0, HIKEBOX_FAR);
+    draws(&quota, HIKEBOX_MAX_NUMBER, first_of(2999999999));
+    sees(&quota, 0, 2999999999, 0, 1, 0, HIKEBOX_MAX_NUMBER);
     closes(&quota, 1);
     // The moment is looked at before the handle.
-    wants(hikebox_pass_deposit(&quota, HIKEBOX_FAR + 1, 1), HIKEBOX_TOO_LARGE);
-    wants(hikebox_pass_draw(&quota, HIKEBOX_FAR + 1, &ticket), HIKEBOX_TOO_LARGE);
+    wants(hikebox_pass_deposit(&quota, HIKEBOX_MAX_NUMBER + 1, 1), HIKEBOX_TOO_LARGE);
+    wants(hikebox_pass_draw(&quota, HIKEBOX_MAX_NUMBER + 1, &ticket), HIKEBOX_TOO_LARGE);
     holds(ticket == 77);
 }
 
@@ -599,7 +599,7 @@ static void carried(void) {
     wants(hikebox_pass_draw(&quota, 300, &ticket), HIKEBOX_NO_TICKET);
     closes(&quota, 1);
     // Half of a window's numbers are of its own tickets, and half of those carried from it.
-    wants(hikebox_quota_new(0, HIKEBOX_MOST_TICKETS, HIKEBOX_MOST_SHARE, 100, true, &quota), HIKEBOX_OK);
+    wants(hikebox_quota_new(0, HIKEBOX_MAX_TICKETS, HIKEBOX_MAX_SHARE, 100, true, &quota), HIKEBOX_OK);
     sees(&quota, 0, 0, 0, 0, UINT64_C(2147483648), 100);
     wants(hikebox_pass_deposit(&quota, 0, UINT64_C(4294967295)), HIKEBOX_OK);
     sees(&quota, 100, 1, 0, 0, UINT64_C(4294967296), 200);
@@ -617,7 +617,7 @@ static void weights(void) {
     wants(hikebox_pass_split(&part, &least), HIKEBOX_OK);
     wants(hikebox_pass_deposit(&least, 0, 2), HIKEBOX_TOO_MANY_REQUESTS);
     wants(hikebox_pass_deposit(&part, 0, 1048576), HIKEBOX_TOO_MANY_REQUESTS);
-    wants(hikebox_pass_deposit(&part, HIKEBOX_FAR + 1, 1048576), HIKEBOX_TOO_LARGE);
+    wants(hikebox_pass_deposit(&part, HIKEBOX_MAX_NUMBER + 1, 1048576), HIKEBOX_TOO_LARGE);
     wants(hikebox_pass_deposit(&least, 0, 0), HIKEBOX_OK);
     sees(&quota, 0, 0, 0, 0, 1, 100);
     wants(hikebox_pass_deposit(&least, 0, 1), HIKEBOX_OK);
@@ -643,7 +643,7 @@ static void weights(void) {
 // Terms that any pass sets, for the present window too; what was given stays given.
 static void new_terms(void) {
     hikebox_pass quota = HIKEBOX_INIT, part = HIKEBOX_INIT;
-    uint64_t ticket = 77, tickets = HIKEBOX_MOST_TICKETS, share = HIKEBOX_MOST_SHARE;
+    uint64_t ticket = 77, tickets = HIKEBOX_MAX_TICKETS, share = HIKEBOX_MAX_SHARE;
     wants(hikebox_quota_new(0, 2, 0, 100, false, &quota), HIKEBOX_OK);
     wants(hikebox_pass_split(&quota, &part), HIKEBOX_OK);
     draws(&quota, 0, 0);
@@ -791,11 +791,11 @@ static void nothings(void) {
         wants(hikebox_pass_draw(&nothing, 7, &number), HIKEBOX_OK);
         holds(number == ticket);
     }
-    wants(hikebox_pass_draw(&nothing, HIKEBOX_FAR + 1, &number), HIKEBOX_TOO_LARGE);
+    wants(hikebox_pass_draw(&nothing, HIKEBOX_MAX_NUMBER + 1, &number), HIKEBOX_TOO_LARGE);
     wants(hikebox_pass_deposit(&nothing, 7, UINT64_MAX), HIKEBOX_OK);
     wants(hikebox_pass_hand_back(&nothing), HIKEBOX_NOTHING_TO_HAND_BACK);
-    wants(hikebox_pass_set_terms(&nothing, HIKEBOX_MOST_TICKETS + 1, 0), HIKEBOX_NO_TERMS);
-    wants(hikebox_pass_raise(&nothing, HIKEBOX_MOST_TICKETS + 1, &number), HIKEBOX_FIXED);
+    wants(hikebox_pass_set_terms(&nothing, HIKEBOX_MAX_TICKETS + 1, 0), HIKEBOX_NO_TERMS);
+    wants(hikebox_pass_raise(&nothing, HIKEBOX_MAX_TICKETS + 1, &number), HIKEBOX_FIXED);
     wants(hikebox_pass_seen(&nothing, 7, &usage), HIKEBOX_WRONG_KIND);
     wants(hikebox_pass_split(&nothing, &part), HIKEBOX_OK);
     wants(hikebox_pass_draw(&part, 0, &number), HIKEBOX_OK);
@@ -814,7 +814,7 @@ static void nothings(void) {
     wants(hikebox_pass_deposit(&budget, 3, UINT64_MAX), HIKEBOX_OK);
     draws(&budget, 3, 0);
     wants(hikebox_pass_hand_back(&budget), HIKEBOX_NOTHING_TO_HAND_BACK);
-    wants(hikebox_pass_set_terms(&budget, HIKEBOX_MOST_TICKETS + 1, 0), HIKEBOX_NO_TERMS);
+    wants(hikebox_pass_set_terms(&budget, HIKEBOX_MAX_TICKETS + 1, 0), HIKEBOX_NO_TERMS);
     wants(hikebox_pass_raise(&budget, 9, &number), HIKEBOX_FIXED);
     closes(&budget, 1);
     wants(hikebox_policy_free(&policy), HIKEBOX_OK);
@@ -903,7 +903,7 @@ static void spaced_deadlines(void) {
         {"{\"meet\":[{\"recurs\":1},{\"spaced\":450}]}", 1000, 2, HIKEBOX_ENDED_DONE},
         {"{\"meet\":[{\"recurs\":2},{\"spaced\":450}]}", 1000, 3, HIKEBOX_ENDED_DONE},
         {"{\"meet\":[{\"recurs\":3},{\"spaced\":450}]}", 1000, 3, HIKEBOX_ENDED_DEADLINE},
-        {"{\"meet\":[{\"recurs\":3},{\"spaced\":450}]}", HIKEBOX_FAR, 4, HIKEBOX_ENDED_DONE},
+        {"{\"meet\":[{\"recurs\":3},{\"spaced\":450}]}", HIKEBOX_MAX_NUMBER, 4, HIKEBOX_ENDED_DONE},
         {"{\"meet\":[{\"recurs\":3},{\"spaced\":450}]}", HIKEBOX_NO_DEADLINE, 4, HIKEBOX_ENDED_DONE},
     };
     for (size_t row = 0; row < sizeof rows / sizeof *rows; row++) {
@@ -938,7 +938,11 @@ static void late_wakes(hikebox_policy *policy, hikebox_pass *pass) {
         uint64_t wakes;
         uint32_t what;
     } rows[] = {
-        {449, HIKEBOX_WAIT}, {450, HIKEBOX_RUN}, {500, HIKEBOX_RUN}, {501, HIKEBOX_OVER}, {HIKEBOX_FAR, HIKEBOX_OVER},
+        {449, HIKEBOX_WAIT},
+        {450, HIKEBOX_RUN},
+        {500, HIKEBOX_RUN},
+        {501, HIKEBOX_OVER},
+        {HIKEBOX_MAX_NUMBER, HIKEBOX_OVER},
     };
     hikebox_retry machine = HIKEBOX_INIT;
     hikebox_pass quota = HIKEBOX_INIT;
@@ -1008,7 +1012,7 @@ static int deadlines(void) {
     ended(&machine, HIKEBOX_ENDED_DEADLINE, 2);
     has_left(&machine, 6018, 1);
     has_left(&machine, 6019, 0);
-    has_left(&machine, HIKEBOX_FAR, 0);
+    has_left(&machine, HIKEBOX_MAX_NUMBER, 0);
     wants(hikebox_retry_end(&machine, &quota), HIKEBOX_OK);
     closes(&quota, 1);
     // On nothing: runs at once, of which one fails past the deadline.
@@ -1026,9 +1030,9 @@ static int deadlines(void) {
     fails(&machine, 0, 0, HIKEBOX_WAIT, 1);
     wants(hikebox_retry_cancel(&machine), HIKEBOX_OK);
     ended(&machine, HIKEBOX_ENDED_CANCELLED, 1);
-    wants(hikebox_retry_new(&policy, &pass, HIKEBOX_FAR + 1, &machine), HIKEBOX_TOO_LARGE);
+    wants(hikebox_retry_new(&policy, &pass, HIKEBOX_MAX_NUMBER + 1, &machine), HIKEBOX_TOO_LARGE);
     wants(hikebox_retry_new(&policy, &quota, HIKEBOX_NO_DEADLINE - 1, &empty), HIKEBOX_TOO_LARGE);
-    wants(retry_on_nothing(&no_policy, HIKEBOX_FAR + 1, &empty), HIKEBOX_TOO_LARGE);
+    wants(retry_on_nothing(&no_policy, HIKEBOX_MAX_NUMBER + 1, &empty), HIKEBOX_TOO_LARGE);
     holds(empty.held == NULL);
     wants(hikebox_retry_end(&machine, &pass), HIKEBOX_OK);
     // Without one there is none.
@@ -1107,9 +1111,9 @@ static int leases(void) {
     allows(2, 100, 9, 2);
     allows(2, 100, 10, 3);
     allows(0, 100, UINT64_MAX, 429496729);
-    allows(0, HIKEBOX_MOST_SHARE, 4294967, 4294967000);
-    allows(0, HIKEBOX_MOST_SHARE, 4294968, HIKEBOX_MOST_TICKETS);
-    allows(UINT64_MAX, UINT64_MAX, UINT64_MAX, HIKEBOX_MOST_TICKETS);
+    allows(0, HIKEBOX_MAX_SHARE, 4294967, 4294967000);
+    allows(0, HIKEBOX_MAX_SHARE, 4294968, HIKEBOX_MAX_TICKETS);
+    allows(UINT64_MAX, UINT64_MAX, UINT64_MAX, HIKEBOX_MAX_TICKETS);
     return wrong;
 }
 
@@ -1283,12 +1287,12 @@ static void storms_out_of_range(void) {
     refuses(draws_on, 3);
     hikebox_storm storm = HIKEBOX_STORM;
     storm.draws_on = HIKEBOX_ON_BUDGET;
-    storm.limit = HIKEBOX_MOST_TICKETS + 1;
+    storm.limit = HIKEBOX_MAX_TICKETS + 1;
     refuses_at(__LINE__, &policy, storm);
     storm.draws_on = HIKEBOX_ON_QUOTA;
     storm.period = 0;
     refuses_at(__LINE__, &policy, storm);
-    storm.period = HIKEBOX_FAR + 1;
+    storm.period = HIKEBOX_MAX_NUMBER + 1;
     refuses_at(__LINE__, &policy, storm);
     wants(hikebox_policy_free(&policy), HIKEBOX_OK);
 }
@@ -1359,10 +1363,10 @@ static void *draw_all(void *handle) {
 
 static int draw(char **words) {
     enum {
-        MOST = 64
+        MAX_THREADS = 64
     };
-    static hikebox_pass passes[MOST];
-    pthread_t threads[MOST];
+    static hikebox_pass passes[MAX_THREADS];
+    pthread_t threads[MAX_THREADS];
     int count = atoi(words[0]);
     uint64_t tickets = strtoull(words[1], 0, 10), closed = 0;
     drawn = calloc(tickets / 8 + 1, 1);

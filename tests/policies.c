@@ -52,8 +52,8 @@ static void read_again(hikebox_policy *policy) {
 
 // The words are STEPS FROM TOOK INPUTS WORD, as zsched's options of these names have them, or seed:N for WORD.
 int plan(char **words) {
-    static hikebox_event events[HIKEBOX_MOST_STEPS];
-    static hikebox_line lines[HIKEBOX_MOST_STEPS];
+    static hikebox_event events[HIKEBOX_MAX_STEPS];
+    static hikebox_line lines[HIKEBOX_MAX_STEPS];
     static char text[1 << 22];
     hikebox_course course = {strtoull(words[0], 0, 10), strtoull(words[1], 0, 10), strtoull(words[2], 0, 10)};
     hikebox_policy policy = HIKEBOX_INIT;
@@ -127,7 +127,7 @@ static void largest_nodes(hikebox_policy *leaf) {
 
 // Nodes by their names and numbers: each refusal leaves all handles as they were.
 int nodes(void) {
-    static const uint64_t numbers[5] = {3, 100, 2000, 5000, 7}, far[1] = {HIKEBOX_FAR + 1};
+    static const uint64_t numbers[5] = {3, 100, 2000, 5000, 7}, far[1] = {HIKEBOX_MAX_NUMBER + 1};
     static const char wanted[] = "{\"follow\":[{\"cap\":[3,{\"decorrelated\":[3,100,2000,5000]}]},\"forever\"]}";
     hikebox_policy none = HIKEBOX_INIT, nothing = HIKEBOX_INIT, leaf = HIKEBOX_INIT, capped = HIKEBOX_INIT;
     hikebox_policy forever = HIKEBOX_INIT, both = HIKEBOX_INIT, spare = HIKEBOX_INIT;
@@ -185,7 +185,7 @@ int policies(void) {
         {"{\"join\":[{\"recurs\":5},{\"lone\":9}]}", "{\"join\":[{\"recurs\":5},{\"lone\":9}]}", 5},
         {"{\"join\":[{\"recurs\":5},\"elapsed\"]}", "{\"join\":[{\"recurs\":5},\"elapsed\"]}", HIKEBOX_NO_BOUND},
         {"{\"follow\":[{\"recurs\":5},{\"recurs\":4611686018427387903}]}",
-         "{\"follow\":[{\"recurs\":5},{\"recurs\":4611686018427387903}]}", HIKEBOX_FAR},
+         "{\"follow\":[{\"recurs\":5},{\"recurs\":4611686018427387903}]}", HIKEBOX_MAX_NUMBER},
         {"{\"renew\":[9, {\"recurs\":5}]}", "{\"renew\":[9,{\"recurs\":5}]}", HIKEBOX_NO_BOUND},
         {"{\"gate\":[\"output\", false, \"at_least\", 7, {\"gather\":[\"max\", \"identity\"]}]}",
          "{\"gate\":[\"output\",false,\"at_least\",7,{\"gather\":[\"max\",\"identity\"]}]}", HIKEBOX_NO_BOUND},
@@ -221,7 +221,7 @@ static void refuses(hikebox_policy *policy, hikebox_course course, const hikebox
 // A course worked out by hand, and each refusal in the order of the header.
 int courses(void) {
     static const hikebox_event events[3] = {
-        {7, {0, 0, 0, 0}}, {9, {0, 0, 0, UINT32_MAX}}, {HIKEBOX_FAR + 1, {0, 0, 0, 0}}};
+        {7, {0, 0, 0, 0}}, {9, {0, 0, 0, UINT32_MAX}}, {HIKEBOX_MAX_NUMBER + 1, {0, 0, 0, 0}}};
     static const char json[] =
         "{\"meet\":[{\"recurs\":2},{\"jitter\":[3,1000,1500,{\"meet\":[\"identity\",{\"spaced\":100}]}]}]}";
     static const char wanted[] = "(0, (7, 0))(1, (9, 1))(2, (9, 2))";
@@ -250,11 +250,11 @@ int courses(void) {
     holds(count == 0 && length == 0);
     wants(hikebox_budget_fixed(1, &pass), HIKEBOX_OK);
     refuses(&empty, (hikebox_course){4097, 0, 0}, events, 1, HIKEBOX_OUT_OF_RANGE);
-    refuses(&empty, (hikebox_course){1, HIKEBOX_FAR + 1, 0}, events, 1, HIKEBOX_OUT_OF_RANGE);
-    refuses(&empty, (hikebox_course){1, 0, HIKEBOX_FAR + 1}, events, 1, HIKEBOX_OUT_OF_RANGE);
+    refuses(&empty, (hikebox_course){1, HIKEBOX_MAX_NUMBER + 1, 0}, events, 1, HIKEBOX_OUT_OF_RANGE);
+    refuses(&empty, (hikebox_course){1, 0, HIKEBOX_MAX_NUMBER + 1}, events, 1, HIKEBOX_OUT_OF_RANGE);
     refuses(&empty, (hikebox_course){1, 0, 0}, events, 0, HIKEBOX_OUT_OF_RANGE);
     refuses(&empty, (hikebox_course){1, 0, 0}, events, 3, HIKEBOX_OUT_OF_RANGE);
-    refuses(&empty, (hikebox_course){1, HIKEBOX_FAR, HIKEBOX_FAR}, events, 2, HIKEBOX_EMPTY);
+    refuses(&empty, (hikebox_course){1, HIKEBOX_MAX_NUMBER, HIKEBOX_MAX_NUMBER}, events, 2, HIKEBOX_EMPTY);
     refuses((hikebox_policy *)&pass, (hikebox_course){1, 0, 0}, events, 2, HIKEBOX_WRONG_KIND);
     refuses(&policy, (hikebox_course){4, 0, 0}, events, 2, HIKEBOX_NO_ROOM);
     wants(hikebox_pass_free(&pass), HIKEBOX_OK);

@@ -4,11 +4,13 @@ import json
 import random
 import sys
 
-FAR = 4611686018427387903
+MAX_NUMBER = 4611686018427387903
 
 
 def number(rng):
-    return rng.choice([0, 1, 2, 3, 5, 7, 10, 60, 100, 999, 1000, 60000, FAR - 1, FAR, rng.randrange(100000)])
+    return rng.choice(
+        [0, 1, 2, 3, 5, 7, 10, 60, 100, 999, 1000, 60000, MAX_NUMBER - 1, MAX_NUMBER, rng.randrange(100000)]
+    )
 
 
 def length(rng):
@@ -108,9 +110,9 @@ def main():
     for _ in range(count):
         options = [
             rng.choice([5, 12, 40]),
-            rng.choice([0, 1, 1000, FAR - 50]),
+            rng.choice([0, 1, 1000, MAX_NUMBER - 50]),
             rng.choice([0, 1, 30, 1000]),
-            rng.choice([0, 7, 100, FAR]),
+            rng.choice([0, 7, 100, MAX_NUMBER]),
             rng.choice([0, 1, 2**31, 2**32 - 1, rng.randrange(2**32)]),
         ]
         print(*options, end="\t")

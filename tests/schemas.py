@@ -16,11 +16,11 @@ import jsonschema
 
 TOP = pathlib.Path(__file__).resolve().parent.parent
 ZSCHED = os.environ.get("HIKEBOX_ZSCHED", str(TOP / "dist/zsched"))
-FAR = 4611686018427387903
+MAX_NUMBER = 4611686018427387903
 STRANGE = [
     -1,
-    FAR,
-    FAR + 1,
+    MAX_NUMBER,
+    MAX_NUMBER + 1,
     0,
     1.5,
     True,

@@ -27,7 +27,7 @@ seeded = runpy.run_path(str(TOP / "python" / "src" / "hikebox" / "_seeded.py"))[
 #: The units of work of a call.
 CALL = 100_000
 REFUSED, SHED, LATE, SUCCEEDED = 1, 2, 3, 0
-MOST_TICKETS = 2**32
+MAX_TICKETS = 2**32
 
 
 @dataclass
@@ -132,7 +132,7 @@ class Tickets:
             has = self.given < self.budget
         elif self.quota is not None:
             reserve, share, _ = self.quota
-            has = self.given_here < min(reserve + share * self.asked_here // 1000, MOST_TICKETS)
+            has = self.given_here < min(reserve + share * self.asked_here // 1000, MAX_TICKETS)
         else:
             return True
         self.given += has

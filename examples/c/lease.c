@@ -49,7 +49,7 @@ static hikebox_grant ask_the_store(int file) {
     check(hikebox_lease_of_budget(LIMIT, &asking, &stored, &range), "hikebox_lease_of_budget");
     write_counts(file, &stored);
     check_system(flock(file, LOCK_UN) == 0, "flock");
-    return (hikebox_grant){0, range.first, range.tickets, HIKEBOX_FAR};
+    return (hikebox_grant){0, range.first, range.tickets, HIKEBOX_MAX_NUMBER};
 }
 
 /* Draws a ticket, from the range at hand or from a new one. */

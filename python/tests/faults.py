@@ -8,10 +8,10 @@ from __future__ import annotations
 import json
 from typing import Any, Dict, List, NamedTuple, Optional, Tuple
 
-from hikebox import FAR, Fault
+from hikebox import MAX_NUMBER, Fault
 
-MOST_NODES = 256
-MOST_DEPTH = 32
+MAX_NODES = 256
+MAX_DEPTH = 32
 U64 = 2**64 - 1
 
 #: The leaves that are spelt as a string alone.
@@ -35,11 +35,11 @@ def _numbers(**ranges: Tuple[int, int]) -> Form:
 
 
 def _delay(least: int) -> Form:
-    return Form(("number", "plan"), ("D",), ((least, FAR),))
+    return Form(("number", "plan"), ("D",), ((least, MAX_NUMBER),))
 
 
-_ANY = (0, FAR)
-_SOME = (1, FAR)
+_ANY = (0, MAX_NUMBER)
+_SOME = (1, MAX_NUMBER)
 _ONE = Form(("plan",))
 _BOTH = Form(("plan", "plan"))
 
@@ -88,8 +88,8 @@ _CHOICES = {
     "fold": 'KIND "sum", "count", "max" or "list"',
 }
 _OWN_RANGES = {
-    "unfold": f"each from 0 to {FAR}",
-    "decorrelated": f"LANE from 0 to 3, D from 0 to MAX, F from 1000 to 1000000, MAX from D to {FAR}",
+    "unfold": f"each from 0 to {MAX_NUMBER}",
+    "decorrelated": f"LANE from 0 to 3, D from 0 to MAX, F from 1000 to 1000000, MAX from D to {MAX_NUMBER}",
     "jitter": "LANE from 0 to 3, MIN at most MAX, MAX at most 10000",
 }
 
@@ -144,10 +144,10 @@ def _size(value: Any, place: str) -> Tuple[int, int]:
         in_range = in_range and numbers[lesser] <= numbers[greater]
     if not in_range:
         raise Wrong(Fault.OUT_OF_RANGE, place, f"{_spelling(name)}, got {_shown(value)}")
-    if depth > MOST_DEPTH:
-        raise Wrong(Fault.TOO_DEEP, place, f"expected a plan at most {MOST_DEPTH} deep")
-    if nodes > MOST_NODES:
-        raise Wrong(Fault.TOO_MANY, place, f"expected a plan of at most {MOST_NODES} nodes")
+    if depth > MAX_DEPTH:
+        raise Wrong(Fault.TOO_DEEP, place, f"expected a plan at most {MAX_DEPTH} deep")
+    if nodes > MAX_NODES:
+        raise Wrong(Fault.TOO_MANY, place, f"expected a plan of at most {MAX_NODES} nodes")
     return nodes, depth
 
 

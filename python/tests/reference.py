@@ -8,7 +8,7 @@ from __future__ import annotations
 import random
 from typing import Any, Callable, Dict, List, NamedTuple, Optional, Tuple
 
-FAR = 2**62 - 1
+MAX_NUMBER = 2**62 - 1
 
 
 class Event(NamedTuple):
@@ -23,7 +23,7 @@ class Answer(NamedTuple):
 
 
 def capped(number: int) -> int:
-    return min(FAR, number)
+    return min(MAX_NUMBER, number)
 
 
 def answer(plan: Any, history: List[Event]) -> Answer:
@@ -238,7 +238,7 @@ def some_plan(rng: random.Random, nodes: int) -> Any:
     """A random plan of about so many nodes."""
 
     def number(least: int = 0) -> int:
-        return rng.choice([least, 1, 2, 3, 7, 50, 100, 1000, 60000, rng.randrange(1, 5000), FAR])
+        return rng.choice([least, 1, 2, 3, 7, 50, 100, 1000, 60000, rng.randrange(1, 5000), MAX_NUMBER])
 
     if nodes <= 1:
         base, most = sorted([number(), number()])

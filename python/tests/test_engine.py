@@ -103,8 +103,8 @@ def test_the_structures_are_those_of_the_header() -> None:
 def test_the_numbers_are_those_of_the_header() -> None:
     text = header()
     numbers = dict(re.findall(r"HIKEBOX_(\w+) = (\d+)", text))
-    most = dict(re.findall(r"#define HIKEBOX_MOST_(\w+) (?:UINT64_C\()?(\d+)", text))
-    known = (_engine.MOST_TICKETS, _engine.MOST_SHARE, _engine.MOST_STEPS)
+    most = dict(re.findall(r"#define HIKEBOX_MAX_(\w+) (?:UINT64_C\()?(\d+)", text))
+    known = (_engine.MAX_TICKETS, _engine.MAX_SHARE, _engine.MAX_STEPS)
     assert (int(most["TICKETS"]), int(most["SHARE"]), int(most["STEPS"])) == known
     for name in ("NO_DEADLINE", "NO_BOUND"):
         assert f"#define HIKEBOX_{name} UINT64_MAX" in text and getattr(_engine, name) == 2**64 - 1
@@ -231,7 +231,7 @@ def test_a_course_with_long_outputs() -> None:
     told = listed.course(1000, 0, 0, [(0, 0, 0, 0, 0)])
     assert len(told) == 1000 and told[-1].start == 1000
     assert [each.output for each in told] == [str(list(range(length))) for length in range(1000)]
-    assert len(read(b'{"spaced":1}').course(_engine.MOST_STEPS, 0, 0, [(0, 0, 0, 0, 0)])) == 4096
+    assert len(read(b'{"spaced":1}').course(_engine.MAX_STEPS, 0, 0, [(0, 0, 0, 0, 0)])) == 4096
 
 
 def test_threads_share_a_policy() -> None:

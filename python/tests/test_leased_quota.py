@@ -19,7 +19,7 @@ from conftest import HERE, python_environment
 
 from draws import drawn_by, number, repeated
 from hikebox import AsyncRetrying, Ending, Retrying, StoreError, TermsError, Usage, recurs, spaced, state_of
-from hikebox._engine import MOST_TICKETS
+from hikebox._engine import MAX_TICKETS
 from hikebox._leasing import Stored, lease_of_quota
 from hikebox.leased import FileStore, Leased, LeasedQuota, QuotaRange, RedisStore
 from hikebox.quota import Terms
@@ -563,7 +563,7 @@ def test_the_script_grants_what_the_step_of_a_lease_does(redis_server: Any) -> N
         for _ in range(8):
             told, wanted = number(2**40), number(2**32)
             found = client.eval(
-                _redis_store.GRANT, 1, "k", told, wanted, terms.reserve, terms.share, MOST_TICKETS, 60_000
+                _redis_store.GRANT, 1, "k", told, wanted, terms.reserve, terms.share, MAX_TICKETS, 60_000
             )
             granted = lease_of_quota(terms, 0, told, wanted, stored)
             assert granted is not None

@@ -20,7 +20,7 @@ from conftest import TOP
 
 import hikebox
 from hikebox import (
-    FAR,
+    MAX_NUMBER,
     Fault,
     Policy,
     PolicyError,
@@ -124,7 +124,7 @@ BUILT = [
         '{"gate":["output",false,"equal",3,{"spaced":1000}]}',
         "spaced(1).until_output(equal=3)",
     ),
-    (spaced(milliseconds(FAR)), '{"spaced":4611686018427387903}', "spaced(milliseconds(4611686018427387903))"),
+    (spaced(milliseconds(MAX_NUMBER)), '{"spaced":4611686018427387903}', "spaced(milliseconds(4611686018427387903))"),
 ]
 
 
@@ -180,8 +180,16 @@ def test_what_a_builder_is_refused_is_told_as_of_the_text() -> None:
 
 
 #: What stands at the borders of durations, of whole numbers and of ratios.
-DURATIONS: List[Any] = [0, 0.001, 1, milliseconds(1), milliseconds(FAR), milliseconds(FAR - 1), FAR // 1000]
-NUMBERS = [0, 1, 1000, 1001, 1_000_000, 2**31, 2**32 - 1, FAR]
+DURATIONS: List[Any] = [
+    0,
+    0.001,
+    1,
+    milliseconds(1),
+    milliseconds(MAX_NUMBER),
+    milliseconds(MAX_NUMBER - 1),
+    MAX_NUMBER // 1000,
+]
+NUMBERS = [0, 1, 1000, 1001, 1_000_000, 2**31, 2**32 - 1, MAX_NUMBER]
 RATIOS: List[Any] = [0, 0.001, 0.8, 1, 1.2, 9.999, 10]
 FACTORS: List[Any] = [0.001, 0.5, 1, 1.001, 1.5, 2, 999.999, 1000]
 
@@ -276,7 +284,7 @@ def test_300_random_policies_answer_as_their_definitions_say() -> None:
     for _ in range(300):
         tree = reference.some_plan(rng, rng.randrange(1, 9))
         words = [some_words(rng) for _ in range(7)]
-        codes = [rng.choice([0, 7, 503, FAR]) for _ in range(rng.randrange(1, 8))]
+        codes = [rng.choice([0, 7, 503, MAX_NUMBER]) for _ in range(rng.randrange(1, 8))]
         took = rng.choice([0, 1, 40, 5000])
         numbers = iter([word / 2**32 for four in words for word in four])
         policy = Policy.from_dict(tree)
@@ -291,7 +299,7 @@ def test_300_random_policies_answer_as_their_definitions_say() -> None:
             assert step.output == wanted.output, tree
             if wanted.start is None:
                 break
-            now = min(FAR, wanted.start + took)
+            now = min(MAX_NUMBER, wanted.start + took)
         assert len(steps) == len(history)
 
 
@@ -484,20 +492,27 @@ def test_the_limits_of_depth_and_nodes() -> None:
 
 
 AT_THEIR_LIMITS: List[Policy] = [
-    *(build(milliseconds(FAR)) for build in (spaced, fixed, windowed, linear, fibonacci, lone)),
+    *(build(milliseconds(MAX_NUMBER)) for build in (spaced, fixed, windowed, linear, fibonacci, lone)),
     *(build(milliseconds(1)) for build in (fixed, windowed)),
-    recurs(FAR),
-    exponential(milliseconds(FAR), 1000),
+    recurs(MAX_NUMBER),
+    exponential(milliseconds(MAX_NUMBER), 1000),
     exponential(0, 0.001),
-    exponential_milli(milliseconds(FAR), 1_000_000),
+    exponential_milli(milliseconds(MAX_NUMBER), 1_000_000),
     exponential_milli(0, 1),
     decorrelated(0, 0, 1, lane=3),
-    decorrelated(milliseconds(FAR), milliseconds(FAR), 1000),
-    unfold(FAR, FAR, FAR),
-    *(getattr(forever(), name)(milliseconds(FAR)) for name in ("cap", "add_delay", "set_delay", "up_to", "ends_by")),
-    *(getattr(forever(), name)(milliseconds(length)) for name in ("renew", "renew_idle") for length in (1, FAR)),
+    decorrelated(milliseconds(MAX_NUMBER), milliseconds(MAX_NUMBER), 1000),
+    unfold(MAX_NUMBER, MAX_NUMBER, MAX_NUMBER),
+    *(
+        getattr(forever(), name)(milliseconds(MAX_NUMBER))
+        for name in ("cap", "add_delay", "set_delay", "up_to", "ends_by")
+    ),
+    *(getattr(forever(), name)(milliseconds(length)) for name in ("renew", "renew_idle") for length in (1, MAX_NUMBER)),
     forever().jittered(0, 10, lane=3),
-    *(getattr(forever(), f"{when}_{side}")(equal=FAR) for when in ("while", "until") for side in ("input", "output")),
+    *(
+        getattr(forever(), f"{when}_{side}")(equal=MAX_NUMBER)
+        for when in ("while", "until")
+        for side in ("input", "output")
+    ),
     *(forever().gather(fold) for fold in ("sum", "count", "max", "list")),
     elapsed() >> identity().first() | forever().second().nothing().then(forever().add_output()),
 ]
@@ -529,7 +544,7 @@ def test_the_faults_of_the_engine_are_those_of_a_second_finder() -> None:
 
 def spoilt(rng: random.Random, tree: Any) -> Any:
     """A policy with a part of it changed for something else, perhaps more than once."""
-    bad: List[Any] = [None, -1, 0, 1.5, FAR, FAR + 1, 2**64, True, "nope", "recurs", [], {}, [1, 2]]
+    bad: List[Any] = [None, -1, 0, 1.5, MAX_NUMBER, MAX_NUMBER + 1, 2**64, True, "nope", "recurs", [], {}, [1, 2]]
     bad.append({"recurs": 1, "lone": 2})
     if rng.random() < 0.25 or isinstance(tree, (str, int)):
         return rng.choice(bad)
@@ -546,8 +561,8 @@ def test_durations() -> None:
     assert spaced(0.0016) == spaced(milliseconds(2)) and spaced(0.001) == spaced(milliseconds(1))
     assert spaced(timedelta(microseconds=1500)) == spaced(milliseconds(2))
     assert spaced(timedelta(days=1)) == spaced(86400)
-    assert spaced(FAR // 1000).to_json() == '{"spaced":%d}' % (FAR // 1000 * 1000)
-    durations: List[Any] = [-1, -0.001, timedelta(seconds=-1), float("nan"), float("inf"), FAR // 1000 + 1]
+    assert spaced(MAX_NUMBER // 1000).to_json() == '{"spaced":%d}' % (MAX_NUMBER // 1000 * 1000)
+    durations: List[Any] = [-1, -0.001, timedelta(seconds=-1), float("nan"), float("inf"), MAX_NUMBER // 1000 + 1]
     durations.append(milliseconds(-1))
     for bad in durations:
         with pytest.raises(PolicyError) as caught:
@@ -558,7 +573,7 @@ def test_durations() -> None:
             spaced(wrong)  # type: ignore[arg-type]
     calls: List[Callable[[], Policy]] = [
         lambda: recurs(-1),
-        lambda: recurs(FAR + 1),
+        lambda: recurs(MAX_NUMBER + 1),
         lambda: exponential(1, 1001),
         lambda: fixed(0),
     ]
@@ -593,7 +608,7 @@ def test_what_is_below_the_grain_is_refused(build: Callable[[], Policy], hint: s
 SPOKEN: List[Tuple[Callable[[], Policy], str]] = [
     (lambda: fixed(0), "fixed: an interval is at least 0.001 s, not 0"),
     (lambda: spaced(1).renew(0), "renew: an interval is at least 0.001 s, not 0"),
-    (lambda: recurs(-1), f"recurs: -1 is not from 0 to {FAR}"),
+    (lambda: recurs(-1), f"recurs: -1 is not from 0 to {MAX_NUMBER}"),
     (lambda: exponential(1, 1001), "exponential: a factor: 1001 is not from 1 to 1000"),
     (lambda: spaced(1).jittered(1.2, 0.8), "jittered(1.2, 0.8): the range is empty"),
     (lambda: spaced(1).jittered(lane=4), "jittered: a lane: 4 is not from 0 to 3"),
@@ -630,8 +645,8 @@ def test_a_preview_takes_inputs_in_turn() -> None:
     assert [step.next_ms for step in spaced(1).while_input(equal=7).preview(3, input=[7])] == [1000, 2000, 3000]
     assert [step.output for step in identity().preview(2, input=[1, 2, 3])] == [1, 2]
     assert [step.output for step in identity().preview(1, input=[])] == [0]
-    for wrong in (-1, FAR + 1):
-        with pytest.raises(PolicyError, match=f"preview: input: {wrong} is not from 0 to {FAR}"):
+    for wrong in (-1, MAX_NUMBER + 1):
+        with pytest.raises(PolicyError, match=f"preview: input: {wrong} is not from 0 to {MAX_NUMBER}"):
             identity().preview(input=wrong)
     with pytest.raises(TypeError):
         spaced(1).while_input()

@@ -16,7 +16,7 @@ from typing import Any, Iterator, List
 import pytest
 
 from hikebox import (
-    FAR,
+    MAX_NUMBER,
     AsyncRetrying,
     Budget,
     BudgetInUse,
@@ -668,8 +668,8 @@ def test_an_exception_that_is_raised_again_and_again_keeps_few_notes() -> None:
 @KINDS
 def test_waits_to_the_end_of_time(kind: str, clock: VirtualClock) -> None:
     call = Scripted(7, 7, 7, "won")
-    assert made(kind, spaced(milliseconds(FAR)), clock)(call) == "won"
-    assert clock.slept == pytest.approx([FAR / 1000])
+    assert made(kind, spaced(milliseconds(MAX_NUMBER)), clock)(call) == "won"
+    assert clock.slept == pytest.approx([MAX_NUMBER / 1000])
 
 
 def test_parameters_of_any_name_are_passed_on() -> None:

@@ -1,6 +1,6 @@
 //! The clock that this crate goes by, and moments of the engine.
 
-use crate::engine::FAR;
+use crate::engine::MAX_NUMBER;
 use std::time::{Duration, Instant};
 
 /// The present moment: with the feature `tokio` by tokio's clock, which is the system's unless a test has stopped it.
@@ -18,5 +18,5 @@ pub(crate) fn now() -> Instant {
 /// Whole milliseconds of a moment, rounded down; past the engine's last moment it is that.
 pub(crate) fn whole_millis(moment: Duration) -> u64 {
     let millis = moment.as_secs().saturating_mul(1000).saturating_add(u64::from(moment.subsec_millis()));
-    millis.min(FAR)
+    millis.min(MAX_NUMBER)
 }

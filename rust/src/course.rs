@@ -1,7 +1,7 @@
 //! A retry under way, whoever drives it.
 
 use crate::clock::whole_millis;
-use crate::engine::{FAR, NO_DEADLINE};
+use crate::engine::{MAX_NUMBER, NO_DEADLINE};
 use crate::error::RetryError;
 use crate::grants::DrawnOn;
 use crate::machine::{Cause, Ended, Machine, Report};
@@ -131,7 +131,8 @@ impl Begun {
     fn new(terms: Terms<'_>, began: Instant) -> Result<Self, Ended> {
         let origin = terms.budget.origin(began);
         let deadline = terms.deadline.map(|deadline| Duration::from_millis(whole_millis(deadline)));
-        let until = deadline.map_or(NO_DEADLINE, |deadline| origin.saturating_add(whole_millis(deadline)).min(FAR));
+        let until =
+            deadline.map_or(NO_DEADLINE, |deadline| origin.saturating_add(whole_millis(deadline)).min(MAX_NUMBER));
         let machine = Machine::on(terms.policy, terms.budget.source(), until);
         // (for want of passes 2^42 of them would have to be alive)
         let machine = machine.map_err(|_| Ended::Broken(Cause::NoMemory))?;
@@ -166,7 +167,7 @@ impl Begun {
             Some(_) => passed.saturating_add(Duration::from_nanos(999_999)),
             None => passed,
         };
-        let now = self.origin.saturating_add(whole_millis(passed)).min(FAR);
+        let now = self.origin.saturating_add(whole_millis(passed)).min(MAX_NUMBER);
         self.latest = self.latest.max(now);
         self.machine.step_at(self.latest, report, words)
     }

@@ -224,16 +224,16 @@ pub(crate) const ON_BUDGET: u64 = 1;
 pub(crate) const ON_QUOTA: u64 = 2;
 
 /// The greatest moment, length of a window, and code.
-pub(crate) const FAR: u64 = (1 << 62) - 1;
+pub(crate) const MAX_NUMBER: u64 = (1 << 62) - 1;
 /// The deadline of a retry that has none.
 pub(crate) const NO_DEADLINE: u64 = u64::MAX;
 /// The bound of a policy whose nodes give none.
 const NO_BOUND: u64 = u64::MAX;
 /// The most events of a course.
-pub(crate) const MOST_STEPS: u64 = 4096;
+pub(crate) const MAX_STEPS: u64 = 4096;
 /// The most tickets of a budget, and of a window of a quota.
 #[cfg(feature = "leased")]
-pub(crate) const MOST_TICKETS: u64 = 1 << 32;
+pub(crate) const MAX_TICKETS: u64 = 1 << 32;
 
 // (bin/bindings writes these from the header)
 #[rustfmt::skip]
@@ -570,7 +570,7 @@ impl Handle<PassKind> {
         Self::filled(|pass| unsafe { hikebox_budget_rising(limit, pass) })
     }
 
-    /// The first pass of a quota, whose windows are counted from the one of this moment, up to [`FAR`].
+    /// The first pass of a quota, whose windows are counted from the one of this moment, up to [`MAX_NUMBER`].
     pub(crate) fn quota(now: u64, reserve: u64, share: u64, period: u64, carries: bool) -> Result<Self, Status> {
         Self::filled(|pass| unsafe { hikebox_quota_new(now, reserve, share, period, carries, pass) })
     }
@@ -652,7 +652,7 @@ impl Handle<PassKind> {
 }
 
 impl Handle<RetryKind> {
-    /// A retry with a pass of its own, and a deadline up to [`FAR`], or [`NO_DEADLINE`].
+    /// A retry with a pass of its own, and a deadline up to [`MAX_NUMBER`], or [`NO_DEADLINE`].
     pub(crate) fn begun(
         policy: &mut Handle<PolicyKind>,
         pass: &mut Handle<PassKind>,
@@ -715,7 +715,7 @@ pub(crate) enum Taken {
 impl Handle<LeasedKind> {
     /// A leased pass that holds nothing, of a store whose windows are so many milliseconds long, or which has none.
     pub(crate) fn leased(period: Option<u64>) -> Result<Self, Status> {
-        Self::filled(|leased| unsafe { hikebox_leased_new(period.unwrap_or(0).min(FAR), leased) })
+        Self::filled(|leased| unsafe { hikebox_leased_new(period.unwrap_or(0).min(MAX_NUMBER), leased) })
     }
 
     pub(crate) fn draw(&mut self, now: u64) -> Drawn {
@@ -744,7 +744,7 @@ impl Handle<LeasedKind> {
 
     /// Leaves the store alone until this moment; 0 where it may be asked.
     pub(crate) fn leave_alone(&mut self, until: u64) {
-        let status = unsafe { hikebox_leased_leave_alone(self.raw(), until.min(FAR)) };
+        let status = unsafe { hikebox_leased_leave_alone(self.raw(), until.min(MAX_NUMBER)) };
         debug_assert_eq!(status, OK);
     }
 
@@ -764,7 +764,7 @@ impl Handle<LeasedKind> {
     /// The requests since this moment that are to be told the store: none is answered again.
     pub(crate) fn tell(&mut self, since: u64) -> u64 {
         let mut requests = 0;
-        let status = unsafe { hikebox_leased_tell(self.raw(), since.min(FAR), &mut requests) };
+        let status = unsafe { hikebox_leased_tell(self.raw(), since.min(MAX_NUMBER), &mut requests) };
         debug_assert_eq!(status, OK);
         requests
     }

@@ -1,7 +1,7 @@
 //! Budgets and quotas that the processes of a machine share: tickets in ranges from a folder that counts.
 
 use crate::budget::BudgetError;
-use crate::engine::{lease_of_budget, lease_of_quota, Asking, Range, Stored, MOST_TICKETS};
+use crate::engine::{lease_of_budget, lease_of_quota, Asking, Range, Stored, MAX_TICKETS};
 use crate::grants::{DrawnOn, Grants, Source, Tickets};
 use crate::leasing::{Answer, Share, Tell, AGAIN_AFTER};
 use crate::quota::{thousandths, AtomicTerms, Terms, Usage, Uses};
@@ -92,7 +92,7 @@ struct Found {
 }
 
 /// The greatest limit: one below 2^52.
-const MOST: u64 = (1 << 52) - 1;
+const MAX_LIMIT: u64 = (1 << 52) - 1;
 
 impl Leased {
     /// A budget of `limit` tickets (at most 2^52 - 1; a greater number counts as that) over all processes that name it
@@ -102,7 +102,7 @@ impl Leased {
     ///
     /// [`BudgetError::NameLength`].
     pub fn new(path: impl AsRef<Path>, name: impl Into<String>, limit: u64) -> Result<Self, BudgetError> {
-        let (limit, name) = (limit.min(MOST), checked(name.into())?);
+        let (limit, name) = (limit.min(MAX_LIMIT), checked(name.into())?);
         Ok(Self {
             folder: Folder::new(path),
             key: Key::of_budget(&name),
@@ -128,7 +128,7 @@ impl Leased {
     /// said, a sixty-fourth of the limit, from 1 to 1000.
     #[must_use]
     pub fn lease(mut self, tickets: u64) -> Self {
-        self.lease = tickets.clamp(1, MOST_TICKETS);
+        self.lease = tickets.clamp(1, MAX_TICKETS);
         self
     }
 
@@ -196,7 +196,7 @@ impl LeasedQuota {
     /// said, a sixty-fourth of what the window allows, from 1 to 1000.
     #[must_use]
     pub fn lease(mut self, tickets: u64) -> Self {
-        self.lease = Some(tickets.clamp(1, MOST_TICKETS));
+        self.lease = Some(tickets.clamp(1, MAX_TICKETS));
         self
     }
 

@@ -2,7 +2,7 @@
 
 use crate::budget::BudgetError;
 use crate::clock::whole_millis;
-use crate::engine::{Drawn, Grant, Handle, LeasedKind, Taken, Ticket as Named, FAR};
+use crate::engine::{Drawn, Grant, Handle, LeasedKind, Taken, Ticket as Named, MAX_NUMBER};
 use crate::store::StoreError;
 use crate::system::PerProcess;
 use crate::ticket::{Drawer, NoTicket, StoreFailure, Ticket};
@@ -166,7 +166,7 @@ impl Leases {
     /// Takes a store's answer, and says whether it has a ticket.
     fn granted(&self, period: Option<u64>, answer: &Answer) -> bool {
         let held = &mut *lock(&self.held);
-        let until = answer.window.map_or(FAR, |window| window.until.min(FAR));
+        let until = answer.window.map_or(MAX_NUMBER, |window| window.until.min(MAX_NUMBER));
         let window = answer.window.map_or(0, |window| window.number);
         let grant = Grant { window, first: answer.first, tickets: answer.tickets, until };
         if held.pass.granted(&grant) == Taken::HeldAlready {
@@ -223,13 +223,13 @@ impl Held {
 impl Grant {
     /// No ticket of a window, which is told by it.
     fn none_of(window: &Window) -> Self {
-        Self { window: window.number, first: 0, tickets: 0, until: window.until.min(FAR) }
+        Self { window: window.number, first: 0, tickets: 0, until: window.until.min(MAX_NUMBER) }
     }
 }
 
 /// The moment after so long.
 fn later(wait: Duration) -> u64 {
-    now().unwrap_or(0).saturating_add(whole_millis(wait)).min(FAR)
+    now().unwrap_or(0).saturating_add(whole_millis(wait)).min(MAX_NUMBER)
 }
 
 impl fmt::Debug for Share {

@@ -2,7 +2,7 @@
 
 use crate::budget::{Budget, BudgetError};
 use crate::clock::whole_millis;
-use crate::engine::{self, Handle, Next, RetryKind, FAR, NO_DEADLINE};
+use crate::engine::{self, Handle, Next, RetryKind, MAX_NUMBER, NO_DEADLINE};
 use crate::grants::{Grants, Source, Tickets};
 use crate::policy::Policy;
 use crate::quota::Quota;
@@ -231,8 +231,8 @@ impl Machine {
     fn poll(&mut self, now: u64, report: Option<Report>, words: &[u32; 4]) {
         let (report, code) = match report {
             None => (engine::NO_REPORT, 0),
-            Some(Report::Won(code)) => (engine::WON, code.min(FAR)),
-            Some(Report::Lost(code)) => (engine::LOST, code.min(FAR)),
+            Some(Report::Won(code)) => (engine::WON, code.min(MAX_NUMBER)),
+            Some(Report::Lost(code)) => (engine::LOST, code.min(MAX_NUMBER)),
         };
         if let Some(handle) = &mut self.handle {
             let told = handle.poll(now, words, report, code, &mut self.told);

@@ -1,6 +1,6 @@
 //! Policies: schedules that were read and are right.
 
-use crate::engine::{self, Event, Handle, Place, PolicyKind, Size, Status, MOST_STEPS};
+use crate::engine::{self, Event, Handle, Place, PolicyKind, Size, Status, MAX_STEPS};
 use crate::schedule::Schedule;
 use crate::system::PerProcess;
 use std::error::Error;
@@ -169,7 +169,7 @@ impl Policy {
     ///
     /// Where memory is wanting.
     pub fn preview(&self, steps: usize) -> Result<Vec<Line>, PolicyError> {
-        let steps = u64::try_from(steps).unwrap_or(MOST_STEPS).min(MOST_STEPS);
+        let steps = u64::try_from(steps).unwrap_or(MAX_STEPS).min(MAX_STEPS);
         let course = engine::Course { steps, from: 0, took: 0 };
         let event = Event { input: 0, words: [1 << 31; 4] };
         let mut policy = self.share().map_err(PolicyError::of)?;

@@ -4,7 +4,7 @@ use crate::budget::BudgetError;
 use crate::clock::{now, whole_millis};
 use crate::counters::{Counter, Counters};
 #[cfg(feature = "leased")]
-use crate::engine::{quota_allows, FAR, MOST_TICKETS};
+use crate::engine::{quota_allows, MAX_NUMBER, MAX_TICKETS};
 use crate::engine::{Handle, PassKind, RetryKind, Status, Used};
 use crate::system::{generation, PerProcess};
 use crate::ticket::{Drawer, NoTicket, Ticket};
@@ -598,10 +598,10 @@ fn beginning(moment: Duration) -> Instant {
 
 /// The shortest window, in milliseconds.
 #[cfg(feature = "leased")]
-const LEAST_PERIOD: u64 = 100;
+const MIN_PERIOD: u64 = 100;
 
 /// The greatest share, in thousandths of a ticket: 20.0 is 20 per cent by mistake.
-const MOST_SHARE: f64 = 10_000.0;
+const MAX_SHARE: f64 = 10_000.0;
 
 impl Terms {
     /// The terms in the engine's units, where they have such; what else they have to keep to, the engine says.
@@ -614,7 +614,7 @@ impl Terms {
 /// Thousandths of a ticket, of a share that is such a number.
 pub(crate) fn thousandths(share: f64) -> Result<u64, BudgetError> {
     let thousandths = (share * 1000.0).round();
-    if !(0.0..=MOST_SHARE).contains(&thousandths) || share < 0.0 || (share > 0.0 && thousandths == 0.0) {
+    if !(0.0..=MAX_SHARE).contains(&thousandths) || share < 0.0 || (share > 0.0 && thousandths == 0.0) {
         return Err(BudgetError::ShareOutOfRange);
     }
     Ok(thousandths as u64)
@@ -626,9 +626,9 @@ impl Terms {
     pub(crate) fn checked(self) -> Result<Self, BudgetError> {
         let Self { reserve, period, .. } = self;
         match self {
-            _ if reserve > MOST_TICKETS => Err(BudgetError::ReserveTooLarge),
-            _ if period < LEAST_PERIOD => Err(BudgetError::PeriodTooShort),
-            _ if period > FAR => Err(BudgetError::PeriodTooLong),
+            _ if reserve > MAX_TICKETS => Err(BudgetError::ReserveTooLarge),
+            _ if period < MIN_PERIOD => Err(BudgetError::PeriodTooShort),
+            _ if period > MAX_NUMBER => Err(BudgetError::PeriodTooLong),
             terms => Ok(terms),
         }
     }

@@ -2,7 +2,7 @@
 
 use crate::asynchronous::AsyncSleep;
 use crate::course::{Course, Lost, Terms};
-use crate::engine::FAR;
+use crate::engine::MAX_NUMBER;
 use crate::grants::Unlimited;
 use crate::host::{Host, Random, Sleep, SystemHost};
 use crate::machine::Ended;
@@ -287,7 +287,7 @@ impl<T, C: Fn(&T) -> u64, K: Fn() -> Instant, S, R: Random> Repeating<'_, T, C, 
     /// value is not wanted is one that failed, on nothing that could refuse a retry.
     fn after(&self, course: &mut Course, value: &T) -> Result<Duration, Ended> {
         let now = (self.host.clock)();
-        let lost = Lost { now, code: (self.code)(value).min(FAR), words: self.host.words.draw(), asked: None };
+        let lost = Lost { now, code: (self.code)(value).min(MAX_NUMBER), words: self.host.words.draw(), asked: None };
         course.lost(Terms { policy: &self.policy, budget: &Unlimited, deadline: self.deadline }, lost)
     }
 }

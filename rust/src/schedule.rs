@@ -1,6 +1,6 @@
 //! Schedules as expressions.
 
-use crate::engine::{Handle, PolicyKind, Status, FAR};
+use crate::engine::{Handle, PolicyKind, Status, MAX_NUMBER};
 use std::fmt;
 use std::ops::{BitAnd, BitOr, Range, RangeInclusive, Shr};
 use std::time::Duration;
@@ -420,7 +420,7 @@ const THOUSANDTHS: &str = "a factor is from 1 to 1,000,000 thousandths";
 fn span(time: Duration) -> Option<&'static str> {
     match millis(time) {
         1 if time < Duration::from_millis(1) => Some("the duration is below a millisecond"),
-        millis if millis > FAR => Some("a duration is at most 2^62 - 1 milliseconds"),
+        millis if millis > MAX_NUMBER => Some("a duration is at most 2^62 - 1 milliseconds"),
         _ => None,
     }
 }
@@ -435,7 +435,7 @@ fn interval_of(time: Duration) -> Option<&'static str> {
 }
 
 fn number(number: u64) -> Option<&'static str> {
-    if number > FAR {
+    if number > MAX_NUMBER {
         Some("a number is at most 2^62 - 1")
     } else {
         None

@@ -19,7 +19,7 @@ const LENGTH: usize = 84;
 const KEY: usize = 88;
 const CHECK: usize = 508;
 /// How many bytes there are for a key.
-const MOST_KEY: usize = 416;
+const MAX_KEY: usize = 416;
 
 /// What a slot keeps: what it is of, its counts, and how often they changed.
 #[derive(Clone, Debug, PartialEq, Eq)]
@@ -35,7 +35,7 @@ pub(crate) struct Record {
 impl Record {
     /// One of this key, which has at most 416 bytes, with nothing counted.
     pub(crate) fn new(key: &str, window: Option<&Window>) -> Self {
-        debug_assert!(key.len() <= MOST_KEY);
+        debug_assert!(key.len() <= MAX_KEY);
         let mut record = Self { key: key.to_owned(), turn: 0, boot: [0; 36], window: 0, given: 0, asked: 0 };
         record.be_of(window);
         record
@@ -60,7 +60,7 @@ impl Record {
             return None;
         }
         let length = usize::from(u16::from_le_bytes(copy[LENGTH..LENGTH + 2].try_into().ok()?));
-        let key = std::str::from_utf8(copy[KEY..KEY + MOST_KEY].get(..length)?).ok()?.to_owned();
+        let key = std::str::from_utf8(copy[KEY..KEY + MAX_KEY].get(..length)?).ok()?.to_owned();
         let boot = copy[BOOT..LENGTH].try_into().ok()?;
         Some(Self {
             key,

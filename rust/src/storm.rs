@@ -11,8 +11,8 @@ use std::ops::Range;
 use std::time::Duration;
 
 const HOUR: u64 = 3_600_000;
-const MOST_REQUESTS: u64 = 1_048_576;
-const MOST_WINDOWS: u64 = 65_536;
+const MAX_REQUESTS: u64 = 1_048_576;
+const MAX_WINDOWS: u64 = 65_536;
 
 /// Many requests under one policy, on a peer that fails for a while: what a policy does to a peer when thousands of
 /// calls fail together. No call is made, and no time passes; two storms with the same parameters are the same.
@@ -311,7 +311,7 @@ impl Storm {
         within("window", storm.window, 1, HOUR)?;
         within("until", storm.until, 0, 2 * HOUR)?;
         within("calls", storm.calls, 1, 1 << 32)?;
-        if storm.rate * storm.seconds > MOST_REQUESTS {
+        if storm.rate * storm.seconds > MAX_REQUESTS {
             return Err(StormError::TooManyRequests);
         }
         span("outage", storm.outage_from, storm.outage_to)?;
@@ -319,7 +319,7 @@ impl Storm {
         if storm.slow_percent > 100 {
             return Err(StormError::OutOfRange { parameter: "slow", least: 1, most: 100 });
         }
-        if storm.until / storm.window > MOST_WINDOWS {
+        if storm.until / storm.window > MAX_WINDOWS {
             return Err(StormError::TooManyWindows);
         }
         match self.fault {

@@ -9,7 +9,7 @@ use std::time::{Duration, Instant};
 
 const ROUNDS: u32 = 200;
 const CALLS: u32 = 200;
-const MOST: u64 = 1 << 32;
+const MAX_TICKETS: u64 = 1 << 32;
 const WINDOW: Duration = Duration::from_secs(10);
 
 fn main() {
@@ -25,7 +25,7 @@ fn main() {
 /// Calls that succeed at once, by so many threads that share a policy and what they draw on.
 fn successes(threads: u32) {
     let policy: Policy = r#"{"recurs":5}"#.parse().expect("a policy");
-    let budget = Budget::new(MOST).expect("a budget");
+    let budget = Budget::new(MAX_TICKETS).expect("a budget");
     let quota = Quota::new(1_000_000, 1.0, WINDOW).expect("a quota");
     let on_budget = at_once(threads, || hikebox::retry(&policy, &budget, call(0)).is_ok());
     let on_quota = at_once(threads, || hikebox::retry(&policy, &quota, call(0)).is_ok());
@@ -57,7 +57,7 @@ fn at_once(threads: u32, run: impl Fn() -> bool + Sync) -> f64 {
 
 fn retries(failures: u32) {
     let policy: Policy = r#"{"recurs":5}"#.parse().expect("a policy");
-    let budget = Budget::new(MOST).expect("a budget");
+    let budget = Budget::new(MAX_TICKETS).expect("a budget");
     let [ours, retry, backoff] = least([
         &mut || hikebox::retry(&policy, &budget, call(failures)).is_ok(),
         &mut || retry::retry(retry::delay::NoDelay.take(5), call(failures)).is_ok(),
@@ -70,7 +70,7 @@ fn retries(failures: u32) {
 }
 
 fn draws() {
-    let mut pass = Budget::new(MOST).and_then(|budget| budget.pass()).expect("a pass");
+    let mut pass = Budget::new(MAX_TICKETS).and_then(|budget| budget.pass()).expect("a pass");
     let mut share = Quota::new(1_000_000, 1.0, WINDOW).and_then(|quota| quota.pass()).expect("a pass");
     let tower = tower::retry::budget::Budget::new(WINDOW, 1_000_000, 1.0);
     let [draw, deposit_and_draw, deposit_and_withdraw] = least([

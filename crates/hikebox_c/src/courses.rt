@@ -8,7 +8,7 @@ ghost use Rattle.hikebox_c.specs.Courses.{IsGiven, InputIsInRange, course_given,
 
 use sched_handle::{Handle, Status};
 use sched_plan::Plan;
-use sched_plan_course::{Line, MOST_STEPS, PlanCourse, course_lines};
+use sched_plan_course::{Line, MAX_STEPS, PlanCourse, course_lines};
 use sched_time::{FAR, Millis, Moment, NoMemory};
 use std::alloc::Global;
 
@@ -104,7 +104,7 @@ impl CourseGiven {
     fn is_given(&self, events: &[EventGiven]) -> bool
         ensures { IsTrue result ↔ IsGiven self.now events.now }
     {
-        self.steps <= MOST_STEPS
+        self.steps <= MAX_STEPS
             && self.from <= FAR
             && self.took <= FAR
             && !events.is_empty()

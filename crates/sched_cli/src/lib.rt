@@ -10,14 +10,14 @@ mod texts;
 pub use answers::answer;
 pub use sched_cli_check::{jobs_fault, print_check};
 pub use sched_cli_plan::{
-    Counted, LONGEST_INPUT, MOST_STEPS, PlanCourse, PlanOptions, PrintFault, Sink, Source,
-    print_course, print_plan,
+    Counted, MAX_INPUT, MAX_STEPS, PlanCourse, PlanOptions, PrintFault, Sink, Source, print_course,
+    print_plan,
 };
 pub use sched_cli_pool::{PoolFault, print_pool, print_quota_pool};
 pub use sched_cli_storm::print_storm;
 pub use sched_cli_storm_words::{Form, StormOptions};
 pub use sched_cli_words::{
-    Asked, MOST_TICKETS, MOST_TURNS, MOST_WORKERS, Origin, PoolOptions, QuotaOptions, WordsFault,
+    Asked, MAX_TICKETS, MAX_TURNS, MAX_WORKERS, Origin, PoolOptions, QuotaOptions, WordsFault,
     read_words,
 };
 pub use stops::{Stop, Told};

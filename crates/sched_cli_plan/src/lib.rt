@@ -13,6 +13,6 @@ pub use again::Given;
 pub use counts::Counted;
 pub use faults::PrintFault;
 pub use printing::{print_course, print_plan, read_value};
-pub use sched_plan_course::{MOST_STEPS, PlanCourse, PlanOptions};
+pub use sched_plan_course::{MAX_STEPS, PlanCourse, PlanOptions};
 pub use streams::{Sink, Source};
-pub use whole::{LONGEST_INPUT, put_all, put_long, read_all};
+pub use whole::{MAX_INPUT, put_all, put_long, read_all};

@@ -7,10 +7,10 @@ use crate::streams::{Sink, Source};
 use std::alloc::Global;
 
 /// The most bytes that an input may have.
-pub const LONGEST_INPUT: usize = 1048576;
+pub const MAX_INPUT: usize = 1048576;
 
 // The most bytes that are read, and the most reads: an input may be seen to be too long by one byte.
-const MOST_READS: usize = LONGEST_INPUT + 1;
+const MAX_READS: usize = MAX_INPUT + 1;
 
 // The most bytes of one read, and the fewest that are written before the last ones.
 const CHUNK: usize = 8192;
@@ -27,8 +27,8 @@ pub fn read_all<R: Source>(alloc: Global, reader: &mut R) -> Result<Vec<u8>, Pri
 {
     let mut bytes = Vec::new(alloc);
     let mut chunk = [0; CHUNK];
-    for _ in 0..MOST_READS {
-        let room = CHUNK.min(MOST_READS - bytes.len());
+    for _ in 0..MAX_READS {
+        let room = CHUNK.min(MAX_READS - bytes.len());
         let taken = match reader.read(&mut chunk[..room]) {
             Ok(0) => return Ok(bytes),
             Ok(taken) => taken,
@@ -37,7 +37,7 @@ pub fn read_all<R: Source>(alloc: Global, reader: &mut R) -> Result<Vec<u8>, Pri
         if bytes.extend_from_slice(&chunk[..taken]).is_err() {
             return Err(PrintFault::NoMemory);
         }
-        if bytes.len() > LONGEST_INPUT {
+        if bytes.len() > MAX_INPUT {
             return Err(PrintFault::TooLong);
         }
     }

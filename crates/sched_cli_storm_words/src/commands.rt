@@ -1,13 +1,13 @@
 //! The command, as `clap` takes it. No option has a default here, so that what is given stands over a scenario.
 use crate::rows::{Row, Takes, file_command, with_options};
 use clap::Command;
-use sched_storm::{MOST_CALLS, MOST_EACH, MOST_MILLIS, MOST_REQUESTS, MOST_SECONDS, MOST_UNTIL};
+use sched_storm::{MAX_CALLS, MAX_EACH, MAX_MILLIS, MAX_REQUESTS, MAX_SECONDS, MAX_UNTIL};
 use std::alloc::{AllocError, Global};
 
 // The widths of a line with its bar.
-const LEAST_WIDTH: u64 = 72;
+const MIN_WIDTH: u64 = 72;
 
-const MOST_WIDTH: u64 = 1000;
+const MAX_WIDTH: u64 = 1000;
 
 const STORM_EXAMPLES: &str = "Examples:
   zsched storm plans/back-off.json
@@ -34,19 +34,19 @@ const STORIES: [Row; 2] = [
 const REQUESTS: [Row; 3] = [
     Row {
         name: "rate",
-        takes: Takes::Number("N", 1, MOST_EACH),
+        takes: Takes::Number("N", 1, MAX_EACH),
         excludes: &[],
         help: "Requests a second, from 1 to 1000000; 800 where nothing is said",
     },
     Row {
         name: "together",
-        takes: Takes::Number("N", 1, MOST_EACH),
+        takes: Takes::Number("N", 1, MAX_EACH),
         excludes: &[],
         help: "Requests that come at one moment, from 1 to 1000000; 1 where nothing is said",
     },
     Row {
         name: "seconds",
-        takes: Takes::Number("S", 1, MOST_SECONDS),
+        takes: Takes::Number("S", 1, MAX_SECONDS),
         excludes: &[],
         help: "For how many seconds requests come, from 1 to 3600, 1048576 requests at most; 60 where nothing is said",
     },
@@ -55,19 +55,19 @@ const REQUESTS: [Row; 3] = [
 const PEER: [Row; 5] = [
     Row {
         name: "capacity",
-        takes: Takes::Number("N", 1, MOST_EACH),
+        takes: Takes::Number("N", 1, MAX_EACH),
         excludes: &[],
         help: "Calls that the peer can do in a second, from 1 to 1000000; 1000 where nothing is said",
     },
     Row {
         name: "patience",
-        takes: Takes::Number("M", 1, MOST_MILLIS),
+        takes: Takes::Number("M", 1, MAX_MILLIS),
         excludes: &[],
         help: "After how many milliseconds a client gives a call up, from 1 to 3600000; 500 where nothing is said",
     },
     Row {
         name: "queue",
-        takes: Takes::Number("N", 0, MOST_REQUESTS),
+        takes: Takes::Number("N", 0, MAX_REQUESTS),
         excludes: &[],
         help: "Calls of work that may stand at the peer, from 0 to 1048576; 5000 where nothing is said",
     },
@@ -89,7 +89,7 @@ const PEER: [Row; 5] = [
 const RETRIES: [Row; 3] = [
     Row {
         name: "budget",
-        takes: Takes::Number("N", 0, MOST_CALLS),
+        takes: Takes::Number("N", 0, MAX_CALLS),
         excludes: &[],
         help: "How many retries all requests may have together, from 0 to 4294967296",
     },
@@ -112,20 +112,20 @@ const RETRIES: [Row; 3] = [
 const REPORT: [Row; 7] = [
     Row {
         name: "window",
-        takes: Takes::Number("M", 1, MOST_MILLIS),
+        takes: Takes::Number("M", 1, MAX_MILLIS),
         excludes: &[],
         help: "How many milliseconds a line of the report is, from 1 to 3600000; 1000 where nothing is said",
     },
     Row {
         name: "until",
-        takes: Takes::Number("M", 0, MOST_UNTIL),
+        takes: Takes::Number("M", 0, MAX_UNTIL),
         excludes: &[],
         help: "What lies after this moment is not played, from 0 to 7200000; a minute after the last request where \
                nothing is said",
     },
     Row {
         name: "calls",
-        takes: Takes::Number("N", 1, MOST_CALLS),
+        takes: Takes::Number("N", 1, MAX_CALLS),
         excludes: &[],
         help: "The storm is cut before the call after so many, from 1 to 4294967296; 16777216 where nothing is said",
     },
@@ -137,7 +137,7 @@ const REPORT: [Row; 7] = [
     },
     Row {
         name: "width",
-        takes: Takes::Number("N", LEAST_WIDTH, MOST_WIDTH),
+        takes: Takes::Number("N", MIN_WIDTH, MAX_WIDTH),
         excludes: &["plain", "compare"],
         help: "How wide a line with its bar is, from 72 to 1000 columns; 80 where nothing is said",
     },

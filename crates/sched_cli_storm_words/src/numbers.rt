@@ -1,12 +1,12 @@
 //! Spans of moments, as words spell them.
-use sched_storm::{BrownOut, MOST_MILLIS, Span};
+use sched_storm::{BrownOut, MAX_MILLIS, Span};
 
 /// The span that a word spells as FROM..TO, in order and in range.
 pub(crate) fn span_in(word: &str) -> Option<Span> {
     let (from, to) = word.split_once("..")?;
     let from = number_in(from)?;
     let to = number_in(to)?;
-    if from > to || to > MOST_MILLIS {
+    if from > to || to > MAX_MILLIS {
         return None;
     }
     Some(Span { from, to })

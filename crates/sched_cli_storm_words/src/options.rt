@@ -2,7 +2,7 @@
 use crate::faults::StormFault;
 use crate::numbers::{brown_out_in, span_in};
 use clap::ArgMatches;
-use sched_storm::{BrownOut, Draws, MOST_REQUESTS, Parameters, Span, Storm};
+use sched_storm::{BrownOut, Draws, MAX_REQUESTS, Parameters, Span, Storm};
 use sched_ticket_quota::Terms;
 use std::alloc::{AllocError, Global};
 
@@ -80,7 +80,7 @@ fn names(alloc: Global, options: &ArgMatches<'_>) -> Result<Vec<String>, AllocEr
 
 // Why parameters that are each in their range are none of a storm together.
 fn too_many(parameters: &Parameters) -> &'static str {
-    if parameters.rate.saturating_mul(parameters.seconds) > MOST_REQUESTS {
+    if parameters.rate.saturating_mul(parameters.seconds) > MAX_REQUESTS {
         "'--rate <N>' times '--seconds <S>' is more than 1048576 requests"
     } else {
         "'--until <M>' has more than 65536 times '--window <M>'"

@@ -1,9 +1,9 @@
 //! The commands of the program, as `clap` takes them.
-use crate::options::{MOST_TICKETS, MOST_TURNS, MOST_WORKERS};
+use crate::options::{MAX_TICKETS, MAX_TURNS, MAX_WORKERS};
 use clap::builder::ValueParser;
 use clap::{Arg, Command};
 use sched_cli_storm_words::{Row, Takes, file_command, storm_command, with_option, with_options};
-use sched_plan_course::MOST_STEPS;
+use sched_plan_course::MAX_STEPS;
 use sched_time::FAR;
 use std::alloc::{AllocError, Global};
 
@@ -27,7 +27,7 @@ const CHECK_EXAMPLES: &str = "Examples:
 const CALLS: [Row; 3] = [
     Row {
         name: "steps",
-        takes: Takes::NumberOr("N", 0, MOST_STEPS, &["10"]),
+        takes: Takes::NumberOr("N", 0, MAX_STEPS, &["10"]),
         excludes: &[],
         help: "How many calls to play at most, from 0 to 4096",
     },
@@ -72,13 +72,13 @@ const CHANCE: [Row; 2] = [
 const WORKERS: [Row; 2] = [
     Row {
         name: "workers",
-        takes: Takes::NumberOr("N", 1, MOST_WORKERS, &["1"]),
+        takes: Takes::NumberOr("N", 1, MAX_WORKERS, &["1"]),
         excludes: &[],
         help: "How many workers run the jobs, each on a thread of its own, from 1 to 16",
     },
     Row {
         name: "turns",
-        takes: Takes::NumberOr("N", 0, MOST_TURNS, &["1000000"]),
+        takes: Takes::NumberOr("N", 0, MAX_TURNS, &["1000000"]),
         excludes: &[],
         help: "How many turns each worker takes at most, from 0 to 4294967296",
     },
@@ -88,7 +88,7 @@ const WORKERS: [Row; 2] = [
 const RETRIES: [Row; 2] = [
     Row {
         name: "budget",
-        takes: Takes::NumberOr("N", 0, MOST_TICKETS, &["100"]),
+        takes: Takes::NumberOr("N", 0, MAX_TICKETS, &["100"]),
         excludes: &[],
         help: "How many retries all jobs may have together, from 0 to 4294967296",
     },

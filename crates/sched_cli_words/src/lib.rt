@@ -12,6 +12,6 @@ mod storms;
 mod words;
 
 pub use faults::WordsFault;
-pub use options::{Asked, MOST_TICKETS, MOST_TURNS, MOST_WORKERS, Origin, PoolOptions};
+pub use options::{Asked, MAX_TICKETS, MAX_TURNS, MAX_WORKERS, Origin, PoolOptions};
 pub use quotas::QuotaOptions;
 pub use words::read_words;

@@ -5,13 +5,13 @@ use sched_cli_storm_words::StormOptions;
 use sched_plan_course::{PlanCourse, PlanOptions};
 
 /// The most workers of a pool.
-pub const MOST_WORKERS: u64 = 16;
+pub const MAX_WORKERS: u64 = 16;
 
 /// The most tickets of a pool's budget.
-pub const MOST_TICKETS: u64 = 4294967296;
+pub const MAX_TICKETS: u64 = 4294967296;
 
 /// The most turns of a pool's worker.
-pub const MOST_TURNS: u64 = 4294967296;
+pub const MAX_TURNS: u64 = 4294967296;
 
 /// What a command line asks the program to do, and where the text for it comes from.
 #[derive(Debug, Drop)]

@@ -7,7 +7,7 @@ ghost use Rattle.sched_cli_words.specs.QuotaSpelling.{Has, Lacks, front, rest, u
 ghost use Rattle.sched_cli_words.specs.Quotas.{QuotaIsInRange};
 
 use crate::faults::WordsFault;
-use crate::options::MOST_TURNS;
+use crate::options::MAX_TURNS;
 use crate::quotas::QuotaOptions;
 use clap::ArgMatches;
 use sched_ticket_quota::{MAX_RESERVE, MAX_SHARE, MIN_PERIOD, Terms};
@@ -26,7 +26,7 @@ pub(crate) fn quota_options(options: &ArgMatches<'_>, terms: Terms) -> Option<Qu
 {
     let workers = options.get_one::<u64>("workers")?;
     let turns = options.get_one::<u64>("turns")?;
-    if workers != 1 || turns > MOST_TURNS {
+    if workers != 1 || turns > MAX_TURNS {
         return None;
     }
     Some(QuotaOptions { terms, turns })

@@ -3,14 +3,14 @@ ghost use Rattle.sched_cli_words.specs.Options.{AreInRange, AreInputs, AreWordsF
 
 use crate::commands::zsched_command;
 use crate::faults::WordsFault;
-use crate::options::{Asked, MOST_TICKETS, MOST_TURNS, MOST_WORKERS, Origin, PoolOptions};
+use crate::options::{Asked, MAX_TICKETS, MAX_TURNS, MAX_WORKERS, Origin, PoolOptions};
 use crate::quota_words::{bad_quota, quota_options, terms_in};
 use crate::reasons::reason;
 use crate::seeded::seeded_words;
 use crate::storms::storm;
 use clap::error::ErrorKind;
 use clap::{ArgMatches, Error};
-use sched_plan_course::{MOST_STEPS, PlanCourse, PlanOptions};
+use sched_plan_course::{MAX_STEPS, PlanCourse, PlanOptions};
 use sched_time::{Millis, Moment};
 use std::alloc::{AllocError, Global};
 
@@ -82,7 +82,7 @@ fn plan_options(options: &ArgMatches<'_>) -> Option<PlanOptions>
     ensures { IfSome result AreInRange }
 {
     let steps = options.get_one::<u64>("steps")?;
-    if steps > MOST_STEPS {
+    if steps > MAX_STEPS {
         return None;
     }
     let from = Moment::new(options.get_one("from")?)?;
@@ -173,7 +173,7 @@ fn pool_options(options: &ArgMatches<'_>) -> Option<PoolOptions>
     let workers = options.get_one::<u64>("workers")?;
     let budget = options.get_one::<u64>("budget")?;
     let turns = options.get_one::<u64>("turns")?;
-    if workers < 1 || workers > MOST_WORKERS || budget > MOST_TICKETS || turns > MOST_TURNS {
+    if workers < 1 || workers > MAX_WORKERS || budget > MAX_TICKETS || turns > MAX_TURNS {
         return None;
     }
     Some(PoolOptions {

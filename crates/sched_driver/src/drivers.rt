@@ -15,7 +15,7 @@ use std::marker::Model;
 use thiserror::Error;
 
 /// The most events of a journal.
-pub const MOST_EVENTS: usize = 65536;
+pub const MAX_EVENTS: usize = 65536;
 
 /// Why `next` refused an event.
 #[derive(Clone, Copy, Debug, PartialEq, Eq, Error)]
@@ -183,7 +183,7 @@ impl Driver {
         ensures refused { IfErr result (λ fault. Refuses self.now now fault) }
     {
         self.stepper.check_order(now)?;
-        if self.journal.len() == MOST_EVENTS {
+        if self.journal.len() == MAX_EVENTS {
             return Err(DriveFault::JournalFull);
         }
         Ok(())

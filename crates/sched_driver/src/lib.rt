@@ -5,5 +5,5 @@ mod cells;
 mod drivers;
 
 pub use cells::{DriverCell, Guard};
-pub use drivers::{DriveFault, Driver, MOST_EVENTS};
+pub use drivers::{DriveFault, Driver, MAX_EVENTS};
 pub use sched_plan::Event;

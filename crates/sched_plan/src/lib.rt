@@ -12,6 +12,6 @@ mod values;
 pub use history::{Answer, Event};
 pub use leaves::Leaf;
 pub use nodes::{Fold, One, Side, Test, Two};
-pub use plans::{MOST_DEPTH, MOST_NODES, Plan, PlanFault, PlanShape};
+pub use plans::{MAX_DEPTH, MAX_NODES, Plan, PlanFault, PlanShape};
 pub use shared::SharedPlan;
 pub use values::{Val, ValShape, copy_items};

@@ -11,10 +11,10 @@ use thiserror::Error;
 mod builders;
 
 /// The most nodes of a plan.
-pub const MOST_NODES: usize = 256;
+pub const MAX_NODES: usize = 256;
 
 /// The greatest depth of a plan; a leaf has depth 1.
-pub const MOST_DEPTH: usize = 32;
+pub const MAX_DEPTH: usize = 32;
 
 /// Why a builder refused a plan.
 #[derive(Clone, Copy, Debug, PartialEq, Eq, Error)]

@@ -6,7 +6,7 @@ use sched_time::{Millis, Moment, NoMemory};
 use std::alloc::Global;
 
 /// The most events that one plan is stepped for along a course.
-pub const MOST_STEPS: u64 = 4096;
+pub const MAX_STEPS: u64 = 4096;
 
 /// How a plan is stepped. A moment and a duration are in milliseconds.
 #[derive(Clone, Copy, Debug, PartialEq, Eq)]
@@ -60,7 +60,7 @@ impl PlanCourse {
           words = words.items;
         }) }
     {
-        if steps > MOST_STEPS || inputs.is_empty() || words.is_empty() {
+        if steps > MAX_STEPS || inputs.is_empty() || words.is_empty() {
             return None;
         }
         Some(PlanCourse {

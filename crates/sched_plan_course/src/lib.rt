@@ -4,5 +4,5 @@
 mod courses;
 mod lines;
 
-pub use courses::{MOST_STEPS, PlanCourse, PlanOptions};
+pub use courses::{MAX_STEPS, PlanCourse, PlanOptions};
 pub use lines::{Line, course_lines, line_at};

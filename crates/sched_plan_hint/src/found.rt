@@ -4,7 +4,7 @@ use serde_json::Value;
 use std::alloc::Global;
 
 // The most characters that are shown.
-const MOST_SHOWN: usize = 60;
+const MAX_SHOWN: usize = 60;
 
 /// Adds what was found, as JSON: `, got {"fixed":0}`, and of a long value the first 60 characters and `..`. Fails only
 /// with `NoMemory`.
@@ -13,7 +13,7 @@ pub fn push_found(alloc: Global, text: &mut String, value: &Value) -> Result<(),
     text.push_str(", got ")?;
     let mut shown = 0usize;
     for letter in found.as_str().chars() {
-        if shown >= MOST_SHOWN {
+        if shown >= MAX_SHOWN {
             text.push_str("..")?;
             return Ok(());
         }

@@ -4,10 +4,10 @@ use std::alloc::Global;
 use strsim::levenshtein;
 
 // The most edits by which a name is near to another.
-const MOST_EDITS: usize = 2;
+const MAX_EDITS: usize = 2;
 
 // The most bytes of a word that is near to a name: of two letters more than the longest.
-const LONGEST_WORD: usize = 76;
+const MAX_WORD: usize = 76;
 
 // Each node with how it is spelt, in the order in which the nearest name is looked for.
 const NODES: [(&str, &str); 32] = [
@@ -142,11 +142,11 @@ pub(crate) fn spelling(name: &str) -> Option<&'static str> {
 /// The name of a node that is nearest to this word, if one is near: the first of those that take the fewest letters to
 /// be put in, left out or changed, two at most.
 pub(crate) fn nearest(alloc: Global, word: &str) -> Result<Option<&'static str>, NoMemory> {
-    if word.len() > LONGEST_WORD {
+    if word.len() > MAX_WORD {
         return Ok(None);
     }
     let mut nearest = None;
-    let mut fewest = MOST_EDITS + 1;
+    let mut fewest = MAX_EDITS + 1;
     for (known, _) in &NODES {
         let edits = levenshtein(alloc, word, *known)?;
         if edits < fewest {

@@ -10,7 +10,7 @@ use crate::items::{first_job, first_run};
 use sched_plan::PlanFault;
 use sched_plan_check::{Fault, PlanChecked, Step, check_plan};
 use sched_plan_json::ReadFault;
-use sched_pool_json::{JobRead, MOST_JOBS, MOST_RUNS, plan_and_runs, read_jobs};
+use sched_pool_json::{JobRead, MAX_JOBS, MAX_RUNS, plan_and_runs, read_jobs};
 use sched_time::NoMemory;
 use serde_json::Value;
 use std::alloc::Global;
@@ -74,7 +74,7 @@ fn fault_of_jobs(alloc: Global, value: &Value, fault: ReadFault) -> Result<Fault
 fn are_too_many(jobs: &[Value]) -> bool
     ensures { result ≡ nat_lt 4096 (count (items_view jobs.now)) }
 {
-    jobs.len() > MOST_JOBS
+    jobs.len() > MAX_JOBS
 }
 
 // The first fault of a job that has this fault. `place` are the steps to the job.
@@ -114,7 +114,7 @@ fn fault_of_job<'a>(
 fn is_wrong_number(runs: &[Value]) -> bool
     ensures { result ≡ is_wrong_number (items_view runs.now) }
 {
-    runs.is_empty() || runs.len() > MOST_RUNS
+    runs.is_empty() || runs.len() > MAX_RUNS
 }
 
 // The first fault of a job of this plan and these runs, which has one. `place` are the steps to the job.

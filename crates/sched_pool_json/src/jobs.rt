@@ -6,7 +6,7 @@ ghost use Rattle.sched_plan_json.specs.declared.faults.ReadFault.TheVariants.{No
 ghost use Rattle.sched_pool_json.specs.Each.{each, asking, Lists};
 ghost use Rattle.sched_pool_json.specs.JobsOf.{plan_and_runs_in, job_of, job_in, jobs_in, reading_of_jobs};
 
-use crate::runs::{MOST_RUNS, read_runs};
+use crate::runs::{MAX_RUNS, read_runs};
 use sched_effect::Ran;
 use sched_plan::{Plan, PlanFault};
 use sched_plan_json::{ReadFault, read_plan};
@@ -15,7 +15,7 @@ use std::alloc::Global;
 use std::marker::Model;
 
 /// The most jobs of one text.
-pub const MOST_JOBS: usize = 4096;
+pub const MAX_JOBS: usize = 4096;
 
 /// A number is outside its range.
 pub(crate) const OUT_OF_RANGE: ReadFault = ReadFault::Plan(PlanFault::OutOfRange);
@@ -85,7 +85,7 @@ fn read_all(alloc: Global, items: &[Value]) -> Result<Vec<JobRead>, ReadFault>
     ensures jobs { Lists result (jobs_in (items_view items.now)) }
     ensures few { IfOk result (λ jobs. vec_len jobs ≤ 4096) }
 {
-    if items.len() > MOST_JOBS {
+    if items.len() > MAX_JOBS {
         return Err(OUT_OF_RANGE);
     }
     read_each(alloc, items)
@@ -113,7 +113,7 @@ pub fn read_job(alloc: Global, value: &Value) -> Result<JobRead, ReadFault>
     ensures asked { OnOk result (IsTrue (job_in (view value.now)).asked) }
 {
     let (plan, runs) = plan_and_runs(value)?;
-    if runs.is_empty() || runs.len() > MOST_RUNS {
+    if runs.is_empty() || runs.len() > MAX_RUNS {
         return Err(OUT_OF_RANGE);
     }
     read_parts(alloc, plan, runs)

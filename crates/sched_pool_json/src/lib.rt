@@ -4,5 +4,5 @@
 mod jobs;
 mod runs;
 
-pub use jobs::{JobRead, MOST_JOBS, plan_and_runs, read_job, read_jobs};
-pub use runs::{MOST_RUNS, read_run};
+pub use jobs::{JobRead, MAX_JOBS, plan_and_runs, read_job, read_jobs};
+pub use runs::{MAX_RUNS, read_run};

@@ -13,7 +13,7 @@ use serde_json::Value;
 use std::alloc::Global;
 
 /// The most runs that a job's script may have.
-pub const MOST_RUNS: usize = 64;
+pub const MAX_RUNS: usize = 64;
 
 /// The runs of a script, in order.
 pub(crate) fn read_runs(alloc: Global, items: &[Value]) -> Result<Vec<Ran>, ReadFault>

@@ -21,7 +21,6 @@ pub use parameters::{BrownOut, Draws, Parameters, Span};
 pub use report::{Report, Totals};
 pub use score::Counts;
 pub use storm::{
-    MOST_CALLS, MOST_EACH, MOST_MILLIS, MOST_REQUESTS, MOST_SECONDS, MOST_UNTIL, MOST_WINDOWS,
-    Storm,
+    MAX_CALLS, MAX_EACH, MAX_MILLIS, MAX_REQUESTS, MAX_SECONDS, MAX_UNTIL, MAX_WINDOWS, Storm,
 };
 pub use tally::Window;

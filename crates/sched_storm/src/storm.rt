@@ -9,25 +9,25 @@ use sched_ticket_quota::{MAX_RESERVE, MAX_SHARE, MIN_PERIOD, Terms};
 use std::marker::Model;
 
 /// The greatest rate, herd and capacity.
-pub const MOST_EACH: u64 = 1000000;
+pub const MAX_EACH: u64 = 1000000;
 
 /// The most seconds for which requests come.
-pub const MOST_SECONDS: u64 = 3600;
+pub const MAX_SECONDS: u64 = 3600;
 
 /// The most requests, and the longest queue.
-pub const MOST_REQUESTS: u64 = 1048576;
+pub const MAX_REQUESTS: u64 = 1048576;
 
 /// The longest patience and window, and the latest end of an outage and of a brown-out, in milliseconds.
-pub const MOST_MILLIS: u64 = 3600000;
+pub const MAX_MILLIS: u64 = 3600000;
 
 /// The last moment that may be played.
-pub const MOST_UNTIL: u64 = 7200000;
+pub const MAX_UNTIL: u64 = 7200000;
 
 /// The greatest number of the last window.
-pub const MOST_WINDOWS: u64 = 65536;
+pub const MAX_WINDOWS: u64 = 65536;
 
 /// The most calls before a storm is cut.
-pub const MOST_CALLS: u64 = 4294967296;
+pub const MAX_CALLS: u64 = 4294967296;
 
 /// A storm: parameters that are in their ranges.
 #[derive(Clone, Copy, Debug)]
@@ -108,22 +108,22 @@ fn are_requests(p: &Parameters) -> bool
     ensures { IsTrue result ↔ RequestsAreInRange p.now }
 {
     1 <= p.rate
-        && p.rate <= MOST_EACH
+        && p.rate <= MAX_EACH
         && 1 <= p.together
-        && p.together <= MOST_EACH
+        && p.together <= MAX_EACH
         && 1 <= p.seconds
-        && p.seconds <= MOST_SECONDS
-        && p.rate.saturating_mul(p.seconds) <= MOST_REQUESTS
+        && p.seconds <= MAX_SECONDS
+        && p.rate.saturating_mul(p.seconds) <= MAX_REQUESTS
 }
 
 fn is_peer(p: &Parameters) -> bool
     ensures { IsTrue result ↔ PeerIsInRange p.now }
 {
     1 <= p.capacity
-        && p.capacity <= MOST_EACH
+        && p.capacity <= MAX_EACH
         && 1 <= p.patience
-        && p.patience <= MOST_MILLIS
-        && p.queue <= MOST_REQUESTS
+        && p.patience <= MAX_MILLIS
+        && p.queue <= MAX_REQUESTS
         && is_span(p.outage)
         && is_slow(p.slow)
 }
@@ -132,17 +132,17 @@ fn is_report(p: &Parameters) -> bool
     ensures { IsTrue result ↔ ReportIsInRange p.now }
 {
     1 <= p.window
-        && p.window <= MOST_MILLIS
-        && p.until / p.window <= MOST_WINDOWS
-        && p.until <= MOST_UNTIL
+        && p.window <= MAX_MILLIS
+        && p.until / p.window <= MAX_WINDOWS
+        && p.until <= MAX_UNTIL
         && 1 <= p.calls
-        && p.calls <= MOST_CALLS
+        && p.calls <= MAX_CALLS
 }
 
 fn is_span(span: Span) -> bool
     ensures { IsTrue result ↔ IsSpan span }
 {
-    span.from <= span.to && span.to <= MOST_MILLIS
+    span.from <= span.to && span.to <= MAX_MILLIS
 }
 
 fn is_slow(slow: Option<BrownOut>) -> bool

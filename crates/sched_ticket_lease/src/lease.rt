@@ -7,7 +7,7 @@ use sched_ticket_quota::Terms;
 use sched_time::FAR;
 
 /// The most requests of a window that count, and the most tickets of a quota's window.
-const MOST: u64 = 4294967296;
+const MAX_TICKETS: u64 = 4294967296;
 
 /// What the leases of a window are taken of.
 #[derive(Clone, Copy, Debug, PartialEq, Eq, Drop)]
@@ -59,7 +59,7 @@ impl Grants {
     {
         match self {
             Grants::Budget(limit) => limit,
-            Grants::Quota(terms) => room(terms, asked.min(MOST)),
+            Grants::Quota(terms) => room(terms, asked.min(MAX_TICKETS)),
         }
     }
 }
@@ -70,7 +70,7 @@ fn room(terms: Terms, asked: u64) -> u64
     ensures { result ≡ allowed terms asked }
 {
     let shares = terms.share.saturating_mul(asked) / 1000;
-    terms.reserve.saturating_add(shares).min(MOST)
+    terms.reserve.saturating_add(shares).min(MAX_TICKETS)
 }
 
 impl Stored {

@@ -13,7 +13,7 @@ engine in `libhikebox.so`, which this package calls.
 
 from ._deadline import seconds_left
 from ._tickets import Refusal, RefusalReason, Ticket
-from ._time import FAR, Duration, Milliseconds, milliseconds
+from ._time import MAX_NUMBER, Duration, Milliseconds, milliseconds
 from .budget import Budget
 from .builders import (
     decorrelated,
@@ -62,7 +62,7 @@ from .version import VERSION
 __version__ = VERSION
 
 __all__ = [
-    "FAR",
+    "MAX_NUMBER",
     "AsyncRepeating",
     "AsyncRetrying",
     "Attempt",

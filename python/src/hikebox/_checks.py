@@ -4,13 +4,13 @@ from __future__ import annotations
 
 from typing import Any
 
-from ._time import FAR, Duration, seconds
+from ._time import MAX_NUMBER, Duration, seconds
 from .errors import Fault, PolicyError
 
 __all__ = ["factor_of", "interval", "ratio", "thousandths", "whole"]
 
 
-def whole(number: Any, what: str, least: int = 0, most: int = FAR) -> int:
+def whole(number: Any, what: str, least: int = 0, most: int = MAX_NUMBER) -> int:
     """A whole number within these bounds; `what` it is stands in the error."""
     if type(number) is int and least <= number <= most:
         return number

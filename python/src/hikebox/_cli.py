@@ -12,14 +12,14 @@ from typing import Any, Callable, Iterator, List, NoReturn, Optional, Set, Union
 from . import _words
 from ._plan_picture import plan_picture
 from ._arguments import Parser
-from ._run import MOST_OUTPUT, RunOptions, run_command
+from ._run import MAX_OUTPUT, RunOptions, run_command
 from ._seeded import seeded
 from ._storm_axes import axes_text
 from ._storm_command import result_of
 from ._storm_options import add_storm_options
 from ._streams import settle
-from ._svg import LEAST_WIDTH, MOST_WIDTH
-from ._time import FAR, milliseconds
+from ._svg import MAX_WIDTH, MIN_WIDTH
+from ._time import MAX_NUMBER, milliseconds
 from .errors import BudgetError, Fault, PolicyError, StoreError, StormError
 from .policy import Policy
 from .version import VERSION
@@ -30,7 +30,7 @@ __all__ = ["main"]
 DEFAULT = "recurs(4) & exponential(1, 2).cap(30).jittered()"
 
 BAD_COMMAND_LINE, BAD_INPUT, BAD_STREAM, NO_MEMORY, NOT_FINISHED = 2, 3, 4, 5, 6
-MOST_BYTES = 1 << 20
+MAX_BYTES = 1 << 20
 
 _RUN = f"""\
 Runs the command until it succeeds or no retry is left, and exits with the status of its last attempt. The status is 127
@@ -105,7 +105,7 @@ def _fails(line: str, status: int) -> int:
 
 
 #: How the width of a picture is given.
-_WIDE: Any = {"metavar": "N", "type": _words.number(MOST_WIDTH, LEAST_WIDTH), "default": 760}
+_WIDE: Any = {"metavar": "N", "type": _words.number(MAX_WIDTH, MIN_WIDTH), "default": 760}
 
 
 def _parser() -> Parser:
@@ -142,7 +142,7 @@ def _add_run(commands: Any) -> None:
     run.add_argument("--replay-input", action="store_true", help="give each attempt the whole standard input")
     run.add_argument("--last-output", action="store_true", help="print the standard output of the last attempt only")
     limit = "with --last-output, fail where an attempt has more output, in bytes or as 10K, 10M, 10G (1G)"
-    run.add_argument("--output-limit", metavar="SIZE", type=_words.size, default=MOST_OUTPUT, help=limit)
+    run.add_argument("--output-limit", metavar="SIZE", type=_words.size, default=MAX_OUTPUT, help=limit)
     tells = run.add_mutually_exclusive_group()
     tells.add_argument("--verbose", "-v", action="store_true", help="tell on standard error what happens")
     tells.add_argument("--quiet", "-q", action="store_true", help="on a terminal, show no line while it waits")
@@ -156,15 +156,17 @@ def _add_plan(commands: Any) -> None:
     plan.add_argument("file", nargs="*", metavar="POLICY", help=several)
     plan.add_argument("--steps", type=_words.number(4096), default=10, metavar="N", help="how many events at most (10)")
     plan.add_argument(
-        "--from", type=_words.number(FAR), default=0, metavar="M", dest="start", help="the first moment (0)"
+        "--from", type=_words.number(MAX_NUMBER), default=0, metavar="M", dest="start", help="the first moment (0)"
     )
     plan.add_argument(
-        "--took", type=_words.number(FAR), default=0, metavar="M", help="how long each further call takes (0)"
+        "--took", type=_words.number(MAX_NUMBER), default=0, metavar="M", help="how long each further call takes (0)"
     )
     codes = plan.add_mutually_exclusive_group()
-    codes.add_argument("--input", type=_words.number(FAR), default=0, metavar="N", help="the code of each failure (0)")
+    codes.add_argument(
+        "--input", type=_words.number(MAX_NUMBER), default=0, metavar="N", help="the code of each failure (0)"
+    )
     in_turn = "the codes of the failures, in turn; the last one repeats"
-    codes.add_argument("--inputs", type=_words.inputs(FAR), metavar="A,B,..", help=in_turn)
+    codes.add_argument("--inputs", type=_words.inputs(MAX_NUMBER), metavar="A,B,..", help=in_turn)
     words = plan.add_mutually_exclusive_group()
     words.add_argument(
         "--word", type=_words.number(2**32 - 1), default=2**31, metavar="W", help="each random word (middle)"
@@ -201,7 +203,7 @@ def _add_storm(commands: Any) -> None:
     shown = "print each window with a bar of its calls, in colour on a terminal unless NO_COLOR is set"
     forms.add_argument("--bars", action="store_true", help=shown)
     columns = "the width of the picture, from 280 to 4000 (760), or of the lines of --bars, from 72 to 1000 (80)"
-    storm.add_argument("--width", metavar="N", type=_words.number(MOST_WIDTH, 72), help=columns)
+    storm.add_argument("--width", metavar="N", type=_words.number(MAX_WIDTH, 72), help=columns)
     storm.add_argument("--detail", action="store_true", help="show in the picture why calls failed")
     storm.add_argument("--title", metavar="TEXT", help="the title of the picture, in place of the policy")
     name = "the name of a storm in a picture or a table; give one for each storm"
@@ -255,7 +257,7 @@ def _run(given: Any) -> int:
         quiet=given.quiet,
         replay_input=given.replay_input,
         last_output=given.last_output,
-        most_output=given.output_limit,
+        max_output=given.output_limit,
     )
     logging.getLogger("hikebox").addHandler(_Told())
     try:
@@ -361,10 +363,10 @@ def _read(source: Union[int, str]) -> bytes:
     """The bytes of a file, or of standard input."""
     try:
         with open(source, "rb", closefd=source != 0) as file:
-            text = file.read(MOST_BYTES + 1)
+            text = file.read(MAX_BYTES + 1)
     except OSError as error:
         _stop(f"read failed: {source if source else 'standard input'}: {error.strerror}", BAD_STREAM)
-    if len(text) > MOST_BYTES:
+    if len(text) > MAX_BYTES:
         _stop("input too long", BAD_INPUT)
     return text
 

@@ -17,7 +17,7 @@ from ._engine import LOST, NO_DEADLINE, NO_REPORT, OVER, RUN, WAIT
 from ._machine import Machine, is_crowded, lend_machine, park, resumed, take_machine_back
 from ._marks import log_end, log_wait, logger, mark
 from ._preview import word_of
-from ._time import FAR, HAIR
+from ._time import FLOAT_ERROR, MAX_NUMBER
 from .errors import ResultRefused
 from .state import ENDINGS, Ending, Outcome, RetryState
 
@@ -293,7 +293,7 @@ class Course:
         if settings.retry_after is None and settings.wait is None:
             return False
         self._asked = self._asked_for()
-        return self._asked > 0.0 and self._asked > limit.left() + HAIR / 1000
+        return self._asked > 0.0 and self._asked > limit.left() + FLOAT_ERROR / 1000
 
     def _asked_for(self) -> float:
         """How many seconds `retry_after` and `wait` ask for, up to `max_retry_after`."""
@@ -312,7 +312,7 @@ class Course:
         state = self.state
         state.upcoming_sleep = 0.0
         seconds = self._clock() - state.start_time + self._ahead
-        if seconds * 1000 + HAIR < self._until:
+        if seconds * 1000 + FLOAT_ERROR < self._until:
             self._ahead += self._until / 1000 - seconds
             seconds = self._until / 1000
             if state.limit is not None:
@@ -436,7 +436,7 @@ class Course:
         machine = lend_machine()
         drawn_on, plan, most = settings.drawn_on, settings.policy.plan, settings.deadline_millis
         self._origin = drawn_on.moment_of(self.state.start_time)
-        deadline = NO_DEADLINE if most is None else min(FAR, self._origin + most)
+        deadline = NO_DEADLINE if most is None else min(MAX_NUMBER, self._origin + most)
         drawn_on.begin_retry(machine, plan, deadline)
         self._generation = drawn_on.generation
         self._machine = machine
@@ -466,9 +466,9 @@ class Course:
     def _moment(self, seconds: float) -> int:
         """The first whole millisecond that is not before that, never less than before, and at most the last one that
         there is."""
-        moment = ceil(seconds * 1000 - HAIR)
+        moment = ceil(seconds * 1000 - FLOAT_ERROR)
         if moment > self._last:
-            self._last = min(FAR - self._origin, moment)
+            self._last = min(MAX_NUMBER - self._origin, moment)
         return self._last
 
 

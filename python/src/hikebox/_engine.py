@@ -70,21 +70,21 @@ NOT_OUT = 51
 HELD_ALREADY = 52
 
 #: The most tickets of a budget, and of a window of a quota.
-MOST_TICKETS = 2**32
+MAX_TICKETS = 2**32
 #: The most thousandths of a ticket that a request gives.
-MOST_SHARE = 1_000_000
+MAX_SHARE = 1_000_000
 #: The fewest milliseconds of a quota's window.
-LEAST_PERIOD = 100
+MIN_PERIOD = 100
 
 #: The greatest number that the engine takes.
-MOST_NUMBER = 2**64 - 1
+MAX_UINT64 = 2**64 - 1
 
 #: The deadline of a retry that has none.
 NO_DEADLINE = 2**64 - 1
 #: The bound of a policy whose nodes give none.
 NO_BOUND = 2**64 - 1
 #: The most events of a course.
-MOST_STEPS = 4096
+MAX_STEPS = 4096
 
 NO_REPORT, WON, LOST = 0, 1, 2
 POLL, RUN, WAIT, OVER = 0, 1, 2, 3
@@ -365,7 +365,7 @@ def play_storm(policy: PolicyHandle, storm: Storm) -> Tuple[List[Tuple[int, ...]
 
 class Pass:
     """A pass of a budget, of a quota or of nothing. Who holds it joins it into another, closes what it is of with it,
-    or frees it. Moments are whole milliseconds from 0 to FAR."""
+    or frees it. Moments are whole milliseconds from 0 to MAX_NUMBER."""
 
     __slots__ = ("handle", "at", "_now", "_ticket", "_at_ticket")
 

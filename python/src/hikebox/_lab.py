@@ -25,7 +25,7 @@ from ._svg import STYLE
 
 __all__ = ["Lab", "run_lab"]
 
-_MOST_BYTES = 1 << 20
+_MAX_BYTES = 1 << 20
 _FILES = {"": ("page.html", "text/html"), "lab.css": ("lab.css", "text/css"), "lab.js": ("lab.js", "text/javascript")}
 _FOLDER = Path(__file__).resolve().parent / "lab"
 
@@ -163,11 +163,11 @@ class _Handler(BaseHTTPRequestHandler):
         length = self.headers.get("Content-Length", "")
         if (
             not (length.isascii() and length.isdigit())
-            or int(length) > _MOST_BYTES
+            or int(length) > _MAX_BYTES
             or self.headers.get_content_type() != "application/json"
         ):
             self.close_connection = True
-            self._answers(400, "text/plain", f"expected JSON of at most {_MOST_BYTES} bytes\n")
+            self._answers(400, "text/plain", f"expected JSON of at most {_MAX_BYTES} bytes\n")
             return None
         try:
             asked = json.loads(self.rfile.read(int(length)))

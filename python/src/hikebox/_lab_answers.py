@@ -15,7 +15,7 @@ from ._storm_options import tickets_of
 from ._storm_picture import storm_picture
 from ._storm_terms import RANGES, Parameters, Slow, Span
 from ._storm_words import recovery_mark, sentences, share_text
-from ._svg import LEAST_WIDTH, MOST_WIDTH
+from ._svg import MAX_WIDTH, MIN_WIDTH
 from ._sweep_picture import sweep_picture
 from .errors import BudgetError, StormError
 from .policy import Policy
@@ -25,7 +25,7 @@ from .sweeps import swept
 
 __all__ = ["BadRequest", "plan_answer", "start_answer", "storm_answer", "sweep_answer"]
 
-_MOST_SIDES = 4
+_MAX_SIDES = 4
 #: The values of a sweep, as parts of the number that the page has, and for a share in thousandths.
 _PARTS = (0.25, 0.5, 0.75, 1.0, 1.25, 1.5, 1.75, 2.0)
 _SHARES = (0, 25, 50, 100, 150, 200, 300, 400)
@@ -145,7 +145,7 @@ def _fault(error: StormError) -> Json:
 
 def _sides(asked: Json) -> List[Optional[Tuple[Policy, Tickets]]]:
     sides = asked.get("sides")
-    if not isinstance(sides, list) or len(sides) > _MOST_SIDES or not all(map(_is_object, sides)):
+    if not isinstance(sides, list) or len(sides) > _MAX_SIDES or not all(map(_is_object, sides)):
         raise BadRequest("sides: expected a list of objects")
     return [_side(side) for side in sides]
 
@@ -208,4 +208,4 @@ def _text(asked: Json, name: str) -> str:
 
 
 def _width(asked: Json) -> int:
-    return min(MOST_WIDTH, max(LEAST_WIDTH, _whole("width", asked.get("width", 560))))
+    return min(MAX_WIDTH, max(MIN_WIDTH, _whole("width", asked.get("width", 560))))

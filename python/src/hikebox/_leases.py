@@ -12,7 +12,7 @@ from ._forks import begins_anew_in_a_child
 from ._leasing import Grant, LeasedPass, LeasedTicket
 from ._stores import Range, checked_name
 from ._tickets import Drawn, Refusal, RefusalReason, Ticket, checked_ticket
-from ._time import FAR, HAIR
+from ._time import FLOAT_ERROR, MAX_NUMBER
 from .errors import StoreError, StoreLost, TicketError
 
 __all__ = ["Leases", "Moments"]
@@ -42,18 +42,18 @@ class Moments:
     def of(self, seconds: Optional[float]) -> int:
         """The millisecond that these seconds of the clock are in; the last one for None."""
         if seconds is None:
-            return FAR
-        return max(0, min(FAR, math.floor((seconds - self._origin) * 1000 + HAIR) + _BEGINS))
+            return MAX_NUMBER
+        return max(0, min(MAX_NUMBER, math.floor((seconds - self._origin) * 1000 + FLOAT_ERROR) + _BEGINS))
 
     def after(self, seconds: Optional[float]) -> int:
         """The first whole millisecond that does not begin before these seconds; the last one for None."""
         if seconds is None:
-            return FAR
-        return max(0, min(FAR, math.ceil((seconds - self._origin) * 1000 - HAIR) + _BEGINS))
+            return MAX_NUMBER
+        return max(0, min(MAX_NUMBER, math.ceil((seconds - self._origin) * 1000 - FLOAT_ERROR) + _BEGINS))
 
     def seconds(self, moment: int) -> Optional[float]:
         """The seconds of the clock at which a moment begins, or None for the last one."""
-        return None if moment >= FAR else (moment - _BEGINS) / 1000 + self._origin
+        return None if moment >= MAX_NUMBER else (moment - _BEGINS) / 1000 + self._origin
 
 
 class Leases:

@@ -10,7 +10,7 @@ from ._engine import (
     BACKWARDS,
     HELD_ALREADY,
     LEASE_WANTED,
-    MOST_NUMBER,
+    MAX_UINT64,
     NO_TICKET,
     NOT_OUT,
     OK,
@@ -52,7 +52,7 @@ SIGNATURES: Dict[str, Tuple[Any, ...]] = {
 def quota_allows(reserve: int, share: int, asked: int) -> int:
     """How many tickets a window of so many requests may give, by a quota of these terms."""
     tickets = c_uint64()
-    status = library.hikebox_quota_allows(reserve, share, min(asked, MOST_NUMBER), byref(tickets))
+    status = library.hikebox_quota_allows(reserve, share, min(asked, MAX_UINT64), byref(tickets))
     if status != OK:
         raise refused("hikebox_quota_allows", status)
     return tickets.value
@@ -71,7 +71,7 @@ def lease_of_quota(terms: Tuple[int, int, int], window: int, told: int, wanted: 
     """The same of a window of a quota with these terms, in which so many requests more are told."""
     reserve, share, _ = terms
     range_ = Range()
-    asking = Asking(window, min(told, MOST_NUMBER), wanted)
+    asking = Asking(window, min(told, MAX_UINT64), wanted)
     status = library.hikebox_lease_of_quota(reserve, share, byref(asking), byref(stored), byref(range_))
     return _range("hikebox_lease_of_quota", status, range_)
 
@@ -102,7 +102,7 @@ def _call(name: str) -> Any:
 
 
 class LeasedPass:
-    """A pass that draws of what a store granted. Moments are whole milliseconds from 0 to FAR."""
+    """A pass that draws of what a store granted. Moments are whole milliseconds from 0 to MAX_NUMBER."""
 
     __slots__ = ("handle", "at", "_free")
 

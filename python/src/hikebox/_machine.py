@@ -149,7 +149,7 @@ def _begun(call: str, status: int) -> bool:
 
 #: Machines that hold no retry, for the next ones; those of many concurrent retries are given up.
 _machines: List[Machine] = []
-_MOST_MACHINES = 64
+_MAX_MACHINES = 64
 
 
 class _Crowd:
@@ -188,7 +188,7 @@ def lend_machine() -> Machine:
 def take_machine_back(machine: Machine) -> None:
     """Takes a machine back, and frees its retry where it holds one."""
     machine.free()
-    if len(_machines) < _MOST_MACHINES:
+    if len(_machines) < _MAX_MACHINES:
         _machines.append(machine)
     else:
         _crowd.machines -= 1
@@ -197,7 +197,7 @@ def take_machine_back(machine: Machine) -> None:
 
 def is_crowded() -> bool:
     """Whether so many retries are under way that those which wait should be parked."""
-    return not _machines and _crowd.machines > _MOST_MACHINES
+    return not _machines and _crowd.machines > _MAX_MACHINES
 
 
 def park(machine: Machine) -> int:
@@ -214,6 +214,6 @@ def resumed(held: int) -> Machine:
     machine = lend_machine()
     machine.handle.held = held
     _crowd.parked -= 1
-    if _crowd.parked >= _MOST_MACHINES:
+    if _crowd.parked >= _MAX_MACHINES:
         _crowd.leaves()
     return machine

@@ -14,7 +14,7 @@ logger = logging.getLogger("hikebox")
 logger.addHandler(logging.NullHandler())
 
 #: The most notes of its own that an exception keeps, where one object is raised again and again.
-_MOST_NOTES = 8
+_MAX_NOTES = 8
 
 
 def log_wait(state: RetryState, delay: float) -> None:
@@ -63,5 +63,5 @@ def _told(outcome: Optional[Outcome]) -> str:
 def _with_note(notes: List[str], note: str) -> List[str]:
     """An exception's notes with one more."""
     own = [old for old in notes if old.startswith("hikebox: ")]
-    dropped = own[: max(0, len(own) - _MOST_NOTES + 1)]
+    dropped = own[: max(0, len(own) - _MAX_NOTES + 1)]
     return [*(old for old in notes if old not in dropped), note]

@@ -4,14 +4,14 @@ from __future__ import annotations
 
 from typing import Any, Dict, FrozenSet, Iterator, List, Sequence, Tuple
 
-__all__ = ["FOLDS", "FORMS", "MOST_DEPTH", "MOST_NODES", "NAMES", "parts_of", "reads_of", "reads_of_node", "walk"]
+__all__ = ["FOLDS", "FORMS", "MAX_DEPTH", "MAX_NODES", "NAMES", "parts_of", "reads_of", "reads_of_node", "walk"]
 
 #: The leaves that are spelt as a string alone.
 NAMES = ("forever", "elapsed", "identity")
 
 #: The most nodes of a policy, and the most of them one below another.
-MOST_NODES = 256
-MOST_DEPTH = 32
+MAX_NODES = 256
+MAX_DEPTH = 32
 
 #: How outputs are gathered.
 FOLDS = ("sum", "count", "max", "list")

@@ -12,7 +12,7 @@ from .policy import Policy
 __all__ = ["plan_picture"]
 
 #: So many calls are drawn at most.
-_MOST = 60
+_MAX_STEPS = 60
 _LEFT, _RIGHT, _ROW, _FOOT = 64, 136, 22, 44
 #: Above the rows of a policy, beside the lines of its text.
 _ABOVE = 24
@@ -59,7 +59,7 @@ def plan_picture(
     """The calls of policies, one below the other, as `preview` plays each with the same options, as SVG so many units
     wide. `random` makes the random numbers of one policy."""
     how: Any = {"start": start, "took": took, "input": input if isinstance(input, int) else list(input)}
-    drawn = [_played(policy, min(steps, _MOST), random and random(), how) for policy in policies]
+    drawn = [_played(policy, min(steps, _MAX_STEPS), random and random(), how) for policy in policies]
     last = max([call.last for calls in drawn for call in calls], default=0)
     heads = [headed(repr(policy), width - 24) for policy in policies]
     legend = _legend_lines(drawn, width)

@@ -7,7 +7,7 @@ from dataclasses import dataclass
 from typing import Any, Callable, List, Optional
 
 from ._checks import whole
-from ._engine import MOST_STEPS
+from ._engine import MAX_STEPS
 from ._plan import Plan
 
 __all__ = ["Step", "played", "word_of"]
@@ -54,7 +54,7 @@ def played(
     the moment `start`, and each other one `took` milliseconds after its planned start. Their inputs are these codes,
     the last one again and again; their words are picked by `random`, or in the middle."""
     most = plan.size()[2]
-    count = whole(max(0, steps), "preview: steps", 0, MOST_STEPS)
+    count = whole(max(0, steps), "preview: steps", 0, MAX_STEPS)
     if most is not None:
         count = min(count, most + 1)
     if count == 0:

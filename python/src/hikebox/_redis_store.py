@@ -5,7 +5,7 @@ from __future__ import annotations
 import contextlib
 from typing import Any, Callable, Iterator, List, Optional, Tuple
 
-from ._engine import MOST_TICKETS
+from ._engine import MAX_TICKETS
 from ._leasing import Stored, lease_of_budget
 from ._stores import Present, QuotaRange, Range, present_window
 from .errors import StoreError, StoreLost
@@ -95,7 +95,7 @@ class RedisStore:
             if server is None:
                 return QuotaRange(0, 0, present.until, present.number, 0, lost=True)
             key = f"{self._key(name)}:quota:{terms.period}:{present.number}"
-            wanted = (asked(present.began_by), count, terms.reserve, terms.share, MOST_TICKETS, 2 * terms.period)
+            wanted = (asked(present.began_by), count, terms.reserve, terms.share, MAX_TICKETS, 2 * terms.period)
             pipe = self._transaction()
             pipe.eval(GRANT, 1, key, *wanted)
             ((before, tickets, requests),) = self._answers(pipe, server)

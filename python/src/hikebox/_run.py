@@ -50,7 +50,7 @@ _USING = (signal.SIGTTIN, signal.SIGTTOU)
 #: Where a file without a name is kept if TMPDIR says nothing: on a disk, and not in memory, as /tmp may be.
 _KEPT_IN = "/var/tmp"
 #: How many bytes of an attempt's output are held back at most, and how many seconds pass until that is looked at.
-MOST_OUTPUT = 1 << 30
+MAX_OUTPUT = 1 << 30
 _LOOKS = 0.1
 
 
@@ -74,7 +74,7 @@ class RunOptions:
     replay_input: bool = False
     last_output: bool = False
     #: How many bytes of output are held back at most.
-    most_output: int = MOST_OUTPUT
+    max_output: int = MAX_OUTPUT
 
 
 class _Failed(Exception):
@@ -119,7 +119,7 @@ def run_command(command: Sequence[str], options: RunOptions) -> int:
         except _Ended as ended:
             status = ended.status
         except _OutputTooLong:
-            limit = size_text(options.most_output)
+            limit = size_text(options.max_output)
             raise OSError(errno.EFBIG, f"the output is longer than {limit} (--output-limit)") from None
         runner.let_out()
         return status
@@ -246,7 +246,7 @@ class _Runner:
             elif group.until is not None and time.monotonic() >= group.until:
                 timed_out = timed_out or not group.is_told
                 group.end()
-            elif self.output is not None and os.fstat(self.output).st_size > self.options.most_output:
+            elif self.output is not None and os.fstat(self.output).st_size > self.options.max_output:
                 self._end_rest(group)
                 raise _OutputTooLong()
 

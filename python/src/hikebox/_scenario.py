@@ -5,7 +5,7 @@ from __future__ import annotations
 import json
 from typing import Any, List, NamedTuple, Optional, Tuple, Union
 
-from ._engine import MOST_TICKETS
+from ._engine import MAX_TICKETS
 from ._storm_terms import RANGES, SCENARIOS, Parameters, Slow, Span
 from ._words import terms
 from .errors import BudgetError, PolicyError, StormError
@@ -17,7 +17,7 @@ __all__ = ["Line", "Scenario", "scenario_of"]
 #: What a scenario has, what its storm has, and what a line of it has.
 _MEMBERS = {"$schema", "title", "about", "sources", "left_out", "storm", "lines"}
 _LINE = {"name", "policy", "limit"}
-_MOST_BYTES = 1 << 20
+_MAX_BYTES = 1 << 20
 
 
 class Line(NamedTuple):
@@ -42,12 +42,12 @@ def scenario_of(word: str) -> Scenario:
         return Scenario(SCENARIOS[word])
     try:
         with open(word, "rb") as file:
-            text = file.read(_MOST_BYTES + 1)
+            text = file.read(_MAX_BYTES + 1)
     except OSError as error:
         known = ", ".join(sorted(SCENARIOS))
         raise StormError("scenario", f"expected {known} or a file, got {word!r}: {error.strerror}") from None
-    if len(text) > _MOST_BYTES:
-        raise StormError("scenario", f"{word}: expected at most {_MOST_BYTES} bytes")
+    if len(text) > _MAX_BYTES:
+        raise StormError("scenario", f"{word}: expected at most {_MAX_BYTES} bytes")
     try:
         told = json.loads(text)
     except (ValueError, RecursionError) as error:
@@ -107,8 +107,8 @@ def _limit(place: str, limit: Any) -> Union[None, int, Terms]:
         return terms_of(*terms(limit))
     if limit is None:
         return None
-    if not 0 <= _whole(f"{place}.limit", limit) <= MOST_TICKETS:
-        raise StormError(f"{place}.limit", f"expected 0 to {MOST_TICKETS}, got {limit}")
+    if not 0 <= _whole(f"{place}.limit", limit) <= MAX_TICKETS:
+        raise StormError(f"{place}.limit", f"expected 0 to {MAX_TICKETS}, got {limit}")
     return int(limit)
 
 

@@ -12,7 +12,7 @@ from . import _kinds
 from ._deadline import Limit
 from ._drawing import ByCall, Drawing
 from ._passes import NO_BUDGET, DrawnOn
-from ._time import FAR, Duration, seconds
+from ._time import MAX_NUMBER, Duration, seconds
 from ._waits import pause_of, sleep_of
 from .budget import Budget
 from .errors import BudgetClosed, TryAgain
@@ -171,8 +171,8 @@ class Settings:
         if self.code is None:
             return code_of(failure)
         number = self.code(failure)
-        if isinstance(number, bool) or not isinstance(number, int) or not 0 <= number <= FAR:
-            raise ValueError(f"code: expected a whole number from 0 to {FAR}, got {number!r}")
+        if isinstance(number, bool) or not isinstance(number, int) or not 0 <= number <= MAX_NUMBER:
+            raise ValueError(f"code: expected a whole number from 0 to {MAX_NUMBER}, got {number!r}")
         return number
 
 

@@ -13,10 +13,10 @@ from .quota import Terms
 if TYPE_CHECKING:
     from .storm import Storm
 
-__all__ = ["AXES", "MEASURES", "MOST_VALUES", "NEVER", "Axis", "Measure", "axes_text", "values_of"]
+__all__ = ["AXES", "MAX_VALUES", "MEASURES", "NEVER", "Axis", "Measure", "axes_text", "values_of"]
 
 #: So many values has a sweep at most.
-MOST_VALUES = 64
+MAX_VALUES = 64
 #: What a measure gives where the storm has no such moment.
 NEVER = float("inf")
 
@@ -161,8 +161,8 @@ def values_of(text: str) -> Tuple[str, List[int]]:
         raise StormError("sweep", f"expected a count of values after {spelt!r}, as {name}={spelt}/8, got none")
     begins, ends = _number(name, begins_spelt, grain), _number(name, ends_spelt, grain)
     steps = int(count) - 1 if re.fullmatch("[0-9]{1,4}", count) else 0
-    if not 1 <= steps < MOST_VALUES or begins >= ends:
-        expected = f"expected FROM below TO and a COUNT from 2 to {MOST_VALUES}"
+    if not 1 <= steps < MAX_VALUES or begins >= ends:
+        expected = f"expected FROM below TO and a COUNT from 2 to {MAX_VALUES}"
         raise StormError("sweep", f"{expected}, as {name}={AXES[name].example}, got {spelt!r}")
     return name, _checked(name, [round(begins + (ends - begins) * index / steps) for index in range(steps + 1)])
 
@@ -188,7 +188,7 @@ def _number(name: str, word: str, grain: int) -> int:
 
 def _checked(name: str, values: List[int]) -> List[int]:
     """The values, where each is greater than the one before."""
-    if not 1 <= len(values) <= MOST_VALUES or any(high <= low for low, high in zip(values, values[1:])):
-        expected = f"expected 1 to {MOST_VALUES} values, each greater than the one before"
+    if not 1 <= len(values) <= MAX_VALUES or any(high <= low for low, high in zip(values, values[1:])):
+        expected = f"expected 1 to {MAX_VALUES} values, each greater than the one before"
         raise StormError("sweep", f"{expected}, as {name}={AXES[name].example}, got {values}")
     return values

@@ -14,7 +14,7 @@ if TYPE_CHECKING:
 __all__ = ["bars", "has_colour"]
 
 #: The widths of lines.
-_LEAST, _MOST = 72, 1000
+_MIN_WIDTH, _MAX_WIDTH = 72, 1000
 _NAMES = ("won %", "from ms", "requests", "retries", "failed", "waiting")
 _KEY = "# request, + retry"
 _GREEN, _RED, _YELLOW, _PLAIN = "\033[32m", "\033[31m", "\033[33m", "\033[0m"
@@ -28,8 +28,8 @@ def has_colour() -> bool:
 def bars(storms: Sequence[Storm], names: Sequence[str], width: int = 80, colour: bool = False) -> str:
     """The windows of storms, each with a bar of its calls, in lines of this width. All bars have one scale, which is
     written at the end."""
-    if not _LEAST <= width <= _MOST:
-        raise StormError("width", f"{width} is not from {_LEAST} to {_MOST}")
+    if not _MIN_WIDTH <= width <= _MAX_WIDTH:
+        raise StormError("width", f"{width} is not from {_MIN_WIDTH} to {_MAX_WIDTH}")
     most = max(storm.totals.most_calls for storm in storms)
     cells = [_cells(row) for storm in storms for row in storm.rows]
     widths = [max(len(name), *(len(row[at]) for row in cells)) for at, name in enumerate(_NAMES)]

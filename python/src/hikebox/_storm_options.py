@@ -7,7 +7,7 @@ import re
 from typing import Any, List, Optional, Tuple, Union
 
 from . import _words
-from ._engine import MOST_TICKETS
+from ._engine import MAX_TICKETS
 from ._storm_axes import MEASURES
 from ._storm_terms import RANGES, Parameters, Slow, Span
 from ._svg import fitted
@@ -17,7 +17,7 @@ from .quota import Terms, terms_of
 __all__ = ["add_storm_options", "limits_of", "parameters_of", "tickets_of"]
 
 #: So long is the longest text of a budget or a quota.
-_LONGEST = 100
+_MAX_TEXT = 100
 
 _HELP = {
     "rate": "requests a second (800)",
@@ -57,7 +57,7 @@ def add_storm_options(storm: argparse.ArgumentParser) -> None:
     storm.add_argument("--slow", type=_slow, metavar="FROM..TO@PERCENT", help=slow)
     limits: Any = {"dest": "limits", "action": "append", "default": []}
     budget = "limit all retries to N; each --budget and --quota is a storm of its own"
-    storm.add_argument("--budget", type=_words.number(MOST_TICKETS), metavar="N", help=budget, **limits)
+    storm.add_argument("--budget", type=_words.number(MAX_TICKETS), metavar="N", help=budget, **limits)
     quota = "limit the retries in each PERIOD to RESERVE and a SHARE of its requests, as 10/10%/1s"
     shown = quota.replace("%", "%%")
     storm.add_argument("--quota", type=_quota, metavar="RESERVE/SHARE%/PERIOD", help=shown, **limits)
@@ -92,11 +92,11 @@ def tickets_of(text: str) -> Union[None, int, Terms]:
     spelt = text.strip()
     if not spelt:
         return None
-    if spelt.isascii() and spelt.isdigit() and len(spelt) <= _LONGEST:
-        if int(spelt) > MOST_TICKETS:
-            raise BudgetError(f"a budget is from 0 to {MOST_TICKETS}, not {spelt}")
+    if spelt.isascii() and spelt.isdigit() and len(spelt) <= _MAX_TEXT:
+        if int(spelt) > MAX_TICKETS:
+            raise BudgetError(f"a budget is from 0 to {MAX_TICKETS}, not {spelt}")
         return int(spelt)
-    if "/" not in spelt or len(spelt) > _LONGEST:
+    if "/" not in spelt or len(spelt) > _MAX_TEXT:
         raise BudgetError(f"{fitted(spelt, 300)!r} is neither N nor RESERVE/SHARE%/PERIOD, as 10/10%/1s")
     return terms_of(*_words.terms(spelt))
 

@@ -9,7 +9,7 @@ from ._storm_heads import Heads, heads_of
 from ._storm_strips import Axes, Strips, axes_of
 from ._storm_terms import tickets_text
 from ._storm_words import sentences, setting
-from ._svg import LEAST_WIDTH, LINE, MOST_WIDTH, Picture, width_of
+from ._svg import LINE, MAX_WIDTH, MIN_WIDTH, Picture, width_of
 from .errors import StormError
 
 if TYPE_CHECKING:
@@ -18,7 +18,7 @@ if TYPE_CHECKING:
 __all__ = ["storm_picture"]
 
 #: The least width of a panel, the room between two, and the margin of the picture.
-_LEAST_PANEL, _GAP, _MARGIN = 330, 20, 12
+_MIN_PANEL, _GAP, _MARGIN = 330, 20, 12
 #: Below the last panels.
 _FOOT = 22
 
@@ -51,9 +51,9 @@ def storm_picture(
     `detail` adds a strip of the calls that failed, by their reasons; a brief picture has verdicts alone. `title` stands
     in the place of the policy that the storms share, and `names` in the place of what differs.
     """
-    if not LEAST_WIDTH <= width <= MOST_WIDTH:
-        raise StormError("width", f"{width} is not from {LEAST_WIDTH} to {MOST_WIDTH}")
-    columns = min(len(storms), max(1, (width - 2 * _MARGIN + _GAP) // (_LEAST_PANEL + _GAP)))
+    if not MIN_WIDTH <= width <= MAX_WIDTH:
+        raise StormError("width", f"{width} is not from {MIN_WIDTH} to {MAX_WIDTH}")
+    columns = min(len(storms), max(1, (width - 2 * _MARGIN + _GAP) // (_MIN_PANEL + _GAP)))
     wide = (width - 2 * _MARGIN + _GAP) / columns - _GAP
     heads = heads_of(storms, title, names, width - 2 * _MARGIN, wide)
     if is_brief:

@@ -8,11 +8,11 @@ from . import _engine
 from .errors import StormError
 from .quota import Terms
 
-__all__ = ["MOST_SEED", "RANGES", "SCENARIOS", "Parameters", "Slow", "Span", "limit_text", "tickets_text"]
+__all__ = ["MAX_SEED", "RANGES", "SCENARIOS", "Parameters", "Slow", "Span", "limit_text", "tickets_text"]
 
 #: The most requests of a storm, and the most windows after the first.
-MOST_REQUESTS, MOST_WINDOWS = 1_048_576, 65_536
-MOST_SEED = 2**64 - 1
+MAX_REQUESTS, MAX_WINDOWS = 1_048_576, 65_536
+MAX_SEED = 2**64 - 1
 _HOUR = 3_600_000
 
 #: From where to where each number is.
@@ -26,7 +26,7 @@ RANGES: Dict[str, Tuple[int, int]] = {
     "window": (1, _HOUR),
     "until": (0, 2 * _HOUR),
     "calls": (1, 2**32),
-    "words": (0, MOST_SEED),
+    "words": (0, MAX_SEED),
 }
 #: Those that are milliseconds.
 _TIMES = ("patience", "window", "until", "outage", "slow")
@@ -93,9 +93,9 @@ class Parameters(NamedTuple):
             number = getattr(self, name)
             if name != "until" or number is not None:
                 _look_at(name, number, *RANGES[name])
-        if self.rate * self.seconds > MOST_REQUESTS:
+        if self.rate * self.seconds > MAX_REQUESTS:
             asked = f"{self.rate} a second for {self.seconds} s are {self.rate * self.seconds} requests"
-            raise StormError("rate", f"{asked}, and a storm has at most {MOST_REQUESTS}")
+            raise StormError("rate", f"{asked}, and a storm has at most {MAX_REQUESTS}")
         for name, span in (("outage", self.outage), ("slow", self.slow or Span(0, 0))):
             for end in span[:2]:
                 _look_at(name, end, 0, _HOUR)
@@ -103,9 +103,9 @@ class Parameters(NamedTuple):
                 raise StormError(name, f"it ends at {span[1]} ms, before it begins at {span[0]} ms")
         if self.slow is not None and not 1 <= self.slow.percent <= 100:
             raise StormError("slow", f"{self.slow.percent} is not from 1 to 100 % of the capacity")
-        if self.last // self.window > MOST_WINDOWS:
+        if self.last // self.window > MAX_WINDOWS:
             asked = f"{self.last} ms by windows of {self.window} ms are {self.last // self.window + 1} lines"
-            raise StormError("window", f"{asked}, and a report has at most {MOST_WINDOWS + 1}")
+            raise StormError("window", f"{asked}, and a report has at most {MAX_WINDOWS + 1}")
         return self
 
     def for_engine(self) -> _engine.Storm:

@@ -22,7 +22,7 @@ _LABELS = {
     "recovered_ms": "recovered ms",
 }
 #: So many rows of a table are printed at most; of more, some of the midst are left out.
-_MOST_ROWS = 200
+_MAX_ROWS = 200
 
 
 def _time(milliseconds: int) -> str:
@@ -102,8 +102,8 @@ def table(storm: Storm) -> str:
     """The rows in columns, and then what they come to."""
     names = ("from", *storm.rows[0]._fields[1:]) if storm.rows else ()
     lines = [names, *(tuple(map(str, row)) for row in storm.rows)]
-    if len(lines) > _MOST_ROWS + 1:
-        half = _MOST_ROWS // 2
+    if len(lines) > _MAX_ROWS + 1:
+        half = _MAX_ROWS // 2
         lines = [*lines[: half + 1], ("..",) * len(names), *lines[-half:]]
     return "".join(f"{line}\n" for line in [*columns(lines), "", *sentences(storm)]).rstrip("\n")
 

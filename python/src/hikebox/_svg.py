@@ -8,10 +8,10 @@ from html import escape
 from typing import Dict, List, NamedTuple, Tuple
 
 __all__ = [
-    "LEAST_WIDTH",
     "LINE",
     "LINES",
-    "MOST_WIDTH",
+    "MAX_WIDTH",
+    "MIN_WIDTH",
     "STYLE",
     "Picture",
     "fitted",
@@ -93,7 +93,7 @@ STYLE = f"@media (prefers-color-scheme:dark){{{_dark_rules()}}}"
 #: How far lines of text are apart.
 LINE = 16
 #: How wide a picture is.
-LEAST_WIDTH, MOST_WIDTH = 280, 4000
+MIN_WIDTH, MAX_WIDTH = 280, 4000
 #: How many lines of a chart have a look of their own.
 LINES = len(_LINES)
 

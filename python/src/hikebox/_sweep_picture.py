@@ -7,7 +7,7 @@ from typing import TYPE_CHECKING, Dict, List, NamedTuple, Optional, Sequence, Tu
 
 from ._storm_axes import AXES, MEASURES, NEVER
 from ._storm_heads import heads_of
-from ._svg import LEAST_WIDTH, LINE, LINES, MOST_WIDTH, Picture, headed, ticks, width_of
+from ._svg import LINE, LINES, MAX_WIDTH, MIN_WIDTH, Picture, headed, ticks, width_of
 from .errors import StormError
 
 if TYPE_CHECKING:
@@ -15,7 +15,7 @@ if TYPE_CHECKING:
 
 __all__ = ["sweep_picture"]
 
-_LEAST_PANEL, _GAP, _MARGIN = 330, 20, 12
+_MIN_PANEL, _GAP, _MARGIN = 330, 20, 12
 #: The heights of a plot, of the title above it, and of the numbers and the name below it.
 _TALL, _SAID, _BELOW, _FOOT = 150, 30, 22, 20
 #: The room above a plot for lines that never come to the measure.
@@ -56,11 +56,11 @@ def sweep_picture(
     swept: Sweep, measures: Sequence[str], *, width: int = 760, title: Optional[str] = None, styled: bool = True
 ) -> str:
     """The measures of a sweep side by side where they have room, as SVG so many units wide."""
-    if not LEAST_WIDTH <= width <= MOST_WIDTH:
-        raise StormError("width", f"{width} is not from {LEAST_WIDTH} to {MOST_WIDTH}")
+    if not MIN_WIDTH <= width <= MAX_WIDTH:
+        raise StormError("width", f"{width} is not from {MIN_WIDTH} to {MAX_WIDTH}")
     if len(swept.lines) > LINES:
         raise StormError("sweep", f"a picture has at most {LINES} lines, not {len(swept.lines)}")
-    columns = min(len(measures), max(1, (width - 2 * _MARGIN + _GAP) // (_LEAST_PANEL + _GAP)))
+    columns = min(len(measures), max(1, (width - 2 * _MARGIN + _GAP) // (_MIN_PANEL + _GAP)))
     wide = (width - 2 * _MARGIN + _GAP) / columns - _GAP
     shared = _shared(swept, title, width - 2 * _MARGIN)
     legend, rows = _legend(swept.names, width)

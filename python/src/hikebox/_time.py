@@ -8,16 +8,16 @@ from typing import Union
 
 from .errors import Fault, PolicyError
 
-__all__ = ["FAR", "HAIR", "Duration", "Milliseconds", "milliseconds", "moment", "seconds", "seconds_text"]
+__all__ = ["FLOAT_ERROR", "MAX_NUMBER", "Duration", "Milliseconds", "milliseconds", "moment", "seconds", "seconds_text"]
 
 #: The longest duration, in milliseconds; also the last moment and the greatest number of a policy.
-FAR = 2**62 - 1
+MAX_NUMBER = 2**62 - 1
 
 #: The most whole seconds of a duration.
-_MOST_SECONDS = FAR // 1000
+_MAX_SECONDS = MAX_NUMBER // 1000
 
-#: So much of a millisecond is not taken for less than a whole one.
-HAIR = 1e-6
+#: A float within so many milliseconds of a whole one counts as that: its last digits may be off.
+FLOAT_ERROR = 1e-6
 
 #: So many seconds a millisecond of floating point may be short of one.
 _GRAIN_OFF = 1e-12
@@ -59,7 +59,7 @@ def seconds(duration: Duration, what: str = "") -> int:
     ...
     hikebox.errors.PolicyError: number out of range: spaced: 0.0004 s is less than a millisecond
     """
-    if type(duration) is int and 0 <= duration <= _MOST_SECONDS:
+    if type(duration) is int and 0 <= duration <= _MAX_SECONDS:
         return duration * 1000
     place = f"{what}: " if what else ""
     if isinstance(duration, Milliseconds):
@@ -75,8 +75,8 @@ def seconds(duration: Duration, what: str = "") -> int:
         count, is_less = duration * 1000, False
     else:
         count, is_less = -1 if duration < 0 else round(duration * 1000), 0 < duration < 0.001 - _GRAIN_OFF
-    if not 0 <= count <= FAR:
-        raise PolicyError(Fault.OUT_OF_RANGE, hint=f"{place}{duration!r} is not from 0 to {FAR} milliseconds")
+    if not 0 <= count <= MAX_NUMBER:
+        raise PolicyError(Fault.OUT_OF_RANGE, hint=f"{place}{duration!r} is not from 0 to {MAX_NUMBER} milliseconds")
     if is_less:
         text = duration if isinstance(duration, timedelta) else f"{duration!r} s"
         raise PolicyError(Fault.OUT_OF_RANGE, hint=f"{place}{text} is less than a millisecond")
@@ -94,19 +94,19 @@ def _rounded(count: int, unit: int) -> int:
 def moment(clock: float) -> int:
     """The whole milliseconds of what a clock tells, from 0 to the last moment that there is.
 
-    >>> moment(0.1 + 0.2), moment(-1), moment(1e30) == FAR
+    >>> moment(0.1 + 0.2), moment(-1), moment(1e30) == MAX_NUMBER
     (300, 0, True)
     """
-    count = int(clock * 1000 + HAIR)
-    if 0 <= count <= FAR:
+    count = int(clock * 1000 + FLOAT_ERROR)
+    if 0 <= count <= MAX_NUMBER:
         return count
-    return 0 if count < 0 else FAR
+    return 0 if count < 0 else MAX_NUMBER
 
 
 def seconds_text(count: int) -> str:
     """What a person writes for so many milliseconds: seconds, where that is read back as the same number.
 
-    >>> seconds_text(100), seconds_text(2000), seconds_text(FAR)
+    >>> seconds_text(100), seconds_text(2000), seconds_text(MAX_NUMBER)
     ('0.1', '2', 'milliseconds(4611686018427387903)')
     """
     if count % 1000 == 0:

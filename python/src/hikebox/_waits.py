@@ -16,7 +16,7 @@ __all__ = ["pause_of", "sleep_of"]
 Sleep = Callable[[float], Any]
 
 #: The most seconds that the system's sleep takes: centuries.
-_MOST = 9e9
+_MAX_SECONDS = 9e9
 
 #: A `sleep` of the user's own, which nothing can end, sleeps at most so many seconds at a time beside an event.
 _PART = 0.05
@@ -88,7 +88,7 @@ def _sleep_of_asyncio() -> Sleep:
 
 
 def _sleep(seconds: float) -> None:
-    time.sleep(min(seconds, _MOST))
+    time.sleep(min(seconds, _MAX_SECONDS))
 
 
 def _wait(event: Any, seconds: float) -> None:

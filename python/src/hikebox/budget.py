@@ -4,7 +4,7 @@ from __future__ import annotations
 
 from functools import partial
 
-from ._engine import MOST_TICKETS, Pass
+from ._engine import MAX_TICKETS, Pass
 from ._granting import Granting
 from ._passes import Passes
 from ._tickets import Drawn, Refusal, RefusalReason, Ticket
@@ -98,5 +98,5 @@ class Budget(Granting):
 
 
 def _look_at_limit(limit: int) -> None:
-    if not 0 <= limit <= MOST_TICKETS:
-        raise TermsError(f"a limit is from 0 to {MOST_TICKETS}, not {limit}")
+    if not 0 <= limit <= MAX_TICKETS:
+        raise TermsError(f"a limit is from 0 to {MAX_TICKETS}, not {limit}")

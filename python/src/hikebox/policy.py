@@ -7,7 +7,7 @@ import os
 from typing import Any, Callable, Dict, FrozenSet, Iterable, List, Optional, Tuple, Union
 
 from ._checks import interval, ratio, whole
-from ._nodes import FOLDS, MOST_DEPTH, MOST_NODES, reads_of, reads_of_node
+from ._nodes import FOLDS, MAX_DEPTH, MAX_NODES, reads_of, reads_of_node
 from ._plan import Plan
 from ._preview import Step, played
 from ._spelling import spelt
@@ -65,7 +65,7 @@ class Policy:
         if second is not None:
             nodes, depth = nodes + second._nodes, max(depth, second._depth + 1)
         policy._nodes, policy._depth = nodes, depth
-        if nodes > MOST_NODES or depth > MOST_DEPTH:
+        if nodes > MAX_NODES or depth > MAX_DEPTH:
             policy.plan  # (the engine says what is wrong)
         return policy
 

@@ -10,12 +10,12 @@ from functools import partial
 from typing import Callable, NamedTuple, Optional
 
 from ._drawing import ByPass, Drawing
-from ._engine import LEAST_PERIOD, MOST_SHARE, MOST_TICKETS, Pass
+from ._engine import MAX_SHARE, MAX_TICKETS, MIN_PERIOD, Pass
 from ._granting import Granting
 from ._leasing import quota_allows
 from ._passes import Passes
 from ._tickets import Drawn, Refusal, RefusalReason, Ticket, checked_ticket
-from ._time import FAR, Duration, moment, seconds, seconds_text
+from ._time import MAX_NUMBER, Duration, moment, seconds, seconds_text
 from .errors import EngineError, PolicyError, TermsError
 
 __all__ = ["Quota", "Terms", "Usage", "requests_of", "terms_of"]
@@ -291,7 +291,7 @@ class _InForce:
 
 
 def _refusal(next_window: int) -> Refusal:
-    return Refusal(RefusalReason.USED_UP, None if next_window == FAR else next_window / 1000)
+    return Refusal(RefusalReason.USED_UP, None if next_window == MAX_NUMBER else next_window / 1000)
 
 
 def _first_pass(clock: Callable[[], float], in_force: _InForce, carries: bool) -> Pass:
@@ -312,24 +312,24 @@ def requests_of(requests: int) -> int:
     """A number of requests that are counted at once, or a `TermsError`."""
     if isinstance(requests, bool) or not isinstance(requests, int):
         raise TypeError(f"expected a whole number of requests, got {requests!r}")
-    if not 0 <= requests <= MOST_TICKETS:
-        raise TermsError(f"from 0 to {MOST_TICKETS} requests are counted at once, not {requests}")
+    if not 0 <= requests <= MAX_TICKETS:
+        raise TermsError(f"from 0 to {MAX_TICKETS} requests are counted at once, not {requests}")
     return requests
 
 
 def _reserve_of(reserve: int) -> int:
     if isinstance(reserve, bool) or not isinstance(reserve, int):
         raise TypeError(f"expected a whole number of retries as the reserve, got {reserve!r}")
-    if not 0 <= reserve <= MOST_TICKETS:
-        raise TermsError(f"a reserve is from 0 to {MOST_TICKETS} retries a window, not {reserve}")
+    if not 0 <= reserve <= MAX_TICKETS:
+        raise TermsError(f"a reserve is from 0 to {MAX_TICKETS} retries a window, not {reserve}")
     return reserve
 
 
 def _share_of(share: float) -> int:
     if isinstance(share, bool) or not isinstance(share, (int, float)):
         raise TypeError(f"expected a number of retries a request as the share, got {share!r}")
-    if not (math.isfinite(share) and 0 <= share <= MOST_SHARE / 1000):
-        raise TermsError(f"a share is from 0 to {MOST_SHARE // 1000} retries a request, not {share!r}")
+    if not (math.isfinite(share) and 0 <= share <= MAX_SHARE / 1000):
+        raise TermsError(f"a share is from 0 to {MAX_SHARE // 1000} retries a request, not {share!r}")
     thousandths = round(share * 1000)
     if share > 0 and thousandths == 0:
         raise TermsError(f"a share is counted in thousandths of a retry a request, and {share!r} is less than one")
@@ -341,6 +341,6 @@ def _period_of(per: Duration) -> int:
         period = seconds(per)
     except PolicyError as error:
         raise TermsError(f"the window of a quota: {error.hint}") from None
-    if period < LEAST_PERIOD:
-        raise TermsError(f"the window of a quota is at least {LEAST_PERIOD} ms long, not {per!r}")
+    if period < MIN_PERIOD:
+        raise TermsError(f"the window of a quota is at least {MIN_PERIOD} ms long, not {per!r}")
     return period

@@ -11,7 +11,7 @@ from typing import TYPE_CHECKING, Any, Callable, Dict, Mapping, NamedTuple, Opti
 from ._deadline import Limit
 from ._forks import begins_anew_in_a_child
 from ._tickets import Refusal
-from ._time import FAR
+from ._time import MAX_NUMBER
 
 if TYPE_CHECKING:
     from .retrying import BaseRetrying
@@ -240,13 +240,13 @@ def code_of(failure: object) -> int:
     (111, 0, 202)
     """
     if type(failure) is int:
-        return failure if 0 <= failure <= FAR else 0
+        return failure if 0 <= failure <= MAX_NUMBER else 0
     for name in _CODES:
         value = getattr(failure, name, None)
-        if isinstance(value, int) and not isinstance(value, bool) and 0 <= value <= FAR:
+        if isinstance(value, int) and not isinstance(value, bool) and 0 <= value <= MAX_NUMBER:
             return int(value)
     value = getattr(getattr(failure, "response", None), "status_code", None)
-    return int(value) if isinstance(value, int) and not isinstance(value, bool) and 0 <= value <= FAR else 0
+    return int(value) if isinstance(value, int) and not isinstance(value, bool) and 0 <= value <= MAX_NUMBER else 0
 
 
 @dataclass(frozen=True)

@@ -7,7 +7,7 @@ from dataclasses import dataclass
 from typing import Any, Dict, List, NamedTuple, Optional, Tuple, Union
 
 from . import _engine
-from ._storm_terms import MOST_SEED, Parameters, Slow, Span
+from ._storm_terms import MAX_SEED, Parameters, Slow, Span
 from ._time import Duration, seconds as in_milliseconds
 from .budget import Budget
 from .errors import PolicyError, StormError
@@ -197,7 +197,7 @@ def storm(
         window=_time("window", window),
         until=None if until is None else _time("until", until),
         calls=_whole("calls", calls),
-        words=_whole("seed", seed, MOST_SEED),
+        words=_whole("seed", seed, MAX_SEED),
         tickets=_tickets(budget),
     )
     return play(Policy.of(policy), parameters.checked())
@@ -272,4 +272,4 @@ def _tickets(budget: Any) -> Union[None, int, Terms]:
         return budget.limit
     if budget is None:
         return None
-    return _whole("budget", budget, _engine.MOST_TICKETS)
+    return _whole("budget", budget, _engine.MAX_TICKETS)

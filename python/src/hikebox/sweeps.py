@@ -9,7 +9,7 @@ from dataclasses import dataclass
 from typing import Any, Callable, Dict, Iterable, List, Optional, Sequence, Tuple, Union
 
 from ._checks import whole
-from ._storm_axes import AXES, MEASURES, MOST_VALUES, NEVER
+from ._storm_axes import AXES, MAX_VALUES, MEASURES, NEVER
 from ._storm_cores import Told, play_all, silent
 from ._storm_heads import names_of
 from ._storm_terms import Parameters, limit_text
@@ -165,8 +165,8 @@ def swept(
     told: Told = silent,
 ) -> Sweep:
     """Plays storms along values in the engine's units. `told` is called after each storm, with how many are done."""
-    if not 1 <= len(values) <= MOST_VALUES:
-        raise StormError("sweep", f"expected 1 to {MOST_VALUES} values, got {len(values)}")
+    if not 1 <= len(values) <= MAX_VALUES:
+        raise StormError("sweep", f"expected 1 to {MAX_VALUES} values, got {len(values)}")
     if all(AXES[name].put(how, value) == how for _, how in storms for value in (0, 1)):
         raise StormError("sweep", f"{name}: expected a storm with a limit that has it, got none")
     wanted = [(policy, AXES[name].put(how, value).checked()) for policy, how in storms for value in values]

@@ -1,7 +1,7 @@
 //! Printings of plans, with what each answers and writes.
 use super::fakes::Halting;
 use super::texts::{Part, text_of};
-use sched_cli_plan::{Counted, MOST_STEPS, PlanOptions, PrintFault, print_plan};
+use sched_cli_plan::{Counted, MAX_STEPS, PlanOptions, PrintFault, print_plan};
 use sched_time::{Millis, Moment};
 use std::alloc::Global;
 use std::io::{Read, Write};
@@ -21,7 +21,7 @@ pub(crate) fn with_input(rt: &impl Abort, terms: Terms, input: u64, word: u32) -
 }
 
 fn in_range((steps, from, took): Terms, input: u64, word: u32) -> Option<PlanOptions> {
-    if steps > MOST_STEPS {
+    if steps > MAX_STEPS {
         return None;
     }
     let from = Moment::new(from)?;

@@ -1,5 +1,5 @@
 use super::*;
-use sched_driver::{DriverCell, MOST_EVENTS};
+use sched_driver::{DriverCell, MAX_EVENTS};
 use std::sync::Wait;
 
 // Drives a new driver of three recurrences 100 milliseconds apart to its third start.
@@ -133,7 +133,7 @@ fn assert_full(rt: &impl Abort, alloc: Global, driver: &mut Driver) {
 
 // Fills the journal of such a driver, and resets it.
 fn fill(rt: &impl Abort, alloc: Global, mut driver: Driver) {
-    assert_eq!(rt; MOST_EVENTS, 65536);
+    assert_eq!(rt; MAX_EVENTS, 65536);
     for _ in 0..65536 {
         goes(rt, alloc, &mut driver, 5, 5);
     }

@@ -4,7 +4,7 @@ ghost use Rattle.sched_time.specs.declared.numbers.TheConstants.{FAR};
 ghost use Rattle.sched_plan.specs.Schedule.{leaf as leaf_schedule, one, two, leaf_in_range, one_in_range};
 ghost use Rattle.sched_plan.specs.Plan.{built_plan, Builds, counts_or_fault};
 
-use super::{MOST_DEPTH, MOST_NODES, Plan, PlanFault, PlanShape};
+use super::{MAX_DEPTH, MAX_NODES, Plan, PlanFault, PlanShape};
 use crate::leaves::Leaf;
 use crate::nodes::{One, Two};
 use sched_time::Millis;
@@ -65,10 +65,10 @@ impl Plan {
 fn within_limits(nodes: usize, depth: usize) -> Result<(usize, usize), PlanFault>
     ensures { result ≡ counts_or_fault nodes depth }
 {
-    if depth > MOST_DEPTH {
+    if depth > MAX_DEPTH {
         return Err(PlanFault::TooDeep);
     }
-    if nodes > MOST_NODES {
+    if nodes > MAX_NODES {
         return Err(PlanFault::TooMany);
     }
     Ok((nodes, depth))

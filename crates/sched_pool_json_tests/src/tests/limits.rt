@@ -1,6 +1,6 @@
 use super::{OUT_OF_RANGE, is_refused, jobs_of};
 use sched_plan_json::ReadFault;
-use sched_pool_json::{MOST_JOBS, MOST_RUNS};
+use sched_pool_json::{MAX_JOBS, MAX_RUNS};
 use std::alloc::Global;
 use std::process::Abort;
 
@@ -21,7 +21,7 @@ fn repeated(
 #[test]
 fn the_most_jobs_are_4096(rt: HostRuntime) {
     let alloc = rt.alloc();
-    assert_eq!(rt; MOST_JOBS, 4096);
+    assert_eq!(rt; MAX_JOBS, 4096);
     let job = r#"{"plan":"forever","runs":[{"won":1}]},"#;
     let last = r#"{"plan":"forever","runs":[{"won":1}]}]"#;
     let text = repeated(&rt, alloc, "[", job, 4095, last);
@@ -40,7 +40,7 @@ fn the_number_of_jobs_comes_before_the_jobs(rt: HostRuntime) {
 #[test]
 fn the_most_runs_are_64(rt: HostRuntime) {
     let alloc = rt.alloc();
-    assert_eq!(rt; MOST_RUNS, 64);
+    assert_eq!(rt; MAX_RUNS, 64);
     let front = r#"[{"plan":"forever","runs":["#;
     let most = repeated(&rt, alloc, front, r#"{"lost":0},"#, 63, r#"{"lost":0}]}]"#);
     jobs_of(&rt, alloc, &most, 1);

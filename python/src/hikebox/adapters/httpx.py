@@ -27,7 +27,7 @@ _NOT_SENT = (httpx.ConnectError, httpx.ConnectTimeout, httpx.PoolTimeout)
 #: Connections that broke or took too long.
 _BROKEN = (httpx.NetworkError, httpx.TimeoutException, httpx.RemoteProtocolError, httpx.ProxyError)
 #: The least timeout that a client takes.
-_HAIR = 0.001
+_MIN_TIMEOUT = 0.001
 
 
 class _Timeouts(Dict[str, Optional[float]]):
@@ -38,7 +38,7 @@ class _Timeouts(Dict[str, Optional[float]]):
     def get(self, name: str, default: Any = None) -> Any:
         own = super().get(name, default)
         bounds = [bound for bound in (own, seconds_left(), self.most) if bound is not None]
-        return max(min(bounds), _HAIR) if bounds else None
+        return max(min(bounds), _MIN_TIMEOUT) if bounds else None
 
     def __getitem__(self, name: str) -> Any:
         return self.get(name)

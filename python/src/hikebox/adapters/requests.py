@@ -32,7 +32,7 @@ __all__ = ["PolicyAdapter"]
 _POOLS = ("pool_connections", "pool_maxsize", "pool_block")
 _BROKEN = (requests.ConnectionError, requests.Timeout, requests.exceptions.ChunkedEncodingError)
 #: The least timeout that a client takes.
-_HAIR = 0.001
+_MIN_TIMEOUT = 0.001
 
 
 class _Hop:
@@ -166,7 +166,7 @@ class PolicyAdapter(PolicyClient, HTTPAdapter):
 
 def _at_most(timeout: Any, left: float) -> Timeout:
     """The timeout of an attempt that has so many seconds left."""
-    left = max(left, _HAIR)
+    left = max(left, _MIN_TIMEOUT)
     if isinstance(timeout, Timeout):
         made = timeout.clone()
         if not isinstance(made.total, (int, float)) or made.total > left:

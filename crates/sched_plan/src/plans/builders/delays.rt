@@ -7,7 +7,7 @@ use crate::plans::{Plan, PlanFault};
 use std::alloc::Global;
 
 /// The greatest ratio of `Plan::jitter`, in thousandths.
-const MOST_RATIO: u64 = 10_000;
+const MAX_RATIO: u64 = 10_000;
 
 impl Plan {
     /// The plan with each delay made `delay` milliseconds longer.
@@ -57,7 +57,7 @@ impl Plan {
     ) -> Result<Plan, PlanFault>
         ensures { Builds result (one (One.Jitter lane least most) plan) }
     {
-        if lane > LAST_LANE || least > most || most > MOST_RATIO {
+        if lane > LAST_LANE || least > most || most > MAX_RATIO {
             return Err(PlanFault::OutOfRange);
         }
         let lane = lane as usize;

@@ -7,13 +7,13 @@ use crate::leaves::Leaf;
 use crate::plans::{Plan, PlanFault};
 
 /// The greatest factor of `Plan::exponential`.
-const MOST_FACTOR: u64 = 1_000;
+const MAX_FACTOR: u64 = 1_000;
 
 /// The most thousandths of `Plan::exponential_milli` and of `Plan::decorrelated`.
-const MOST_THOUSANDTHS: u64 = 1_000_000;
+const MAX_THOUSANDTHS: u64 = 1_000_000;
 
 /// The fewest thousandths of `Plan::decorrelated`: no delay's bound is below the delay before.
-const LEAST_GROWTH: u64 = 1_000;
+const MIN_GROWTH: u64 = 1_000;
 
 impl Plan {
     /// Goes on for ever, at once; the output is how often it has recurred. Never refused.
@@ -74,7 +74,7 @@ impl Plan {
         ensures { result ≡ built_plan (leaf (Leaf.Exponential base factor)) }
     {
         let base = in_range(base)?;
-        if factor == 0 || factor > MOST_FACTOR {
+        if factor == 0 || factor > MAX_FACTOR {
             return Err(PlanFault::OutOfRange);
         }
         Ok(Plan::of_leaf(Leaf::Exponential { base, factor }))
@@ -86,7 +86,7 @@ impl Plan {
         ensures { result ≡ built_plan (leaf (Leaf.ExponentialMilli base thousandths)) }
     {
         let base = in_range(base)?;
-        if thousandths == 0 || thousandths > MOST_THOUSANDTHS {
+        if thousandths == 0 || thousandths > MAX_THOUSANDTHS {
             return Err(PlanFault::OutOfRange);
         }
         Ok(Plan::of_leaf(Leaf::ExponentialMilli { base, thousandths }))
@@ -113,7 +113,7 @@ impl Plan {
     ) -> Result<Plan, PlanFault>
         ensures { result ≡ built_plan (leaf (Leaf.Decorrelated lane base thousandths most)) }
     {
-        if lane > LAST_LANE || thousandths < LEAST_GROWTH || thousandths > MOST_THOUSANDTHS {
+        if lane > LAST_LANE || thousandths < MIN_GROWTH || thousandths > MAX_THOUSANDTHS {
             return Err(PlanFault::OutOfRange);
         }
         let base = in_range(base)?;
