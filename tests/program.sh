@@ -132,8 +132,8 @@ for word in plan pool; do
   bad "unexpected argument '-' found" $word - -
 done
 bad "'zsched' requires a subcommand but one was not provided; [subcommands: plan, pool, storm, check, help]; \
-zsched --help says what there is"
-bad "unrecognized subcommand 'plans'; tip: a similar subcommand exists: 'plan'; zsched --help says what there is" plans
+zsched --help lists the commands"
+bad "unrecognized subcommand 'plans'; tip: a similar subcommand exists: 'plan'; zsched --help lists the commands" plans
 wants 0 "$("$zsched" --version)\n" '' -V
 bad "invalid value '4097' for '--steps <N>': 4097 is not in 0..=4096" plan --steps 4097
 bad "invalid value 'ten' for '--steps <N>': invalid digit found in string" plan --steps ten
@@ -248,7 +248,7 @@ input '[{"plan":"forever","runs":[{"lost":7}]}]'
 wants 0 'job 0: budget refused, failure 7, granted 1000\ngranted 1000 in 1 windows\n' '' pool --quota 0/1000000/100
 input '[]'
 wants 0 'granted 0 in 0 windows\n' '' pool --quota 5/1000/100
-spelt='it is spelt as 10/20%/60s, with ms, s, m, h or d, or without units as 10/200/60000; RESERVE is at most 4294967296,'
+spelt='expected a quota such as 10/20%/60s (units: ms, s, m, h, d), or 10/200/60000 without units; RESERVE is at most 4294967296,'
 spelt+=' SHARE at most 100000%, and PERIOD from 100ms to 4611686018427387903ms'
 for terms in 1 1/2 1/2/300/4 1/2/ /2/3 a/2/3 1/b/3 1/2/c -1/2/300 1.5/2/3 ' 1/2/300' 4294967297/2/3 1/1000001/3 1/2/0 1/2/99 \
   1/2/4611686018427387904 18446744073709551616/2/3 1/2%/3 1/2/3s 1/2.55%/3s 1/2.%/3s 1/%/3s 1/2%/s 1/2%/1.5s 1/2%/3w \
@@ -399,15 +399,15 @@ wants 3 '' 'zsched: input too long\n' storm
 bad "invalid value '0' for '--rate <N>': 0 is not in 1..=1000000" storm --rate 0
 bad "'--rate <N>' times '--seconds <S>' is more than 1048576 requests" storm --rate 17477
 bad "'--until <M>' has more than 65536 times '--window <M>'" storm --window 1
-spelt='it is spelt as 10000..20000, in milliseconds; FROM is at most TO, and TO at most 3600000'
+spelt='expected milliseconds, such as 10000..20000; FROM is at most TO, and TO at most 3600000'
 for span in 5..1 5 .. a..b 0..3600001 -1..5; do
   bad "invalid value '$span' for '--outage <FROM..TO>': $spelt" storm --outage="$span"
 done
-spelt="it is spelt as 10000..20000@50, in milliseconds; FROM is at most TO, TO at most 3600000, and PERCENT from 1 to 100"
+spelt="expected milliseconds and a percentage, such as 10000..20000@50; FROM is at most TO, TO at most 3600000, and PERCENT from 1 to 100"
 for span in 0..1 0..1@0 0..1@101 1..0@50 0..3600001@50; do
   bad "invalid value '$span' for '--slow <FROM..TO@PERCENT>': $spelt" storm --slow="$span"
 done
-bad "invalid value 'flood' for '--scenario <NAME>': it is one of outage, herd and brown-out" storm --scenario flood
+bad "invalid value 'flood' for '--scenario <NAME>': expected outage, herd or brown-out" storm --scenario flood
 bad .. storm --quota 1/2
 bad .. storm --quota 1/2/300 --budget 1
 bad .. storm --csv --json

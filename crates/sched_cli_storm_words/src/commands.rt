@@ -19,14 +19,14 @@ const STORIES: [Row; 2] = [
         name: "scenario",
         takes: Takes::Text("NAME"),
         excludes: &[],
-        help: "A story whose numbers stand where no other are given: outage (the defaults), herd (10,000 requests at once) \
-               or brown-out (half the capacity from 10 to 20 s)",
+        help: "Start from this scenario and change it by the other options: outage (the defaults), herd (10,000 requests at \
+               once) or brown-out (half the capacity from 10 to 20 s)",
     },
     Row {
         name: "compare",
         takes: Takes::Texts("FILE"),
         excludes: &[],
-        help: "Another plan that the same storm is played under; given again for more, it prints the totals side by side",
+        help: "Play the same storm under this plan too, and print the totals side by side; you can give it again",
     },
 ];
 
@@ -36,19 +36,19 @@ const REQUESTS: [Row; 3] = [
         name: "rate",
         takes: Takes::Number("N", 1, MAX_EACH),
         excludes: &[],
-        help: "Requests a second, from 1 to 1000000; 800 where nothing is said",
+        help: "Requests a second, from 1 to 1000000 [default: 800]",
     },
     Row {
         name: "together",
         takes: Takes::Number("N", 1, MAX_EACH),
         excludes: &[],
-        help: "Requests that come at one moment, from 1 to 1000000; 1 where nothing is said",
+        help: "Requests that arrive at the same moment, from 1 to 1000000 [default: 1]",
     },
     Row {
         name: "seconds",
         takes: Takes::Number("S", 1, MAX_SECONDS),
         excludes: &[],
-        help: "For how many seconds requests come, from 1 to 3600, 1048576 requests at most; 60 where nothing is said",
+        help: "How many seconds requests arrive for, from 1 to 3600, with at most 1048576 requests [default: 60]",
     },
 ];
 
@@ -57,32 +57,31 @@ const PEER: [Row; 5] = [
         name: "capacity",
         takes: Takes::Number("N", 1, MAX_EACH),
         excludes: &[],
-        help: "Calls that the peer can do in a second, from 1 to 1000000; 1000 where nothing is said",
+        help: "Calls that the peer serves in a second, from 1 to 1000000 [default: 1000]",
     },
     Row {
         name: "patience",
         takes: Takes::Number("M", 1, MAX_MILLIS),
         excludes: &[],
-        help: "After how many milliseconds a client gives a call up, from 1 to 3600000; 500 where nothing is said",
+        help: "Milliseconds until a client gives up on a call, from 1 to 3600000 [default: 500]",
     },
     Row {
         name: "queue",
         takes: Takes::Number("N", 0, MAX_REQUESTS),
         excludes: &[],
-        help: "Calls of work that may stand at the peer, from 0 to 1048576; 5000 where nothing is said",
+        help: "Calls that can wait at the peer, from 0 to 1048576 [default: 5000]",
     },
     Row {
         name: "outage",
         takes: Takes::Text("FROM..TO"),
         excludes: &[],
-        help: "When the peer refuses all calls, in milliseconds up to 3600000; 10000..20000 where nothing is said, \
-               0..0 for never",
+        help: "When the peer refuses all calls, in milliseconds up to 3600000; 0..0 for never [default: 10000..20000]",
     },
     Row {
         name: "slow",
         takes: Takes::Text("FROM..TO@PERCENT"),
         excludes: &[],
-        help: "A brown-out: when the peer works at 1 to 100 per cent of its capacity, as 10000..20000@50",
+        help: "A brown-out: when the peer serves only PERCENT of its capacity, from 1 to 100, such as 10000..20000@50",
     },
 ];
 
@@ -91,20 +90,20 @@ const RETRIES: [Row; 3] = [
         name: "budget",
         takes: Takes::Number("N", 0, MAX_CALLS),
         excludes: &[],
-        help: "How many retries all requests may have together, from 0 to 4294967296",
+        help: "The most retries of all requests together, from 0 to 4294967296",
     },
     Row {
         name: "quota",
         takes: Takes::Text("RESERVE/SHARE%/PERIOD"),
         excludes: &["budget"],
-        help: "In the place of a budget: in each window of PERIOD at most RESERVE retries and SHARE of the requests that \
-               came in it, as 10/20%/60s with ms, s, m, h or d",
+        help: "Instead of a budget: in each window of PERIOD at most RESERVE retries plus SHARE of the requests that arrive in \
+               it, such as 10/20%/60s (units: ms, s, m, h, d)",
     },
     Row {
         name: "words",
         takes: Takes::Number("SEED", 0, u64::MAX),
         excludes: &[],
-        help: "Other random words, by a seed from 0 to 18446744073709551615; 0 where nothing is said",
+        help: "The seed of the random words, from 0 to 18446744073709551615 [default: 0]",
     },
 ];
 
@@ -114,44 +113,44 @@ const REPORT: [Row; 7] = [
         name: "window",
         takes: Takes::Number("M", 1, MAX_MILLIS),
         excludes: &[],
-        help: "How many milliseconds a line of the report is, from 1 to 3600000; 1000 where nothing is said",
+        help: "Milliseconds in each line of the report, from 1 to 3600000 [default: 1000]",
     },
     Row {
         name: "until",
         takes: Takes::Number("M", 0, MAX_UNTIL),
         excludes: &[],
-        help: "What lies after this moment is not played, from 0 to 7200000; a minute after the last request where \
-               nothing is said",
+        help: "The moment at which the simulation stops, in milliseconds from 0 to 7200000 [default: a minute after the last \
+               request]",
     },
     Row {
         name: "calls",
         takes: Takes::Number("N", 1, MAX_CALLS),
         excludes: &[],
-        help: "The storm is cut before the call after so many, from 1 to 4294967296; 16777216 where nothing is said",
+        help: "The most calls, from 1 to 4294967296: the simulation stops after them [default: 16777216]",
     },
     Row {
         name: "plain",
         takes: Takes::Nothing,
         excludes: &[],
-        help: "All numbers of a window, and no bar",
+        help: "Print all numbers of each window, and no bar",
     },
     Row {
         name: "width",
         takes: Takes::Number("N", MIN_WIDTH, MAX_WIDTH),
         excludes: &["plain", "compare"],
-        help: "How wide a line with its bar is, from 72 to 1000 columns; 80 where nothing is said",
+        help: "Columns of a line with its bar, from 72 to 1000 [default: 80]",
     },
     Row {
         name: "csv",
         takes: Takes::Nothing,
         excludes: &["plain", "width", "compare"],
-        help: "The lines alone, as comma-separated values",
+        help: "Print the windows alone, as CSV",
     },
     Row {
         name: "json",
         takes: Takes::Nothing,
         excludes: &["csv", "plain", "width", "compare"],
-        help: "Lines and totals as JSON, on one line",
+        help: "Print the windows and the totals as one line of JSON",
     },
 ];
 
@@ -160,7 +159,7 @@ pub fn storm_command<'a>(alloc: Global) -> Result<Command<'a>, AllocError> {
     let command = file_command(
         alloc,
         "storm",
-        "Reads one plan as JSON and plays many requests under it, on a peer that fails for a while",
+        "Reads a plan as JSON and simulates many requests under it, to a peer that fails for a while",
         STORM_EXAMPLES,
         "The plan's file, or - for standard input",
     )?;

@@ -6,13 +6,13 @@ use sched_storm::{BrownOut, Draws, MAX_REQUESTS, Parameters, Span, Storm};
 use sched_ticket_quota::Terms;
 use std::alloc::{AllocError, Global};
 
-const SCENARIO_WANTED: &str = "it is one of outage, herd and brown-out";
+const SCENARIO_WANTED: &str = "expected outage, herd or brown-out";
 
 const OUTAGE_WANTED: &str =
-    "it is spelt as 10000..20000, in milliseconds; FROM is at most TO, and TO at most 3600000";
+    "expected milliseconds, such as 10000..20000; FROM is at most TO, and TO at most 3600000";
 
 const SLOW_WANTED: &str =
-    "it is spelt as 10000..20000@50, in milliseconds; FROM is at most TO, TO at most 3600000, \
+    "expected milliseconds and a percentage, such as 10000..20000@50; FROM is at most TO, TO at most 3600000, \
      and PERCENT from 1 to 100";
 
 // How wide a line with its bar is where nothing is said.

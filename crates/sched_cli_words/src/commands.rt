@@ -29,19 +29,19 @@ const CALLS: [Row; 3] = [
         name: "steps",
         takes: Takes::NumberOr("N", 0, MAX_STEPS, &["10"]),
         excludes: &[],
-        help: "How many calls to play at most, from 0 to 4096",
+        help: "The most calls to print, from 0 to 4096",
     },
     Row {
         name: "from",
         takes: Takes::NumberOr("M", 0, FAR, &["0"]),
         excludes: &[],
-        help: "The moment at which the first call is over, in milliseconds from 0 to 4611686018427387903",
+        help: "The moment at which the first call ends, in milliseconds from 0 to 4611686018427387903",
     },
     Row {
         name: "took",
         takes: Takes::NumberOr("M", 0, FAR, &["0"]),
         excludes: &[],
-        help: "How long each call takes that the plan starts, in milliseconds from 0 to 4611686018427387903",
+        help: "How long each later call takes, in milliseconds from 0 to 4611686018427387903",
     },
 ];
 
@@ -50,7 +50,7 @@ const GIFTS: [Row; 1] = [Row {
     name: "input",
     takes: Takes::NumberOr("N", 0, FAR, &["0"]),
     excludes: &[],
-    help: "The number that each call gives, from 0 to 4611686018427387903",
+    help: "The number that each call returns, from 0 to 4611686018427387903",
 }];
 
 // Random words.
@@ -59,13 +59,13 @@ const CHANCE: [Row; 2] = [
         name: "word",
         takes: Takes::WordOr("W", &["2147483648"]),
         excludes: &[],
-        help: "The random word after each call, from 0 (least delay) to 4294967295 (most)",
+        help: "The random word after each call, from 0 (shortest delay) to 4294967295 (longest)",
     },
     Row {
         name: "words",
         takes: Takes::Number("SEED", 0, u64::MAX),
         excludes: &["word"],
-        help: "Other random words after each call, by a seed from 0 to 18446744073709551615",
+        help: "New random words after each call, made from this seed, from 0 to 18446744073709551615",
     },
 ];
 
@@ -74,13 +74,13 @@ const WORKERS: [Row; 2] = [
         name: "workers",
         takes: Takes::NumberOr("N", 1, MAX_WORKERS, &["1"]),
         excludes: &[],
-        help: "How many workers run the jobs, each on a thread of its own, from 1 to 16",
+        help: "Workers that run the jobs, each on its own thread, from 1 to 16",
     },
     Row {
         name: "turns",
         takes: Takes::NumberOr("N", 0, MAX_TURNS, &["1000000"]),
         excludes: &[],
-        help: "How many turns each worker takes at most, from 0 to 4294967296",
+        help: "The most turns of each worker, from 0 to 4294967296",
     },
 ];
 
@@ -90,15 +90,15 @@ const RETRIES: [Row; 2] = [
         name: "budget",
         takes: Takes::NumberOr("N", 0, MAX_TICKETS, &["100"]),
         excludes: &[],
-        help: "How many retries all jobs may have together, from 0 to 4294967296",
+        help: "The most retries of all jobs together, from 0 to 4294967296",
     },
     Row {
         name: "quota",
         takes: Takes::Text("RESERVE/SHARE%/PERIOD"),
         excludes: &["budget"],
-        help: "In the place of a budget: in each window of PERIOD at most RESERVE retries and SHARE of the requests counted \
-               in it, where each job's first run is a request, as 10/20%/60s with ms, s, m, h or d; without units, as \
-               10/200/60000, SHARE is thousandths and PERIOD milliseconds; jobs on a quota run on one thread",
+        help: "Instead of a budget: in each window of PERIOD at most RESERVE retries plus SHARE of the requests in it, where \
+               each job's first run is a request, such as 10/20%/60s (units: ms, s, m, h, d); without units, as in \
+               10/200/60000, SHARE is in thousandths and PERIOD in milliseconds; jobs on a quota run on one thread",
     },
 ];
 
@@ -126,14 +126,18 @@ fn plan_command<'a>(alloc: Global) -> Result<Command<'a>, AllocError> {
     let command = file_command(
         alloc,
         "plan",
-        "Reads one plan as JSON and prints what it decides after each call, one line each",
+        "Reads a plan as JSON and prints what it decides after each call, one line each",
         PLAN_EXAMPLES,
         "The plan's file, or - for standard input",
     )?;
     let command = with_options(alloc, command.next_help_heading("Calls"), &CALLS)?;
-    let command = with_options(alloc, command.next_help_heading("What calls give"), &GIFTS)?;
+    let command = with_options(
+        alloc,
+        command.next_help_heading("What calls return"),
+        &GIFTS,
+    )?;
     let command = with_option(command, inputs(alloc))?;
-    with_options(alloc, command.next_help_heading("Chance"), &CHANCE)
+    with_options(alloc, command.next_help_heading("Randomness"), &CHANCE)
 }
 
 fn inputs<'a>(alloc: Global) -> Result<Arg<'a>, AllocError> {
@@ -142,7 +146,7 @@ fn inputs<'a>(alloc: Global) -> Result<Arg<'a>, AllocError> {
         .value_name("A,B,..")
         .value_delimiter(',')
         .value_parser(ValueParser::unsigned(0, FAR))
-        .help("The numbers that the calls give, in turn; the last one is that of all later calls")
+        .help("The numbers that the calls return, in turn; the last one repeats")
         .conflicts_with("input")
 }
 
@@ -163,7 +167,7 @@ fn check_command<'a>(alloc: Global) -> Result<Command<'a>, AllocError> {
     file_command(
         alloc,
         "check",
-        "Reads a plan or jobs as JSON and says what it is, or where it is wrong and what is wanted there",
+        "Reads a plan or jobs as JSON and prints what it is, or its first error, with its place and what was expected there",
         CHECK_EXAMPLES,
         "The file of a plan or of jobs, or - for standard input",
     )

@@ -15,7 +15,7 @@ use sched_time::Millis;
 use std::alloc::{AllocError, Global};
 
 const QUOTA_WANTED: &str =
-    "it is spelt as 10/20%/60s, with ms, s, m, h or d, or without units as 10/200/60000; \
+    "expected a quota such as 10/20%/60s (units: ms, s, m, h, d), or 10/200/60000 without units; \
      RESERVE is at most 4294967296, SHARE at most 100000%, and PERIOD from 100ms to 4611686018427387903ms";
 
 /// The options of a pool on this quota. `None` where another number of workers than 1 is asked for, or a number is

@@ -18,7 +18,7 @@ pub(crate) fn reason(alloc: Global, error: &Error) -> Result<String, AllocError>
     }
     match error.kind() {
         ErrorKind::MissingSubcommand | ErrorKind::InvalidSubcommand => {
-            push_part(&mut line, "zsched --help says what there is")?
+            push_part(&mut line, "zsched --help lists the commands")?
         }
         _ => {}
     }

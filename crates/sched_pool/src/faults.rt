@@ -41,7 +41,7 @@ impl<'a, X: Effect> fmt::Debug for AddRefused<'a, X> {
 #[derive(Clone, Copy, Debug, PartialEq, Eq, Drop, Error)]
 pub enum ShareFault {
     /// There are no workers, or more than 16.
-    #[error("1 to 16 workers are wanted")]
+    #[error("expected 1 to 16 workers")]
     BadWorkers,
     /// Its jobs were shared out before.
     #[error("the board's jobs were shared out before")]

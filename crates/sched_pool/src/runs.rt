@@ -30,7 +30,7 @@ use thiserror::Error;
 #[derive(Drop, Error)]
 pub enum PoolStop<'a, X: Effect, N: Naming> {
     /// There are no stations, or more than 16. The board and the pass are as they were.
-    #[error("1 to 16 workers are wanted")]
+    #[error("expected 1 to 16 workers")]
     BadWorkers(Board<'a, X, N>, Pass),
     /// The jobs were shared out before. The board and the pass are as they were.
     #[error("the board's jobs were shared out before")]
