@@ -1,5 +1,6 @@
 -- What one more event does to what a stepper stands for.
-use Rattle.std.proofs.Common.{◌≡◌, ℕ, suc, ◌+◌, ◌<◌, ◌≤◌, List, [], ◌∷◌, ◌++◌, length, take, drop, get_or, Some, refl, sym, ◌∙◌, ap, subst, add-one, append_assoc}
+use Rattle.std.proofs.Common.{◌≡◌, ℕ, suc, ◌+◌, ◌<◌, ◌≤◌, List, [], ◌∷◌, ◌++◌, length, take, drop, get_or, Some, refl}
+use Rattle.std.proofs.Common.{sym, ◌∙◌, ap, subst, add-one, append_assoc}
 use Rattle.std.proofs.lemmas.List.{take-append-drop}
 use Rattle.std.proofs.Math.Seq.{take-suc, drop-cons}
 use Rattle.sched_time.specs.declared.starts.Decision.{Decision}
@@ -15,7 +16,8 @@ use Rattle.sched_driver_stepper.specs.Standing.{Standing, last_answer, StandsFor
 use Rattle.sched_driver_stepper.specs.Stepper.{Goes, Refuses, EndsEarly}
 use Rattle.sched_driver_stepper.specs.declared.steppers.StepFault.{StepFault}
 
-pub last_answer-push : (s : Schedule) (h : List Event) (e : Event) → last_answer s (h ++ e ∷ []) ≡ Some (answer s (h ++ e ∷ []))
+pub last_answer-push : (s : Schedule) (h : List Event) (e : Event)
+    → last_answer s (h ++ e ∷ []) ≡ Some (answer s (h ++ e ∷ []))
 last_answer-push s [] e = refl
 last_answer-push s (d ∷ h) e = refl
 
@@ -44,7 +46,10 @@ pub goes_on : (v : Standing) (plan : Schedule) (e : Event) (state : Progress) (g
 goes_on v plan e state given same later law h was =
     let step = subst (λ (p : Schedule). v.state ≡ state_of p h → IsStep p (h ++ e ∷ []) state given) same (law h)
     (ap (λ (v : Standing). v.state) was.is) in
-    record { stands = stands_on v h e state given was later step; decided = ap (λ (a : Answer). a.decision) step.answer_is }
+    record {
+      stands = stands_on v h e state given was later step;
+      decided = ap (λ (a : Answer). a.decision) step.answer_is;
+    }
 
 -- it has had these events, after those that it had before
 pub record HasPlayed (old new : Standing) (events : List Event) : Type 0 where
@@ -60,11 +65,13 @@ played_one old mid new events i e d within item so_far plan goes = record {
   stands = λ h was.
       let grown : take (i + 1) events ≡ take i events ++ e ∷ [] = rw (add-one, take-suc events i e, ← item) refl in
       subst (λ es. StandsFor new (h ++ es)) (sym grown)
-      (subst (StandsFor new) (append_assoc h (take i events) (e ∷ [])) (goes (h ++ take i events) (so_far.stands h was)).stands);
+      (subst (StandsFor new) (append_assoc h (take i events) (e ∷ []))
+      (goes (h ++ take i events) (so_far.stands h was)).stands);
 }
 
 -- where the event at a place is refused, the play ends early
-pub ends_early : (old mid new : Standing) (events : List Event) (i : ℕ) (e : Event) (fault : StepFault) (h : List Event) →
+pub ends_early : (old mid new : Standing) (events : List Event) (i : ℕ) (e : Event) (fault : StepFault)
+    (h : List Event) →
     i < length events → e ≡ get_or events i e → HasPlayed old mid (take i events) → new ≡ mid →
     Refuses mid e.now fault → StandsFor old h → EndsEarly h events fault new
 ends_early old mid new events i e fault h within item so_far same why was = record {

@@ -1,3 +1,4 @@
+-- Where a stepper stands after its events, and what its methods do.
 pub mod Standing
 pub mod Stepper
 pub use Rattle.sched_time.specs.Decision

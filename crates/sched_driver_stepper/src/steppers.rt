@@ -85,9 +85,11 @@ impl Stepper {
 
     /// Gives the plan one more event, also after `Done`, and answers what it decides: the next start, or `Done`.
     ///
-    /// Refused as `Backwards` where the tick is before the last event, and as `NoMemory`; the stepper is then unchanged.
+    /// Refused as `Backwards` where the tick is before the last event, and as `NoMemory`; the stepper is then
+    /// unchanged.
     pub fn next(&mut self, alloc: Global, tick: &Tick, input: &Val) -> Result<Decision, StepFault>
-        // Whatever history it stood for, it now stands for that one with this event, and decides as the plan answers it.
+        // Whatever history it stood for, it now stands for that one with this event, and decides as the plan answers
+        // it.
         ensures law { (h : List Event) → StandsFor self.old h → IfOk result
             (λ d. Goes self.old.plan (h ++ event_of tick.entry.now input.now ∷ []) d self.new) }
         ensures plan { self.new.plan ≡ self.old.plan }
@@ -104,8 +106,8 @@ impl Stepper {
         Ok(decision)
     }
 
-    /// Gives the plan these events one by one, after those that it had. It stops at the first that is refused, as `next`
-    /// refuses it, and then has had those before it.
+    /// Gives the plan these events one by one, after those that it had. It stops at the first that is refused, as
+    /// `next` refuses it, and then has had those before it.
     pub fn replay(&mut self, alloc: Global, events: &[Event]) -> Result<(), StepFault>
         ensures plays { (h : List Event) → StandsFor self.old h →
             IfOk result (λ _. StandsFor self.new (h ++ events.now)) }
@@ -150,8 +152,8 @@ impl Stepper {
         self.plan.get()
     }
 
-    /// The plan's state after the events since the last reset. It fits the plan from the last event's moment on, so that
-    /// it can be stepped there without a test.
+    /// The plan's state after the events since the last reset. It fits the plan from the last event's moment on, so
+    /// that it can be stepped there without a test.
     pub fn state(&self) -> &State
         ensures value { result.now ≡ self.now.state }
         ensures fits { (later : ℕ) → self.now.floor ≤ later → IsTrue (fits self.now.plan result.now later) }

@@ -13,11 +13,13 @@ pub word_left : (r : ℕ) → r < 2 ^ 32 → (2 ^ 32 - r) + r ≡ 2 ^ 32
 word_left r below = omega arith
 
 -- the weights of a jitter of at most ten times are below 2 ^ 46
-pub jitter_weight : (low high r : ℕ) → low ≤ high → high ≤ 10000 → r < 2 ^ 32 → low * (2 ^ 32 - r) + high * r ≤ 10000 * 2 ^ 32
+pub jitter_weight : (low high r : ℕ) → low ≤ high → high ≤ 10000 → r < 2 ^ 32
+    → low * (2 ^ 32 - r) + high * r ≤ 10000 * 2 ^ 32
 jitter_weight low high r ordered most below =
     let rest : ℕ = 2 ^ 32 - r in
     let lower : low * rest ≤ high * rest = mul-le-mul_right rest ordered in
-    let whole : high * rest + high * r ≡ high * 2 ^ 32 = sym (mul-add high rest r) ∙ ap (λ x. high * x) (word_left r below) in
+    let whole : high * rest + high * r ≡ high * 2 ^ 32 =
+    sym (mul-add high rest r) ∙ ap (λ x. high * x) (word_left r below) in
     omega (arith, lower, whole)
 
 -- so a jittered delay is computed below 2 ^ 128

@@ -1,3 +1,4 @@
+-- The laws of schedules, worked examples, and the lemmas that the proofs of `sched_plan` cite.
 pub mod sends
 pub mod shares
 pub mod Worked

@@ -8,7 +8,8 @@ use Rattle.sched_time.specs.Capped.{capped}
 use Rattle.sched_plan.specs.Datum.{Datum, unit, num, pair, list}
 use Rattle.sched_plan.specs.History.{last_moment, prefixes}
 use Rattle.sched_plan.proofs.HistoryLaws.{prefixes-push}
-use Rattle.sched_plan.specs.Outputs.{goes_on, outputs, before_last, earlier_outputs, numbers_in, sum_in, count_in, greatest_in, number_of, with_input, fed}
+use Rattle.sched_plan.specs.Outputs.{goes_on, outputs, before_last, earlier_outputs, numbers_in, sum_in, count_in}
+use Rattle.sched_plan.specs.Outputs.{greatest_in, number_of, with_input, fed}
 use Rattle.sched_plan.specs.declared.history.Event.{Event}
 use Rattle.sched_plan.specs.declared.history.Answer.{Answer}
 
@@ -41,7 +42,8 @@ before_last-push (d ∷ []) e = refl
 before_last-push (d ∷ c ∷ h) e = ap (λ g. d ∷ g) (before_last-push (c ∷ h) e)
 
 -- what a step finds of earlier outputs are all outputs so far
-pub earlier_outputs-push : (f : List Event → Answer) (h : List Event) (e : Event) → earlier_outputs f (h ++ e ∷ []) ≡ outputs f h
+pub earlier_outputs-push : (f : List Event → Answer) (h : List Event) (e : Event)
+    → earlier_outputs f (h ++ e ∷ []) ≡ outputs f h
 earlier_outputs-push f h e = ap (outputs f) (before_last-push h e)
 
 -- the numbers of a value alone

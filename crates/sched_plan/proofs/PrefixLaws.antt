@@ -1,5 +1,6 @@
 -- The first prefix of a history that passes a test, and the prefix on which a schedule is first done.
-use Rattle.std.proofs.Common.{◌≡◌, ◌≤◌, List, [], ◌∷◌, ◌++◌, length, find, All, Bool, true, false, cond, if◌then◌else◌, Some, None, refl, ap, subst, ◌∙◌, arith}
+use Rattle.std.proofs.Common.{◌≡◌, ◌≤◌, List, [], ◌∷◌, ◌++◌, length, find, All, Bool, true, false, cond, if◌then◌else◌}
+use Rattle.std.proofs.Common.{Some, None, refl, ap, subst, ◌∙◌, arith}
 use Rattle.std.proofs.lemmas.List.Elements.{All-nil, All-cons, All-head, All-tail, All-map, All-weaker}
 use Rattle.sched_plan.specs.History.{prefixes}
 use Rattle.sched_plan.specs.Answer.{crossing, is_done}
@@ -21,7 +22,8 @@ module _ {X : Type 0} (test : X → Bool) where
   pub find-kept : (xs ys : List X) (x : X) → find test xs ≡ Some x → find test (xs ++ ys) ≡ Some x
   find-kept [] ys x = λ found. cc
   find-kept (y ∷ xs) ys x =
-      elim (test y) as (λ b. cond b (Some y) (find test xs) ≡ Some x → cond b (Some y) (find test (xs ++ ys)) ≡ Some x) [
+      elim (test y) as (λ b. cond b (Some y) (find test xs) ≡ Some x
+      → cond b (Some y) (find test (xs ++ ys)) ≡ Some x) [
         | true ↦ λ found. found
         | false ↦ find-kept xs ys x
       ]
@@ -30,7 +32,8 @@ module _ {X : Type 0} (test : X → Bool) where
   pub find-past : (xs ys : List X) → find test xs ≡ None → find test (xs ++ ys) ≡ find test ys
   find-past [] ys = λ none. refl
   find-past (y ∷ xs) ys =
-      elim (test y) as (λ b. cond b (Some y) (find test xs) ≡ None → cond b (Some y) (find test (xs ++ ys)) ≡ find test ys) [
+      elim (test y) as (λ b. cond b (Some y) (find test xs) ≡ None
+      → cond b (Some y) (find test (xs ++ ys)) ≡ find test ys) [
         | true ↦ λ none. cc
         | false ↦ find-past xs ys
       ]
@@ -45,7 +48,8 @@ module _ {X : Type 0} (test : X → Bool) where
       ]
 
 -- no schedule is first done on a prefix longer than the history
-pub crossing-short : (answers : List Event → Answer) (h p : List Event) → crossing answers h ≡ Some p → length p ≤ length h
+pub crossing-short : (answers : List Event → Answer) (h p : List Event) → crossing answers h ≡ Some p
+    → length p ≤ length h
 crossing-short answers h p crossed =
     All-found (λ p. is_done (answers p).decision) (λ p. length p ≤ length h) (prefixes h) p (prefixes_short h) crossed
 

@@ -1,5 +1,6 @@
 -- What one more event does to the rounds of a history.
-use Rattle.std.proofs.Common.{◌≡◌, ℕ, zero, suc, ◌<◌, ◌≤◌, List, [], ◌∷◌, ◌++◌, length, Bool, true, false, cond, ◌&&◌, Some, find, refl, sym, ap, subst, ◌∙◌, inl, inr, arith}
+use Rattle.std.proofs.Common.{◌≡◌, ℕ, zero, suc, ◌<◌, ◌≤◌, List, [], ◌∷◌, ◌++◌, length, Bool, true, false, cond, ◌&&◌}
+use Rattle.std.proofs.Common.{Some, find, refl, sym, ap, subst, ◌∙◌, inl, inr, arith}
 use Rattle.std.specs.Prelude.{take_while, unwrap_or, if◌then◌else◌}
 use Rattle.std.proofs.lemmas.Bool.{cases_lt, cond_both}
 use Rattle.std.proofs.lemmas.List.{length_push, append-nil}
@@ -15,25 +16,30 @@ module _ (test : Event → Bool) where
   run_whole [] = λ whole. refl
   run_whole (c ∷ h) =
       rw (take_while-cons test c h)
-      (elim (test c) as (λ b. length (c ∷ h) ≤ length (cond b (c ∷ take_while test h) []) → cond b (c ∷ take_while test h) [] ≡ c ∷ h) [
+      (elim (test c) as (λ b. length (c ∷ h) ≤ length (cond b (c ∷ take_while test h) [])
+      → cond b (c ∷ take_while test h) [] ≡ c ∷ h) [
         | true ↦ λ whole. ap (λ g. c ∷ g) (run_whole h (omega (arith, whole)))
         | false ↦ λ whole. absurd (omega (arith, whole))
       ])
 
-  run_more : (h : List Event) (e : Event) → length h ≤ length (take_while test h) → take_while test (h ++ e ∷ []) ≡ h ++ take_while test (e ∷ [])
+  run_more : (h : List Event) (e : Event) → length h ≤ length (take_while test h)
+      → take_while test (h ++ e ∷ []) ≡ h ++ take_while test (e ∷ [])
   run_more [] e = λ whole. refl
   run_more (c ∷ h) e =
       rw (take_while-cons test c h, take_while-cons test c (h ++ e ∷ []))
-      (elim (test c) as (λ b. length (c ∷ h) ≤ length (cond b (c ∷ take_while test h) []) → cond b (c ∷ take_while test (h ++ e ∷ [])) [] ≡ c ∷ h ++ take_while test (e ∷ [])) [
+      (elim (test c) as (λ b. length (c ∷ h) ≤ length (cond b (c ∷ take_while test h) [])
+      → cond b (c ∷ take_while test (h ++ e ∷ [])) [] ≡ c ∷ h ++ take_while test (e ∷ [])) [
         | true ↦ λ whole. ap (λ g. c ∷ g) (run_more h e (omega (arith, whole)))
         | false ↦ λ whole. absurd (omega (arith, whole))
       ])
 
-  run_stopped : (h : List Event) (e : Event) → length (take_while test h) < length h → take_while test (h ++ e ∷ []) ≡ take_while test h
+  run_stopped : (h : List Event) (e : Event) → length (take_while test h) < length h
+      → take_while test (h ++ e ∷ []) ≡ take_while test h
   run_stopped [] e = λ stopped. absurd (omega (arith, stopped))
   run_stopped (c ∷ h) e =
       rw (take_while-cons test c h, take_while-cons test c (h ++ e ∷ []))
-      (elim (test c) as (λ b. length (cond b (c ∷ take_while test h) []) < length (c ∷ h) → cond b (c ∷ take_while test (h ++ e ∷ [])) [] ≡ cond b (c ∷ take_while test h) []) [
+      (elim (test c) as (λ b. length (cond b (c ∷ take_while test h) []) < length (c ∷ h)
+      → cond b (c ∷ take_while test (h ++ e ∷ [])) [] ≡ cond b (c ∷ take_while test h) []) [
         | true ↦ λ stopped. ap (λ g. c ∷ g) (run_stopped h e (omega (arith, stopped)))
         | false ↦ λ stopped. refl
       ])
@@ -55,7 +61,8 @@ blocks_past-some d zero (c ∷ h) before = omega arith
 blocks_past-some d (suc k) (c ∷ h) before = blocks_past-some d k h (omega (arith, before))
 
 -- past all of the history the event that came last is a block of its own
-blocks_past-itself : (d k : ℕ) (h : List Event) (e : Event) → k ≡ length h → blocks_past d k (h ++ e ∷ []) ≡ (e ∷ []) ∷ []
+blocks_past-itself : (d k : ℕ) (h : List Event) (e : Event) → k ≡ length h
+    → blocks_past d k (h ++ e ∷ []) ≡ (e ∷ []) ∷ []
 blocks_past-itself d zero [] e past = refl
 blocks_past-itself d (suc k) [] e past = absurd (omega (arith, past))
 blocks_past-itself d zero (c ∷ h) e past = absurd (omega (arith, past))
@@ -63,7 +70,8 @@ blocks_past-itself d (suc k) (c ∷ h) e past = blocks_past-itself d k h e (omeg
 
 -- where the whole history is one block, the event either joins it or begins a block
 joined_or_begun : (d : ℕ) (c : Event) (h : List Event) (e : Event) (joins : Bool) →
-    last_history ((c ∷ h ++ cond joins (e ∷ []) []) ∷ blocks_past d (length (h ++ cond joins (e ∷ []) [])) (h ++ e ∷ [])) ≡
+    last_history
+    ((c ∷ h ++ cond joins (e ∷ []) []) ∷ blocks_past d (length (h ++ cond joins (e ∷ []) [])) (h ++ e ∷ [])) ≡
     cond joins (c ∷ h ++ e ∷ []) (e ∷ [])
 joined_or_begun d c h e true = rw (blocks_past-none d (length (h ++ e ∷ [])) (h ++ e ∷ []) (omega arith)) refl
 joined_or_begun d c h e false = rw (append-nil h, blocks_past-itself d (length h) h e refl) refl
@@ -72,7 +80,8 @@ joined_or_begun d c h e false = rw (append-nil h, blocks_past-itself d (length h
 -- moment, else that event begins a block.
 last_past-push : (d k : ℕ) (h : List Event) (e : Event) → k < length h →
     last_history (blocks_past d k (h ++ e ∷ [])) ≡
-    cond (is_within d (first_moment (last_history (blocks_past d k h))) e) (last_history (blocks_past d k h) ++ e ∷ []) (e ∷ [])
+    cond (is_within d (first_moment (last_history (blocks_past d k h))) e)
+    (last_history (blocks_past d k h) ++ e ∷ []) (e ∷ [])
 last_past-push d k [] e before = absurd (omega (arith, before))
 last_past-push d (suc k) (c ∷ h) e before = last_past-push d k h e (omega (arith, before))
 last_past-push d zero (c ∷ h) e before =
@@ -82,9 +91,11 @@ last_past-push d zero (c ∷ h) e before =
           let rest : List (List Event) = blocks_past d (length (take_while test h)) h in
           let rest_some : 0 < length rest = blocks_past-some d (length (take_while test h)) h stopped in
           ap (λ g. last_history ((c ∷ g) ∷ blocks_past d (length g) (h ++ e ∷ []))) (run_stopped test h e stopped)
-          ∙ last_history-cons _ _ (blocks_past-some d (length (take_while test h)) (h ++ e ∷ []) (omega (arith, length_push h e)))
+          ∙ last_history-cons _ _
+          (blocks_past-some d (length (take_while test h)) (h ++ e ∷ []) (omega (arith, length_push h e)))
           ∙ last_past-push d (length (take_while test h)) h e stopped
-          ∙ ap (λ g. cond (is_within d (first_moment g) e) (g ++ e ∷ []) (e ∷ [])) (sym (last_history-cons (c ∷ take_while test h) rest rest_some))
+          ∙ ap (λ g. cond (is_within d (first_moment g) e) (g ++ e ∷ []) (e ∷ []))
+          (sym (last_history-cons (c ∷ take_while test h) rest rest_some))
       | inr whole ↦
           let block_is : last_history (blocks_past d 0 (c ∷ h)) ≡ c ∷ h =
           ap (λ g. last_history ((c ∷ g) ∷ blocks_past d (length g) h)) (run_whole test h whole)
@@ -102,9 +113,11 @@ pub last_block-push : (d : ℕ) (c : Event) (h : List Event) (e : Event) →
 last_block-push d c h e = last_past-push d 0 (c ∷ h) e (omega arith)
 
 -- the last run of a longer history: all of it where it is close, else that of the rest
-last_run-cons : (d : ℕ) (c : Event) (h : List Event) → last_run d (c ∷ h) ≡ cond (is_close d (c ∷ h)) (c ∷ h) (last_run d h)
+last_run-cons : (d : ℕ) (c : Event) (h : List Event)
+    → last_run d (c ∷ h) ≡ cond (is_close d (c ∷ h)) (c ∷ h) (last_run d h)
 last_run-cons d c h =
-    elim (is_close d (c ∷ h)) as (λ b. unwrap_or (cond b (Some (c ∷ h)) (find (is_close d) (suffixes h))) [] ≡ cond b (c ∷ h) (last_run d h)) [
+    elim (is_close d (c ∷ h)) as (λ b.
+    unwrap_or (cond b (Some (c ∷ h)) (find (is_close d) (suffixes h))) [] ≡ cond b (c ∷ h) (last_run d h)) [
       | true ↦ refl
       | false ↦ refl
     ]
@@ -126,7 +139,8 @@ is_close-push d c (b ∷ h) e =
     ∙ and_assoc (is_within d c.now b) (is_close d (b ∷ h)) (is_within d (last_moment (b ∷ h)) e)
 
 grown_run : (close near : Bool) (g rest : List Event) (e : Event) →
-    cond (close && near) (g ++ e ∷ []) (cond near (rest ++ e ∷ []) (e ∷ [])) ≡ cond near (cond close g rest ++ e ∷ []) (e ∷ [])
+    cond (close && near) (g ++ e ∷ []) (cond near (rest ++ e ∷ []) (e ∷ []))
+    ≡ cond near (cond close g rest ++ e ∷ []) (e ∷ [])
 grown_run true true g rest e = refl
 grown_run true false g rest e = refl
 grown_run false true g rest e = refl
@@ -149,12 +163,14 @@ last_run-push d c (b ∷ h) e =
 -- A round that takes an event or begins with it ends with it.
 module _ (P : List Event → Type 0) (round : List Event → List Event) (joins : List Event → Event → Bool)
     (alone : (e : Event) → round (e ∷ []) ≡ e ∷ [])
-    (pushed : (c : Event) (h : List Event) (e : Event) → round (c ∷ h ++ e ∷ []) ≡ cond (joins (c ∷ h) e) (round (c ∷ h) ++ e ∷ []) (e ∷ [])) where
+    (pushed : (c : Event) (h : List Event) (e : Event)
+    → round (c ∷ h ++ e ∷ []) ≡ cond (joins (c ∷ h) e) (round (c ∷ h) ++ e ∷ []) (e ∷ [])) where
   round-push : (h : List Event) (e : Event) → ((g : List Event) → P (g ++ e ∷ [])) → P (round (h ++ e ∷ []))
   round-push [] e each = subst P (sym (alone e)) (each [])
   round-push (c ∷ h) e each =
       subst P (sym (pushed c h e))
-      (cond_both (joins (c ∷ h) e) (round (c ∷ h) ++ e ∷ []) (e ∷ []) P (λ grows. each (round (c ∷ h))) (λ begins. each []))
+      (cond_both (joins (c ∷ h) e) (round (c ∷ h) ++ e ∷ []) (e ∷ []) P (λ grows. each (round (c ∷ h)))
+      (λ begins. each []))
 
 -- the last block and the last run end at the history's last moment
 pub last_block-last_moment : (d : ℕ) (h : List Event) (e : Event) → last_moment (last_block d (h ++ e ∷ [])) ≡ e.now

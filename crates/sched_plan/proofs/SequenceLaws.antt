@@ -68,7 +68,8 @@ applied-exponential : (b k m : ℕ) → b ≤ FAR →
 applied-exponential b k zero small = sym (no_power b k small)
 applied-exponential b k (suc m) small =
     let thousandths : (x : ℕ) → x * (1000 * k) / 1000 ≡ x * k = λ x.
-    ap (λ y. y / 1000) (let same : x * (1000 * k) ≡ x * k * 1000 = omega arith in same) ∙ mul-div_cancel (x * k) (omega arith) in
+    ap (λ y. y / 1000) (let same : x * (1000 * k) ≡ x * k * 1000 = omega arith in same)
+    ∙ mul-div_cancel (x * k) (omega arith) in
     ap (λ x. capped (x * (1000 * k) / 1000)) (applied-exponential b k m small)
     ∙ ap capped (thousandths (capped (b * k ^ m)))
     ∙ capped_product (b * k ^ m) k

@@ -18,14 +18,16 @@ middle_word = 2147483648
 
 -- events at these moments, with the input 0
 abbrev pub at : List ℕ → List Event
-at ms = map (λ m. record { now = m; words = middle_word ∷ middle_word ∷ middle_word ∷ middle_word ∷ []; input = num 0 }) ms
+at ms =
+    map (λ m. record { now = m; words = middle_word ∷ middle_word ∷ middle_word ∷ middle_word ∷ []; input = num 0 }) ms
 
 abbrev pub gives : Datum → Decision → Answer
 gives output decision = record { output = output; decision = decision }
 
 -- events at moment 0 with these inputs
 abbrev pub with_inputs : List Datum → List Event
-with_inputs ds = map (λ d. record { now = 0; words = middle_word ∷ middle_word ∷ middle_word ∷ middle_word ∷ []; input = d }) ds
+with_inputs ds =
+    map (λ d. record { now = 0; words = middle_word ∷ middle_word ∷ middle_word ∷ middle_word ∷ []; input = d }) ds
 
 -- events at these moments, with these random words each
 abbrev pub with_words : List ℕ → List ℕ → List Event
@@ -79,7 +81,8 @@ forever_counts = refl
 pub spaced_from_five : answers (leaf (Spaced 10)) (5 ∷ []) ≡ gives (num 0) (Go 15) ∷ []
 spaced_from_five = refl
 
-pub spaced_to_the_end : answers (leaf (Spaced 4611686018427387903)) (5 ∷ []) ≡ gives (num 0) (Go 4611686018427387903) ∷ []
+pub spaced_to_the_end : answers (leaf (Spaced 4611686018427387903)) (5 ∷ [])
+    ≡ gives (num 0) (Go 4611686018427387903) ∷ []
 spaced_to_the_end = refl
 
 pub fixed_with_no_time_between : answers (leaf (Fixed 100)) (5 ∷ 5 ∷ 5 ∷ []) ≡
@@ -101,28 +104,33 @@ pub follow_into_fixed : answers (two Follow (leaf (Recurs 1)) (leaf (Fixed 100))
     gives (num 0) (Go 0) ∷ gives (num 0) (Go 130) ∷ gives (num 1) (Go 230) ∷ []
 follow_into_fixed = refl
 
-pub follow_in_meet : answers (two Meet (two Follow (leaf (Recurs 1)) (leaf (Recurs 1))) (leaf (Spaced 10))) (0 ∷ 10 ∷ 20 ∷ []) ≡
+pub follow_in_meet : answers (two Meet (two Follow (leaf (Recurs 1)) (leaf (Recurs 1))) (leaf (Spaced 10)))
+    (0 ∷ 10 ∷ 20 ∷ []) ≡
     gives (pair (num 0) (num 0)) (Go 10) ∷ gives (pair (num 0) (num 1)) (Go 20) ∷
     gives (pair (num 1) (num 2)) Done ∷ []
 follow_in_meet = refl
 
 -- the crossing comes at the third event of the meet
-pub late_follow_in_meet : answers (two Meet (leaf (Spaced 5)) (two Follow (leaf (Recurs 2)) (leaf (Recurs 1)))) (0 ∷ 5 ∷ 10 ∷ 15 ∷ []) ≡
+pub late_follow_in_meet : answers (two Meet (leaf (Spaced 5)) (two Follow (leaf (Recurs 2)) (leaf (Recurs 1))))
+    (0 ∷ 5 ∷ 10 ∷ 15 ∷ []) ≡
     gives (pair (num 0) (num 0)) (Go 5) ∷ gives (pair (num 1) (num 1)) (Go 10) ∷
     gives (pair (num 2) (num 0)) (Go 15) ∷ gives (pair (num 3) (num 1)) Done ∷ []
 late_follow_in_meet = refl
 
 -- the first plan is a meet, which is done at its third event
-pub follow_after_meet : answers (two Follow (two Meet (leaf (Recurs 2)) (leaf (Spaced 10))) (leaf (Spaced 50))) (0 ∷ 10 ∷ 20 ∷ 70 ∷ []) ≡
+pub follow_after_meet : answers (two Follow (two Meet (leaf (Recurs 2)) (leaf (Spaced 10))) (leaf (Spaced 50)))
+    (0 ∷ 10 ∷ 20 ∷ 70 ∷ []) ≡
     gives (pair (num 0) (num 0)) (Go 10) ∷ gives (pair (num 1) (num 1)) (Go 20) ∷
     gives (num 0) (Go 70) ∷ gives (num 1) (Go 120) ∷ []
 follow_after_meet = refl
 
-pub follow_of_follow : answers (two Follow (two Follow (leaf (Recurs 1)) (leaf (Recurs 1))) (leaf (Spaced 7))) (0 ∷ 0 ∷ 0 ∷ 7 ∷ []) ≡
+pub follow_of_follow : answers (two Follow (two Follow (leaf (Recurs 1)) (leaf (Recurs 1))) (leaf (Spaced 7)))
+    (0 ∷ 0 ∷ 0 ∷ 7 ∷ []) ≡
     gives (num 0) (Go 0) ∷ gives (num 0) (Go 0) ∷ gives (num 0) (Go 7) ∷ gives (num 1) (Go 14) ∷ []
 follow_of_follow = refl
 
-pub follow_before_follow : answers (two Follow (leaf (Recurs 1)) (two Follow (leaf (Recurs 1)) (leaf (Spaced 7)))) (0 ∷ 0 ∷ 0 ∷ 7 ∷ []) ≡
+pub follow_before_follow : answers (two Follow (leaf (Recurs 1)) (two Follow (leaf (Recurs 1)) (leaf (Spaced 7))))
+    (0 ∷ 0 ∷ 0 ∷ 7 ∷ []) ≡
     gives (num 0) (Go 0) ∷ gives (num 0) (Go 0) ∷ gives (num 0) (Go 7) ∷ gives (num 1) (Go 14) ∷ []
 follow_before_follow = refl
 
@@ -187,6 +195,7 @@ pub once : answers (one Nothing (leaf (Recurs 1))) (0 ∷ 0 ∷ []) ≡ gives un
 once = refl
 
 -- time begins anew for a plan that follows another
-pub within_after_follow : answers (two Follow (leaf (Recurs 1)) (one (Within 50) (leaf Forever))) (0 ∷ 60 ∷ 100 ∷ 110 ∷ []) ≡
+pub within_after_follow : answers (two Follow (leaf (Recurs 1)) (one (Within 50) (leaf Forever)))
+    (0 ∷ 60 ∷ 100 ∷ 110 ∷ []) ≡
     gives (num 0) (Go 0) ∷ gives (num 0) (Go 60) ∷ gives (num 1) (Go 100) ∷ gives (num 2) Done ∷ []
 within_after_follow = refl

@@ -3,7 +3,8 @@ use Rattle.std.specs.Prelude.{◌≡◌, [], ◌∷◌, ◌++◌, refl}
 use Rattle.sched_time.specs.declared.starts.Decision.TheVariants.{Go, Done}
 use Rattle.sched_plan.specs.Datum.{unit, num, pair}
 use Rattle.sched_plan.specs.Schedule.{leaf}
-use Rattle.sched_plan.specs.declared.leaves.Leaf.TheVariants.{Windowed, Linear, Exponential, ExponentialMilli, Fibonacci, Decorrelated, Elapsed, Identity, Unfold, Lone}
+use Rattle.sched_plan.specs.declared.leaves.Leaf.TheVariants.{Windowed, Linear, Exponential, ExponentialMilli}
+use Rattle.sched_plan.specs.declared.leaves.Leaf.TheVariants.{Fibonacci, Decorrelated, Elapsed, Identity, Unfold, Lone}
 use Rattle.sched_plan.proofs.Worked.{answers, answers_on, gives, with_inputs, with_words}
 
 -- 250 ms of work each time: the next boundary of 100 ms
@@ -25,7 +26,8 @@ exponential_by_three : answers (leaf (Exponential 10 3)) (0 ∷ 10 ∷ 40 ∷ []
 exponential_by_three = refl
 
 -- the doubled number would be 2^62, one past the end
-exponential_to_the_end : answers (leaf (Exponential 2305843009213693952 2)) (0 ∷ 2305843009213693952 ∷ 4611686018427387903 ∷ []) ≡
+exponential_to_the_end : answers (leaf (Exponential 2305843009213693952 2))
+    (0 ∷ 2305843009213693952 ∷ 4611686018427387903 ∷ []) ≡
     gives (num 2305843009213693952) (Go 2305843009213693952) ∷
     gives (num 4611686018427387903) (Go 4611686018427387903) ∷
     gives (num 4611686018427387903) (Go 4611686018427387903) ∷ []
@@ -41,7 +43,8 @@ milli_by_half : answers (leaf (ExponentialMilli 3 500)) (0 ∷ 3 ∷ 4 ∷ 4 ∷
     gives (num 3) (Go 3) ∷ gives (num 1) (Go 4) ∷ gives (num 0) (Go 4) ∷ gives (num 0) (Go 4) ∷ []
 milli_by_half = refl
 
-milli_to_the_end : answers (leaf (ExponentialMilli 2305843009213693952 2000)) (0 ∷ 2305843009213693952 ∷ 4611686018427387903 ∷ []) ≡
+milli_to_the_end : answers (leaf (ExponentialMilli 2305843009213693952 2000))
+    (0 ∷ 2305843009213693952 ∷ 4611686018427387903 ∷ []) ≡
     gives (num 2305843009213693952) (Go 2305843009213693952) ∷
     gives (num 4611686018427387903) (Go 4611686018427387903) ∷
     gives (num 4611686018427387903) (Go 4611686018427387903) ∷ []
@@ -57,7 +60,8 @@ decorrelated_by_the_middle_word : answers (leaf (Decorrelated 0 100 3000 10000))
     gives (num 200) (Go 200) ∷ gives (num 350) (Go 550) ∷ gives (num 575) (Go 1125) ∷ gives (num 912) (Go 2037) ∷ []
 decorrelated_by_the_middle_word = refl
 
-decorrelated_by_the_least_word : answers_on (leaf (Decorrelated 0 100 3000 10000)) (with_words (0 ∷ 0 ∷ 0 ∷ 0 ∷ []) (0 ∷ 100 ∷ [])) ≡
+decorrelated_by_the_least_word : answers_on (leaf (Decorrelated 0 100 3000 10000))
+    (with_words (0 ∷ 0 ∷ 0 ∷ 0 ∷ []) (0 ∷ 100 ∷ [])) ≡
     gives (num 100) (Go 100) ∷ gives (num 100) (Go 200) ∷ []
 decorrelated_by_the_least_word = refl
 
@@ -74,8 +78,10 @@ decorrelated_up_to_a_most : answers (leaf (Decorrelated 0 100 3000 250)) (0 ∷ 
 decorrelated_up_to_a_most = refl
 
 -- three times the base would be past the end: the middle of 2 ^ 61 and 2 ^ 62 - 1, rounded down
-decorrelated_to_the_end : answers (leaf (Decorrelated 0 2305843009213693952 3000 4611686018427387903)) (0 ∷ 4611686018427387903 ∷ []) ≡
-    gives (num 3458764513820540927) (Go 3458764513820540927) ∷ gives (num 3458764513820540927) (Go 4611686018427387903) ∷ []
+decorrelated_to_the_end : answers (leaf (Decorrelated 0 2305843009213693952 3000 4611686018427387903))
+    (0 ∷ 4611686018427387903 ∷ []) ≡
+    gives (num 3458764513820540927) (Go 3458764513820540927)
+    ∷ gives (num 3458764513820540927) (Go 4611686018427387903) ∷ []
 decorrelated_to_the_end = refl
 
 elapsed_from_five : answers (leaf Elapsed) (5 ∷ 15 ∷ 25 ∷ []) ≡

@@ -3,11 +3,13 @@ use Rattle.std.specs.Prelude.{◌≡◌, ℕ, true, false, List, [], ◌∷◌, 
 use Rattle.sched_time.specs.declared.starts.Decision.TheVariants.{Go, Done}
 use Rattle.sched_plan.specs.Datum.{Datum, unit, num, pair, list, items_of}
 use Rattle.sched_plan.specs.Schedule.{leaf, one, two}
-use Rattle.sched_plan.specs.declared.leaves.Leaf.TheVariants.{Forever, Recurs, Spaced, Linear, Exponential, Identity, Lone}
+use Rattle.sched_plan.specs.declared.leaves.Leaf.TheVariants.{Forever, Recurs, Spaced, Linear, Exponential, Identity}
+use Rattle.sched_plan.specs.declared.leaves.Leaf.TheVariants.{Lone}
 use Rattle.sched_plan.specs.declared.nodes.Side.TheVariants.{Input, Output}
 use Rattle.sched_plan.specs.declared.nodes.Test.TheVariants.{Below, AtLeast, Equal}
 use Rattle.sched_plan.specs.declared.nodes.Fold.TheVariants.{Sum, Count, Max, List as Listing}
-use Rattle.sched_plan.specs.declared.nodes.One.TheVariants.{Gate, Gather, Add, Set, Cap, AddOut, Jitter, Within, Renew, RenewIdle, First, Second}
+use Rattle.sched_plan.specs.declared.nodes.One.TheVariants.{Gate, Gather, Add, Set, Cap, AddOut, Jitter, Within, Renew}
+use Rattle.sched_plan.specs.declared.nodes.One.TheVariants.{RenewIdle, First, Second}
 use Rattle.sched_plan.specs.declared.nodes.Two.TheVariants.{Meet, Join, Follow, Feed}
 use Rattle.sched_plan.proofs.Worked.{answers, answers_on, gives, with_inputs, with_words}
 
@@ -27,11 +29,13 @@ join_counts_on : answers (two Join (leaf (Recurs 1)) (leaf (Spaced 50))) (0 ∷ 
 join_counts_on = refl
 
 -- the second schedule's inputs are the first one's outputs
-feed_to_a_gate : answers (two Feed (leaf (Spaced 10)) (one (Gate Input false Equal 2) (leaf Identity))) (0 ∷ 10 ∷ 20 ∷ []) ≡
+feed_to_a_gate : answers (two Feed (leaf (Spaced 10)) (one (Gate Input false Equal 2) (leaf Identity)))
+    (0 ∷ 10 ∷ 20 ∷ []) ≡
     gives (num 0) (Go 10) ∷ gives (num 1) (Go 20) ∷ gives (num 2) Done ∷ []
 feed_to_a_gate = refl
 
-feed_over_join : answers (two Feed (two Join (leaf (Recurs 0)) (leaf (Lone 5))) (one Second (leaf Identity))) (0 ∷ 5 ∷ []) ≡
+feed_over_join : answers (two Feed (two Join (leaf (Recurs 0)) (leaf (Lone 5))) (one Second (leaf Identity)))
+    (0 ∷ 5 ∷ []) ≡
     gives (num 5) (Go 5) ∷ gives (num 0) Done ∷ []
 feed_over_join = refl
 
@@ -48,7 +52,8 @@ gate_against_a_pair : answers (one (Gate Output false AtLeast 0) (two Meet (leaf
     gives (pair (num 0) (num 0)) (Go 0) ∷ []
 gate_against_a_pair = refl
 
-gate_of_inputs : answers_on (one (Gate Input true AtLeast 5) (leaf Forever)) (with_inputs (num 5 ∷ num 4 ∷ unit ∷ num 7 ∷ [])) ≡
+gate_of_inputs : answers_on (one (Gate Input true AtLeast 5) (leaf Forever))
+    (with_inputs (num 5 ∷ num 4 ∷ unit ∷ num 7 ∷ [])) ≡
     gives (num 0) (Go 0) ∷ gives (num 1) Done ∷ gives (num 2) Done ∷ gives (num 3) (Go 0) ∷ []
 gate_of_inputs = refl
 
@@ -69,8 +74,10 @@ gather_max : answers (one (Gather Max) (leaf (Recurs 3))) (0 ∷ 0 ∷ 0 ∷ 0 �
 gather_max = refl
 
 -- what a gate lets not through is not gathered
-gather_past_a_gate : answers_on (one (Gather Listing) (one (Gate Input true Below 5) (leaf Identity))) (with_inputs (num 1 ∷ num 7 ∷ num 2 ∷ num 3 ∷ [])) ≡
-    gives (numbers []) (Go 0) ∷ gives (numbers (1 ∷ [])) Done ∷ gives (numbers (1 ∷ [])) (Go 0) ∷ gives (numbers (1 ∷ 2 ∷ [])) (Go 0) ∷ []
+gather_past_a_gate : answers_on (one (Gather Listing) (one (Gate Input true Below 5) (leaf Identity)))
+    (with_inputs (num 1 ∷ num 7 ∷ num 2 ∷ num 3 ∷ [])) ≡
+    gives (numbers []) (Go 0) ∷ gives (numbers (1 ∷ [])) Done ∷ gives (numbers (1 ∷ [])) (Go 0)
+    ∷ gives (numbers (1 ∷ 2 ∷ [])) (Go 0) ∷ []
 gather_past_a_gate = refl
 
 gather_of_gather : answers (one (Gather Listing) (one (Gather Listing) (leaf (Recurs 2)))) (0 ∷ 0 ∷ 0 ∷ []) ≡
@@ -106,15 +113,18 @@ add_the_output : answers (one AddOut (leaf (Linear 5))) (0 ∷ 10 ∷ 30 ∷ [])
     gives (num 5) (Go 10) ∷ gives (num 10) (Go 30) ∷ gives (num 15) (Go 60) ∷ []
 add_the_output = refl
 
-jitter_with_the_least_word : answers_on (one (Jitter 0 800 1200) (leaf (Spaced 1000))) (with_words (0 ∷ 0 ∷ 0 ∷ 0 ∷ []) (0 ∷ [])) ≡
+jitter_with_the_least_word : answers_on (one (Jitter 0 800 1200) (leaf (Spaced 1000)))
+    (with_words (0 ∷ 0 ∷ 0 ∷ 0 ∷ []) (0 ∷ [])) ≡
     gives (num 0) (Go 800) ∷ []
 jitter_with_the_least_word = refl
 
-jitter_with_the_middle_word : answers (one (Jitter 0 800 1200) (leaf (Spaced 1000))) (0 ∷ []) ≡ gives (num 0) (Go 1000) ∷ []
+jitter_with_the_middle_word : answers (one (Jitter 0 800 1200) (leaf (Spaced 1000))) (0 ∷ [])
+    ≡ gives (num 0) (Go 1000) ∷ []
 jitter_with_the_middle_word = refl
 
 -- the greatest word gives just less than the greatest ratio, and is rounded down
-jitter_with_the_greatest_word : answers_on (one (Jitter 2 800 1200) (leaf (Spaced 1000))) (with_words (0 ∷ 0 ∷ 4294967295 ∷ 0 ∷ []) (0 ∷ [])) ≡
+jitter_with_the_greatest_word : answers_on (one (Jitter 2 800 1200) (leaf (Spaced 1000)))
+    (with_words (0 ∷ 0 ∷ 4294967295 ∷ 0 ∷ []) (0 ∷ [])) ≡
     gives (num 0) (Go 1199) ∷ []
 jitter_with_the_greatest_word = refl
 
@@ -124,7 +134,8 @@ jitter_of_the_longest = refl
 
 -- 60 ms of work each time: a round has two events
 renew_by_sixty : answers (one (Renew 100) (leaf (Recurs 2))) (0 ∷ 60 ∷ 120 ∷ 180 ∷ 240 ∷ []) ≡
-    gives (num 0) (Go 0) ∷ gives (num 1) (Go 60) ∷ gives (num 0) (Go 120) ∷ gives (num 1) (Go 180) ∷ gives (num 0) (Go 240) ∷ []
+    gives (num 0) (Go 0) ∷ gives (num 1) (Go 60) ∷ gives (num 0) (Go 120) ∷ gives (num 1) (Go 180)
+    ∷ gives (num 0) (Go 240) ∷ []
 renew_by_sixty = refl
 
 renew_by_forty : answers (one (Renew 100) (leaf (Recurs 2))) (0 ∷ 40 ∷ 80 ∷ []) ≡
@@ -136,7 +147,8 @@ renew_by_fifty : answers (one (Renew 100) (leaf (Recurs 2))) (0 ∷ 50 ∷ 100 �
     gives (num 0) (Go 0) ∷ gives (num 1) (Go 50) ∷ gives (num 0) (Go 100) ∷ []
 renew_by_fifty = refl
 
-renew_over_follow : answers (one (Renew 100) (two Follow (leaf (Recurs 1)) (leaf (Spaced 10)))) (0 ∷ 20 ∷ 99 ∷ 100 ∷ 150 ∷ []) ≡
+renew_over_follow : answers (one (Renew 100) (two Follow (leaf (Recurs 1)) (leaf (Spaced 10))))
+    (0 ∷ 20 ∷ 99 ∷ 100 ∷ 150 ∷ []) ≡
     gives (num 0) (Go 0) ∷ gives (num 0) (Go 30) ∷ gives (num 1) (Go 109) ∷
     gives (num 0) (Go 100) ∷ gives (num 0) (Go 160) ∷ []
 renew_over_follow = refl
@@ -151,20 +163,25 @@ renew_idle_at_the_border : answers (one (RenewIdle 100) (leaf (Recurs 2))) (0 �
 renew_idle_at_the_border = refl
 
 renew_idle_over_exponential : answers (one (RenewIdle 100) (leaf (Exponential 10 2))) (0 ∷ 10 ∷ 30 ∷ 130 ∷ 150 ∷ []) ≡
-    gives (num 10) (Go 10) ∷ gives (num 20) (Go 30) ∷ gives (num 40) (Go 70) ∷ gives (num 10) (Go 140) ∷ gives (num 20) (Go 170) ∷ []
+    gives (num 10) (Go 10) ∷ gives (num 20) (Go 30) ∷ gives (num 40) (Go 70) ∷ gives (num 10) (Go 140)
+    ∷ gives (num 20) (Go 170) ∷ []
 renew_idle_over_exponential = refl
 
 -- follow in renew in gather: the third event of the first round is done, and the next round goes on
-rounds_gathered : answers (one (Gather Count) (one (Renew 100) (two Follow (leaf (Recurs 1)) (leaf (Recurs 1))))) (0 ∷ 20 ∷ 40 ∷ 100 ∷ []) ≡
+rounds_gathered : answers (one (Gather Count) (one (Renew 100) (two Follow (leaf (Recurs 1)) (leaf (Recurs 1)))))
+    (0 ∷ 20 ∷ 40 ∷ 100 ∷ []) ≡
     gives (num 0) (Go 0) ∷ gives (num 1) (Go 20) ∷ gives (num 2) Done ∷ gives (num 2) (Go 100) ∷ []
 rounds_gathered = refl
 
-feed_of_pairs : answers (two Feed (two Meet (leaf Forever) (leaf (Spaced 10))) (one (Gather Listing) (one First (leaf Identity)))) (0 ∷ 10 ∷ 20 ∷ []) ≡
+feed_of_pairs : answers
+    (two Feed (two Meet (leaf Forever) (leaf (Spaced 10))) (one (Gather Listing) (one First (leaf Identity))))
+    (0 ∷ 10 ∷ 20 ∷ []) ≡
     gives (numbers []) (Go 10) ∷ gives (numbers (0 ∷ [])) (Go 20) ∷ gives (numbers (0 ∷ 1 ∷ [])) (Go 30) ∷ []
 feed_of_pairs = refl
 
 -- a random word of 0 halves the delay; then it is capped, and then comes the output
-shifts_one_over_another : answers_on (one AddOut (one (Cap 15) (one (Jitter 0 500 1500) (leaf (Linear 20))))) (with_words (0 ∷ 0 ∷ 0 ∷ 0 ∷ []) (0 ∷ 40 ∷ [])) ≡
+shifts_one_over_another : answers_on (one AddOut (one (Cap 15) (one (Jitter 0 500 1500) (leaf (Linear 20)))))
+    (with_words (0 ∷ 0 ∷ 0 ∷ 0 ∷ []) (0 ∷ 40 ∷ [])) ≡
     gives (num 20) (Go 30) ∷ gives (num 40) (Go 95) ∷ []
 shifts_one_over_another = refl
 

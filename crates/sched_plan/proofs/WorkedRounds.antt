@@ -5,7 +5,8 @@ use Rattle.sched_plan.specs.Datum.{unit, num, pair, list, items_of}
 use Rattle.sched_plan.specs.History.{last_moment, repeats, prefixes}
 use Rattle.sched_plan.specs.Rounds.{blocks, last_block, last_run}
 use Rattle.sched_plan.specs.Outputs.{outputs, earlier_outputs, fed}
-use Rattle.sched_plan.specs.Sequences.{linear_at, exponential_at, milli_at, fibonacci_at, picked, decorrelated_after, decorrelated_at, unfold_at}
+use Rattle.sched_plan.specs.Sequences.{linear_at, exponential_at, milli_at, fibonacci_at, picked, decorrelated_after}
+use Rattle.sched_plan.specs.Sequences.{decorrelated_at, unfold_at}
 use Rattle.sched_plan.specs.Delays.{jittered, moved, added}
 use Rattle.sched_plan.specs.Answer.{gathered}
 use Rattle.sched_plan.specs.declared.nodes.Fold.TheVariants.{Sum, Count, Max, List as Listing}
@@ -108,7 +109,8 @@ fibonacci_by_ten : map (fibonacci_at 10) (1 ∷ 2 ∷ 3 ∷ 4 ∷ 5 ∷ 6 ∷ []
 fibonacci_by_ten = refl
 
 -- before the first word the delay is the base
-decorrelated_by_words : map (decorrelated_at 100 3000 10000) ([] ∷ (middle_word ∷ []) ∷ (4294967295 ∷ middle_word ∷ []) ∷ []) ≡
+decorrelated_by_words : map (decorrelated_at 100 3000 10000)
+    ([] ∷ (middle_word ∷ []) ∷ (4294967295 ∷ middle_word ∷ []) ∷ []) ≡
     100 ∷ 200 ∷ 498 ∷ []
 decorrelated_by_words = refl
 

@@ -1,5 +1,6 @@
 -- What a schedule answers on a history, as a function of the whole list of events, oldest first.
-use Rattle.std.specs.Prelude.{ℕ, ◌+◌, ◌-◌, ◌%◌, min, max, Bool, true, false, if◌then◌else◌, nat_eq, nat_lt, nat_le, List, [], ◌∷◌, drop, length, reverse, find, get_or, Option, Some, None}
+use Rattle.std.specs.Prelude.{ℕ, ◌+◌, ◌-◌, ◌%◌, min, max, Bool, true, false, if◌then◌else◌, nat_eq, nat_lt, nat_le}
+use Rattle.std.specs.Prelude.{List, [], ◌∷◌, drop, length, reverse, find, get_or, Option, Some, None}
 use Rattle.sched_time.specs.Capped.{capped}
 use Rattle.sched_time.specs.declared.starts.Decision.{Decision}
 use Rattle.sched_time.specs.declared.starts.Decision.TheVariants.{Go, Done}
@@ -13,11 +14,14 @@ use Rattle.sched_plan.specs.Delays.{added, added_out, jittered}
 use Rattle.sched_plan.specs.Changes.{ended_where, goes_past, delayed, giving, silent}
 use Rattle.sched_plan.specs.Gates.{gated}
 use Rattle.sched_plan.specs.declared.leaves.Leaf.{Leaf}
-use Rattle.sched_plan.specs.declared.leaves.Leaf.TheVariants.{Forever, Recurs, Spaced, Fixed, Windowed, Linear, Exponential, ExponentialMilli, Fibonacci, Decorrelated, Elapsed, Identity, Unfold, Lone}
+use Rattle.sched_plan.specs.declared.leaves.Leaf.TheVariants.{Forever, Recurs, Spaced, Fixed, Windowed, Linear}
+use Rattle.sched_plan.specs.declared.leaves.Leaf.TheVariants.{Exponential, ExponentialMilli, Fibonacci, Decorrelated}
+use Rattle.sched_plan.specs.declared.leaves.Leaf.TheVariants.{Elapsed, Identity, Unfold, Lone}
 use Rattle.sched_plan.specs.declared.nodes.Fold.{Fold}
 use Rattle.sched_plan.specs.declared.nodes.Fold.TheVariants.{Sum, Count, Max, List as Listing}
 use Rattle.sched_plan.specs.declared.nodes.One.{One}
-use Rattle.sched_plan.specs.declared.nodes.One.TheVariants.{Gate, Gather, Add, Set, Cap, AddOut, Jitter, Within, EndsBy, Renew, RenewIdle, First, Second, Nothing}
+use Rattle.sched_plan.specs.declared.nodes.One.TheVariants.{Gate, Gather, Add, Set, Cap, AddOut, Jitter, Within, EndsBy}
+use Rattle.sched_plan.specs.declared.nodes.One.TheVariants.{Renew, RenewIdle, First, Second, Nothing}
 use Rattle.sched_plan.specs.declared.nodes.Two.{Two}
 use Rattle.sched_plan.specs.declared.nodes.Two.TheVariants.{Meet, Join, Follow, Feed}
 use Rattle.sched_plan.specs.declared.history.Event.{Event}

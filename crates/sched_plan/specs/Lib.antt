@@ -1,3 +1,4 @@
+-- The definitions that the contracts of `sched_plan` cite: what a schedule is, and what it answers.
 pub mod Datum
 pub mod DatumText
 pub mod DatumCode

@@ -1,3 +1,4 @@
+-- The schedule that a plan stands for, what is true of every plan, and what builders return.
 use Rattle.std.specs.Prelude.{◌≡◌, ℕ, ◌≤◌, nat_lt, if◌then◌else◌, not, IsTrue, Result, Ok, Err}
 use Rattle.sched_plan.specs.Schedule.{Schedule, leaf, one, two, nodes_of, depth_of, node_in_range, is_valid}
 use Rattle.sched_plan.specs.declared.plans.PlanFault.{PlanFault}

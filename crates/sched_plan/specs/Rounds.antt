@@ -1,5 +1,6 @@
 -- The rounds of a history: runs of events that lie close together.
-use Rattle.std.specs.Prelude.{ℕ, zero, suc, ◌-◌, Bool, true, ◌&&◌, nat_lt, List, [], ◌∷◌, length, take_while, find, unwrap_or}
+use Rattle.std.specs.Prelude.{ℕ, zero, suc, ◌-◌, Bool, true, ◌&&◌, nat_lt, List, [], ◌∷◌, length, take_while, find}
+use Rattle.std.specs.Prelude.{unwrap_or}
 use Rattle.sched_plan.specs.declared.history.Event.{Event}
 
 -- whether the event comes less than d after this moment

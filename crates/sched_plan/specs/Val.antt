@@ -1,3 +1,4 @@
+-- The value that its shape in memory stands for.
 use Rattle.sched_plan.specs.Datum.{Datum, unit, num, pair, list, items_of}
 use Rattle.sched_plan.specs.declared.values.ValShape.{ValShape}
 use Rattle.sched_plan.specs.declared.values.ValShape.TheVariants.{Unit, Num, Pair, List as Items}

@@ -1,4 +1,6 @@
-//! Schedules as plain data: values, plans with their builders, and what a plan answers on a history.
+//! Schedules as plain data: values, plans with their builders, and what a plan answers on a history of events. Every
+//! plan is valid, has at most 256 nodes and a depth of at most 32, and a builder returns the first rule that its
+//! arguments break. It stands on `sched_time`; the laws of schedules are proved here.
 #![tactic(auto)]
 
 mod history;

@@ -8,7 +8,8 @@ use Rattle.sched_step.specs.StateOf.{first_and_start}
 use Rattle.sched_step.specs.Step.{first_planned, next_fixed}
 
 -- over events that begin with one before, newest first, the plan goes on from the one before
-fixed_plan-cons : (d f : ℕ) (e : Event) (earlier : List Event) (c : Event) (rest : List Event) → earlier ≡ rest ++ c ∷ [] →
+fixed_plan-cons : (d f : ℕ) (e : Event) (earlier : List Event) (c : Event) (rest : List Event)
+    → earlier ≡ rest ++ c ∷ [] →
     fixed_plan d f (e ∷ earlier) ≡ next_fixed d (Some (f, fixed_plan d f earlier)) e.now
 fixed_plan-cons d f e [] c [] h = cc
 fixed_plan-cons d f e [] c (b ∷ rest) h = cc
@@ -24,6 +25,7 @@ fixed_start-push d (c ∷ h) e =
 
 -- what is kept of the plan goes on as a step makes it
 pub first_and_start-push : (d : ℕ) (h : List Event) (e : Event) →
-    Some (first_planned (first_and_start d h) e.now, next_fixed d (first_and_start d h) e.now) ≡ first_and_start d (h ++ e ∷ [])
+    Some (first_planned (first_and_start d h) e.now, next_fixed d (first_and_start d h) e.now)
+    ≡ first_and_start d (h ++ e ∷ [])
 first_and_start-push d [] e = refl
 first_and_start-push d (c ∷ h) e = ap (λ start. Some (c.now, start)) (sym (fixed_start-push d (c ∷ h) e))

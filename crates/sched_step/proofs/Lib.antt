@@ -1,3 +1,4 @@
+-- The law of a step, worked examples, and the lemmas that the proofs of `sched_step` cite.
 pub mod History
 pub mod WorkedStates
 pub mod Fixed

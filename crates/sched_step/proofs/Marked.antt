@@ -4,7 +4,8 @@ use Rattle.std.proofs.lemmas.Bool.{false≢true, and_parts}
 use Rattle.sched_plan.specs.declared.nodes.Fold.{Fold}
 use Rattle.sched_plan.specs.declared.nodes.Fold.TheVariants.{Sum, Count, Max, List as Listing}
 use Rattle.sched_plan.specs.declared.nodes.One.{One}
-use Rattle.sched_plan.specs.declared.nodes.One.TheVariants.{Gate, Gather, Add, Set, Cap, AddOut, Jitter, Within, EndsBy, Renew, RenewIdle, First, Second, Nothing}
+use Rattle.sched_plan.specs.declared.nodes.One.TheVariants.{Gate, Gather, Add, Set, Cap, AddOut, Jitter, Within, EndsBy}
+use Rattle.sched_plan.specs.declared.nodes.One.TheVariants.{Renew, RenewIdle, First, Second, Nothing}
 use Rattle.sched_plan.specs.declared.history.Answer.{Answer}
 use Rattle.sched_step.specs.Kept.{kept_mark, mark_anew}
 use Rattle.sched_step.specs.Progress.{one_keeps, total}
@@ -40,7 +41,8 @@ anew_first (Gather Listing) (Total n) keeps = absurd (false≢true keeps)
 anew_first k m keeps = absurd (false≢true keeps)
 
 -- and still of the node's kind
-pub anew_keeps : (k : One) (m : Mark) → IsTrue (one_keeps k (kept_mark m)) → IsTrue (one_keeps k (kept_mark (mark_anew m)))
+pub anew_keeps : (k : One) (m : Mark) → IsTrue (one_keeps k (kept_mark m))
+    → IsTrue (one_keeps k (kept_mark (mark_anew m)))
 anew_keeps k m keeps =
     subst (λ s. IsTrue (one_keeps k s)) (sym (anew_first k m keeps))
     (and_parts (one_keeps k (first_kept k)) _ (first_kept_fits k 0)).0

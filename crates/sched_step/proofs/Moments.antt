@@ -1,5 +1,6 @@
 -- The first and the last moment of a history that grows by one event.
-use Rattle.std.proofs.Common.{◌≡◌, ℕ, ◌-◌, List, [], ◌∷◌, ◌++◌, Bool, true, false, cond, if◌then◌else◌, ltb, leb, not, Some, refl, sym, ap, ◌∙◌, inl, inr, lt-ltb, le-ltb, le-leb}
+use Rattle.std.proofs.Common.{◌≡◌, ℕ, ◌-◌, List, [], ◌∷◌, ◌++◌, Bool, true, false, cond, if◌then◌else◌, ltb, leb, not}
+use Rattle.std.proofs.Common.{Some, refl, sym, ap, ◌∙◌, inl, inr, lt-ltb, le-ltb, le-leb}
 use Rattle.std.proofs.lemmas.Bool.{cases_lt, lt-leb}
 use Rattle.sched_plan.specs.History.{first_moment, last_moment}
 use Rattle.sched_plan.proofs.HistoryLaws.{last_moment-push}
@@ -74,4 +75,5 @@ pub round_kept : (d : ℕ) (h : List Event) (e : Event) →
     Some (round_next (is_over d (began_at (last_block d h)) e.now) (began_at (last_block d h)) e.now) ≡
     began_at (last_block d (h ++ e ∷ []))
 round_kept d h e =
-    round_next-push (is_over d (began_at (last_block d h)) e.now) (last_block d h) e ∙ ap began_at (sym (last_block_kept d h e))
+    round_next-push (is_over d (began_at (last_block d h)) e.now) (last_block d h) e
+    ∙ ap began_at (sym (last_block_kept d h e))

@@ -3,16 +3,21 @@
 use Rattle.std.specs.Prelude.{◌≡◌, ℕ, true, false, List, [], ◌∷◌, Some, refl}
 use Rattle.sched_plan.specs.Datum.{Datum, unit, num, pair, list, items_of}
 use Rattle.sched_plan.specs.Schedule.{Schedule, leaf, one, two}
-use Rattle.sched_plan.specs.declared.leaves.Leaf.TheVariants.{Forever, Recurs, Spaced, Fixed, Windowed, Linear, Exponential, ExponentialMilli, Fibonacci, Decorrelated, Elapsed, Identity, Unfold, Lone}
+use Rattle.sched_plan.specs.declared.leaves.Leaf.TheVariants.{Forever, Recurs, Spaced, Fixed, Windowed, Linear}
+use Rattle.sched_plan.specs.declared.leaves.Leaf.TheVariants.{Exponential, ExponentialMilli, Fibonacci, Decorrelated}
+use Rattle.sched_plan.specs.declared.leaves.Leaf.TheVariants.{Elapsed, Identity, Unfold, Lone}
 use Rattle.sched_plan.specs.declared.nodes.Side.TheVariants.{Output}
 use Rattle.sched_plan.specs.declared.nodes.Test.TheVariants.{Below}
 use Rattle.sched_plan.specs.declared.nodes.Fold.TheVariants.{Sum, Count, Max, List as Listing}
-use Rattle.sched_plan.specs.declared.nodes.One.TheVariants.{Gate, Gather, Add, Set, Cap, AddOut, Jitter, Within, EndsBy, Renew, RenewIdle, First, Second, Nothing}
+use Rattle.sched_plan.specs.declared.nodes.One.TheVariants.{Gate, Gather, Add, Set, Cap, AddOut, Jitter, Within, EndsBy}
+use Rattle.sched_plan.specs.declared.nodes.One.TheVariants.{Renew, RenewIdle, First, Second, Nothing}
 use Rattle.sched_plan.specs.declared.nodes.Two.TheVariants.{Meet, Join, Follow, Feed}
 use Rattle.sched_plan.proofs.Worked.{at}
-use Rattle.sched_step.specs.declared.leaves.LeafState.TheVariants.{Counted, Planned, Windows, Product, Scaled, Summands, Waited, Started, Blank, Unfolded, Spent}
+use Rattle.sched_step.specs.declared.leaves.LeafState.TheVariants.{Counted, Planned, Windows, Product, Scaled, Summands}
+use Rattle.sched_step.specs.declared.leaves.LeafState.TheVariants.{Waited, Started, Blank, Unfolded, Spent}
 use Rattle.sched_step.specs.declared.turns.Turn.TheVariants.{Together, Uncrossed, Crossed}
-use Rattle.sched_step.specs.Progress.{none_kept, since, round_since, last_at, total, listed, Progress, at_leaf, at_one, at_two, view_of, fits}
+use Rattle.sched_step.specs.Progress.{none_kept, since, round_since, last_at, total, listed, Progress, at_leaf, at_one}
+use Rattle.sched_step.specs.Progress.{at_two, view_of, fits}
 use Rattle.sched_step.specs.StateOf.{state_of}
 
 -- how far the schedule has come after events at these moments, and the value that shows it
@@ -206,10 +211,12 @@ greatest_after_three = refl
 list_first : shown (one (Gather Listing) (leaf (Recurs 2))) [] ≡ pair (list (items_of [])) (num 0)
 list_first = refl
 
-list_after_two : after (one (Gather Listing) (leaf (Recurs 2))) (0 ∷ 0 ∷ []) ≡ at_one (listed (num 0 ∷ num 1 ∷ [])) (counted 2)
+list_after_two : after (one (Gather Listing) (leaf (Recurs 2))) (0 ∷ 0 ∷ [])
+    ≡ at_one (listed (num 0 ∷ num 1 ∷ [])) (counted 2)
 list_after_two = refl
 
-list_shown : shown (one (Gather Listing) (leaf (Recurs 2))) (0 ∷ 0 ∷ []) ≡ pair (list (items_of (num 0 ∷ num 1 ∷ []))) (num 2)
+list_shown : shown (one (Gather Listing) (leaf (Recurs 2))) (0 ∷ 0 ∷ [])
+    ≡ pair (list (items_of (num 0 ∷ num 1 ∷ []))) (num 2)
 list_shown = refl
 
 -- Nodes that keep a moment.
@@ -236,17 +243,20 @@ ends_by_shown = refl
 renew_in_its_round : after (one (Renew 100) (leaf (Recurs 2))) (0 ∷ 60 ∷ []) ≡ at_one (round_since (Some 0)) (counted 2)
 renew_in_its_round = refl
 
-renew_begins_a_round : after (one (Renew 100) (leaf (Recurs 2))) (0 ∷ 60 ∷ 120 ∷ []) ≡ at_one (round_since (Some 120)) (counted 1)
+renew_begins_a_round : after (one (Renew 100) (leaf (Recurs 2))) (0 ∷ 60 ∷ 120 ∷ [])
+    ≡ at_one (round_since (Some 120)) (counted 1)
 renew_begins_a_round = refl
 
 renew_shown : shown (one (Renew 100) (leaf (Recurs 2))) (0 ∷ 60 ∷ 120 ∷ []) ≡ pair (num 120) (num 1)
 renew_shown = refl
 
 -- each comes less than 100 after the one before it
-renew_idle_goes_on : after (one (RenewIdle 100) (leaf (Recurs 2))) (0 ∷ 60 ∷ 120 ∷ []) ≡ at_one (last_at (Some 120)) (counted 3)
+renew_idle_goes_on : after (one (RenewIdle 100) (leaf (Recurs 2))) (0 ∷ 60 ∷ 120 ∷ [])
+    ≡ at_one (last_at (Some 120)) (counted 3)
 renew_idle_goes_on = refl
 
-renew_idle_begins_anew : after (one (RenewIdle 100) (leaf (Recurs 2))) (0 ∷ 100 ∷ []) ≡ at_one (last_at (Some 100)) (counted 1)
+renew_idle_begins_anew : after (one (RenewIdle 100) (leaf (Recurs 2))) (0 ∷ 100 ∷ [])
+    ≡ at_one (last_at (Some 100)) (counted 1)
 renew_idle_begins_anew = refl
 
 renew_idle_shown : shown (one (RenewIdle 100) (leaf (Recurs 2))) (0 ∷ 99 ∷ []) ≡ pair (num 99) (num 2)
@@ -262,7 +272,8 @@ meet_shown : shown (two Meet (leaf (Recurs 3)) (leaf Elapsed)) (7 ∷ 20 ∷ [])
 meet_shown = refl
 
 -- the side that is done counts on
-join_keeps_both : after (two Join (leaf (Recurs 1)) (leaf (Spaced 50))) (0 ∷ 0 ∷ 50 ∷ []) ≡ at_two Together (counted 3) (counted 3)
+join_keeps_both : after (two Join (leaf (Recurs 1)) (leaf (Spaced 50))) (0 ∷ 0 ∷ 50 ∷ [])
+    ≡ at_two Together (counted 3) (counted 3)
 join_keeps_both = refl
 
 follow_before_its_crossing : after (two Follow (leaf (Recurs 2)) (leaf (Spaced 50))) (0 ∷ 0 ∷ []) ≡
@@ -277,7 +288,8 @@ follow_at_its_crossing : after (two Follow (leaf (Recurs 2)) (leaf (Spaced 50)))
     at_two Crossed (counted 3) (counted 1)
 follow_at_its_crossing = refl
 
-follow_shown : shown (two Follow (leaf (Recurs 2)) (leaf (Spaced 50))) (0 ∷ 0 ∷ 0 ∷ []) ≡ pair (num 1) (pair (num 3) (num 1))
+follow_shown : shown (two Follow (leaf (Recurs 2)) (leaf (Spaced 50))) (0 ∷ 0 ∷ 0 ∷ [])
+    ≡ pair (num 1) (pair (num 3) (num 1))
 follow_shown = refl
 
 -- the first schedule stays as it was at the crossing
@@ -323,47 +335,60 @@ elapsed_does_not_fit_before = refl
 within_fits : fits (one (Within 50) (leaf Forever)) (after (one (Within 50) (leaf Forever)) (7 ∷ 20 ∷ [])) 7 ≡ true
 within_fits = refl
 
-within_does_not_fit_before : fits (one (Within 50) (leaf Forever)) (after (one (Within 50) (leaf Forever)) (7 ∷ 20 ∷ [])) 6 ≡ false
+within_does_not_fit_before : fits (one (Within 50) (leaf Forever))
+    (after (one (Within 50) (leaf Forever)) (7 ∷ 20 ∷ [])) 6 ≡ false
 within_does_not_fit_before = refl
 
-ends_by_fits_within : fits (one (Within 50) (leaf Forever)) (after (one (EndsBy 50) (leaf Forever)) (7 ∷ 20 ∷ [])) 7 ≡ true
+ends_by_fits_within : fits (one (Within 50) (leaf Forever))
+    (after (one (EndsBy 50) (leaf Forever)) (7 ∷ 20 ∷ [])) 7 ≡ true
 ends_by_fits_within = refl
 
-ends_by_does_not_fit_before : fits (one (EndsBy 50) (leaf Forever)) (after (one (EndsBy 50) (leaf Forever)) (7 ∷ 20 ∷ [])) 6 ≡ false
+ends_by_does_not_fit_before : fits (one (EndsBy 50) (leaf Forever))
+    (after (one (EndsBy 50) (leaf Forever)) (7 ∷ 20 ∷ [])) 6 ≡ false
 ends_by_does_not_fit_before = refl
 
 decorrelated_fits : fits (leaf (Decorrelated 0 1 3000 9)) (after (leaf (Decorrelated 3 100 2000 500)) (7 ∷ [])) 0 ≡ true
 decorrelated_fits = refl
 
-decorrelated_does_not_fit_exponential : fits (leaf (ExponentialMilli 1 3000)) (after (leaf (Decorrelated 0 1 3000 9)) (7 ∷ [])) 7 ≡ false
+decorrelated_does_not_fit_exponential : fits (leaf (ExponentialMilli 1 3000))
+    (after (leaf (Decorrelated 0 1 3000 9)) (7 ∷ [])) 7 ≡ false
 decorrelated_does_not_fit_exponential = refl
 
-renew_does_not_fit_before : fits (one (Renew 100) (leaf Forever)) (after (one (Renew 100) (leaf Forever)) (0 ∷ 120 ∷ [])) 119 ≡ false
+renew_does_not_fit_before : fits (one (Renew 100) (leaf Forever))
+    (after (one (Renew 100) (leaf Forever)) (0 ∷ 120 ∷ [])) 119 ≡ false
 renew_does_not_fit_before = refl
 
-renew_idle_fits : fits (one (RenewIdle 100) (leaf Forever)) (after (one (RenewIdle 100) (leaf Forever)) (0 ∷ 99 ∷ [])) 99 ≡ true
+renew_idle_fits : fits (one (RenewIdle 100) (leaf Forever))
+    (after (one (RenewIdle 100) (leaf Forever)) (0 ∷ 99 ∷ [])) 99 ≡ true
 renew_idle_fits = refl
 
-renew_idle_does_not_fit_before : fits (one (RenewIdle 100) (leaf Forever)) (after (one (RenewIdle 100) (leaf Forever)) (0 ∷ 99 ∷ [])) 98 ≡ false
+renew_idle_does_not_fit_before : fits (one (RenewIdle 100) (leaf Forever))
+    (after (one (RenewIdle 100) (leaf Forever)) (0 ∷ 99 ∷ [])) 98 ≡ false
 renew_idle_does_not_fit_before = refl
 
 sum_fits_count : fits (one (Gather Count) (leaf Forever)) (after (one (Gather Sum) (leaf Forever)) (0 ∷ [])) 0 ≡ true
 sum_fits_count = refl
 
-list_does_not_fit_sum : fits (one (Gather Sum) (leaf Forever)) (after (one (Gather Listing) (leaf Forever)) (0 ∷ [])) 0 ≡ false
+list_does_not_fit_sum : fits (one (Gather Sum) (leaf Forever))
+    (after (one (Gather Listing) (leaf Forever)) (0 ∷ [])) 0 ≡ false
 list_does_not_fit_sum = refl
 
-gate_fits_add : fits (one (Add 3) (leaf Forever)) (after (one (Gate Output true Below 1) (leaf Forever)) (0 ∷ [])) 0 ≡ true
+gate_fits_add : fits (one (Add 3) (leaf Forever))
+    (after (one (Gate Output true Below 1) (leaf Forever)) (0 ∷ [])) 0 ≡ true
 gate_fits_add = refl
 
-meet_fits_join : fits (two Join (leaf Forever) (leaf Elapsed)) (after (two Meet (leaf Forever) (leaf Elapsed)) (7 ∷ [])) 7 ≡ true
+meet_fits_join : fits (two Join (leaf Forever) (leaf Elapsed))
+    (after (two Meet (leaf Forever) (leaf Elapsed)) (7 ∷ [])) 7 ≡ true
 meet_fits_join = refl
 
-meet_does_not_fit_follow : fits (two Follow (leaf Forever) (leaf Forever)) (after (two Meet (leaf Forever) (leaf Forever)) (0 ∷ [])) 0 ≡ false
+meet_does_not_fit_follow : fits (two Follow (leaf Forever) (leaf Forever))
+    (after (two Meet (leaf Forever) (leaf Forever)) (0 ∷ [])) 0 ≡ false
 meet_does_not_fit_follow = refl
 
-follow_fits : fits (two Follow (leaf Elapsed) (leaf Elapsed)) (after (two Follow (leaf Elapsed) (leaf Elapsed)) (7 ∷ [])) 7 ≡ true
+follow_fits : fits (two Follow (leaf Elapsed) (leaf Elapsed))
+    (after (two Follow (leaf Elapsed) (leaf Elapsed)) (7 ∷ [])) 7 ≡ true
 follow_fits = refl
 
-feed_does_not_fit_before : fits (two Feed (leaf Forever) (leaf Elapsed)) (after (two Feed (leaf Forever) (leaf Elapsed)) (7 ∷ [])) 6 ≡ false
+feed_does_not_fit_before : fits (two Feed (leaf Forever) (leaf Elapsed))
+    (after (two Feed (leaf Forever) (leaf Elapsed)) (7 ∷ [])) 6 ≡ false
 feed_does_not_fit_before = refl

@@ -1,3 +1,4 @@
+-- The definitions that the contracts of `sched_step` cite: how far a schedule has come, and one step of it.
 pub mod Progress
 pub mod ProgressCode
 pub mod ProgressSize

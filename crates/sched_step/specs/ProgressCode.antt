@@ -3,9 +3,11 @@ use Rattle.std.specs.Prelude.{◌≡◌, ℕ, true, false, cond, nat_eq, List, [
 use Rattle.std.specs.Coded.{Coded}
 use Rattle.sched_plan.specs.Datum.{Datum}
 use Rattle.sched_plan.specs.DatumCode.{datum_code, datum_from, datum_back}
-use Rattle.sched_step.specs.Progress.{Kept, none_kept, since, round_since, last_at, total, listed, Progress, at_leaf, at_one, at_two, bit}
+use Rattle.sched_step.specs.Progress.{Kept, none_kept, since, round_since, last_at, total, listed, Progress, at_leaf}
+use Rattle.sched_step.specs.Progress.{at_one, at_two, bit}
 use Rattle.sched_step.specs.declared.leaves.LeafState.{LeafState}
-use Rattle.sched_step.specs.declared.leaves.LeafState.TheVariants.{Counted, Planned, Windows, Product, Scaled, Summands, Waited, Started, Blank, Unfolded, Spent}
+use Rattle.sched_step.specs.declared.leaves.LeafState.TheVariants.{Counted, Planned, Windows, Product, Scaled, Summands}
+use Rattle.sched_step.specs.declared.leaves.LeafState.TheVariants.{Waited, Started, Blank, Unfolded, Spent}
 use Rattle.sched_step.specs.declared.turns.Turn.{Turn}
 use Rattle.sched_step.specs.declared.turns.Turn.TheVariants.{Together, Uncrossed, Crossed}
 use base.Stored.{Gv, gnil, gnum, gcons}

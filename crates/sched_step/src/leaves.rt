@@ -5,7 +5,8 @@ ghost use Rattle.sched_plan.specs.Schedule.{leaf_in_range};
 ghost use Rattle.sched_plan.specs.Sequences.{decorrelated_after};
 ghost use Rattle.sched_step.specs.Progress.{leaf_view, leaf_keeps, leaf_began};
 ghost use Rattle.sched_step.specs.StateOf.{leaf_state, event_of};
-ghost use Rattle.sched_step.specs.Step.{answered, leaf_next, leaf_answers, count_of, output_next, output_after, output_before};
+ghost use Rattle.sched_step.specs.Step.{answered, leaf_next, leaf_answers, count_of, output_next, output_after};
+ghost use Rattle.sched_step.specs.Step.{output_before};
 ghost use Rattle.sched_step.specs.Step.{started_of, planned_of, lone_is_past, first_planned, next_fixed};
 
 use crate::changes::at_most_far;

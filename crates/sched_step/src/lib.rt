@@ -1,4 +1,5 @@
-//! Stepping a schedule: its state after the events so far, and what it answers to the next one.
+//! Steps a schedule: keeps its state after the events so far, and answers the next event. Each answer is the one that
+//! `sched_plan` defines for the whole history. It stands on `sched_plan`.
 #![tactic(auto)]
 
 mod advance;

@@ -3,7 +3,8 @@ ghost use Rattle.sched_plan.specs.Outputs.{number_of};
 ghost use Rattle.sched_step.specs.Kept.{kept_mark, mark_anew};
 ghost use Rattle.sched_step.specs.Progress.{one_view, one_keeps, one_began};
 ghost use Rattle.sched_step.specs.StateOf.{event_of};
-ghost use Rattle.sched_step.specs.Step.{answered, begins, fold_total, is_over, kept_origin, one_next, round_next, since_of, total_of};
+ghost use Rattle.sched_step.specs.Step.{answered, begins, fold_total, is_over, kept_origin, one_next, round_next};
+ghost use Rattle.sched_step.specs.Step.{since_of, total_of};
 
 use crate::times::{time_between, view_moment};
 use crate::walks::Walk;

@@ -24,5 +24,8 @@ module _ {T C : Type 0} (waits_for : T → Option ℕ) (one_poll : T → Tick �
       Course waits_for one_poll tells waits turn.task turn.clock left turns out →
       Course waits_for one_poll tells waits task clock words (turn ∷ turns) out
   course_on task clock words left turn [] out drawn poll course = absurd course
-  course_on task clock words left turn (next ∷ turns) out drawn poll course =
-      (poll, subst (λ s. Course waits_for one_poll tells waits turn.task turn.clock s (next ∷ turns) out) (ap (λ p. p.1) drawn) course)
+  course_on task clock words left turn (next ∷ turns) out drawn poll course = (
+    poll,
+    subst (λ s. Course waits_for one_poll tells waits turn.task turn.clock s (next ∷ turns) out)
+        (ap (λ p. p.1) drawn) course,
+  )

@@ -1,1 +1,2 @@
+-- How a task's course of polls begins.
 mod Courses

@@ -1,3 +1,4 @@
+-- The laws of budgets, the steps that keep their rule, and the lemmas that these cite.
 pub mod Sums
 pub mod Ways
 pub mod Greatest

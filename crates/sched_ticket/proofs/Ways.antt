@@ -1,5 +1,6 @@
 -- What a split gives, and which refused numbers are used up.
-use Rattle.std.proofs.Common.{◌≡◌, ℕ, ◌<◌, Bool, true, false, List, [], ◌++◌, cond, sym, refl, ap, ◌∙◌, arith, lt_of_not-le, lt-ltb, le-ltb}
+use Rattle.std.proofs.Common.{◌≡◌, ℕ, ◌<◌, Bool, true, false, List, [], ◌++◌, cond, sym, refl, ap, ◌∙◌, arith}
+use Rattle.std.proofs.Common.{lt_of_not-le, lt-ltb, le-ltb}
 use mathlib.Core.Logic.{dite}
 use native.Mathlib.Decide.{dec_le}
 use Rattle.sched_ticket.specs.Lists.{Each}
@@ -14,7 +15,8 @@ use Rattle.sched_ticket.specs.declared.view.View.{View}
 pub part-some : (n : ℕ) → 1 < n → (0 < part n) × (part n < n)
 part-some n more = dite (dec_le n 1048576)
     (λ few. let one : part n ≡ 1 = ap (λ b. cond b 1048576 1) (le-ltb 1048576 n few) in (omega arith, omega arith))
-    (λ not. let many : part n ≡ 1048576 = ap (λ b. cond b 1048576 1) (lt-ltb 1048576 n (lt_of_not-le not)) in (omega arith, omega (arith, lt_of_not-le not)))
+    (λ not. let many : part n ≡ 1048576 = ap (λ b. cond b 1048576 1) (lt-ltb 1048576 n (lt_of_not-le not)) in
+    (omega arith, omega (arith, lt_of_not-le not)))
 
 -- by parts or not
 pub either_way : {X : Type 0} (b : Bool) → (b ≡ true → X) → (b ≡ false → X) → X
@@ -60,12 +62,15 @@ module _ (k : Terms) (drawn made limit all : ℕ) where
       (λ not. used_up-none v (f.spent (omega arith)).1)
 
   -- a pass has used up what both had
-  pub used_up-joined : (v w : View) → 0 < v.weight → Fits k drawn made limit all v → Fits k drawn made limit all w → used_up (joined_view v w) ≡ used_up v ++ used_up w
+  pub used_up-joined : (v w : View) → 0 < v.weight → Fits k drawn made limit all v → Fits k drawn made limit all w
+      → used_up (joined_view v w) ≡ used_up v ++ used_up w
   used_up-joined v w live f g = dite (dec_le 1 w.weight)
       (λ alive.
-      let same : v.terms.by_parts ≡ w.terms.by_parts = ap (λ (t : Terms). t.by_parts) ((f.live live).0 ∙ sym (g.live alive).0) in
+      let same : v.terms.by_parts ≡ w.terms.by_parts =
+      ap (λ (t : Terms). t.by_parts) ((f.live live).0 ∙ sym (g.live alive).0) in
       cond-append v.terms.by_parts v.refusals w.refusals ∙ ap (λ b. used_up v ++ cond b [] w.refusals) same)
       (λ not.
       let none : w.refusals ≡ [] = (g.spent (omega arith)).1 in
       cond-append v.terms.by_parts v.refusals w.refusals
-      ∙ ap (λ xs. used_up v ++ xs) (ap (cond v.terms.by_parts []) none ∙ cond-same v.terms.by_parts [] ∙ sym (used_up-none w none)))
+      ∙ ap (λ xs. used_up v ++ xs)
+      (ap (cond v.terms.by_parts []) none ∙ cond-same v.terms.by_parts [] ∙ sym (used_up-none w none)))

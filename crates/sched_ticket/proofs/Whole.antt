@@ -1,5 +1,6 @@
 -- What a pass has that stands for all is what was drawn, and a pass that stands for less is one of several.
-use Rattle.std.proofs.Common.{◌≡◌, ℕ, ◌+◌, ◌<◌, ◌≤◌, false, List, [], ◌∷◌, length, min, sym, refl, ap, ◌∙◌, arith, lt_of_not-le}
+use Rattle.std.proofs.Common.{◌≡◌, ℕ, ◌+◌, ◌<◌, ◌≤◌, false, List, [], ◌∷◌, length, min, sym, refl, ap, ◌∙◌, arith}
+use Rattle.std.proofs.Common.{lt_of_not-le}
 use mathlib.Core.Logic.{dite}
 use mathlib.Core.Option.{some}
 use native.Mathlib.Decide.{dec_le}
@@ -10,13 +11,15 @@ use Rattle.sched_ticket.specs.Whole.{IsWhole, IsOneOfSeveral}
 use Rattle.sched_ticket.specs.declared.view.Terms.{Terms}
 use Rattle.sched_ticket.specs.declared.view.Refusal.{Refusal}
 use Rattle.sched_ticket.specs.declared.view.View.{View}
-use Rattle.sched_ticket.proofs.Sums.{term_le, alone, total-one, below-one, below-is, below-once_below, is-other, once_below-yes, once_below-no, total-once_below, times-none}
+use Rattle.sched_ticket.proofs.Sums.{term_le, alone, total-one, below-one, below-is, below-once_below, is-other}
+use Rattle.sched_ticket.proofs.Sums.{once_below-yes, once_below-no, total-once_below, times-none}
 use Rattle.sched_ticket.proofs.Totals.{tickets_below, tickets_le}
 use Rattle.sched_ticket.proofs.Ways.{either_way, used_up-counted, used_up-none, used_up-Each, none-by_parts}
 use Rattle.sched_ticket.proofs.Greatest.{greatest-alone}
 
 -- nothing is left of a view that stands for no pass
-pub is_spent : (k : Terms) (drawn made limit all : ℕ) (v : View) → Fits k drawn made limit all v → v.weight ≡ 0 → IsSpent v
+pub is_spent : (k : Terms) (drawn made limit all : ℕ) (v : View) → Fits k drawn made limit all v → v.weight ≡ 0
+    → IsSpent v
 is_spent k drawn made limit all v f light =
     let spent = f.spent light in record {
       weight = light;
@@ -29,20 +32,26 @@ is_spent k drawn made limit all v f light =
 
 module _ (k : Terms) (limit : ℕ) (first : limit ≡ k.limit) where
   -- no refused number is below a limit that was never raised
-  pub high_refusals : (xs : List Refusal) → Each (IsRefusal k limit) xs → total (λ (r : Refusal). once_below r.number limit) xs ≡ 0
+  pub high_refusals : (xs : List Refusal) → Each (IsRefusal k limit) xs
+      → total (λ (r : Refusal). once_below r.number limit) xs ≡ 0
   high_refusals [] h = refl
-  high_refusals (r ∷ xs) h = let high : limit ≤ r.number = omega (arith, h.0.0, h.0.1) in omega (arith, once_below-no r.number limit high, high_refusals xs h.1)
+  high_refusals (r ∷ xs) h = let high : limit ≤ r.number = omega (arith, h.0.0, h.0.1) in
+      omega (arith, once_below-no r.number limit high, high_refusals xs h.1)
 
-  pub other_refusals : (x : ℕ) (xs : List Refusal) → x < limit → Each (IsRefusal k limit) xs → total (λ (r : Refusal). is x r.number) xs ≡ 0
+  pub other_refusals : (x : ℕ) (xs : List Refusal) → x < limit → Each (IsRefusal k limit) xs
+      → total (λ (r : Refusal). is x r.number) xs ≡ 0
   other_refusals x [] low h = refl
-  other_refusals x (r ∷ xs) low h = omega (arith, is-other x r.number (λ e. omega (arith, h.0.0, h.0.1)), other_refusals x xs low h.1)
+  other_refusals x (r ∷ xs) low h =
+      omega (arith, is-other x r.number (λ e. omega (arith, h.0.0, h.0.1)), other_refusals x xs low h.1)
 
 -- where there is a refusal, as many were drawn as the first limit
-pub first_late : (k : Terms) (limit drawn : ℕ) (xs : List Refusal) → 0 < length xs → Each (IsRefusal k limit) xs → Each (λ (r : Refusal). r.number ≤ drawn) xs → k.limit ≤ drawn
+pub first_late : (k : Terms) (limit drawn : ℕ) (xs : List Refusal) → 0 < length xs → Each (IsRefusal k limit) xs
+    → Each (λ (r : Refusal). r.number ≤ drawn) xs → k.limit ≤ drawn
 first_late k limit drawn [] some-there h late = absurd (omega arith)
 first_late k limit drawn (r ∷ rs) some-there h late = omega (arith, h.0.0, h.0.1, late.0)
 
-module _ (k : Terms) (drawn made limit : ℕ) (views : List View) (o : IsOrderly k drawn made limit views) (id : ℕ) (v : View) (at : get_elem? views id ≡ some v) where
+module _ (k : Terms) (drawn made limit : ℕ) (views : List View) (o : IsOrderly k drawn made limit views) (id : ℕ)
+    (v : View) (at : get_elem? views id ≡ some v) where
   -- a pass of less weight than all is one of several
   pub is_one_of_several : v.weight < weights views → IsOneOfSeveral k v
   is_one_of_several less = record {
@@ -52,7 +61,8 @@ module _ (k : Terms) (drawn made limit : ℕ) (views : List View) (o : IsOrderly
     passes = λ by. let p = o.passes by in (omega (arith, p.0, term_le (λ (u : View). u.splits) views id v at), p.1);
   }
 
-module _ (k : Terms) (drawn made limit : ℕ) (views : List View) (o : IsOrderly k drawn made limit views) (id : ℕ) (v : View) (at : get_elem? views id ≡ some v) (all_here : weights views ≡ v.weight) where
+module _ (k : Terms) (drawn made limit : ℕ) (views : List View) (o : IsOrderly k drawn made limit views) (id : ℕ)
+    (v : View) (at : get_elem? views id ≡ some v) (all_here : weights views ≡ v.weight) where
   fits : Fits k drawn made limit (weights views) v
   fits = o.each id v at
 
@@ -72,7 +82,8 @@ module _ (k : Terms) (drawn made limit : ℕ) (views : List View) (o : IsOrderly
   drawn_is = omega (arith, numbers (λ _. 1), total-one v.tickets, total-one (used_up v), below-one drawn)
 
   splits_are : splits views ≡ v.splits
-  splits_are = alone (λ (u : View). u.splits) (λ (u : View). u.weight) views id v (λ i u there e. ((o.each i u there).spent e).2) at all_here
+  splits_are = alone (λ (u : View). u.splits) (λ (u : View). u.weight) views id v
+      (λ i u there e. ((o.each i u there).spent e).2) at all_here
 
   -- where passes are counted each refusal used its number up
   counted_refusals : k.by_parts ≡ false → length (used_up v) ≡ length v.refusals
@@ -85,20 +96,29 @@ module _ (k : Terms) (drawn made limit : ℕ) (views : List View) (o : IsOrderly
     refused = used_up-Each (IsRefusal k limit) v fits.refusals
 
     least : length v.tickets ≡ min drawn limit
-    least = omega (arith, numbers (λ x. once_below x limit), total-once_below limit v.tickets below_limit, high_refusals k limit first (used_up v) refused, below-once_below limit drawn)
+    least = omega (
+      arith,
+      numbers (λ x. once_below x limit),
+      total-once_below limit v.tickets below_limit,
+      high_refusals k limit first (used_up v) refused,
+      below-once_below limit drawn,
+    )
 
     count_is : length v.tickets ≡ min (length v.tickets + length v.refusals) limit
     count_is = either_way k.by_parts
         (λ by.
-        let tickets : drawn ≡ length v.tickets = omega (arith, drawn_is, ap length (none-by_parts k drawn made limit (weights views) v fits by)) in
+        let tickets : drawn ≡ length v.tickets =
+        omega (arith, drawn_is, ap length (none-by_parts k drawn made limit (weights views) v fits by)) in
         dite (dec_le 1 (length v.refusals))
-        (λ some-refused. omega (arith, least, tickets, first, first_late k limit drawn v.refusals some-refused fits.refusals fits.late))
+        (λ some-refused. omega
+        (arith, least, tickets, first, first_late k limit drawn v.refusals some-refused fits.refusals fits.late))
         (λ none. omega (arith, least, tickets)))
         (λ by. omega (arith, least, drawn_is, counted_refusals by))
 
     once_each : AreBelow v.tickets (length v.tickets)
     once_each x =
-        let all : times x v.tickets + total (λ (r : Refusal). is x r.number) (used_up v) ≡ once_below x drawn = numbers (is x) ∙ below-is x drawn in
+        let all : times x v.tickets + total (λ (r : Refusal). is x r.number) (used_up v) ≡ once_below x drawn =
+        numbers (is x) ∙ below-is x drawn in
         let n : ℕ = length v.tickets in
         let fewest : n ≡ min drawn limit = least in
         dite (dec_le limit x)
@@ -106,7 +126,12 @@ module _ (k : Terms) (drawn made limit : ℕ) (views : List View) (o : IsOrderly
         (λ not. let low : x < limit = lt_of_not-le not in dite (dec_le drawn x)
         (λ past. omega (arith, once_below-no x drawn past, once_below-no x n (omega arith)))
         (λ near. let early : x < drawn = lt_of_not-le near in
-        omega (arith, once_below-yes x drawn early, once_below-yes x n (omega arith), other_refusals k limit first x (used_up v) low refused)))
+        omega (
+          arith,
+          once_below-yes x drawn early,
+          once_below-yes x n (omega arith),
+          other_refusals k limit first x (used_up v) low refused,
+        )))
 
   pub is_whole : IsWhole k v
   is_whole = record {
@@ -114,7 +139,8 @@ module _ (k : Terms) (drawn made limit : ℕ) (views : List View) (o : IsOrderly
     numbers = λ h. numbers h ∙ ap (below h) drawn_is;
     passes = λ by. omega (arith, (o.passes by).0, all_here, splits_are);
     parts = λ by. sym all_here ∙ (o.parts by).0;
-    limit_is = o.limit_is ∙ greatest-alone k.limit views id v (λ i u there e. ((o.each i u there).spent e).3) at all_here;
+    limit_is =
+        o.limit_is ∙ greatest-alone k.limit views id v (λ i u there e. ((o.each i u there).spent e).3) at all_here;
     floor = fits.floor;
     fixed = o.fixed;
     small = o.small;

@@ -1,3 +1,4 @@
+-- The definitions that the contracts of `sched_ticket` cite: a budget's rule, its steps and its laws.
 pub mod Lists
 pub mod Parts
 pub mod View

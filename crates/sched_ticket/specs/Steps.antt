@@ -3,7 +3,8 @@ use Rattle.std.specs.Prelude.{◌≡◌, ◌≢◌, ℕ, ◌+◌, ◌<◌, ◌�
 use Rattle.atomic_table.specs.Table.{Me, Step}
 use Rattle.sched_ticket.specs.Lists.{Each, times}
 use Rattle.sched_ticket.specs.Whole.{IsWhole, IsOneOfSeveral}
-use Rattle.sched_ticket.specs.View.{with_ticket, with_refusal, with_found, with_floor, with_raise, with_mark, with_refused_split, with_part}
+use Rattle.sched_ticket.specs.View.{with_ticket, with_refusal, with_found, with_floor, with_raise, with_mark}
+use Rattle.sched_ticket.specs.View.{with_refused_split, with_part}
 use Rattle.sched_ticket.specs.declared.view.Mark.TheVariants.{Sole, Shared}
 use Rattle.sched_ticket.specs.declared.view.View.{View}
 

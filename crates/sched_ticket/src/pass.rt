@@ -211,8 +211,8 @@ impl Pass {
     }
 
     /// The number of tickets drawn of the budget, where this pass is the whole: it stands for all passes of the budget,
-    /// and by parts has all 2^62. Otherwise it is one of several, of which another is alive or was dropped, and it comes
-    /// back, marked as shared. It is one load, and waits for nobody.
+    /// and by parts has all 2^62. Otherwise it is one of several, of which another is alive or was dropped, and it
+    /// comes back, marked as shared. It is one load, and waits for nobody.
     pub fn total(self, budget: &Budget) -> Result<u64, Pass>
         requires { IsOf budget.now self }
         ensures count { IfOk result (λ n. n ≡ length self.has.tickets) }

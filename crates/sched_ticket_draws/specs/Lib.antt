@@ -1,3 +1,4 @@
+-- What a retry draws on, what a draw leaves, and what passes of budgets and quotas do.
 pub mod Counted
 pub mod Grants
 pub mod Freely

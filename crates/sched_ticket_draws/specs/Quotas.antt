@@ -14,7 +14,8 @@ pub record OfQuota : Type 0 where
   pub pass : Held
   pub quota : Name
 
--- a draw at a moment: the pass gained a ticket of the moment's window or of a later one, which it may hand back, or it was
+-- a draw at a moment: the pass gained a ticket of the moment's window or of a later one, which it may hand back, or it
+-- was
 -- refused for a reason
 abbrev pub QuotaDrew : OfQuota → ℕ → Bool → OfQuota → Type 0
 QuotaDrew d now true e = (e.quota ≡ d.quota)

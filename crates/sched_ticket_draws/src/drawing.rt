@@ -60,8 +60,8 @@ impl Drawing {
     }
 
     /// The number of tickets that were drawn of what it draws on, where it has all parts of that, which ends with it.
-    /// Otherwise another pass is alive or was dropped, and this one comes back. Nothing has no parts: it is what this one
-    /// was granted.
+    /// Otherwise another pass is alive or was dropped, and this one comes back. Nothing has no parts: it is what this
+    /// one was granted.
     pub fn close(self) -> Result<u64, Drawing>
         ensures ok { IfOk result (IsTotal self) }
         ensures err { IfErr result (NoTotal self) }

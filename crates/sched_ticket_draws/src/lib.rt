@@ -1,4 +1,5 @@
-//! What a retry draws on: a budget of tickets, a quota, or nothing at all.
+//! What a retry draws on: a budget, a quota, or nothing at all. A draw returns what the pass under it returns, and a
+//! value that draws on nothing is never refused. It stands on `sched_ticket` and `sched_ticket_quota`.
 //!
 //! A value of `Draws` owns its pass and refers to its budget, by a reference or by an `Arc`. It is handed from retry to
 //! retry and keeps the tickets of all of them, so a worker has one for its life.

@@ -59,7 +59,8 @@ impl<B: RefersTo<Budget>> OnBudget<B> {
     }
 
     /// What draws on the same budget, and has no ticket: `TooManyPasses` where this pass has one part, or its budget as
-    /// many passes as it counts, and `NoMemory` where the budget can't be shared once more. The tickets of this one stay.
+    /// many passes as it counts, and `NoMemory` where the budget can't be shared once more. The tickets of this one
+    /// stay.
     pub fn split(&mut self) -> Result<OnBudget<B>, TicketFault>
         ensures budget { self.new.budget ≡ self.old.budget }
         ensures ok { IfOk result (λ d. (d.budget ≡ self.old.budget) × (d.pass.has ≡ part_of self.old.pass.has)) }

@@ -56,8 +56,8 @@ impl<Q: RefersTo<Quota>> OnQuota<Q> {
         self.pass.deposit(self.quota.target(), now);
     }
 
-    /// Counts so many requests at once at the moment `now`, as `Pass::deposit_of` does. `WeightTooLarge` where they are more
-    /// than the pass has parts.
+    /// Counts so many requests at once at the moment `now`, as `Pass::deposit_of` does. `WeightTooLarge` where they are
+    /// more than the pass has parts.
     pub fn deposit_of(&mut self, now: Moment, requests: u64) -> Result<(), WeightTooLarge>
         ensures quota { self.new.quota ≡ self.old.quota }
         ensures counted { OnOk result
@@ -85,8 +85,8 @@ impl<Q: RefersTo<Quota>> OnQuota<Q> {
         self.pass.draw(self.quota.target(), now)
     }
 
-    /// Hands the latest ticket back that was drawn with this pass, or with one joined into it since, as `Pass::hand_back`
-    /// does. One less is granted then.
+    /// Hands the latest ticket back that was drawn with this pass, or with one joined into it since, as
+    /// `Pass::hand_back` does. One less is granted then.
     pub fn hand_back(&mut self) -> Result<(), NotBack>
         ensures quota { self.new.quota ≡ self.old.quota }
         ensures ok { OnOk result (Hands self.old.pass self.new.pass) }
@@ -97,8 +97,8 @@ impl<Q: RefersTo<Quota>> OnQuota<Q> {
         self.pass.hand_back(self.quota.target())
     }
 
-    /// Sets the reserve and the share of the quota, as `Pass::set_terms` does: each draw goes by them from now on, with any
-    /// pass. The period stays. Terms that no quota is made with are refused, and nothing changes.
+    /// Sets the reserve and the share of the quota, as `Pass::set_terms` does: each draw goes by them from now on, with
+    /// any pass. The period stays. Terms that no quota is made with are refused, and nothing changes.
     pub fn set_terms(&mut self, reserve: u64, share: u64) -> Result<(), QuotaFault>
         ensures quota { self.new.quota ≡ self.old.quota }
         ensures ok { OnOk result ((reserve ≤ 4294967296) × (share ≤ 1000000)) }

@@ -1,5 +1,6 @@
 -- The laws of windows and clocks.
-use Rattle.std.proofs.Common.{◌≡◌, ℕ, zero, suc, ◌+◌, ◌-◌, ◌*◌, ◌/◌, ◌<◌, ◌≤◌, ◌⊎◌, ◌∷◌, min, cond, ◌++◌, inl, inr, refl, sym, ap, ◌∙◌, arith, lt-ltb, le-ltb, lt_of_not-le}
+use Rattle.std.proofs.Common.{◌≡◌, ℕ, zero, suc, ◌+◌, ◌-◌, ◌*◌, ◌/◌, ◌<◌, ◌≤◌, ◌⊎◌, ◌∷◌, min, cond, ◌++◌, inl, inr}
+use Rattle.std.proofs.Common.{refl, sym, ap, ◌∙◌, arith, lt-ltb, le-ltb, lt_of_not-le}
 use Rattle.std.proofs.Math.Nat.{div-mul-le_self, lt-div-mul-add, mul-le-mul_right}
 use Rattle.std.proofs.lemmas.Nat.{le-div}
 use mathlib.Core.Logic.{dite}
@@ -10,7 +11,8 @@ use Rattle.sched_ticket_quota.specs.View.{numbers}
 use Rattle.sched_ticket_quota.specs.Rule.{tickets_in, requests_in, in_force, begins, IsKept, words_of}
 use Rattle.sched_ticket_quota.specs.Held.{Name}
 use Rattle.sched_ticket_quota.specs.Calls.{Turned, Counted}
-use Rattle.sched_ticket_quota.specs.Clocks.{OpensItsOwn, DrawsNoEarlier, CountsNoEarlier, WindowsEnd, EndsWithinAPeriod, over, AreMost, ClocksAreBounded}
+use Rattle.sched_ticket_quota.specs.Clocks.{OpensItsOwn, DrawsNoEarlier, CountsNoEarlier, WindowsEnd, EndsWithinAPeriod}
+use Rattle.sched_ticket_quota.specs.Clocks.{over, AreMost, ClocksAreBounded}
 use Rattle.sched_ticket_quota.specs.declared.view.Terms.{Terms}
 use Rattle.sched_ticket_quota.specs.declared.view.View.{View}
 use Rattle.sched_ticket_quota.proofs.Numbers.{window_at-mono, below-mono, allow-most, few-carried, drawn-late}
@@ -59,7 +61,8 @@ opens_its_own b now v w called = elim called [
   | inr rest ↦ elim rest [
     | inl drew ↦
         let won = drew.1.2 in
-        opens-then b now v drew.1.0 w drew.1.1 (ap (λ (x : View). x.opened) won.gained ∙ ap (λ (x : View). x.opened) won.tries.same)
+        opens-then b now v drew.1.0 w drew.1.1
+        (ap (λ (x : View). x.opened) won.gained ∙ ap (λ (x : View). x.opened) won.tries.same)
     | inr rest ↦ elim rest [
       | inl refused ↦ opens-then b now v refused.1.0 w refused.1.1 (ap (λ (x : View). x.opened) refused.1.2.tries.same)
       | inr told ↦ opens-then b now v told.1.turned w told.1.turns (ap (λ (x : View). x.opened) told.1.tries.same)
@@ -80,9 +83,15 @@ pub draws_no_earlier : DrawsNoEarlier
 draws_no_earlier b now v t w kind drew =
     let won = drew.2 in
     let u : View = won.tried in
-    let same : u.carries ≡ b.carries = ap (λ (x : View). x.carries) won.tries.same ∙ turned-kind b now v drew.0 drew.1 ∙ kind in
+    let same : u.carries ≡ b.carries =
+    ap (λ (x : View). x.carries) won.tries.same ∙ turned-kind b now v drew.0 drew.1 ∙ kind in
     let few = few-carried u.carries (terms_of u.terms u.current) u.seen u.past u.found in
-    omega (arith, turned-reaches b now v drew.0 drew.1, won.tries.later, drawn-late b.carries t (window_of u.seen) (omega (arith, few, ap late_numbers same, won.ticket)))
+    omega (
+      arith,
+      turned-reaches b now v drew.0 drew.1,
+      won.tries.later,
+      drawn-late b.carries t (window_of u.seen) (omega (arith, few, ap late_numbers same, won.ticket)),
+    )
 
 pub counts_no_earlier : CountsNoEarlier
 counts_no_earlier b now n v w deposited =
@@ -105,10 +114,12 @@ counts_no_earlier b now n v w deposited =
 
 module _ (k : Terms) (start : ℕ) where
   end_of-yes : (w : ℕ) → w < 2999999999 → end_of k start w ≡ min ((start + w + 1) * k.period) 4611686018427387903
-  end_of-yes w h = ap (λ b. cond b (min ((start + w + 1) * k.period) 4611686018427387903) 4611686018427387903) (lt-ltb w 2999999999 h)
+  end_of-yes w h = ap (λ b. cond b (min ((start + w + 1) * k.period) 4611686018427387903) 4611686018427387903)
+      (lt-ltb w 2999999999 h)
 
   end_of-no : (w : ℕ) → 2999999999 ≤ w → end_of k start w ≡ 4611686018427387903
-  end_of-no w h = ap (λ b. cond b (min ((start + w + 1) * k.period) 4611686018427387903) 4611686018427387903) (le-ltb w 2999999999 h)
+  end_of-no w h = ap (λ b. cond b (min ((start + w + 1) * k.period) 4611686018427387903) 4611686018427387903)
+      (le-ltb w 2999999999 h)
 
   pub before-end : (w now : ℕ) → now < end_of k start w → window_at k start now ≤ w
   before-end w now early = dite (dec_le 2999999999 w)
@@ -119,7 +130,8 @@ module _ (k : Terms) (start : ℕ) where
       (λ le. absurd (omega (arith, mul-le-mul_right k.period le, div-mul-le_self now k.period, down)))
       (λ more. omega (arith, lt_of_not-le more)))
 
-  after-end : (w now : ℕ) → 0 < k.period → end_of k start w < 4611686018427387903 → end_of k start w ≤ now → w < window_at k start now
+  after-end : (w now : ℕ) → 0 < k.period → end_of k start w < 4611686018427387903 → end_of k start w ≤ now
+      → w < window_at k start now
   after-end w now some-period ends late = dite (dec_le 2999999999 w)
       (λ last. absurd (omega (arith, end_of-no w last, ends)))
       (λ not.
@@ -127,7 +139,8 @@ module _ (k : Terms) (start : ℕ) where
       let up : (start + w + 1) * k.period ≤ now = omega (arith, end_of-yes w less, ends, late) in
       omega (arith, le-div (start + w + 1) now k.period some-period up, less))
 
-  ends-soon : (now : ℕ) → 0 < k.period → start * k.period ≤ now → window_at k start now < 2999999999 → end_of k start (window_at k start now) ≤ now + k.period
+  ends-soon : (now : ℕ) → 0 < k.period → start * k.period ≤ now → window_at k start now < 2999999999
+      → end_of k start (window_at k start now) ≤ now + k.period
   ends-soon now some-period begun less =
       let w : ℕ = window_at k start now in
       let from : start ≤ now / k.period = le-div start now k.period some-period begun in
@@ -136,7 +149,8 @@ module _ (k : Terms) (start : ℕ) where
       omega (arith, end_of-yes w less, size, div-mul-le_self now k.period)
 
   -- two moments lie no more windows apart than periods, and one
-  pub windows-apart : (from to : ℕ) → 0 < k.period → from ≤ to → window_at k start to ≤ window_at k start from + (to - from) / k.period + 1
+  pub windows-apart : (from to : ℕ) → 0 < k.period → from ≤ to
+      → window_at k start to ≤ window_at k start from + (to - from) / k.period + 1
   windows-apart from to some-period le =
       let a : ℕ = from / k.period in
       let d : ℕ = (to - from) / k.period in
@@ -149,7 +163,8 @@ module _ (k : Terms) (start : ℕ) where
       (λ not. omega (arith, lt_of_not-le not))
 
 pub windows_end : WindowsEnd
-windows_end b w now terms = (before-end b.terms b.start w now, after-end b.terms b.start w now (omega (arith, terms.period)))
+windows_end b w now terms =
+    (before-end b.terms b.start w now, after-end b.terms b.start w now (omega (arith, terms.period)))
 
 pub ends_within_a_period : EndsWithinAPeriod
 ends_within_a_period b now terms begun less = ends-soon b.terms b.start now (omega (arith, terms.period)) begun less
@@ -172,17 +187,21 @@ module _ (k : Terms) (s : State ℕ View) (kept : IsKept k s) (most : Terms) (gr
       let n : ℕ = requests_in s.views w in
       omega (
         arith,
-        windows_kept k (words_of s kept.window kept.latest kept.carries) s.views kept.orderly w (most.reserve + (most.share * n) / 1000)
-            (allow-most k (in_force k s.views) most.reserve most.share n (λ x some-force. greatest (terms_of k x) (x, some-force, refl))),
+        windows_kept k (words_of s kept.window kept.latest kept.carries) s.views kept.orderly w
+            (most.reserve + (most.share * n) / 1000)
+            (allow-most k (in_force k s.views) most.reserve most.share n
+            (λ x some-force. greatest (terms_of k x) (x, some-force, refl))),
       )
 
   -- so many windows have no more than their reserves and shares
-  pub each-reserve : (w c : ℕ) → 1000 * over (tickets_in s.views) w c ≤ c * (1000 * most.reserve) + most.share * over (requests_in s.views) w c
+  pub each-reserve : (w c : ℕ)
+      → 1000 * over (tickets_in s.views) w c ≤ c * (1000 * most.reserve) + most.share * over (requests_in s.views) w c
   each-reserve w zero = omega arith
   each-reserve w (suc c) = omega (arith, each-reserve w c, window-most (w + c))
 
   -- of windows after the first, each reserve is of one that was begun
-  begun-reserve : (w c : ℕ) → 0 < w → 1000 * over (tickets_in s.views) w c ≤ over (begins s.views) w c * (1000 * most.reserve) + most.share * over (requests_in s.views) w c
+  begun-reserve : (w c : ℕ) → 0 < w → 1000 * over (tickets_in s.views) w c ≤ over (begins s.views) w c
+      * (1000 * most.reserve) + most.share * over (requests_in s.views) w c
   begun-reserve w zero some-window = omega arith
   begun-reserve w (suc c) some-window = dite (dec_le (tickets_in s.views (w + c)) 0)
       (λ none. omega (arith, begun-reserve w c some-window, none))
@@ -191,8 +210,10 @@ module _ (k : Terms) (s : State ℕ View) (kept : IsKept k s) (most : Terms) (gr
       omega (arith, begun-reserve w c some-window, window-most (w + c), mul-le-mul_right (1000 * most.reserve) begun))
 
   -- where of the windows after this one so few were begun
-  pub bounded-by : (from to apart count ahead : ℕ) → from ≤ to → to ≤ from + apart + 1 → ((e : ℕ) → to + 1 + e ≤ from + count → over (begins s.views) (to + 1) e ≤ ahead)
-      → 1000 * over (tickets_in s.views) from count ≤ (apart + 2 + ahead) * (1000 * most.reserve) + most.share * over (requests_in s.views) from count
+  pub bounded-by : (from to apart count ahead : ℕ) → from ≤ to → to ≤ from + apart + 1
+      → ((e : ℕ) → to + 1 + e ≤ from + count → over (begins s.views) (to + 1) e ≤ ahead)
+      → 1000 * over (tickets_in s.views) from count ≤ (apart + 2 + ahead) * (1000 * most.reserve) + most.share
+      * over (requests_in s.views) from count
   bounded-by from to apart count ahead le near few =
       let r : ℕ = 1000 * most.reserve in
       let d : ℕ = to + 1 - from in
@@ -207,19 +228,35 @@ module _ (k : Terms) (s : State ℕ View) (kept : IsKept k s) (most : Terms) (gr
       let e : ℕ = count - d in
       let all : d + e ≡ count = omega arith in
       let next : from + d ≡ to + 1 = omega arith in
-      let first : over T from count ≡ over T from d + over T (to + 1) e = sym (ap (over T from) all) ∙ over-split T from d e ∙ ap (λ x. over T from d + over T x e) next in
-      let asked : over R from count ≡ over R from d + over R (to + 1) e = sym (ap (over R from) all) ∙ over-split R from d e ∙ ap (λ x. over R from d + over R x e) next in
+      let first : over T from count ≡ over T from d + over T (to + 1) e =
+      sym (ap (over T from) all) ∙ over-split T from d e ∙ ap (λ x. over T from d + over T x e) next in
+      let asked : over R from count ≡ over R from d + over R (to + 1) e =
+      sym (ap (over R from) all) ∙ over-split R from d e ∙ ap (λ x. over R from d + over R x e) next in
       let rest : over (begins s.views) (to + 1) e ≤ ahead = few e (omega arith) in
       let both : d + over (begins s.views) (to + 1) e ≤ apart + 2 + ahead = omega arith in
-      let shares : most.share * over R from count ≡ most.share * (over R from d + over R (to + 1) e) = ap (λ x. most.share * x) asked in
-      omega (arith, each-reserve from d, begun-reserve (to + 1) e (omega arith), first, shares, mul-le-mul_right r both))
+      let shares : most.share * over R from count ≡ most.share * (over R from d + over R (to + 1) e) =
+      ap (λ x. most.share * x) asked in
+      omega (
+        arith,
+        each-reserve from d,
+        begun-reserve (to + 1) e (omega arith),
+        first,
+        shares,
+        mul-le-mul_right r both,
+      ))
 
 pub clocks_are_bounded : ClocksAreBounded
 clocks_are_bounded b s terms kept most greatest from to count ahead le few =
     let k : Terms = b.terms in
     let some-period : 0 < k.period = omega (arith, terms.period) in
     let apart : ℕ = (to - from) / k.period in
-    scaled (over (tickets_in s.views) (window_at k b.start from) count) (apart + 2 + ahead) most.reserve (most.share * over (requests_in s.views) (window_at k b.start from) count)
+    scaled (over (tickets_in s.views) (window_at k b.start from) count) (apart + 2 + ahead) most.reserve
+    (most.share * over (requests_in s.views) (window_at k b.start from) count)
     (bounded-by k s kept most greatest (window_at k b.start from) (window_at k b.start to) apart count ahead
     (window_at-mono k b.start from to le) (windows-apart k b.start from to some-period le)
-    (λ e inside. omega (arith, few, below-mono (λ i. begins s.views (window_at k b.start to + 1 + i)) e count (omega (arith, inside, window_at-mono k b.start from to le)))))
+    (λ e inside. omega (
+      arith,
+      few,
+      below-mono (λ i. begins s.views (window_at k b.start to + 1 + i)) e count
+          (omega (arith, inside, window_at-mono k b.start from to le)),
+    )))

@@ -1,3 +1,4 @@
+-- The laws of quotas, the steps that keep their rule, and the lemmas that these cite.
 pub mod Numbers
 pub mod Counts
 pub mod Whole

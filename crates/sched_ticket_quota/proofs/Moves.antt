@@ -1,5 +1,7 @@
 -- Each step keeps the rule.
-use Rattle.std.proofs.Common.{◌≡◌, ◌≢◌, ℕ, Bool, true, ◌+◌, ◌-◌, ◌*◌, ◌/◌, ◌%◌, ◌^◌, ◌<◌, ◌≤◌, ◌==◌, max, cond, ne_eqb, List, length, set, slice_index, sym, refl, ap, ◌∙◌, subst, arith, ⊎_elim, lt_of_not-le, length-set}
+use Rattle.std.proofs.Common.{◌≡◌, ◌≢◌, ℕ, Bool, true, ◌+◌, ◌-◌, ◌*◌, ◌/◌, ◌%◌, ◌^◌, ◌<◌, ◌≤◌, ◌==◌, max, cond, ne_eqb}
+use Rattle.std.proofs.Common.{List, length, set, slice_index, sym, refl, ap, ◌∙◌, subst, arith, ⊎_elim, lt_of_not-le}
+use Rattle.std.proofs.Common.{length-set}
 use Rattle.std.proofs.Math.Nat.{mod-eq_of_lt}
 use Rattle.std.proofs.lemmas.List.{get_or-set_same, get_or-set_other}
 use mathlib.Core.Logic.{dite}
@@ -11,36 +13,74 @@ use Rattle.atomic_table.specs.Table.{Step, keeps, Allows}
 use Rattle.atomic_table.proofs.Lists.{at_set, exchanged}
 use Rattle.sched_ticket.specs.Lists.{total, below, times, is}
 use Rattle.sched_ticket.proofs.Sums.{total-append, total-set, term_le, below_more, is-same}
-use Rattle.sched_ticket_quota.specs.Windows.{window_of, first_of, terms_of, AllowNoMore, ShareNoMore, allowed, own_numbers, late_numbers, back_in, floor_of, left_of, carried_to, within, count_in}
-use Rattle.sched_ticket_quota.specs.View.{numbers, with_reading, with_glance, with_change, with_opening, with_requests, with_found, with_ticket, with_loss, next_ticket}
+use Rattle.sched_ticket_quota.specs.Windows.{window_of, first_of, terms_of, AllowNoMore, ShareNoMore, allowed}
+use Rattle.sched_ticket_quota.specs.Windows.{own_numbers, late_numbers, back_in, floor_of, left_of, carried_to, within}
+use Rattle.sched_ticket_quota.specs.Windows.{count_in}
+use Rattle.sched_ticket_quota.specs.View.{numbers, with_reading, with_glance, with_change, with_opening, with_requests}
+use Rattle.sched_ticket_quota.specs.View.{with_found, with_ticket, with_loss, next_ticket}
 use Rattle.sched_ticket_quota.specs.View.{with_recall, with_review, with_note, with_asking, carried_by}
-use Rattle.sched_ticket_quota.specs.Rule.{ticket_weight, request_weight, tickets_in, returned_in, dealt_in, late_in, requests_in, weights, may_count, openings, in_force, begins, IsDealt, AreLate, IsGiven, IsCounted, IsSeen, IsNoted, IsFound, Words, Fits, IsOrderly, IsKept}
+use Rattle.sched_ticket_quota.specs.Rule.{ticket_weight, request_weight, tickets_in, returned_in, dealt_in, late_in}
+use Rattle.sched_ticket_quota.specs.Rule.{requests_in, weights, may_count, openings, in_force, begins, IsDealt, AreLate}
+use Rattle.sched_ticket_quota.specs.Rule.{IsGiven, IsCounted, IsSeen, IsNoted, IsFound, Words, Fits, IsOrderly, IsKept}
 use Rattle.sched_ticket_quota.specs.Whole.{IsWhole}
-use Rattle.sched_ticket_quota.specs.Steps.{Sat, reads, glances, changes, opens, counts, finds, wins, recalls, reviews, notes, asks, learns}
+use Rattle.sched_ticket_quota.specs.Steps.{Sat, reads, glances, changes, opens, counts, finds, wins, recalls, reviews}
+use Rattle.sched_ticket_quota.specs.Steps.{notes, asks, learns}
 use Rattle.sched_ticket_quota.specs.declared.view.Terms.{Terms}
 use Rattle.sched_ticket_quota.specs.declared.view.View.{View}
-use Rattle.sched_ticket_quota.proofs.Numbers.{allowed-mono, share-mono, allow-less, share-less, both-numbers, late-carries, few-carried, carried-late, carried-first, below-mono, below-within, below-numbers, within-yes, within-low, within-high, within-other, back_in-le}
-use Rattle.sched_ticket_quota.proofs.Counts.{may_count-yes, may_count-no, all_may_count, total-same, total-more, seen_at, begun_at, all-dealt, found_at, found_now, is_later, asked_le, drawn_le, no_later, is_sound}
+use Rattle.sched_ticket_quota.proofs.Numbers.{allowed-mono, share-mono, allow-less, share-less, both-numbers}
+use Rattle.sched_ticket_quota.proofs.Numbers.{late-carries, few-carried, carried-late, carried-first, below-mono}
+use Rattle.sched_ticket_quota.proofs.Numbers.{below-within, below-numbers, within-yes, within-low, within-high}
+use Rattle.sched_ticket_quota.proofs.Numbers.{within-other, back_in-le}
+use Rattle.sched_ticket_quota.proofs.Counts.{may_count-yes, may_count-no, all_may_count, total-same, total-more}
+use Rattle.sched_ticket_quota.proofs.Counts.{seen_at, begun_at, all-dealt, found_at, found_now, is_later, asked_le}
+use Rattle.sched_ticket_quota.proofs.Counts.{drawn_le, no_later, is_sound}
 use Rattle.sched_ticket_quota.proofs.Whole.{is_whole}
 
 -- the draws fit where a view with the same tickets, out and handed back, takes another's place
-pub dealt-same : (c : Bool) (d window : ℕ) (views : List View) (j : ℕ) (v w : View) → get_elem? views j ≡ some v → ((h : ℕ → ℕ) → ticket_weight h w ≡ ticket_weight h v) → IsDealt c d window views → IsDealt c d window (set views j w)
+pub dealt-same : (c : Bool) (d window : ℕ) (views : List View) (j : ℕ) (v w : View) → get_elem? views j ≡ some v
+    → ((h : ℕ → ℕ) → ticket_weight h w ≡ ticket_weight h v) → IsDealt c d window views
+    → IsDealt c d window (set views j w)
 dealt-same c d window views j v w at same o =
-    let sums : (h : ℕ → ℕ) → total (ticket_weight h) (set views j w) ≡ total (ticket_weight h) views = λ h. total-same (ticket_weight h) views j v w at (same h) in
-    record { once = λ h. omega (arith, sums h, o.once h); all = λ h. omega (arith, sums h, o.all h); from = o.from; to = o.to; begun = o.begun }
+    let sums : (h : ℕ → ℕ) → total (ticket_weight h) (set views j w) ≡ total (ticket_weight h) views = λ h.
+    total-same (ticket_weight h) views j v w at (same h) in
+    record {
+      once = λ h. omega (arith, sums h, o.once h);
+      all = λ h. omega (arith, sums h, o.all h);
+      from = o.from;
+      to = o.to;
+      begun = o.begun;
+    }
 
 -- the requests fit where a view with the same requests takes another's place
-pub counted-same : (q latest : ℕ) (views : List View) (j : ℕ) (v w : View) → get_elem? views j ≡ some v → w.requests ≡ v.requests → may_count w ≡ may_count v → w.opened ≡ v.opened
+pub counted-same : (q latest : ℕ) (views : List View) (j : ℕ) (v w : View) → get_elem? views j ≡ some v
+    → w.requests ≡ v.requests → may_count w ≡ may_count v → w.opened ≡ v.opened
     → IsCounted q latest views → IsCounted q latest (set views j w)
 counted-same q latest views j v w at same may opened o =
-    let sums : (h : ℕ → ℕ) → total (request_weight h) (set views j w) ≡ total (request_weight h) views = λ h. total-same (request_weight h) views j v w at (ap (total h) same) in
-    let sames : openings (set views j w) (first_of latest) ≡ openings views (first_of latest) = total-same (λ (u : View). times (first_of latest) u.opened) views j v w at (ap (times (first_of latest)) opened) in
+    let sums : (h : ℕ → ℕ) → total (request_weight h) (set views j w) ≡ total (request_weight h) views = λ h.
+    total-same (request_weight h) views j v w at (ap (total h) same) in
+    let sames : openings (set views j w) (first_of latest) ≡ openings views (first_of latest) = total-same
+    (λ (u : View). times (first_of latest) u.opened) views j v w at (ap (times (first_of latest)) opened) in
     let small : total may_count (set views j w) ≡ total may_count views = total-same may_count views j v w at may in
-    record { once = λ h. omega (arith, sums h, o.once h); all = λ h. omega (arith, sums h, o.all h); from = o.from; opened = λ some-window. omega (arith, o.opened some-window); small = omega (arith, o.small) }
+    record {
+      once = λ h. omega (arith, sums h, o.once h);
+      all = λ h. omega (arith, sums h, o.all h);
+      from = o.from;
+      opened = λ some-window. omega (arith, o.opened some-window);
+      small = omega (arith, o.small);
+    }
 
 -- the words with these numbers
 abbrev pub words_at : ℕ → ℕ → ℕ → ℕ → ℕ → ℕ → ℕ → Bool → Words
-words_at d window q latest c r p kind = record { drawn = d; window = window; asked = q; latest = latest; current = c; back = r; past = p; carries = kind }
+words_at d window q latest c r p kind = record {
+  drawn = d;
+  window = window;
+  asked = q;
+  latest = latest;
+  current = c;
+  back = r;
+  past = p;
+  carries = kind;
+}
 
 -- these views have no less of anything than those
 pub record Grows (k : Terms) (views views' : List View) : Type 0 where
@@ -59,15 +99,22 @@ module _ (k : Terms) where
   }
 
   -- what windows give stays within their terms while none is dealt
-  pub given-on : (c : Bool) (d : ℕ) (views views' : List View) → Grows k views views' → ((h : ℕ → ℕ) → total (ticket_weight h) views' ≡ total (ticket_weight h) views)
+  pub given-on : (c : Bool) (d : ℕ) (views views' : List View) → Grows k views views'
+      → ((h : ℕ → ℕ) → total (ticket_weight h) views' ≡ total (ticket_weight h) views)
       → IsGiven k c d views → IsGiven k c d views'
   given-on c d views views' g sums given =
-      let less : (w n : ℕ) → AllowNoMore k (in_force k views') (requests_in views' w) n → AllowNoMore k (in_force k views) (requests_in views w) n =
-      λ w n. allow-less k (in_force k views) (in_force k views') (requests_in views w) (requests_in views' w) n (g.requests w) g.force in
-      let fewer : (w n : ℕ) → ShareNoMore k (in_force k views') (requests_in views' w) n → ShareNoMore k (in_force k views) (requests_in views w) n =
-      λ w n. share-less k (in_force k views) (in_force k views') (requests_in views w) (requests_in views' w) n (g.requests w) g.force in
-      let dealt : (w : ℕ) → dealt_in views' w ≡ dealt_in views w = λ w. omega (arith, all-dealt views w, all-dealt views' w, sums (within (first_of w) 4294967296)) in
-      let late : (w : ℕ) → late_in c views' w ≡ late_in c views w = λ w. sums (within (first_of w + own_numbers c) (late_numbers c)) in record {
+      let less : (w n : ℕ) → AllowNoMore k (in_force k views') (requests_in views' w) n
+      → AllowNoMore k (in_force k views) (requests_in views w) n =
+      λ w n. allow-less k (in_force k views) (in_force k views') (requests_in views w) (requests_in views' w) n
+      (g.requests w) g.force in
+      let fewer : (w n : ℕ) → ShareNoMore k (in_force k views') (requests_in views' w) n
+      → ShareNoMore k (in_force k views) (requests_in views w) n =
+      λ w n. share-less k (in_force k views) (in_force k views') (requests_in views w) (requests_in views' w) n
+      (g.requests w) g.force in
+      let dealt : (w : ℕ) → dealt_in views' w ≡ dealt_in views w = λ w.
+      omega (arith, all-dealt views w, all-dealt views' w, sums (within (first_of w) 4294967296)) in
+      let late : (w : ℕ) → late_in c views' w ≡ late_in c views w = λ w.
+      sums (within (first_of w + own_numbers c) (late_numbers c)) in record {
         windows = λ w n most. omega (arith, dealt w, given.windows w n (less w n most), g.returned w);
         shares = λ w n most. omega (arith, late w, given.shares w n (fewer w n most));
         windows_yet = λ w n near most. omega (arith, dealt w, given.windows_yet w n near (less w n most), g.returned w);
@@ -76,12 +123,16 @@ module _ (k : Terms) where
       }
 
   -- where one view has the same tickets as another, in whose place it is
-  pub given-same : (c : Bool) (d : ℕ) (views : List View) (j : ℕ) (v w : View) → get_elem? views j ≡ some v → ((h : ℕ → ℕ) → ticket_weight h w ≡ ticket_weight h v)
+  pub given-same : (c : Bool) (d : ℕ) (views : List View) (j : ℕ) (v w : View) → get_elem? views j ≡ some v
+      → ((h : ℕ → ℕ) → ticket_weight h w ≡ ticket_weight h v)
       → Grows k views (set views j w) → IsGiven k c d views → IsGiven k c d (set views j w)
-  given-same c d views j v w at same g = given-on c d views (set views j w) g (λ h. total-same (ticket_weight h) views j v w at (same h))
+  given-same c d views j v w at same g =
+      given-on c d views (set views j w) g (λ h. total-same (ticket_weight h) views j v w at (same h))
 
   -- a view fits while numbers grow
-  pub Fits-on : (x x' : Words) (views views' : List View) (u : View) → Fits k x views u → x'.carries ≡ x.carries → x.drawn ≤ x'.drawn → x.asked ≤ x'.asked → x.back ≤ x'.back → x.past ≤ x'.past → Grows k views views' → Fits k x' views' u
+  pub Fits-on : (x x' : Words) (views views' : List View) (u : View) → Fits k x views u → x'.carries ≡ x.carries
+      → x.drawn ≤ x'.drawn → x.asked ≤ x'.asked → x.back ≤ x'.back → x.past ≤ x'.past → Grows k views views'
+      → Fits k x' views' u
   Fits-on x x' views views' u f same more-d more-q more-r more-p g = record {
     seen = omega (arith, f.seen);
     counted = omega (arith, f.counted, g.requests (window_of u.seen));
@@ -100,61 +151,93 @@ module _ (k : Terms) where
 
   -- a view that has no less takes another's place
   pub grows : (views : List View) (j : ℕ) (v w : View) → get_elem? views j ≡ some v
-      → ((n : ℕ) → count_in n v.tickets + count_in n v.returned ≤ count_in n w.tickets + count_in n w.returned) → ((n : ℕ) → count_in n v.returned ≤ count_in n w.returned) → ((n : ℕ) → count_in n v.requests ≤ count_in n w.requests)
-      → ((n : ℕ) → times n v.opened ≤ times n w.opened) → ((n : ℕ) → times n v.changes ≤ times n w.changes) → Grows k views (set views j w)
+      → ((n : ℕ) → count_in n v.tickets + count_in n v.returned ≤ count_in n w.tickets + count_in n w.returned)
+      → ((n : ℕ) → count_in n v.returned ≤ count_in n w.returned)
+      → ((n : ℕ) → count_in n v.requests ≤ count_in n w.requests)
+      → ((n : ℕ) → times n v.opened ≤ times n w.opened) → ((n : ℕ) → times n v.changes ≤ times n w.changes)
+      → Grows k views (set views j w)
   grows views j v w at more-t more-b more-r more-o more-c =
-      let many : (n : ℕ) → requests_in views n ≤ requests_in (set views j w) n = λ n. total-more (λ (u : View). count_in n u.requests) views j v w at (more-r n) in record {
-        dealt = λ n. omega (arith, total-set (λ (u : View). count_in n u.tickets) views j v w at, total-set (λ (u : View). count_in n u.returned) views j v w at, more-t n);
+      let many : (n : ℕ) → requests_in views n ≤ requests_in (set views j w) n = λ n.
+      total-more (λ (u : View). count_in n u.requests) views j v w at (more-r n) in record {
+        dealt = λ n. omega (
+          arith,
+          total-set (λ (u : View). count_in n u.tickets) views j v w at,
+          total-set (λ (u : View). count_in n u.returned) views j v w at,
+          more-t n,
+        );
         returned = λ n. total-more (λ (u : View). count_in n u.returned) views j v w at (more-b n);
         requests = many;
-        starts = λ n. omega (arith, total-more (λ (u : View). times (first_of n) u.opened) views j v w at (more-o (first_of n)), many (n - 1));
+        starts = λ n. omega (
+          arith,
+          total-more (λ (u : View). times (first_of n) u.opened) views j v w at (more-o (first_of n)),
+          many (n - 1),
+        );
         force = λ n. omega (arith, total-more (λ (u : View). times n u.changes) views j v w at (more-c n));
       }
 
   -- one view and the words change
-  pub moved : (x x' : Words) (views : List View) (j : ℕ) (v w : View) → IsOrderly k x views → get_elem? views j ≡ some v → w.weight ≡ v.weight → x'.carries ≡ x.carries
-      → IsDealt x'.carries x'.drawn x'.window (set views j w) → IsGiven k x'.carries x'.drawn (set views j w) → x.past ≤ x'.past → IsNoted (set views j w) x'.past → IsCounted x'.asked x'.latest (set views j w) → x.drawn ≤ x'.drawn → x.asked ≤ x'.asked → first_of x'.window ≤ x'.asked → x.back ≤ x'.back
-      → Grows k views (set views j w) → 0 < in_force k (set views j w) x'.current → IsSeen (returned_in (set views j w)) x'.back → x'.back ≤ 17496587910722355200
+  pub moved : (x x' : Words) (views : List View) (j : ℕ) (v w : View) → IsOrderly k x views → get_elem? views j ≡ some v
+      → w.weight ≡ v.weight → x'.carries ≡ x.carries
+      → IsDealt x'.carries x'.drawn x'.window (set views j w) → IsGiven k x'.carries x'.drawn (set views j w)
+      → x.past ≤ x'.past → IsNoted (set views j w) x'.past → IsCounted x'.asked x'.latest (set views j w)
+      → x.drawn ≤ x'.drawn → x.asked ≤ x'.asked → first_of x'.window ≤ x'.asked → x.back ≤ x'.back
+      → Grows k views (set views j w) → 0 < in_force k (set views j w) x'.current
+      → IsSeen (returned_in (set views j w)) x'.back → x'.back ≤ 17496587910722355200
       → ((n : ℕ) → 0 < n → 0 < tickets_in (set views j w) n → 0 < begins (set views j w) n)
       → (Fits k x' (set views j w) v → Fits k x' (set views j w) w) → IsOrderly k x' (set views j w)
-  moved x x' views j v w o at weight kind dealt given more-p noted counted more-d more-q behind more-b g force came_back few_back entered fits = record {
-    known = o.known;
-    dealt = dealt;
-    given = given;
-    noted = noted;
-    counted = counted;
-    behind = behind;
-    entered = entered;
-    force = force;
-    came_back = came_back;
-    few_back = few_back;
-    parts = total-same (λ (u : View). u.weight) views j v w at weight ∙ o.parts;
-    each = λ by u there. ⊎_elim
-        (λ (t : (by ≡ j) × (w ≡ u)). subst (Fits k x' (set views j w)) t.1 (fits (Fits-on x x' views (set views j w) v (o.each j v at) kind more-d more-q more-b more-p g)))
-        (λ (t : (by ≢ j) × (get_elem? views by ≡ some u)). Fits-on x x' views (set views j w) u (o.each by u t.1) kind more-d more-q more-b more-p g)
-        (at_set views j by w u there);
-  }
+  moved x x' views j v w o at weight kind dealt given more-p noted counted more-d more-q behind more-b g force came_back
+      few_back entered fits = record {
+        known = o.known;
+        dealt = dealt;
+        given = given;
+        noted = noted;
+        counted = counted;
+        behind = behind;
+        entered = entered;
+        force = force;
+        came_back = came_back;
+        few_back = few_back;
+        parts = total-same (λ (u : View). u.weight) views j v w at weight ∙ o.parts;
+        each = λ by u there. ⊎_elim
+            (λ (t : (by ≡ j) × (w ≡ u)). subst (Fits k x' (set views j w)) t.1
+            (fits (Fits-on x x' views (set views j w) v (o.each j v at) kind more-d more-q more-b more-p g)))
+            (λ (t : (by ≢ j) × (get_elem? views by ≡ some u)).
+            Fits-on x x' views (set views j w) u (o.each by u t.1) kind more-d more-q more-b more-p g)
+            (at_set views j by w u there);
+      }
 
   -- no window has a first ticket where one view with as many takes another's place
-  pub entered-same : (x : Words) (views : List View) (j : ℕ) (v w : View) → IsOrderly k x views → get_elem? views j ≡ some v → w.tickets ≡ v.tickets
-      → Grows k views (set views j w) → (n : ℕ) → 0 < n → 0 < tickets_in (set views j w) n → 0 < begins (set views j w) n
+  pub entered-same : (x : Words) (views : List View) (j : ℕ) (v w : View) → IsOrderly k x views
+      → get_elem? views j ≡ some v → w.tickets ≡ v.tickets
+      → Grows k views (set views j w) → (n : ℕ) → 0 < n → 0 < tickets_in (set views j w) n
+      → 0 < begins (set views j w) n
   entered-same x views j v w o at same g n some-window given =
-      let kept : tickets_in (set views j w) n ≡ tickets_in views n = total-same (λ (u : View). count_in n u.tickets) views j v w at (ap (count_in n) same) in
+      let kept : tickets_in (set views j w) n ≡ tickets_in views n =
+      total-same (λ (u : View). count_in n u.tickets) views j v w at (ap (count_in n) same) in
       omega (arith, o.entered n some-window (omega (arith, kept, given)), g.starts n)
 
   -- a step is allowed if it is at any words
   pub allows : (n id : ℕ) (m : Sat) (i : ℕ) (f : ℕ → ℕ) (then : ℕ → Sat → Type 0)
-      → ((window latest : ℕ) (kind : Bool) (ws : List ℕ) (views : List View) → length ws ≡ 32 → IsOrderly k (words_at (slice_index ws 8) window (slice_index ws 24) latest (slice_index ws 25) (slice_index ws 9) (slice_index ws 26) kind) views → get_elem? views id ≡ some m.0
-      → (w : View) × ((homes : List (Option ℕ)) → IsKept k (record { words = set ws i (f (slice_index ws i)); homes = homes; views = set views id w })) × then (slice_index ws i) (w, m.1))
+      → ((window latest : ℕ) (kind : Bool) (ws : List ℕ) (views : List View) → length ws ≡ 32
+      → IsOrderly k
+      (words_at (slice_index ws 8) window (slice_index ws 24) latest (slice_index ws 25) (slice_index ws 9)
+      (slice_index ws 26) kind) views → get_elem? views id ≡ some m.0
+      → (w : View)
+      × ((homes : List (Option ℕ))
+      → IsKept k (record { words = set ws i (f (slice_index ws i)); homes = homes; views = set views id w }))
+      × then (slice_index ws i) (w, m.1))
       → Allows (IsKept k) n id m i f then
   allows n id m i f then go s kept wide at fits =
       let there = go kept.window kept.latest kept.carries s.words s.views kept.long kept.orderly at in
       (there.0, keeps, tt, there.1 s.homes, there.2)
 
-  module _ (ws : List ℕ) (views : List View) (homes : List (Option ℕ)) (window latest : ℕ) (kind : Bool) (long : length ws ≡ 32) where
+  module _ (ws : List ℕ) (views : List View) (homes : List (Option ℕ)) (window latest : ℕ) (kind : Bool)
+      (long : length ws ≡ 32) where
     -- the rule, where one word has become n
-    kept-at : (i n d q c r p : ℕ) → d ≡ slice_index (set ws i n) 8 → q ≡ slice_index (set ws i n) 24 → c ≡ slice_index (set ws i n) 25 → r ≡ slice_index (set ws i n) 9 → p ≡ slice_index (set ws i n) 26
-        → IsOrderly k (words_at d window q latest c r p kind) views → IsKept k (record { words = set ws i n; homes = homes; views = views })
+    kept-at : (i n d q c r p : ℕ) → d ≡ slice_index (set ws i n) 8 → q ≡ slice_index (set ws i n) 24
+        → c ≡ slice_index (set ws i n) 25 → r ≡ slice_index (set ws i n) 9 → p ≡ slice_index (set ws i n) 26
+        → IsOrderly k (words_at d window q latest c r p kind) views
+        → IsKept k (record { words = set ws i n; homes = homes; views = views })
     kept-at i n d q c r p d-is q-is c-is r-is p-is o =
         let e : ℕ = slice_index (set ws i n) 24 in
         let f : ℕ = slice_index (set ws i n) 25 in
@@ -177,35 +260,99 @@ module _ (k : Terms) where
     there-is : (i j n : ℕ) → j ≢ i → slice_index ws j ≡ slice_index (set ws i n) j
     there-is i j n apart = sym (get_or-set_other ws i j n 0 apart)
 
-    -- the rule, where the draws have become d, the requests q, the terms c, those that came back r, or the requests of the window
+    -- the rule, where the draws have become d, the requests q, the terms c, those that came back r, or the requests of
+    -- the window
     -- before p
-    kept-draws : (d : ℕ) → IsOrderly k (words_at d window (slice_index ws 24) latest (slice_index ws 25) (slice_index ws 9) (slice_index ws 26) kind) views → IsKept k (record { words = set ws 8 d; homes = homes; views = views })
-    kept-draws d o = kept-at 8 d d (slice_index ws 24) (slice_index ws 25) (slice_index ws 9) (slice_index ws 26) (here-is 8 d (omega arith)) (there-is 8 24 d (λ e. omega arith)) (there-is 8 25 d (λ e. omega arith)) (there-is 8 9 d (λ e. omega arith)) (there-is 8 26 d (λ e. omega arith)) o
+    kept-draws : (d : ℕ)
+        → IsOrderly k
+        (words_at d window (slice_index ws 24) latest (slice_index ws 25) (slice_index ws 9) (slice_index ws 26) kind)
+        views → IsKept k (record { words = set ws 8 d; homes = homes; views = views })
+    kept-draws d o =
+        kept-at 8 d d (slice_index ws 24) (slice_index ws 25) (slice_index ws 9) (slice_index ws 26)
+        (here-is 8 d (omega arith)) (there-is 8 24 d (λ e. omega arith)) (there-is 8 25 d (λ e. omega arith))
+        (there-is 8 9 d (λ e. omega arith)) (there-is 8 26 d (λ e. omega arith)) o
 
-    kept-requests : (q : ℕ) → IsOrderly k (words_at (slice_index ws 8) window q latest (slice_index ws 25) (slice_index ws 9) (slice_index ws 26) kind) views → IsKept k (record { words = set ws 24 q; homes = homes; views = views })
-    kept-requests q o = kept-at 24 q (slice_index ws 8) q (slice_index ws 25) (slice_index ws 9) (slice_index ws 26) (there-is 24 8 q (λ e. omega arith)) (here-is 24 q (omega arith)) (there-is 24 25 q (λ e. omega arith)) (there-is 24 9 q (λ e. omega arith)) (there-is 24 26 q (λ e. omega arith)) o
+    kept-requests : (q : ℕ)
+        → IsOrderly k
+        (words_at (slice_index ws 8) window q latest (slice_index ws 25) (slice_index ws 9) (slice_index ws 26) kind)
+        views → IsKept k (record { words = set ws 24 q; homes = homes; views = views })
+    kept-requests q o =
+        kept-at 24 q (slice_index ws 8) q (slice_index ws 25) (slice_index ws 9) (slice_index ws 26)
+        (there-is 24 8 q (λ e. omega arith)) (here-is 24 q (omega arith)) (there-is 24 25 q (λ e. omega arith))
+        (there-is 24 9 q (λ e. omega arith)) (there-is 24 26 q (λ e. omega arith)) o
 
-    kept-terms : (c : ℕ) → IsOrderly k (words_at (slice_index ws 8) window (slice_index ws 24) latest c (slice_index ws 9) (slice_index ws 26) kind) views → IsKept k (record { words = set ws 25 c; homes = homes; views = views })
-    kept-terms c o = kept-at 25 c (slice_index ws 8) (slice_index ws 24) c (slice_index ws 9) (slice_index ws 26) (there-is 25 8 c (λ e. omega arith)) (there-is 25 24 c (λ e. omega arith)) (here-is 25 c (omega arith)) (there-is 25 9 c (λ e. omega arith)) (there-is 25 26 c (λ e. omega arith)) o
+    kept-terms : (c : ℕ)
+        → IsOrderly k
+        (words_at (slice_index ws 8) window (slice_index ws 24) latest c (slice_index ws 9) (slice_index ws 26) kind)
+        views → IsKept k (record { words = set ws 25 c; homes = homes; views = views })
+    kept-terms c o =
+        kept-at 25 c (slice_index ws 8) (slice_index ws 24) c (slice_index ws 9) (slice_index ws 26)
+        (there-is 25 8 c (λ e. omega arith)) (there-is 25 24 c (λ e. omega arith)) (here-is 25 c (omega arith))
+        (there-is 25 9 c (λ e. omega arith)) (there-is 25 26 c (λ e. omega arith)) o
 
-    pub kept-back : (r : ℕ) → IsOrderly k (words_at (slice_index ws 8) window (slice_index ws 24) latest (slice_index ws 25) r (slice_index ws 26) kind) views → IsKept k (record { words = set ws 9 r; homes = homes; views = views })
-    kept-back r o = kept-at 9 r (slice_index ws 8) (slice_index ws 24) (slice_index ws 25) r (slice_index ws 26) (there-is 9 8 r (λ e. omega arith)) (there-is 9 24 r (λ e. omega arith)) (there-is 9 25 r (λ e. omega arith)) (here-is 9 r (omega arith)) (there-is 9 26 r (λ e. omega arith)) o
+    pub kept-back : (r : ℕ)
+        → IsOrderly k
+        (words_at (slice_index ws 8) window (slice_index ws 24) latest (slice_index ws 25) r (slice_index ws 26) kind)
+        views → IsKept k (record { words = set ws 9 r; homes = homes; views = views })
+    kept-back r o =
+        kept-at 9 r (slice_index ws 8) (slice_index ws 24) (slice_index ws 25) r (slice_index ws 26)
+        (there-is 9 8 r (λ e. omega arith)) (there-is 9 24 r (λ e. omega arith)) (there-is 9 25 r (λ e. omega arith))
+        (here-is 9 r (omega arith)) (there-is 9 26 r (λ e. omega arith)) o
 
-    kept-past : (p : ℕ) → IsOrderly k (words_at (slice_index ws 8) window (slice_index ws 24) latest (slice_index ws 25) (slice_index ws 9) p kind) views → IsKept k (record { words = set ws 26 p; homes = homes; views = views })
-    kept-past p o = kept-at 26 p (slice_index ws 8) (slice_index ws 24) (slice_index ws 25) (slice_index ws 9) p (there-is 26 8 p (λ e. omega arith)) (there-is 26 24 p (λ e. omega arith)) (there-is 26 25 p (λ e. omega arith)) (there-is 26 9 p (λ e. omega arith)) (here-is 26 p (omega arith)) o
+    kept-past : (p : ℕ)
+        → IsOrderly k
+        (words_at (slice_index ws 8) window (slice_index ws 24) latest (slice_index ws 25) (slice_index ws 9) p kind)
+        views → IsKept k (record { words = set ws 26 p; homes = homes; views = views })
+    kept-past p o =
+        kept-at 26 p (slice_index ws 8) (slice_index ws 24) (slice_index ws 25) (slice_index ws 9) p
+        (there-is 26 8 p (λ e. omega arith)) (there-is 26 24 p (λ e. omega arith)) (there-is 26 25 p (λ e. omega arith))
+        (there-is 26 9 p (λ e. omega arith)) (here-is 26 p (omega arith)) o
 
   -- a pass has learnt the words, and all else is as it was
-  pub told : (x : Words) (views : List View) (id : ℕ) (v : View) (current seen found back past readings glances recalls reviews looks losses : ℕ)
+  pub told : (x : Words) (views : List View) (id : ℕ) (v : View)
+      (current seen found back past readings glances recalls reviews looks losses : ℕ)
       → IsOrderly k x views → get_elem? views id ≡ some v → (0 < v.weight → 0 < in_force k views current)
-      → seen ≤ x.asked → IsSeen (requests_in views) seen → (0 < window_of seen → 0 < begins views (window_of seen)) → found ≤ x.drawn → IsFound v.carries (dealt_in views) found
+      → seen ≤ x.asked → IsSeen (requests_in views) seen → (0 < window_of seen → 0 < begins views (window_of seen))
+      → found ≤ x.drawn → IsFound v.carries (dealt_in views) found
       → back ≤ x.back → IsSeen (returned_in views) back → IsNoted views past
-      → IsOrderly k x (set views id (record v { current = current; seen = seen; found = found; back = back; past = past; readings = readings; glances = glances; recalls = recalls; reviews = reviews; looks = looks; losses = losses }))
-  told x views id v current seen found back past readings glances recalls reviews looks losses o at force seen_le is_seen begun found_le is_found back_le is_back is_noted =
-      let w : View = record v { current = current; seen = seen; found = found; back = back; past = past; readings = readings; glances = glances; recalls = recalls; reviews = reviews; looks = looks; losses = losses } in
-      let g = grows views id v w at (λ n. omega arith) (λ n. omega arith) (λ n. omega arith) (λ n. omega arith) (λ n. omega arith) in
+      → IsOrderly k x
+      (set views id (record v {
+        current = current;
+        seen = seen;
+        found = found;
+        back = back;
+        past = past;
+        readings = readings;
+        glances = glances;
+        recalls = recalls;
+        reviews = reviews;
+        looks = looks;
+        losses = losses;
+      }))
+  told x views id v current seen found back past readings glances recalls reviews looks losses o at force seen_le
+      is_seen begun found_le is_found back_le is_back is_noted =
+      let w : View = record v {
+        current = current;
+        seen = seen;
+        found = found;
+        back = back;
+        past = past;
+        readings = readings;
+        glances = glances;
+        recalls = recalls;
+        reviews = reviews;
+        looks = looks;
+        losses = losses;
+      } in
+      let g = grows views id v w at (λ n. omega arith) (λ n. omega arith) (λ n. omega arith) (λ n. omega arith)
+      (λ n. omega arith) in
       moved x x views id v w o at refl refl
-      (dealt-same x.carries x.drawn x.window views id v w at (λ h. refl) o.dealt) (given-same x.carries x.drawn views id v w at (λ h. refl) g o.given) (omega arith) (noted-on views (set views id w) x.past g o.noted) (counted-same x.asked x.latest views id v w at refl refl refl o.counted)
-      (omega arith) (omega arith) o.behind (omega arith) g (omega (arith, o.force, g.force x.current)) (omega (arith, o.came_back, g.returned (window_of x.back))) o.few_back (entered-same x views id v w o at refl g)
+      (dealt-same x.carries x.drawn x.window views id v w at (λ h. refl) o.dealt)
+      (given-same x.carries x.drawn views id v w at (λ h. refl) g o.given) (omega arith)
+      (noted-on views (set views id w) x.past g o.noted)
+      (counted-same x.asked x.latest views id v w at refl refl refl o.counted)
+      (omega arith) (omega arith) o.behind (omega arith) g (omega (arith, o.force, g.force x.current))
+      (omega (arith, o.came_back, g.returned (window_of x.back))) o.few_back (entered-same x views id v w o at refl g)
       (λ f. record {
         seen = seen_le;
         counted = omega (arith, is_seen, g.requests (window_of seen));
@@ -226,11 +373,15 @@ module _ (k : Terms) where
   reads_ok n id m st live = allows n id m 24 (λ x. x) (reads st m) (λ window latest kind ws views long o at.
       let v : View = m.0 in
       let q : ℕ = slice_index ws 24 in
-      let x : Words = words_at (slice_index ws 8) window q latest (slice_index ws 25) (slice_index ws 9) (slice_index ws 26) kind in
+      let x : Words = words_at (slice_index ws 8) window q latest (slice_index ws 25) (slice_index ws 9)
+      (slice_index ws 26) kind in
       let f = o.each id v at in (
         with_reading v q,
         (λ homes. kept-requests ws (set views id (with_reading v q)) homes window latest kind long q
-            (told x views id v v.current q v.found v.back v.past (v.readings + 1) v.glances v.recalls v.reviews v.looks v.losses o at f.force (omega arith) (seen_at q latest views o.counted) (begun_at q latest views o.counted) f.found f.given f.back f.came_back f.past)),
+            (told x views id v v.current q v.found v.back v.past
+            (v.readings + 1) v.glances v.recalls v.reviews v.looks v.losses o at f.force (omega arith)
+            (seen_at q latest views o.counted)
+            (begun_at q latest views o.counted) f.found f.given f.back f.came_back f.past)),
         ((f.seen, asked_le k x views o), no_later k x views o id v at live, refl),
       ))
 
@@ -238,28 +389,41 @@ module _ (k : Terms) where
   glances_ok n id m st = allows n id m 25 (λ x. x) (glances st m) (λ window latest kind ws views long o at.
       let v : View = m.0 in
       let c : ℕ = slice_index ws 25 in
-      let x : Words = words_at (slice_index ws 8) window (slice_index ws 24) latest c (slice_index ws 9) (slice_index ws 26) kind in
+      let x : Words = words_at (slice_index ws 8) window (slice_index ws 24) latest c (slice_index ws 9)
+      (slice_index ws 26) kind in
       let f = o.each id v at in (
         with_glance v c,
         (λ homes. kept-terms ws (set views id (with_glance v c)) homes window latest kind long c
-            (told x views id v c v.seen v.found v.back v.past v.readings (v.glances + 1) v.recalls v.reviews v.looks v.losses o at (λ live. o.force) f.seen f.counted f.begun f.found f.given f.back f.came_back f.past)),
+            (told x views id v c v.seen v.found v.back v.past v.readings (v.glances + 1) v.recalls v.reviews v.looks
+            v.losses o at (λ live. o.force) f.seen f.counted f.begun f.found f.given f.back f.came_back f.past)),
         refl,
       ))
 
-  pub changes_ok : (n id : ℕ) (m : Sat) (st : Step ℕ) (c : ℕ) → 0 < m.0.weight → Allows (IsKept k) n id m 25 (λ x. c) (λ x n. changes st m c n)
-  changes_ok n id m st c live = allows n id m 25 (λ x. c) (λ x n. changes st m c n) (λ window latest kind ws views long o at.
+  pub changes_ok : (n id : ℕ) (m : Sat) (st : Step ℕ) (c : ℕ) → 0 < m.0.weight
+      → Allows (IsKept k) n id m 25 (λ x. c) (λ x n. changes st m c n)
+  changes_ok n id m st c live =
+      allows n id m 25 (λ x. c) (λ x n. changes st m c n) (λ window latest kind ws views long o at.
       let v : View = m.0 in
-      let x : Words = words_at (slice_index ws 8) window (slice_index ws 24) latest (slice_index ws 25) (slice_index ws 9) (slice_index ws 26) kind in
-      let x' : Words = words_at (slice_index ws 8) window (slice_index ws 24) latest c (slice_index ws 9) (slice_index ws 26) kind in
+      let x : Words = words_at (slice_index ws 8) window (slice_index ws 24) latest (slice_index ws 25)
+      (slice_index ws 9) (slice_index ws 26) kind in
+      let x' : Words = words_at (slice_index ws 8) window (slice_index ws 24) latest c (slice_index ws 9)
+      (slice_index ws 26) kind in
       let w : View = with_change v c in
-      let g = grows views id v w at (λ n. omega arith) (λ n. omega arith) (λ n. omega arith) (λ n. omega arith) (λ n. omega arith) in
+      let g = grows views id v w at (λ n. omega arith) (λ n. omega arith) (λ n. omega arith) (λ n. omega arith)
+      (λ n. omega arith) in
       let one : is c c ≡ 1 = is-same c c refl in
-      let set-now : 0 < in_force k (set views id w) c = omega (arith, total-set (λ (u : View). times c u.changes) views id v w at) in (
+      let set-now : 0 < in_force k (set views id w) c =
+      omega (arith, total-set (λ (u : View). times c u.changes) views id v w at) in (
         w,
         (λ homes. kept-terms ws (set views id w) homes window latest kind long c
             (moved x x' views id v w o at refl refl
-            (dealt-same x.carries x.drawn window views id v w at (λ h. refl) o.dealt) (given-same x.carries x.drawn views id v w at (λ h. refl) g o.given) (omega arith) (noted-on views (set views id w) x.past g o.noted) (counted-same x.asked latest views id v w at refl refl refl o.counted)
-            (omega arith) (omega arith) o.behind (omega arith) g set-now (omega (arith, o.came_back, g.returned (window_of x.back))) o.few_back (entered-same x views id v w o at refl g)
+            (dealt-same x.carries x.drawn window views id v w at (λ h. refl) o.dealt)
+            (given-same x.carries x.drawn views id v w at (λ h. refl) g o.given) (omega arith)
+            (noted-on views (set views id w) x.past g o.noted)
+            (counted-same x.asked latest views id v w at refl refl refl o.counted)
+            (omega arith) (omega arith) o.behind (omega arith) g set-now
+            (omega (arith, o.came_back, g.returned (window_of x.back))) o.few_back
+            (entered-same x views id v w o at refl g)
             (λ f. record {
               seen = f.seen;
               counted = f.counted;
@@ -282,11 +446,14 @@ module _ (k : Terms) where
   finds_ok n id m st live = allows n id m 8 (λ x. x) (finds st m) (λ window latest kind ws views long o at.
       let v : View = m.0 in
       let d : ℕ = slice_index ws 8 in
-      let x : Words = words_at d window (slice_index ws 24) latest (slice_index ws 25) (slice_index ws 9) (slice_index ws 26) kind in
+      let x : Words = words_at d window (slice_index ws 24) latest (slice_index ws 25) (slice_index ws 9)
+      (slice_index ws 26) kind in
       let f = o.each id v at in (
         with_found v d,
         (λ homes. kept-draws ws (set views id (with_found v d)) homes window latest kind long d
-            (told x views id v v.current v.seen d v.back v.past v.readings v.glances v.recalls v.reviews (v.looks + 1) 0 o at f.force f.seen f.counted f.begun (omega arith) (found_now k x views o id v at live) f.back f.came_back f.past)),
+            (told x views id v v.current v.seen d v.back v.past v.readings v.glances v.recalls v.reviews
+            (v.looks + 1) 0 o at f.force f.seen f.counted f.begun (omega arith)
+            (found_now k x views o id v at live) f.back f.came_back f.past)),
         (f.found, refl),
       ))
 
@@ -294,11 +461,13 @@ module _ (k : Terms) where
   learns_ok n id m st = allows n id m 8 (λ x. x) (learns st m) (λ window latest kind ws views long o at.
       let v : View = m.0 in
       let d : ℕ = slice_index ws 8 in
-      let x : Words = words_at d window (slice_index ws 24) latest (slice_index ws 25) (slice_index ws 9) (slice_index ws 26) kind in
+      let x : Words = words_at d window (slice_index ws 24) latest (slice_index ws 25) (slice_index ws 9)
+      (slice_index ws 26) kind in
       let f = o.each id v at in (
         v,
         (λ homes. kept-draws ws (set views id v) homes window latest kind long d
-            (told x views id v v.current v.seen v.found v.back v.past v.readings v.glances v.recalls v.reviews v.looks v.losses o at f.force f.seen f.counted f.begun f.found f.given f.back f.came_back f.past)),
+            (told x views id v v.current v.seen v.found v.back v.past v.readings v.glances v.recalls v.reviews v.looks
+            v.losses o at f.force f.seen f.counted f.begun f.found f.given f.back f.came_back f.past)),
         (
           refl,
           is_sound k x views o id v at,
@@ -315,11 +484,15 @@ module _ (k : Terms) where
   opens-to x views id v first q' latest' o at up counted is_seen live =
       let w : View = with_opening v first q' in
       let x' : Words = record x { asked = q'; latest = latest' } in
-      let g = grows views id v w at (λ n. omega arith) (λ n. omega arith) (λ n. omega arith) (λ n. omega arith) (λ n. omega arith) in
+      let g = grows views id v w at (λ n. omega arith) (λ n. omega arith) (λ n. omega arith) (λ n. omega arith)
+      (λ n. omega arith) in
       let behind = o.behind in
       moved x x' views id v w o at refl refl
-      (dealt-same x.carries x.drawn x.window views id v w at (λ h. refl) o.dealt) (given-same x.carries x.drawn views id v w at (λ h. refl) g o.given) (omega arith) (noted-on views (set views id w) x.past g o.noted) counted
-      (omega arith) up (omega arith) (omega arith) g (omega (arith, o.force, g.force x.current)) (omega (arith, o.came_back, g.returned (window_of x.back))) o.few_back (entered-same x views id v w o at refl g)
+      (dealt-same x.carries x.drawn x.window views id v w at (λ h. refl) o.dealt)
+      (given-same x.carries x.drawn views id v w at (λ h. refl) g o.given) (omega arith)
+      (noted-on views (set views id w) x.past g o.noted) counted
+      (omega arith) up (omega arith) (omega arith) g (omega (arith, o.force, g.force x.current))
+      (omega (arith, o.came_back, g.returned (window_of x.back))) o.few_back (entered-same x views id v w o at refl g)
       (λ f. record {
         seen = omega arith;
         counted = omega (arith, is_seen, g.requests (window_of q'));
@@ -336,29 +509,36 @@ module _ (k : Terms) where
         spent = λ none. absurd (omega arith);
       })
 
-  pub opens_ok : (n id : ℕ) (m : Sat) (st : Step ℕ) (next : ℕ) → 0 < m.0.weight → st.first ≡ first_of next → next ≤ 2999999999
+  pub opens_ok : (n id : ℕ) (m : Sat) (st : Step ℕ) (next : ℕ) → 0 < m.0.weight → st.first ≡ first_of next
+      → next ≤ 2999999999
       → Allows (IsKept k) n id m 24 (λ x. max x st.first) (opens st m)
-  opens_ok n id m st next live is_first known = allows n id m 24 (λ x. max x st.first) (opens st m) (λ window latest kind ws views long o at.
+  opens_ok n id m st next live is_first known =
+      allows n id m 24 (λ x. max x st.first) (opens st m) (λ window latest kind ws views long o at.
       let v : View = m.0 in
       let a : ℕ = st.first in
       let q : ℕ = slice_index ws 24 in
       let q' : ℕ = max q a in
-      let x : Words = words_at (slice_index ws 8) window q latest (slice_index ws 25) (slice_index ws 9) (slice_index ws 26) kind in
+      let x : Words = words_at (slice_index ws 8) window q latest (slice_index ws 25) (slice_index ws 9)
+      (slice_index ws 26) kind in
       let w : View = with_opening v a q' in
       let f = o.each id v at in
       let c = o.counted in
-      let sums : (h : ℕ → ℕ) → total (request_weight h) (set views id w) ≡ total (request_weight h) views = λ h. total-same (request_weight h) views id v w at refl in
-      let small : total may_count (set views id w) ≡ total may_count views = total-same may_count views id v w at refl in
+      let sums : (h : ℕ → ℕ) → total (request_weight h) (set views id w) ≡ total (request_weight h) views = λ h.
+      total-same (request_weight h) views id v w at refl in
+      let small : total may_count (set views id w) ≡ total may_count views =
+      total-same may_count views id v w at refl in
       let few : total may_count views ≤ weights views = all_may_count views in
       let parts = o.parts in
-      let kept : (latest' : ℕ) → IsCounted q' latest' (set views id w) → IsSeen (requests_in views) q' → (homes : List (Option ℕ)) → IsKept k (record { words = set ws 24 q'; homes = homes; views = set views id w }) =
+      let kept : (latest' : ℕ) → IsCounted q' latest' (set views id w) → IsSeen (requests_in views) q'
+      → (homes : List (Option ℕ)) → IsKept k (record { words = set ws 24 q'; homes = homes; views = set views id w }) =
       λ latest' counted is_seen homes. kept-requests ws (set views id w) homes window latest' kind long q'
       (opens-to x views id v a q' latest' o at (omega arith) counted is_seen live) in (
         w,
         dite (dec_le a q)
             (λ there.
             let same : q' ≡ q = omega arith in
-            let more : openings views (first_of latest) ≤ openings (set views id w) (first_of latest) = total-more (λ (u : View). times (first_of latest) u.opened) views id v w at (omega arith) in
+            let more : openings views (first_of latest) ≤ openings (set views id w) (first_of latest) =
+            total-more (λ (u : View). times (first_of latest) u.opened) views id v w at (omega arith) in
             kept latest (record {
               once = λ h. omega (arith, sums h, c.once h, ap (below h) same);
               all = λ h. omega (arith, sums h, c.all h, ap (below h) same);
@@ -370,7 +550,9 @@ module _ (k : Terms) where
             let up : q < a = lt_of_not-le not in
             let same : q' ≡ a = omega arith in
             let start : q' ≡ first_of next = same ∙ is_first in
-            let opened : openings (set views id w) (first_of next) + times (first_of next) v.opened ≡ openings views (first_of next) + times (first_of next) w.opened = total-set (λ (u : View). times (first_of next) u.opened) views id v w at in
+            let opened : openings (set views id w) (first_of next) + times (first_of next) v.opened
+            ≡ openings views (first_of next) + times (first_of next) w.opened =
+            total-set (λ (u : View). times (first_of next) u.opened) views id v w at in
             let one : is (first_of next) a ≡ 1 = is-same (first_of next) a is_first in
             kept next (record {
               once = λ h. omega (arith, sums h, c.once h, below-mono h q q' (omega arith));
@@ -382,23 +564,32 @@ module _ (k : Terms) where
         ((f.seen, asked_le k x views o), refl),
       ))
 
-  pub counts_ok : (n id : ℕ) (m : Sat) (st : Step ℕ) → st.first ≤ m.0.weight → 0 < m.0.weight → m.0.told < 12884901888000000000
+  pub counts_ok : (n id : ℕ) (m : Sat) (st : Step ℕ) → st.first ≤ m.0.weight → 0 < m.0.weight
+      → m.0.told < 12884901888000000000
       → Allows (IsKept k) n id m 24 (λ x. (x + st.first) % 2 ^ 64) (counts st m)
-  counts_ok n id m st few live may = allows n id m 24 (λ x. (x + st.first) % 2 ^ 64) (counts st m) (λ window latest kind ws views long o at.
+  counts_ok n id m st few live may =
+      allows n id m 24 (λ x. (x + st.first) % 2 ^ 64) (counts st m) (λ window latest kind ws views long o at.
       let v : View = m.0 in
       let c : ℕ = st.first in
       let q : ℕ = slice_index ws 24 in
-      let x : Words = words_at (slice_index ws 8) window q latest (slice_index ws 25) (slice_index ws 9) (slice_index ws 26) kind in
-      let x' : Words = words_at (slice_index ws 8) window (q + c) latest (slice_index ws 25) (slice_index ws 9) (slice_index ws 26) kind in
+      let x : Words = words_at (slice_index ws 8) window q latest (slice_index ws 25) (slice_index ws 9)
+      (slice_index ws 26) kind in
+      let x' : Words = words_at (slice_index ws 8) window (q + c) latest (slice_index ws 25) (slice_index ws 9)
+      (slice_index ws 26) kind in
       let w : View = with_requests v q c in
       let f = o.each id v at in
       let o' = o.counted in
       let parts = o.parts in
-      let room : q + c ≤ 17496587906427387904 = omega (arith, o'.small, may_count-yes v may, term_le may_count views id v at) in
+      let room : q + c ≤ 17496587906427387904 =
+      omega (arith, o'.small, may_count-yes v may, term_le may_count views id v at) in
       let word : (q + c) % 2 ^ 64 ≡ q + c = mod-eq_of_lt (omega arith) in
-      let sums : (h : ℕ → ℕ) → total (request_weight h) (set views id w) ≡ total (request_weight h) views + total h (numbers q c) = λ h. omega (arith, total-set (request_weight h) views id v w at, total-append h (numbers q c) v.requests) in
-      let opened : openings (set views id w) (first_of latest) ≡ openings views (first_of latest) = total-same (λ (u : View). times (first_of latest) u.opened) views id v w at refl in
-      let may-sum : total may_count (set views id w) + may_count v ≡ total may_count views + may_count w = total-set may_count views id v w at in
+      let sums : (h : ℕ → ℕ)
+      → total (request_weight h) (set views id w) ≡ total (request_weight h) views + total h (numbers q c) = λ h.
+      omega (arith, total-set (request_weight h) views id v w at, total-append h (numbers q c) v.requests) in
+      let opened : openings (set views id w) (first_of latest) ≡ openings views (first_of latest) =
+      total-same (λ (u : View). times (first_of latest) u.opened) views id v w at refl in
+      let may-sum : total may_count (set views id w) + may_count v ≡ total may_count views + may_count w =
+      total-set may_count views id v w at in
       let same : weights (set views id w) ≡ weights views = total-same (λ (u : View). u.weight) views id v w at refl in
       let counted : IsCounted (q + c) latest (set views id w) = record {
         once = λ h. omega (arith, sums h, o'.once h, below-numbers h q c);
@@ -410,11 +601,17 @@ module _ (k : Terms) where
             (λ not. omega (arith, all_may_count (set views id w), lt_of_not-le not));
       } in
       let behind = o.behind in
-      let g = grows views id v w at (λ n. omega arith) (λ n. omega arith) (λ n. omega (arith, total-append (within (first_of n) 4294967296) (numbers q c) v.requests)) (λ n. omega arith) (λ n. omega arith) in
+      let g =
+      grows views id v w at (λ n. omega arith) (λ n. omega arith)
+      (λ n. omega (arith, total-append (within (first_of n) 4294967296) (numbers q c) v.requests)) (λ n. omega arith)
+      (λ n. omega arith) in
       let orderly : IsOrderly k x' (set views id w) =
       moved x x' views id v w o at refl refl
-      (dealt-same x.carries x.drawn window views id v w at (λ h. refl) o.dealt) (given-same x.carries x.drawn views id v w at (λ h. refl) g o.given) (omega arith) (noted-on views (set views id w) x.past g o.noted) counted
-      (omega arith) (omega arith) (omega arith) (omega arith) g (omega (arith, o.force, g.force x.current)) (omega (arith, o.came_back, g.returned (window_of x.back))) o.few_back (entered-same x views id v w o at refl g)
+      (dealt-same x.carries x.drawn window views id v w at (λ h. refl) o.dealt)
+      (given-same x.carries x.drawn views id v w at (λ h. refl) g o.given) (omega arith)
+      (noted-on views (set views id w) x.past g o.noted) counted
+      (omega arith) (omega arith) (omega arith) (omega arith) g (omega (arith, o.force, g.force x.current))
+      (omega (arith, o.came_back, g.returned (window_of x.back))) o.few_back (entered-same x views id v w o at refl g)
       (λ f. record {
         seen = omega arith;
         counted = seen_at (q + c) latest (set views id w) counted;
@@ -431,22 +628,29 @@ module _ (k : Terms) where
         spent = λ none. absurd (omega arith);
       }) in (
         w,
-        (λ homes. subst (λ (y : ℕ). IsKept k (record { words = set ws 24 y; homes = homes; views = set views id w })) (sym word)
+        (λ homes. subst
+            (λ (y : ℕ). IsKept k (record { words = set ws 24 y; homes = homes; views = set views id w })) (sym word)
             (kept-requests ws (set views id w) homes window latest kind long (q + c) orderly)),
         (f.seen, room, refl),
       ))
 
   -- a ticket more
-  dealt-one : (views : List View) (id : ℕ) (v : View) (t : ℕ) → get_elem? views id ≡ some v → (h : ℕ → ℕ) → total (ticket_weight h) (set views id (with_ticket v t)) ≡ total (ticket_weight h) views + h t
+  dealt-one : (views : List View) (id : ℕ) (v : View) (t : ℕ) → get_elem? views id ≡ some v → (h : ℕ → ℕ)
+      → total (ticket_weight h) (set views id (with_ticket v t)) ≡ total (ticket_weight h) views + h t
   dealt-one views id v t at h = omega (arith, total-set (ticket_weight h) views id v (with_ticket v t) at)
 
-  grows-one : (views : List View) (id : ℕ) (v : View) (t : ℕ) → get_elem? views id ≡ some v → Grows k views (set views id (with_ticket v t))
-  grows-one views id v t at = grows views id v (with_ticket v t) at (λ n. omega arith) (λ n. omega arith) (λ n. omega arith) (λ n. omega arith) (λ n. omega arith)
+  grows-one : (views : List View) (id : ℕ) (v : View) (t : ℕ) → get_elem? views id ≡ some v
+      → Grows k views (set views id (with_ticket v t))
+  grows-one views id v t at = grows views id v (with_ticket v t) at (λ n. omega arith) (λ n. omega arith)
+      (λ n. omega arith) (λ n. omega arith) (λ n. omega arith)
 
   -- the words are in order after it
-  deals-to : (x : Words) (views : List View) (id : ℕ) (v : View) (t m : ℕ) → IsOrderly k x views → get_elem? views id ≡ some v → 0 < v.weight → v.found ≡ x.drawn
-      → t ≡ max x.drawn (first_of (window_of v.seen) - m) → first_of (window_of v.seen) ≤ t + late_numbers x.carries → t < first_of (window_of v.seen) + own_numbers x.carries
-      → IsGiven k x.carries (t + 1) (set views id (with_ticket v t)) → (0 < window_of t → 0 < begins views (window_of t))
+  deals-to : (x : Words) (views : List View) (id : ℕ) (v : View) (t m : ℕ) → IsOrderly k x views
+      → get_elem? views id ≡ some v → 0 < v.weight → v.found ≡ x.drawn
+      → t ≡ max x.drawn (first_of (window_of v.seen) - m) → first_of (window_of v.seen) ≤ t + late_numbers x.carries
+      → t < first_of (window_of v.seen) + own_numbers x.carries
+      → IsGiven k x.carries (t + 1) (set views id (with_ticket v t))
+      → (0 < window_of t → 0 < begins views (window_of t))
       → IsOrderly k (record x { drawn = t + 1; window = window_of v.seen }) (set views id (with_ticket v t))
   deals-to x views id v t m o at live here is-next low high given begun-it =
       let w : View = with_ticket v t in
@@ -465,12 +669,21 @@ module _ (k : Terms) where
         once = λ h. omega (arith, sums h, o.dealt.once h, below-mono h d t (omega arith), below_more h t);
         all = λ h. dite (dec_le a t)
             (λ own. dite (dec_le d a)
-            (λ first. let is_first : t ≡ a = omega arith in omega (arith, sums h, below_more h t, ap (below h) is_first))
+            (λ first. let is_first : t ≡ a = omega arith in
+            omega (arith, sums h, below_more h t, ap (below h) is_first))
             (λ not.
             let past : a < d = lt_of_not-le not in
             let is_next : t ≡ d = omega arith in
-            let same : x.window ≡ n = dite (dec_le 1 x.window) (λ some-window. let s = begun some-window in omega arith) (λ none. omega arith) in
-            omega (arith, sums h, o.dealt.all h, below_more h t, ap (below h) is_next, ap (λ (y : ℕ). below h (first_of y)) same)))
+            let same : x.window ≡ n = dite (dec_le 1 x.window) (λ some-window. let s = begun some-window in omega arith)
+            (λ none. omega arith) in
+            omega (
+              arith,
+              sums h,
+              o.dealt.all h,
+              below_more h t,
+              ap (below h) is_next,
+              ap (λ (y : ℕ). below h (first_of y)) same,
+            )))
             (λ not. omega (arith, below-mono h (t + 1) a (omega (arith, lt_of_not-le not))));
         from = omega arith;
         to = omega arith;
@@ -478,19 +691,29 @@ module _ (k : Terms) where
       } in
       let seen = f.seen in
       moved x x' views id v w o at refl refl
-      dealt given (omega arith) (noted-on views (set views id w) x.past g o.noted) (counted-same x.asked x.latest views id v w at refl refl refl o.counted)
-      (omega arith) (omega arith) (omega arith) (omega arith) g (omega (arith, o.force, g.force x.current)) (omega (arith, o.came_back, g.returned (window_of x.back))) o.few_back
+      dealt given (omega arith) (noted-on views (set views id w) x.past g o.noted)
+      (counted-same x.asked x.latest views id v w at refl refl refl o.counted)
+      (omega arith) (omega arith) (omega arith) (omega arith) g (omega (arith, o.force, g.force x.current))
+      (omega (arith, o.came_back, g.returned (window_of x.back))) o.few_back
       (λ y some-window given. dite (ℕ_discrete y (window_of t))
-      (λ same. subst (λ (z : ℕ). 0 < begins (set views id w) z) (sym same) (omega (arith, begun-it (omega arith), g.starts (window_of t))))
+      (λ same. subst (λ (z : ℕ). 0 < begins (set views id w) z) (sym same)
+      (omega (arith, begun-it (omega arith), g.starts (window_of t))))
       (λ other.
-      let sum : tickets_in (set views id w) y + count_in y v.tickets ≡ tickets_in views y + count_in y w.tickets = total-set (λ (u : View). count_in y u.tickets) views id v w at in
-      omega (arith, within-other y t other, o.entered y some-window (omega (arith, sum, given, within-other y t other)), g.starts y)))
+      let sum : tickets_in (set views id w) y + count_in y v.tickets ≡ tickets_in views y + count_in y w.tickets =
+      total-set (λ (u : View). count_in y u.tickets) views id v w at in
+      omega (
+        arith,
+        within-other y t other,
+        o.entered y some-window (omega (arith, sum, given, within-other y t other)),
+        g.starts y,
+      )))
       (λ f'. record {
         seen = f'.seen;
         counted = f'.counted;
         begun = f'.begun;
         found = omega arith;
-        given = subst (λ (z : Bool). IsFound z (dealt_in (set views id w)) (t + 1)) (sym (f.kind live)) (found_at c (t + 1) n (set views id w) dealt);
+        given = subst (λ (z : Bool). IsFound z (dealt_in (set views id w)) (t + 1)) (sym (f.kind live))
+            (found_at c (t + 1) n (set views id w) dealt);
         back = f'.back;
         came_back = f'.came_back;
         past = f'.past;
@@ -502,7 +725,8 @@ module _ (k : Terms) where
       })
 
   -- a window may give one of its own numbers where its terms allow it
-  given-own : (x : Words) (views : List View) (id : ℕ) (v : View) (t : ℕ) → IsOrderly k x views → get_elem? views id ≡ some v → 0 < v.weight
+  given-own : (x : Words) (views : List View) (id : ℕ) (v : View) (t : ℕ) → IsOrderly k x views
+      → get_elem? views id ≡ some v → 0 < v.weight
       → x.drawn ≤ t → first_of (window_of v.seen) ≤ t → t < floor_of x.carries (terms_of k v.current) v.seen v.back
       → IsGiven k x.carries (t + 1) (set views id (with_ticket v t))
   given-own x views id v t o at live late-enough own room =
@@ -516,16 +740,32 @@ module _ (k : Terms) where
       let g = grows-one views id v t at in
       let sums = dealt-one views id v t at in
       let high : t < a + own_numbers c = omega arith in
-      let less : (w m : ℕ) → AllowNoMore k (in_force k views') (requests_in views' w) m → AllowNoMore k (in_force k views) (requests_in views w) m =
-      λ w m. allow-less k (in_force k views) (in_force k views') (requests_in views w) (requests_in views' w) m (g.requests w) g.force in
-      let fewer : (w m : ℕ) → ShareNoMore k (in_force k views') (requests_in views' w) m → ShareNoMore k (in_force k views) (requests_in views w) m =
-      λ w m. share-less k (in_force k views) (in_force k views') (requests_in views w) (requests_in views' w) m (g.requests w) g.force in
-      let here : (m : ℕ) → AllowNoMore k (in_force k views') (requests_in views' n) m → dealt_in views' n ≤ m + returned_in views' n = λ m most.
+      let less : (w m : ℕ) → AllowNoMore k (in_force k views') (requests_in views' w) m
+      → AllowNoMore k (in_force k views) (requests_in views w) m =
+      λ w m. allow-less k (in_force k views) (in_force k views') (requests_in views w) (requests_in views' w) m
+      (g.requests w) g.force in
+      let fewer : (w m : ℕ) → ShareNoMore k (in_force k views') (requests_in views' w) m
+      → ShareNoMore k (in_force k views) (requests_in views w) m =
+      λ w m. share-less k (in_force k views) (in_force k views') (requests_in views w) (requests_in views' w) m
+      (g.requests w) g.force in
+      let here : (m : ℕ) → AllowNoMore k (in_force k views') (requests_in views' n) m
+      → dealt_in views' n ≤ m + returned_in views' n = λ m most.
       let h : ℕ → ℕ = within a 4294967296 in
-      let few : total (ticket_weight h) views' ≤ below h (t + 1) = omega (arith, sums h, o.dealt.once h, below-mono h x.drawn t late-enough, below_more h t) in
-      let enough : allowed j (v.seen % 4294967296) ≤ allowed j (requests_in views' n) = allowed-mono j (v.seen % 4294967296) (requests_in views' n) (omega (arith, f.counted, g.requests n)) in
+      let few : total (ticket_weight h) views' ≤ below h (t + 1) =
+      omega (arith, sums h, o.dealt.once h, below-mono h x.drawn t late-enough, below_more h t) in
+      let enough : allowed j (v.seen % 4294967296) ≤ allowed j (requests_in views' n) =
+      allowed-mono j (v.seen % 4294967296) (requests_in views' n) (omega (arith, f.counted, g.requests n)) in
       let came : back_in v.back n ≤ returned_in views n = back_in-le v.back n (returned_in views) f.came_back in
-      omega (arith, few, below-within a 4294967296 (t + 1), all-dealt views' n, enough, came, g.returned n, most v.current (omega (arith, f.force live, g.force v.current))) in
+      omega (
+        arith,
+        few,
+        below-within a 4294967296 (t + 1),
+        all-dealt views' n,
+        enough,
+        came,
+        g.returned n,
+        most v.current (omega (arith, f.force live, g.force v.current)),
+      ) in
       let none-late : (w : ℕ) → within (first_of w + own_numbers c) (late_numbers c) t ≡ 0 = λ w. dite (dec_le n w)
       (λ up. within-low (first_of w + own_numbers c) (late_numbers c) t (omega arith))
       (λ not. within-high (first_of w + own_numbers c) (late_numbers c) t (omega (arith, lt_of_not-le not))) in
@@ -533,19 +773,37 @@ module _ (k : Terms) where
       (λ up. absurd (omega (arith, near.0)))
       (λ not. absurd (omega (arith, near.1, lt_of_not-le not))) in record {
         windows = λ w m most. dite (ℕ_discrete w n)
-            (λ same. subst (λ (y : ℕ). AllowNoMore k (in_force k views') (requests_in views' y) m → dealt_in views' y ≤ m + returned_in views' y) (sym same) (here m) most)
-            (λ other. omega (arith, all-dealt views' w, all-dealt views w, sums (within (first_of w) 4294967296), within-other w t (λ (e : w ≡ window_of t). other (omega (arith, e))), o.given.windows w m (less w m most), g.returned w));
-        shares = λ w m most. omega (arith, sums (within (first_of w + own_numbers c) (late_numbers c)), none-late w, o.given.shares w m (fewer w m most));
+            (λ same.
+            subst (λ (y : ℕ). AllowNoMore k (in_force k views') (requests_in views' y) m
+            → dealt_in views' y ≤ m + returned_in views' y) (sym same) (here m) most)
+            (λ other. omega (
+              arith,
+              all-dealt views' w,
+              all-dealt views w,
+              sums (within (first_of w) 4294967296),
+              within-other w t (λ (e : w ≡ window_of t). other (omega (arith, e))),
+              o.given.windows w m (less w m most),
+              g.returned w,
+            ));
+        shares = λ w m most. omega (
+          arith,
+          sums (within (first_of w + own_numbers c) (late_numbers c)),
+          none-late w,
+          o.given.shares w m (fewer w m most),
+        );
         windows_yet = λ w m near most. absurd (not-late w near);
         shares_yet = λ w m near most. absurd (not-late w near);
         begun = λ w near some-window. absurd (not-late w near);
       }
 
   -- and one of the share of the window before, where what that leaves is within its terms
-  given-late : (x : Words) (views : List View) (id : ℕ) (v : View) (t u : ℕ) → IsOrderly k x views → get_elem? views id ≡ some v → x.carries ≡ true
+  given-late : (x : Words) (views : List View) (id : ℕ) (v : View) (t u : ℕ) → IsOrderly k x views
+      → get_elem? views id ≡ some v → x.carries ≡ true
       → x.drawn ≤ t → first_of (u + 1) ≤ t + 2147483648 → t < first_of (u + 1)
-      → ((m : ℕ) → AllowNoMore k (in_force k views) (requests_in views u) m → dealt_in views u + (first_of (u + 1) - t) ≤ m + returned_in views u)
-      → ((m : ℕ) → ShareNoMore k (in_force k views) (requests_in views u) m → late_in x.carries views u + (first_of (u + 1) - t) ≤ m)
+      → ((m : ℕ) → AllowNoMore k (in_force k views) (requests_in views u) m
+      → dealt_in views u + (first_of (u + 1) - t) ≤ m + returned_in views u)
+      → ((m : ℕ) → ShareNoMore k (in_force k views) (requests_in views u) m
+      → late_in x.carries views u + (first_of (u + 1) - t) ≤ m)
       → (0 < u → 0 < begins views u) → IsGiven k x.carries (t + 1) (set views id (with_ticket v t))
   given-late x views id v t u o at carries late-enough low high yet share-yet begun =
       let c : Bool = x.carries in
@@ -554,48 +812,81 @@ module _ (k : Terms) where
       let late : late_numbers c ≡ 2147483648 = ap late_numbers carries in
       let g = grows-one views id v t at in
       let sums = dealt-one views id v t at in
-      let less : (w m : ℕ) → AllowNoMore k (in_force k views') (requests_in views' w) m → AllowNoMore k (in_force k views) (requests_in views w) m =
-      λ w m. allow-less k (in_force k views) (in_force k views') (requests_in views w) (requests_in views' w) m (g.requests w) g.force in
-      let fewer : (w m : ℕ) → ShareNoMore k (in_force k views') (requests_in views' w) m → ShareNoMore k (in_force k views) (requests_in views w) m =
-      λ w m. share-less k (in_force k views) (in_force k views') (requests_in views w) (requests_in views' w) m (g.requests w) g.force in
+      let less : (w m : ℕ) → AllowNoMore k (in_force k views') (requests_in views' w) m
+      → AllowNoMore k (in_force k views) (requests_in views w) m =
+      λ w m. allow-less k (in_force k views) (in_force k views') (requests_in views w) (requests_in views' w) m
+      (g.requests w) g.force in
+      let fewer : (w m : ℕ) → ShareNoMore k (in_force k views') (requests_in views' w) m
+      → ShareNoMore k (in_force k views) (requests_in views w) m =
+      λ w m. share-less k (in_force k views) (in_force k views') (requests_in views w) (requests_in views' w) m
+      (g.requests w) g.force in
       let here : window_of t ≡ u = omega arith in
       let is-it : (w : ℕ) → AreLate c (t + 1) w → w ≡ u = λ w near. omega (arith, near.0, near.1, own) in
-      let dealt : (w : ℕ) → dealt_in views' w ≡ dealt_in views w + within (first_of w) 4294967296 t = λ w. omega (arith, all-dealt views' w, all-dealt views w, sums (within (first_of w) 4294967296)) in
-      let lates : (w : ℕ) → late_in c views' w ≡ late_in c views w + within (first_of w + own_numbers c) (late_numbers c) t = λ w. sums (within (first_of w + own_numbers c) (late_numbers c)) in
-      let one : within (first_of u) 4294967296 t ≡ 1 = within-yes (first_of u) 4294967296 t (omega arith) (omega arith) in
-      let one-late : within (first_of u + own_numbers c) (late_numbers c) t ≡ 1 = within-yes (first_of u + own_numbers c) (late_numbers c) t (omega (arith, own)) (omega (arith, own, late)) in
-      let none-late : (w : ℕ) → w ≢ u → within (first_of w + own_numbers c) (late_numbers c) t ≡ 0 = λ w other. dite (dec_le u w)
+      let dealt : (w : ℕ) → dealt_in views' w ≡ dealt_in views w + within (first_of w) 4294967296 t = λ w.
+      omega (arith, all-dealt views' w, all-dealt views w, sums (within (first_of w) 4294967296)) in
+      let lates : (w : ℕ) → late_in c views' w ≡ late_in c views w + within (first_of w + own_numbers c)
+      (late_numbers c) t = λ w. sums (within (first_of w + own_numbers c) (late_numbers c)) in
+      let one : within (first_of u) 4294967296 t ≡ 1 =
+      within-yes (first_of u) 4294967296 t (omega arith) (omega arith) in
+      let one-late : within (first_of u + own_numbers c) (late_numbers c) t ≡ 1 =
+      within-yes (first_of u + own_numbers c) (late_numbers c) t (omega (arith, own)) (omega (arith, own, late)) in
+      let none-late : (w : ℕ) → w ≢ u → within (first_of w + own_numbers c) (late_numbers c) t ≡ 0 = λ w other.
+      dite (dec_le u w)
       (λ up. within-low (first_of w + own_numbers c) (late_numbers c) t (omega (arith, up, other)))
-      (λ not. within-high (first_of w + own_numbers c) (late_numbers c) t (omega (arith, lt_of_not-le not, own, late))) in
-      let windows-here : (m : ℕ) → AllowNoMore k (in_force k views') (requests_in views' u) m → dealt_in views' u + (first_of (u + 1) - (t + 1)) ≤ m + returned_in views' u =
+      (λ not.
+      within-high (first_of w + own_numbers c) (late_numbers c) t (omega (arith, lt_of_not-le not, own, late))) in
+      let windows-here : (m : ℕ) → AllowNoMore k (in_force k views') (requests_in views' u) m
+      → dealt_in views' u + (first_of (u + 1) - (t + 1)) ≤ m + returned_in views' u =
       λ m most. omega (arith, dealt u, one, yet m (less u m most), g.returned u) in
-      let shares-here : (m : ℕ) → ShareNoMore k (in_force k views') (requests_in views' u) m → late_in c views' u + (first_of (u + 1) - (t + 1)) ≤ m =
+      let shares-here : (m : ℕ) → ShareNoMore k (in_force k views') (requests_in views' u) m
+      → late_in c views' u + (first_of (u + 1) - (t + 1)) ≤ m =
       λ m most. omega (arith, lates u, one-late, share-yet m (fewer u m most)) in record {
         windows = λ w m most. dite (ℕ_discrete w u)
-            (λ same. subst (λ (y : ℕ). AllowNoMore k (in_force k views') (requests_in views' y) m → dealt_in views' y ≤ m + returned_in views' y) (sym same) (λ most-here. omega (arith, windows-here m most-here)) most)
-            (λ other. omega (arith, dealt w, within-other w t (λ (e : w ≡ window_of t). other (omega (arith, e, here))), o.given.windows w m (less w m most), g.returned w));
+            (λ same.
+            subst (λ (y : ℕ). AllowNoMore k (in_force k views') (requests_in views' y) m → dealt_in views' y ≤ m
+            + returned_in views' y) (sym same) (λ most-here. omega (arith, windows-here m most-here)) most)
+            (λ other. omega (
+              arith,
+              dealt w,
+              within-other w t (λ (e : w ≡ window_of t). other (omega (arith, e, here))),
+              o.given.windows w m (less w m most),
+              g.returned w,
+            ));
         shares = λ w m most. dite (ℕ_discrete w u)
-            (λ same. subst (λ (y : ℕ). ShareNoMore k (in_force k views') (requests_in views' y) m → late_in c views' y ≤ m) (sym same) (λ most-here. omega (arith, shares-here m most-here)) most)
+            (λ same.
+            subst (λ (y : ℕ). ShareNoMore k (in_force k views') (requests_in views' y) m → late_in c views' y ≤ m)
+            (sym same) (λ most-here. omega (arith, shares-here m most-here)) most)
             (λ other. omega (arith, lates w, none-late w other, o.given.shares w m (fewer w m most)));
-        windows_yet = λ w m near most. subst (λ (y : ℕ). AllowNoMore k (in_force k views') (requests_in views' y) m → dealt_in views' y + (first_of (y + 1) - (t + 1)) ≤ m + returned_in views' y) (sym (is-it w near)) (windows-here m) most;
-        shares_yet = λ w m near most. subst (λ (y : ℕ). ShareNoMore k (in_force k views') (requests_in views' y) m → late_in c views' y + (first_of (y + 1) - (t + 1)) ≤ m) (sym (is-it w near)) (shares-here m) most;
-        begun = λ w near some-window. subst (λ (y : ℕ). 0 < y → 0 < begins views' y) (sym (is-it w near)) (λ some-here. omega (arith, begun some-here, g.starts u)) some-window;
+        windows_yet = λ w m near most.
+            subst (λ (y : ℕ). AllowNoMore k (in_force k views') (requests_in views' y) m → dealt_in views' y
+            + (first_of (y + 1) - (t + 1)) ≤ m + returned_in views' y) (sym (is-it w near)) (windows-here m) most;
+        shares_yet = λ w m near most.
+            subst (λ (y : ℕ). ShareNoMore k (in_force k views') (requests_in views' y) m
+            → late_in c views' y + (first_of (y + 1) - (t + 1)) ≤ m) (sym (is-it w near)) (shares-here m) most;
+        begun = λ w near some-window. subst (λ (y : ℕ). 0 < y → 0 < begins views' y) (sym (is-it w near))
+            (λ some-here. omega (arith, begun some-here, g.starts u)) some-window;
       }
 
   -- where draws have come to those carried to a window, the next one of these is within the terms of the one before
-  given-next : (x : Words) (views : List View) (id : ℕ) (v : View) (u : ℕ) → IsOrderly k x views → get_elem? views id ≡ some v → x.carries ≡ true
-      → first_of (u + 1) - x.drawn < 2147483648 → x.drawn < first_of (u + 1) → IsGiven k x.carries (x.drawn + 1) (set views id (with_ticket v x.drawn)) × (0 < u → 0 < begins views u)
+  given-next : (x : Words) (views : List View) (id : ℕ) (v : View) (u : ℕ) → IsOrderly k x views
+      → get_elem? views id ≡ some v → x.carries ≡ true
+      → first_of (u + 1) - x.drawn < 2147483648 → x.drawn < first_of (u + 1)
+      → IsGiven k x.carries (x.drawn + 1) (set views id (with_ticket v x.drawn)) × (0 < u → 0 < begins views u)
   given-next x views id v u o at carries near low =
       let own : own_numbers x.carries ≡ 2147483648 = ap own_numbers carries in
       let late : AreLate x.carries x.drawn u = (omega (arith, own, near), omega (arith, low)) in (
-        given-late x views id v x.drawn u o at carries (omega arith) (omega (arith, near)) low (λ m. o.given.windows_yet u m late) (λ m. o.given.shares_yet u m late) (o.given.begun u late),
+        given-late x views id v x.drawn u o at carries (omega arith) (omega (arith, near)) low
+            (λ m. o.given.windows_yet u m late) (λ m. o.given.shares_yet u m late) (o.given.begun u late),
         o.given.begun u late,
       )
 
   -- where they have not, the first one is
-  given-first : (x : Words) (views : List View) (id : ℕ) (v : View) (u m : ℕ) → IsOrderly k x views → get_elem? views id ≡ some v → 0 < v.weight → x.carries ≡ true
-      → 2147483648 ≤ first_of (u + 1) - x.drawn → 0 < m → m ≡ left_of (terms_of k v.current) (back_in v.past (u + 1)) (x.drawn - first_of u)
-      → IsGiven k x.carries (first_of (u + 1) - m + 1) (set views id (with_ticket v (first_of (u + 1) - m))) × (0 < u → 0 < begins views u)
+  given-first : (x : Words) (views : List View) (id : ℕ) (v : View) (u m : ℕ) → IsOrderly k x views
+      → get_elem? views id ≡ some v → 0 < v.weight → x.carries ≡ true
+      → 2147483648 ≤ first_of (u + 1) - x.drawn → 0 < m
+      → m ≡ left_of (terms_of k v.current) (back_in v.past (u + 1)) (x.drawn - first_of u)
+      → IsGiven k x.carries (first_of (u + 1) - m + 1) (set views id (with_ticket v (first_of (u + 1) - m)))
+      × (0 < u → 0 < begins views u)
   given-first x views id v u m o at live carries far some-left is =
       let c : Bool = x.carries in
       let own : own_numbers c ≡ 2147483648 = ap own_numbers carries in
@@ -607,18 +898,26 @@ module _ (k : Terms) where
       let j : Terms = terms_of k v.current in
       let f = o.each id v at in
       let before-it : u + 1 - 1 ≡ u = omega arith in
-      let noted : q ≤ R = omega (arith, back_in-le v.past (u + 1) (λ w. requests_in views (w - 1)) f.past.counted, ap (requests_in views) before-it) in
+      let noted : q ≤ R = omega (
+        arith,
+        back_in-le v.past (u + 1) (λ w. requests_in views (w - 1)) f.past.counted,
+        ap (requests_in views) before-it,
+      ) in
       let begun : 0 < u → 0 < begins views u = λ some-window. dite (ℕ_discrete (window_of v.past) (u + 1))
-      (λ same. subst (λ (y : ℕ). 0 < begins views y) (omega (arith, same)) (f.past.begun (omega (arith, same, some-window))))
+      (λ same. subst (λ (y : ℕ). 0 < begins views y) (omega (arith, same))
+      (f.past.begun (omega (arith, same, some-window))))
       (λ other.
       let none : q ≡ 0 = ap (λ b. cond b (v.past % 4294967296) 0) (ne_eqb (window_of v.past) (u + 1) other) in
       absurd (omega (arith, is, some-left, ap (λ (y : ℕ). (s * y) / 1000) none))) in
       let h : ℕ → ℕ = within (first_of u) 4294967296 in
       let l : ℕ → ℕ = within (first_of u + own_numbers c) (late_numbers c) in
-      let dealt : dealt_in views u ≤ x.drawn - first_of u = omega (arith, all-dealt views u, o.dealt.once h, below-within (first_of u) 4294967296 x.drawn) in
-      let none-late : late_in c views u ≡ 0 = omega (arith, o.dealt.once l, below-within (first_of u + own_numbers c) (late_numbers c) x.drawn, own, far) in
+      let dealt : dealt_in views u ≤ x.drawn - first_of u =
+      omega (arith, all-dealt views u, o.dealt.once h, below-within (first_of u) 4294967296 x.drawn) in
+      let none-late : late_in c views u ≡ 0 = omega
+      (arith, o.dealt.once l, below-within (first_of u + own_numbers c) (late_numbers c) x.drawn, own, far) in
       let force = f.force live in (
-        given-late x views id v (a - m) u o at carries (omega (arith, is, far)) (omega (arith, is)) (omega (arith, some-left))
+        given-late x views id v (a - m) u o at carries (omega (arith, is, far)) (omega (arith, is))
+            (omega (arith, some-left))
             (λ n most. omega (arith, dealt, is, some-left, allowed-mono j q R noted, most v.current force))
             (λ n most. omega (arith, none-late, is, share-mono s q R noted, most v.current force)) begun,
         begun,
@@ -626,8 +925,10 @@ module _ (k : Terms) where
 
   -- the next ticket is of the latest window, or is carried to it
   wins-to : (x : Words) (views : List View) (id : ℕ) (v : View)
-      → IsOrderly k x views → get_elem? views id ≡ some v → 0 < v.weight → x.drawn ≡ v.found → next_ticket v < floor_of v.carries (terms_of k v.current) v.seen v.back
-      → IsOrderly k (record x { drawn = next_ticket v + 1; window = window_of v.seen }) (set views id (with_ticket v (next_ticket v)))
+      → IsOrderly k x views → get_elem? views id ≡ some v → 0 < v.weight → x.drawn ≡ v.found
+      → next_ticket v < floor_of v.carries (terms_of k v.current) v.seen v.back
+      → IsOrderly k (record x { drawn = next_ticket v + 1; window = window_of v.seen })
+      (set views id (with_ticket v (next_ticket v)))
   wins-to x views id v o at live here room =
       let t : ℕ = next_ticket v in
       let n : ℕ = window_of v.seen in
@@ -636,14 +937,18 @@ module _ (k : Terms) where
       let f = o.each id v at in
       let kind : v.carries ≡ x.carries = f.kind live in
       let m : ℕ = carried_by v in
-      let few : m ≤ late_numbers x.carries = omega (arith, few-carried v.carries (terms_of v.terms v.current) v.seen v.past v.found, ap late_numbers kind) in
+      let few : m ≤ late_numbers x.carries = omega
+      (arith, few-carried v.carries (terms_of v.terms v.current) v.seen v.past v.found, ap late_numbers kind) in
       let is-next : t ≡ max d (a - m) = omega (arith, here) in
-      let same-room : floor_of v.carries (terms_of k v.current) v.seen v.back ≡ floor_of x.carries (terms_of k v.current) v.seen v.back = ap (λ (z : Bool). floor_of z (terms_of k v.current) v.seen v.back) kind in
+      let same-room : floor_of v.carries (terms_of k v.current) v.seen v.back
+      ≡ floor_of x.carries (terms_of k v.current) v.seen v.back =
+      ap (λ (z : Bool). floor_of z (terms_of k v.current) v.seen v.back) kind in
       let low-room : t < floor_of x.carries (terms_of k v.current) v.seen v.back = omega (arith, room, same-room) in
       dite (dec_le a t)
       (λ own. deals-to x views id v t m o at live (sym here) is-next (omega (arith, own)) (omega (arith, low-room))
       (given-own x views id v t o at live (omega (arith, is-next)) own low-room)
-      (λ some-window. subst (λ (y : ℕ). 0 < begins views y) (omega (arith, own, low-room, both-numbers x.carries)) (f.begun (omega (arith, own, low-room, both-numbers x.carries, some-window)))))
+      (λ some-window. subst (λ (y : ℕ). 0 < begins views y) (omega (arith, own, low-room, both-numbers x.carries))
+      (f.begun (omega (arith, own, low-room, both-numbers x.carries, some-window)))))
       (λ not.
       let less : t < a = lt_of_not-le not in
       let carries : x.carries ≡ true = late-carries x.carries (omega (arith, few, is-next, less)) in
@@ -654,62 +959,94 @@ module _ (k : Terms) where
       ap (λ (z : Bool). carried_to z (terms_of v.terms v.current) v.seen v.past v.found) (kind ∙ carries)
       ∙ ap (λ (z : Terms). carried_to true (terms_of z v.current) v.seen v.past v.found) (f.live live)
       ∙ ap (carried_to true (terms_of k v.current) v.seen v.past) (sym here) in
-      let given : IsGiven k x.carries (t + 1) (set views id (with_ticket v t)) × (0 < u → 0 < begins views u) = dite (dec_le 2147483648 (a - d))
+      let given : IsGiven k x.carries (t + 1) (set views id (with_ticket v t)) × (0 < u → 0 < begins views u) =
+      dite (dec_le 2147483648 (a - d))
       (λ far.
-      let is : m ≡ left_of (terms_of k v.current) (back_in v.past n) (d - first_of u) = by ∙ carried-first (terms_of k v.current) v.seen v.past d far in
+      let is : m ≡ left_of (terms_of k v.current) (back_in v.past n) (d - first_of u) =
+      by ∙ carried-first (terms_of k v.current) v.seen v.past d far in
       let first : t ≡ first_of (u + 1) - m = omega (arith, is-next, is, far, top) in
-      subst (λ (y : ℕ). IsGiven k x.carries (y + 1) (set views id (with_ticket v y)) × (0 < u → 0 < begins views u)) (sym first)
-      (given-first x views id v u m o at live carries (omega (arith, far, top)) (omega (arith, is-next, less)) (is ∙ ap (λ (y : ℕ). left_of (terms_of k v.current) (back_in v.past y) (d - first_of u)) up)))
+      subst (λ (y : ℕ). IsGiven k x.carries (y + 1) (set views id (with_ticket v y)) × (0 < u → 0 < begins views u))
+      (sym first)
+      (given-first x views id v u m o at live carries (omega (arith, far, top)) (omega (arith, is-next, less))
+      (is ∙ ap (λ (y : ℕ). left_of (terms_of k v.current) (back_in v.past y) (d - first_of u)) up)))
       (λ close.
       let near : a - d < 2147483648 = lt_of_not-le close in
       let is : m ≡ a - d = by ∙ carried-late (terms_of k v.current) v.seen v.past d near in
       let next : t ≡ d = omega (arith, is-next, is, less) in
-      subst (λ (y : ℕ). IsGiven k x.carries (y + 1) (set views id (with_ticket v y)) × (0 < u → 0 < begins views u)) (sym next)
+      subst (λ (y : ℕ). IsGiven k x.carries (y + 1) (set views id (with_ticket v y)) × (0 < u → 0 < begins views u))
+      (sym next)
       (given-next x views id v u o at carries (omega (arith, near, top)) (omega (arith, next, less, top)))) in
       let late : late_numbers x.carries ≡ 2147483648 = ap late_numbers carries in
       let of-it : window_of t ≡ u = omega (arith, is-next, few, late, less, up) in
-      deals-to x views id v t m o at live (sym here) is-next (omega (arith, is-next, few)) (omega (arith, less, both-numbers x.carries)) given.0
+      deals-to x views id v t m o at live (sym here) is-next (omega (arith, is-next, few))
+      (omega (arith, less, both-numbers x.carries)) given.0
       (λ some-window. subst (λ (y : ℕ). 0 < begins views y) (sym of-it) (given.1 (omega (arith, of-it, some-window)))))
 
-  pub wins_ok : (n id : ℕ) (m : Sat) (st : Step ℕ) → 0 < m.0.weight → (st.first ≤ 17496587910722355200 → st.first ≡ m.0.found) → st.second ≡ next_ticket m.0 + 1 → next_ticket m.0 < floor_of m.0.carries (terms_of k m.0.current) m.0.seen m.0.back
+  pub wins_ok : (n id : ℕ) (m : Sat) (st : Step ℕ) → 0 < m.0.weight
+      → (st.first ≤ 17496587910722355200 → st.first ≡ m.0.found) → st.second ≡ next_ticket m.0 + 1
+      → next_ticket m.0 < floor_of m.0.carries (terms_of k m.0.current) m.0.seen m.0.back
       → Allows (IsKept k) n id m 8 (λ x. either (x == st.first) st.second x) (wins st m)
-  wins_ok n id m st live first second room = allows n id m 8 (λ x. either (x == st.first) st.second x) (wins st m) (λ window latest kind ws views long o at.
+  wins_ok n id m st live first second room =
+      allows n id m 8 (λ x. either (x == st.first) st.second x) (wins st m) (λ window latest kind ws views long o at.
       let v : View = m.0 in
       let t : ℕ = next_ticket v in
       let d : ℕ = slice_index ws 8 in
-      let x : Words = words_at d window (slice_index ws 24) latest (slice_index ws 25) (slice_index ws 9) (slice_index ws 26) kind in
+      let x : Words = words_at d window (slice_index ws 24) latest (slice_index ws 25) (slice_index ws 9)
+      (slice_index ws 26) kind in
       let f = o.each id v at in
-      let F : ℕ → Type 0 = λ y. (w : View) × ((homes : List (Option ℕ)) → IsKept k (record { words = set ws 8 y; homes = homes; views = set views id w })) × wins st m d (w, m.1) in
+      let F : ℕ → Type 0 = λ y. (w : View)
+      × ((homes : List (Option ℕ)) → IsKept k (record { words = set ws 8 y; homes = homes; views = set views id w }))
+      × wins st m d (w, m.1) in
       exchanged d st.first st.second F
       (λ hit. (
         with_ticket v t,
-        (λ homes. subst (λ (y : ℕ). IsKept k (record { words = set ws 8 y; homes = homes; views = set views id (with_ticket v t) })) (sym second)
-            (kept-draws ws (set views id (with_ticket v t)) homes (window_of v.seen) latest kind long (t + 1) (wins-to x views id v o at live (hit ∙ first (omega (arith, hit, drawn_le k x views o))) room))),
-        ((λ _. (is_later kind d window views o.dealt id v t at (omega (arith, hit ∙ first (omega (arith, hit, drawn_le k x views o)))) (omega (arith, asked_le k x views o, f.seen, both-numbers v.carries)), refl)), λ miss. absurd (miss hit)),
+        (λ homes.
+            subst (λ (y : ℕ).
+            IsKept k (record { words = set ws 8 y; homes = homes; views = set views id (with_ticket v t) }))
+            (sym second)
+            (kept-draws ws (set views id (with_ticket v t)) homes (window_of v.seen) latest kind long (t + 1)
+            (wins-to x views id v o at live (hit ∙ first (omega (arith, hit, drawn_le k x views o))) room))),
+        (
+          (λ _. (
+            is_later kind d window views o.dealt id v t at
+                (omega (arith, hit ∙ first (omega (arith, hit, drawn_le k x views o))))
+                (omega (arith, asked_le k x views o, f.seen, both-numbers v.carries)),
+            refl,
+          )),
+          λ miss. absurd (miss hit),
+        ),
       ))
       (λ miss. dite (dec_le d v.found)
       (λ known. (
         v,
         (λ homes. kept-draws ws (set views id v) homes window latest kind long d
-            (told x views id v v.current v.seen v.found v.back v.past v.readings v.glances v.recalls v.reviews v.looks v.losses o at f.force f.seen f.counted f.begun f.found f.given f.back f.came_back f.past)),
+            (told x views id v v.current v.seen v.found v.back v.past v.readings v.glances v.recalls v.reviews v.looks
+            v.losses o at f.force f.seen f.counted f.begun f.found f.given f.back f.came_back f.past)),
         ((λ hit. absurd (miss hit)), λ _. (f.found, (λ past. absurd (omega (arith, past, known))), λ _. refl)),
       ))
       (λ not. (
         with_loss v d,
         (λ homes. kept-draws ws (set views id (with_loss v d)) homes window latest kind long d
-            (told x views id v v.current v.seen d v.back v.past v.readings v.glances v.recalls v.reviews v.looks (v.losses + 1) o at f.force f.seen f.counted f.begun (omega arith) (found_now k x views o id v at live) f.back f.came_back f.past)),
-        ((λ hit. absurd (miss hit)), λ _. (f.found, (λ _. refl), λ same. absurd (omega (arith, same, lt_of_not-le not)))),
+            (told x views id v v.current v.seen d v.back v.past v.readings v.glances v.recalls v.reviews v.looks
+            (v.losses + 1) o at f.force f.seen f.counted f.begun (omega arith)
+            (found_now k x views o id v at live) f.back f.came_back f.past)),
+        (
+          (λ hit. absurd (miss hit)),
+          λ _. (f.found, (λ _. refl), λ same. absurd (omega (arith, same, lt_of_not-le not))),
+        ),
       ))))
 
   pub recalls_ok : (n id : ℕ) (m : Sat) (st : Step ℕ) → Allows (IsKept k) n id m 9 (λ x. x) (recalls st m)
   recalls_ok n id m st = allows n id m 9 (λ x. x) (recalls st m) (λ window latest kind ws views long o at.
       let v : View = m.0 in
       let r : ℕ = slice_index ws 9 in
-      let x : Words = words_at (slice_index ws 8) window (slice_index ws 24) latest (slice_index ws 25) r (slice_index ws 26) kind in
+      let x : Words = words_at (slice_index ws 8) window (slice_index ws 24) latest (slice_index ws 25) r
+      (slice_index ws 26) kind in
       let f = o.each id v at in (
         with_recall v r,
         (λ homes. kept-back ws (set views id (with_recall v r)) homes window latest kind long r
-            (told x views id v v.current v.seen v.found r v.past v.readings v.glances (v.recalls + 1) v.reviews v.looks v.losses o at f.force f.seen f.counted f.begun f.found f.given (omega arith) o.came_back f.past)),
+            (told x views id v v.current v.seen v.found r v.past v.readings v.glances (v.recalls + 1) v.reviews v.looks
+            v.losses o at f.force f.seen f.counted f.begun f.found f.given (omega arith) o.came_back f.past)),
         (f.back, refl),
       ))
 
@@ -717,26 +1054,32 @@ module _ (k : Terms) where
   reviews_ok n id m st = allows n id m 26 (λ x. x) (reviews st m) (λ window latest kind ws views long o at.
       let v : View = m.0 in
       let p : ℕ = slice_index ws 26 in
-      let x : Words = words_at (slice_index ws 8) window (slice_index ws 24) latest (slice_index ws 25) (slice_index ws 9) p kind in
+      let x : Words = words_at (slice_index ws 8) window (slice_index ws 24) latest (slice_index ws 25)
+      (slice_index ws 9) p kind in
       let f = o.each id v at in (
         with_review v p,
         (λ homes. kept-past ws (set views id (with_review v p)) homes window latest kind long p
-            (told x views id v v.current v.seen v.found v.back p v.readings v.glances v.recalls (v.reviews + 1) v.looks v.losses o at f.force f.seen f.counted f.begun f.found f.given f.back f.came_back o.noted)),
+            (told x views id v v.current v.seen v.found v.back p v.readings v.glances v.recalls (v.reviews + 1) v.looks
+            v.losses o at f.force f.seen f.counted f.begun f.found f.given f.back f.came_back o.noted)),
         (f.noted, refl),
       ))
 
   -- the requests that a pass has seen are noted for the window after theirs
-  pub notes_ok : (n id : ℕ) (m : Sat) (st : Step ℕ) (w : ℕ) → window_of m.0.seen + 1 ≡ w → st.first ≡ first_of w + m.0.seen % 4294967296
+  pub notes_ok : (n id : ℕ) (m : Sat) (st : Step ℕ) (w : ℕ) → window_of m.0.seen + 1 ≡ w
+      → st.first ≡ first_of w + m.0.seen % 4294967296
       → Allows (IsKept k) n id m 26 (λ x. max x st.first) (notes st m)
-  notes_ok n id m st w next noted = allows n id m 26 (λ x. max x st.first) (notes st m) (λ window latest kind ws views long o at.
+  notes_ok n id m st w next noted =
+      allows n id m 26 (λ x. max x st.first) (notes st m) (λ window latest kind ws views long o at.
       let v : View = m.0 in
       let p : ℕ = slice_index ws 26 in
       let p' : ℕ = max p st.first in
-      let x : Words = words_at (slice_index ws 8) window (slice_index ws 24) latest (slice_index ws 25) (slice_index ws 9) p kind in
+      let x : Words = words_at (slice_index ws 8) window (slice_index ws 24) latest (slice_index ws 25)
+      (slice_index ws 9) p kind in
       let x' : Words = record x { past = p' } in
       let u : View = with_note v st.first in
       let f = o.each id v at in
-      let g = grows views id v u at (λ n. omega arith) (λ n. omega arith) (λ n. omega arith) (λ n. omega arith) (λ n. omega arith) in
+      let g = grows views id v u at (λ n. omega arith) (λ n. omega arith) (λ n. omega arith) (λ n. omega arith)
+      (λ n. omega arith) in
       let here : window_of st.first ≡ w = omega (arith, noted) in
       let of-it : window_of st.first - 1 ≡ window_of v.seen = omega (arith, here, next) in
       let is-noted : IsNoted views st.first = record {
@@ -749,8 +1092,13 @@ module _ (k : Terms) where
         u,
         (λ homes. kept-past ws (set views id u) homes window latest kind long p'
             (moved x x' views id v u o at refl refl
-            (dealt-same kind x.drawn window views id v u at (λ h. refl) o.dealt) (given-same kind x.drawn views id v u at (λ h. refl) g o.given) (omega arith) (noted-on views (set views id u) p' g still) (counted-same x.asked latest views id v u at refl refl refl o.counted)
-            (omega arith) (omega arith) o.behind (omega arith) g (omega (arith, o.force, g.force x.current)) (omega (arith, o.came_back, g.returned (window_of x.back))) o.few_back (entered-same x views id v u o at refl g)
+            (dealt-same kind x.drawn window views id v u at (λ h. refl) o.dealt)
+            (given-same kind x.drawn views id v u at (λ h. refl) g o.given) (omega arith)
+            (noted-on views (set views id u) p' g still)
+            (counted-same x.asked latest views id v u at refl refl refl o.counted)
+            (omega arith) (omega arith) o.behind (omega arith) g (omega (arith, o.force, g.force x.current))
+            (omega (arith, o.came_back, g.returned (window_of x.back))) o.few_back
+            (entered-same x views id v u o at refl g)
             (λ f. record {
               seen = f.seen;
               counted = f.counted;
@@ -773,10 +1121,12 @@ module _ (k : Terms) where
   asks_ok n id m st = allows n id m 9 (λ x. x) (asks st m) (λ window latest kind ws views long o at.
       let v : View = m.0 in
       let r : ℕ = slice_index ws 9 in
-      let x : Words = words_at (slice_index ws 8) window (slice_index ws 24) latest (slice_index ws 25) r (slice_index ws 26) kind in
+      let x : Words = words_at (slice_index ws 8) window (slice_index ws 24) latest (slice_index ws 25) r
+      (slice_index ws 26) kind in
       let f = o.each id v at in (
         with_asking v r,
         (λ homes. kept-back ws (set views id (with_asking v r)) homes window latest kind long r
-            (told x views id v v.current v.seen v.found r v.past v.readings v.glances (v.recalls + 1) v.reviews v.looks 0 o at f.force f.seen f.counted f.begun f.found f.given (omega arith) o.came_back f.past)),
+            (told x views id v v.current v.seen v.found r v.past v.readings v.glances (v.recalls + 1) v.reviews v.looks
+            0 o at f.force f.seen f.counted f.begun f.found f.given (omega arith) o.came_back f.past)),
         (f.back, refl),
       ))

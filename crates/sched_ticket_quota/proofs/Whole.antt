@@ -29,15 +29,28 @@ module _ (k : Terms) (x : Words) (views : List View) (o : IsOrderly k x views) w
     whole_windows : (w n : ℕ) → AllowNoMore k (had_force k v) (count_in w v.requests) n → count_in w v.tickets ≤ n
     whole_windows w n most =
         let here : weights views ≡ v.weight = o.parts ∙ sym all in
-        let tickets : tickets_in views w ≡ count_in w v.tickets = alone (λ (u : View). count_in w u.tickets) (λ (u : View). u.weight) views id v (λ i u there e. ap (count_in w) ((o.each i u there).spent e).0) at here in
-        let requests : requests_in views w ≡ count_in w v.requests = alone (λ (u : View). count_in w u.requests) (λ (u : View). u.weight) views id v (λ i u there e. ap (count_in w) ((o.each i u there).spent e).1) at here in
-        let force : (n : ℕ) → total (λ (u : View). times n u.changes) views ≡ times n v.changes = λ n. alone (λ (u : View). times n u.changes) (λ (u : View). u.weight) views id v (λ i u there e. ap (times n) ((o.each i u there).spent e).3) at here in
-        omega (arith, tickets, windows_kept w n (λ y some-force. omega (arith, most y (omega (arith, some-force, force y)), ap (allowed (terms_of k y)) requests)))
+        let tickets : tickets_in views w ≡ count_in w v.tickets =
+        alone (λ (u : View). count_in w u.tickets) (λ (u : View). u.weight) views id v
+        (λ i u there e. ap (count_in w) ((o.each i u there).spent e).0) at here in
+        let requests : requests_in views w ≡ count_in w v.requests =
+        alone (λ (u : View). count_in w u.requests) (λ (u : View). u.weight) views id v
+        (λ i u there e. ap (count_in w) ((o.each i u there).spent e).1) at here in
+        let force : (n : ℕ) → total (λ (u : View). times n u.changes) views ≡ times n v.changes = λ n.
+        alone (λ (u : View). times n u.changes) (λ (u : View). u.weight) views id v
+        (λ i u there e. ap (times n) ((o.each i u there).spent e).3) at here in
+        omega (
+          arith,
+          tickets,
+          windows_kept w n
+              (λ y some-force.
+              omega (arith, most y (omega (arith, some-force, force y)), ap (allowed (terms_of k y)) requests)),
+        )
 
     pub is_whole : IsWhole k v
     is_whole = record {
       all = all;
       windows = whole_windows;
       unchanged = λ none w. whole_windows w (allowed k (count_in w v.requests))
-          (λ y some-force. omega (arith, only-word k y (count_in w v.requests) o.known (omega (arith, some-force, ap (times y) none))));
+          (λ y some-force. omega
+          (arith, only-word k y (count_in w v.requests) o.known (omega (arith, some-force, ap (times y) none))));
     }

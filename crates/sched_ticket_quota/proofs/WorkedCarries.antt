@@ -1,5 +1,7 @@
--- A worked example, computed with the definitions alone: what a window carries to the next, of a quota whose reserve is two
--- tickets and whose requests add half a ticket each. Window 0 had ten requests: it may give seven tickets, five of them of its
+-- A worked example, computed with the definitions alone: what a window carries to the next, of a quota whose reserve is
+-- two
+-- tickets and whose requests add half a ticket each. Window 0 had ten requests: it may give seven tickets, five of them
+-- of its
 -- share.
 use Rattle.std.proofs.Common.{◌≡◌, ℕ, true, false, refl}
 use Rattle.sched_ticket_quota.specs.Windows.{first_of, carried_to, drawn_at}

@@ -5,7 +5,8 @@ use lib.ListN.{get_elem?}
 use Rattle.atomic_table.specs.Table.{State}
 use Rattle.sched_ticket.specs.Lists.{total, times}
 use Rattle.sched_ticket_quota.specs.Windows.{window_of, first_of, terms_of, room_of, back_in}
-use Rattle.sched_ticket_quota.specs.Rule.{tickets_in, returned_in, requests_in, weights, openings, WereInForce, drawn_of, asked_of, current_of, back_of, past_of, IsKept}
+use Rattle.sched_ticket_quota.specs.Rule.{tickets_in, returned_in, requests_in, weights, openings, WereInForce}
+use Rattle.sched_ticket_quota.specs.Rule.{drawn_of, asked_of, current_of, back_of, past_of, IsKept}
 use Rattle.sched_ticket_quota.specs.Calls.{HasNoRoom}
 use Rattle.sched_ticket_quota.specs.declared.view.Terms.{Terms}
 use Rattle.sched_ticket_quota.specs.declared.view.View.{View}
@@ -27,7 +28,8 @@ TicketsStandOnce = Always (λ k s kept. (x : ℕ) →
 abbrev pub RequestsStandOnce : Type 0
 RequestsStandOnce = Always (λ k s kept. (x : ℕ) → total (λ (v : View). times x v.requests) s.views ≤ 1)
 
--- in each window the tickets that are out, given and not handed back, never pass the reserve and the share of the requests
+-- in each window the tickets that are out, given and not handed back, never pass the reserve and the share of the
+-- requests
 -- counted in it so far, by the most generous terms that were in force
 abbrev pub WindowsAreKept : Type 0
 WindowsAreKept = Always (λ k s kept. (w n : ℕ) →
@@ -54,14 +56,16 @@ WindowsAreSmall = Always (λ k s kept. (w : ℕ) → tickets_in s.views w ≤ 42
 abbrev pub LatestIsCounted : Type 0
 LatestIsCounted = Always (λ k s kept. asked_of s % 4294967296 ≤ requests_in s.views (window_of (asked_of s)))
 
--- where a pass has found no room, so many tickets were given in that window, or handed back since, as the terms allow for
+-- where a pass has found no room, so many tickets were given in that window, or handed back since, as the terms allow
+-- for
 -- the requests and for those handed back, as it read all three
 abbrev pub RefusalsAreJust : Type 0
 RefusalsAreJust = OfEachPass (λ k s by v. HasNoRoom k v →
     room_of v.carries (terms_of k v.current) v.seen v.back
     ≤ tickets_in s.views (window_of v.seen) + returned_in s.views (window_of v.seen))
 
--- what a pass has seen and found was there, and what it has noted still is: no request and no ticket that was counted is lost
+-- what a pass has seen and found was there, and what it has noted still is: no request and no ticket that was counted
+-- is lost
 abbrev pub SightIsTrue : Type 0
 SightIsTrue = OfEachPass (λ k s by v. (v.seen ≤ asked_of s) × (v.found ≤ drawn_of s)
     × (v.seen % 4294967296 ≤ requests_in s.views (window_of v.seen))

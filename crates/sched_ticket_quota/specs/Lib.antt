@@ -1,3 +1,4 @@
+-- The definitions that the contracts of `sched_ticket_quota` cite: a quota's rule, its steps and its laws.
 pub mod Windows
 pub mod View
 pub mod Rule

@@ -1,10 +1,12 @@
 -- What holds of a quota between any two atomic steps, of its words and of the views of all its passes.
-use Rattle.std.specs.Prelude.{◌≡◌, ℕ, Bool, ◌+◌, ◌-◌, ◌/◌, ◌<◌, ◌≤◌, List, [], length, slice_index, if◌then◌else◌, nat_lt}
+use Rattle.std.specs.Prelude.{◌≡◌, ℕ, Bool, ◌+◌, ◌-◌, ◌/◌, ◌<◌, ◌≤◌, List, [], length, slice_index, if◌then◌else◌}
+use Rattle.std.specs.Prelude.{nat_lt}
 use mathlib.Core.Option.{some}
 use lib.ListN.{get_elem?}
 use Rattle.atomic_table.specs.Table.{State}
 use Rattle.sched_ticket.specs.Lists.{total, below, times, is}
-use Rattle.sched_ticket_quota.specs.Windows.{window_of, first_of, word_of, terms_of, AllowNoMore, ShareNoMore, own_numbers, late_numbers, within, count_in}
+use Rattle.sched_ticket_quota.specs.Windows.{window_of, first_of, word_of, terms_of, AllowNoMore, ShareNoMore}
+use Rattle.sched_ticket_quota.specs.Windows.{own_numbers, late_numbers, within, count_in}
 use Rattle.sched_ticket_quota.specs.declared.view.Terms.{Terms}
 use Rattle.sched_ticket_quota.specs.declared.view.View.{View}
 
@@ -56,7 +58,8 @@ WereInForce k views j = (x : ℕ) × (0 < in_force k views x) × (j ≡ terms_of
 abbrev pub begins : List View → ℕ → ℕ
 begins views w = openings views (first_of w) + requests_in views (w - 1) / 4294967296
 
--- The tickets are numbers below `drawn`, each once, and all numbers from the latest window on. Before its first number there
+-- The tickets are numbers below `drawn`, each once, and all numbers from the latest window on. Before its first number
+-- there
 -- may be those of tickets carried to it.
 pub record IsDealt (c : Bool) (drawn window : ℕ) (views : List View) : Type 0 where
   pub once : (h : ℕ → ℕ) → total (ticket_weight h) views ≤ below h drawn
@@ -155,7 +158,8 @@ pub record IsOrderly (k : Terms) (x : Words) (views : List View) : Type 0 where
   pub parts : weights views ≡ 4611686018427387904
   pub each : (by : ℕ) (v : View) → get_elem? views by ≡ some v → Fits k x views v
 
--- the words of a quota's table: the draws lie 16 before the requests, those that came back beside the draws, and beside the
+-- the words of a quota's table: the draws lie 16 before the requests, those that came back beside the draws, and beside
+-- the
 -- requests the terms and the requests of the window before
 abbrev pub drawn_of : State ℕ View → ℕ
 drawn_of s = slice_index s.words 8

@@ -5,7 +5,8 @@ use Rattle.sched_ticket.specs.Lists.{Each, times}
 use Rattle.sched_ticket.specs.Parts.{all_parts}
 use Rattle.sched_ticket_quota.specs.Windows.{window_of, first_of, own_numbers}
 use Rattle.sched_ticket_quota.specs.Whole.{IsWhole}
-use Rattle.sched_ticket_quota.specs.View.{with_reading, with_glance, with_change, with_opening, with_requests, with_found, with_ticket, with_loss, next_ticket}
+use Rattle.sched_ticket_quota.specs.View.{with_reading, with_glance, with_change, with_opening, with_requests}
+use Rattle.sched_ticket_quota.specs.View.{with_found, with_ticket, with_loss, next_ticket}
 use Rattle.sched_ticket_quota.specs.View.{with_recall, with_review, with_note, with_asking, with_setback, with_return}
 use Rattle.sched_ticket_quota.specs.declared.view.View.{View}
 
@@ -54,7 +55,8 @@ finds s m d n = (m.0.found ≤ d) × Sees m n (with_found m.0 d)
 abbrev pub IsLater : View → ℕ → Type 0
 IsLater v t = Each (λ x. x < t) v.tickets × (length v.tickets ≤ t) × (t < 17496587910722355200)
 
--- A race is lost where another draw came since the pass looked: where the word is past the one that it found. A try that
+-- A race is lost where another draw came since the pass looked: where the word is past the one that it found. A try
+-- that
 -- finds the word as the pass knew it, and does not meet what it expects, is none.
 abbrev pub wins : Then
 wins s m d n =

@@ -1,5 +1,6 @@
 -- Views of a quota, and how one step changes a view.
-use Rattle.std.specs.Prelude.{ℕ, Bool, zero, suc, false, ◌+◌, ◌-◌, ◌%◌, List, [], ◌∷◌, ◌++◌, max, if◌then◌else◌, ◌&&◌, ◌==◌}
+use Rattle.std.specs.Prelude.{ℕ, Bool, zero, suc, false, ◌+◌, ◌-◌, ◌%◌, List, [], ◌∷◌, ◌++◌, max, if◌then◌else◌, ◌&&◌}
+use Rattle.std.specs.Prelude.{◌==◌}
 use Rattle.sched_ticket.specs.Parts.{all_parts, part}
 use Rattle.sched_ticket_quota.specs.Windows.{word_of, terms_of, first_of, window_of, carried_to}
 use Rattle.sched_ticket_quota.specs.declared.view.Terms.{Terms}
@@ -55,7 +56,8 @@ with_glance v x = record v { current = x; glances = v.glances + 1 }
 abbrev pub with_change : View → ℕ → View
 with_change v x = record v { changes = x ∷ v.changes; current = x }
 
--- what a pass notes before it opens this window: of a quota that carries, where it has seen the requests of the one before, how
+-- what a pass notes before it opens this window: of a quota that carries, where it has seen the requests of the one
+-- before, how
 -- many they are
 abbrev pub note_for : ℕ → View → ℕ
 note_for at v =

@@ -10,7 +10,8 @@ use Rattle.sched_ticket_quota.specs.declared.view.View.{View}
 abbrev pub had_force : Terms → View → ℕ → ℕ
 had_force k v x = is x (word_of k.reserve k.share) + times x v.changes
 
--- the pass has all parts: in each window it has no more tickets than the most generous terms in force so far allow for its
+-- the pass has all parts: in each window it has no more tickets than the most generous terms in force so far allow for
+-- its
 -- requests
 pub record IsWhole (k : Terms) (v : View) : Type 0 where
   pub all : v.weight ≡ all_parts

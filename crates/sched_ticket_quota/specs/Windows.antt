@@ -1,5 +1,6 @@
 -- Windows of time, and how many tickets one may give.
-use Rattle.std.specs.Prelude.{ℕ, zero, suc, Bool, true, false, ◌+◌, ◌-◌, ◌*◌, ◌/◌, ◌%◌, ◌<◌, ◌≤◌, min, List, if◌then◌else◌, ◌==◌, nat_lt}
+use Rattle.std.specs.Prelude.{ℕ, zero, suc, Bool, true, false, ◌+◌, ◌-◌, ◌*◌, ◌/◌, ◌%◌, ◌<◌, ◌≤◌, min, List}
+use Rattle.std.specs.Prelude.{if◌then◌else◌, ◌==◌, nat_lt}
 use Rattle.sched_ticket.specs.Lists.{total, is, once_below}
 use Rattle.sched_ticket_quota.specs.declared.view.Terms.{Terms}
 
@@ -56,7 +57,8 @@ abbrev pub late_numbers : Bool → ℕ
 late_numbers true = 2147483648
 late_numbers false = 0
 
--- how many numbers of its own the latest window may deal: so many tickets as its requests allow, and one for each that was
+-- how many numbers of its own the latest window may deal: so many tickets as its requests allow, and one for each that
+-- was
 -- handed back
 abbrev pub room_of : Bool → Terms → ℕ → ℕ → ℕ
 room_of c k q r = min (allowed k (q % 4294967296) + back_in r (window_of q)) (own_numbers c)
@@ -65,13 +67,16 @@ room_of c k q r = min (allowed k (q % 4294967296) + back_in r (window_of q)) (ow
 abbrev pub floor_of : Bool → Terms → ℕ → ℕ → ℕ
 floor_of c k q r = first_of (window_of q) + room_of c k q r
 
--- what a window of n requests that has dealt so many tickets leaves of its share: what it might still give, and no more than
+-- what a window of n requests that has dealt so many tickets leaves of its share: what it might still give, and no more
+-- than
 -- the share
 abbrev pub left_of : Terms → ℕ → ℕ → ℕ
 left_of k n dealt = min (min ((k.share * n) / 1000) (allowed k n - dealt)) 2147483648
 
--- How many tickets the latest window may draw of the share of the one before, by the words of the requests q, of those of the
--- window before, and of the draws d. They have the last numbers before the window's first: once it has drawn one, those from
+-- How many tickets the latest window may draw of the share of the one before, by the words of the requests q, of those
+-- of the
+-- window before, and of the draws d. They have the last numbers before the window's first: once it has drawn one, those
+-- from
 -- d on are left, and until then as many as the window before leaves.
 abbrev pub carried_to : Bool → Terms → ℕ → ℕ → ℕ → ℕ
 carried_to false k q past d = 0

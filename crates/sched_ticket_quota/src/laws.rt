@@ -16,8 +16,8 @@ pub fn numbers_stand_once()
 {}
 
 /// In each window the tickets given never pass the reserve and the share of the requests counted in it so far, nor
-/// 4294967296: by the most generous terms that were in force, which are those that the quota was made with as long as no
-/// pass has set any. All requests of the latest window are counted in it.
+/// 4294967296: by the most generous terms that were in force, which are those that the quota was made with as long as
+/// no pass has set any. All requests of the latest window are counted in it.
 pub fn windows_are_kept()
     ensures kept { WindowsAreKept }
     ensures unchanged { UnchangedAreKept }
@@ -39,22 +39,23 @@ pub fn windows_were_opened()
     ensures { WindowsWereOpened }
 {}
 
-/// A call opens no window, or that of its own moment alone, and draws and counts in no earlier one. Of a quota that does not
-/// carry, its ticket is of no earlier one.
+/// A call opens no window, or that of its own moment alone, and draws and counts in no earlier one. Of a quota that
+/// does not carry, its ticket is of no earlier one.
 pub fn calls_go_by_their_moments()
     ensures opens { OpensItsOwn }
     ensures draws { DrawsNoEarlier }
     ensures counts { CountsNoEarlier }
 {}
 
-/// The windows from that of a moment on have at most two reserves, one more for each period until another moment, one for
-/// each call that opened a window past that one's, and the share of the requests counted in them.
+/// The windows from that of a moment on have at most two reserves, one more for each period until another moment, one
+/// for each call that opened a window past that one's, and the share of the requests counted in them.
 pub fn clocks_are_bounded()
     ensures { ClocksAreBounded }
 {}
 
-/// Over any run of windows the tickets drawn there are at most a reserve for each, and the share of the requests of these; of
-/// a quota that carries also of the one before the first, since each window leaves the next no more than its own share.
+/// Over any run of windows the tickets drawn there are at most a reserve for each, and the share of the requests of
+/// these; of a quota that carries also of the one before the first, since each window leaves the next no more than its
+/// own share.
 pub fn runs_are_kept()
     ensures runs { RunsAreKept }
     ensures shares { SharesAreKept }
@@ -67,8 +68,8 @@ pub fn calls_are_bounded()
     ensures { CallsAreBounded }
 {}
 
-/// A moment is in a later window than one that has ended by then, and in no later one than one that has not. The window of
-/// a moment ends within a period, but for the last.
+/// A moment is in a later window than one that has ended by then, and in no later one than one that has not. The window
+/// of a moment ends within a period, but for the last.
 pub fn windows_end()
     ensures end { WindowsEnd }
     ensures soon { EndsWithinAPeriod }

@@ -1,5 +1,6 @@
 //! The pass: the right to count requests and to draw tickets of a quota, and what was drawn with it.
-ghost use Rattle.std.specs.Prelude.{◌≡◌, ℕ, ◌+◌, ◌-◌, ◌*◌, ◌/◌, ◌<◌, ◌≤◌, ◌%◌, ◌⊎◌, List, [], ◌∷◌, length, min, max, true, false};
+ghost use Rattle.std.specs.Prelude.{◌≡◌, ℕ, ◌+◌, ◌-◌, ◌*◌, ◌/◌, ◌<◌, ◌≤◌, ◌%◌, ◌⊎◌, List, [], ◌∷◌, length, min, max};
+ghost use Rattle.std.specs.Prelude.{true, false};
 ghost use Rattle.std.specs.Prelude.{IfOk, IfErr, OnOk, OnErr, None, Some};
 ghost use Rattle.sched_ticket_quota.specs.Windows.{window_of, first_of, window_at, end_of};
 ghost use Rattle.sched_ticket_quota.specs.Windows.{word_of, terms_of, allowed, room_of, back_in, floor_of};
@@ -44,8 +45,8 @@ pub struct Usage {
     pub given: u64,
     /// The tickets that it may yet give for the requests counted.
     pub left: u64,
-    /// When the next window begins. If that is further off than a period, a call whose clock was ahead opened this one, or
-    /// the 4294967296 requests of the window before were all counted, and those past them did.
+    /// When the next window begins. If that is further off than a period, a call whose clock was ahead opened this one,
+    /// or the 4294967296 requests of the window before were all counted, and those past them did.
     pub next: Moment,
 }
 
@@ -161,10 +162,10 @@ impl Pass {
         }
     }
 
-    /// A ticket of the window of `now`, or of the latest one where that is later; of a quota that carries first one that the
-    /// window before left of its share. `WindowOut` where none is left of those and so many were given of the window's own as
-    /// the terms in force allow for its requests, with the moment at which the next window begins, and `RacesLost` where
-    /// other draws came first 64 times in this call. A pass that was refused may draw again.
+    /// A ticket of the window of `now`, or of the latest one where that is later; of a quota that carries first one
+    /// that the window before left of its share. `WindowOut` where none is left of those and so many were given of the
+    /// window's own as the terms in force allow for its requests, with the moment at which the next window begins, and
+    /// `RacesLost` where other draws came first 64 times in this call. A pass that was refused may draw again.
     pub fn draw(&mut self, quota: &Quota, now: Moment) -> Result<u64, Refusal>
         requires { IsOf quota.now self.old }
         ensures of { IsOf quota.now self.new }
@@ -182,10 +183,10 @@ impl Pass {
         Ok(ticket)
     }
 
-    /// Hands back the latest ticket that was drawn with this pass, or with one joined into it since, as of a retry that is
-    /// cancelled while it waits, so that any pass may draw one more in its window. Where that window is over the ticket is
-    /// given up, and no other is drawn for it. `NoTicket` where none was drawn since one was handed back, and `RacesLost`
-    /// where other tickets came back first 64 times in this call; the tickets stay then.
+    /// Hands back the latest ticket that was drawn with this pass, or with one joined into it since, as of a retry that
+    /// is cancelled while it waits, so that any pass may draw one more in its window. Where that window is over the
+    /// ticket is given up, and no other is drawn for it. `NoTicket` where none was drawn since one was handed back, and
+    /// `RacesLost` where other tickets came back first 64 times in this call; the tickets stay then.
     pub fn hand_back(&mut self, quota: &Quota) -> Result<(), NotBack>
         requires { IsOf quota.now self.old }
         ensures of { IsOf quota.now self.new }
@@ -286,8 +287,8 @@ impl Pass {
         self
     }
 
-    /// The number of tickets that were given out, where this pass is the whole: it has all parts of the quota. Otherwise
-    /// it is one of several, of which another is alive or was dropped, and it comes back as it was.
+    /// The number of tickets that were given out, where this pass is the whole: it has all parts of the quota.
+    /// Otherwise it is one of several, of which another is alive or was dropped, and it comes back as it was.
     pub fn total(mut self, quota: &Quota) -> Result<u64, Pass>
         requires { IsOf quota.now self }
         ensures granted { IfOk result (λ n. n ≡ length self.has.tickets) }
@@ -301,9 +302,9 @@ impl Pass {
         Ok(self.granted)
     }
 
-    /// What was asked of the window of `now`, or of the latest one where that is later, what it has given of its own and what
-    /// it has left by the terms in force, also of what was carried to it, each as of one moment in this call, and when the
-    /// next window begins.
+    /// What was asked of the window of `now`, or of the latest one where that is later, what it has given of its own
+    /// and what it has left by the terms in force, also of what was carried to it, each as of one moment in this call,
+    /// and when the next window begins.
     pub fn seen(&mut self, quota: &Quota, now: Moment) -> Usage
         requires { IsOf quota.now self.old }
         ensures of { IsOf quota.now self.new }
@@ -350,8 +351,8 @@ impl Pass {
     }
 }
 
-/// Comes to this window, and answers the latest one. Who opens it notes before how many requests the one before had, where
-/// that is the latest: those that are counted until it is open are not noted.
+/// Comes to this window, and answers the latest one. Who opens it notes before how many requests the one before had,
+/// where that is the latest: those that are counted until it is open are not noted.
 fn reach(quota: &Quota, seat: &mut Seat, window: u64) -> u64
     requires of { (seat.old.table_id ≡ quota.now.table) × (seat.old.me.0.terms ≡ quota.now.terms)
         × (seat.old.me.0.carries ≡ quota.now.carries) }
@@ -481,8 +482,8 @@ fn carried(quota: &Quota, seat: &mut Seat, terms: u64, requests: u64, drawn: u64
     left(quota, terms, asked, drawn.saturating_sub(base - NUMBERS))
 }
 
-/// Whether this number is past those that the latest window may deal. How many tickets were handed back is read only where
-/// the requests alone allow no more.
+/// Whether this number is past those that the latest window may deal. How many tickets were handed back is read only
+/// where the requests alone allow no more.
 fn is_out(quota: &Quota, seat: &mut Seat, terms: u64, requests: u64, ticket: u64) -> bool
     requires of { seat.old.table_id ≡ quota.now.table }
     requires small { requests ≤ 17496587906427387904 }

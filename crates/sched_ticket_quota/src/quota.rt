@@ -31,8 +31,8 @@ pub const LAST_WINDOW: u64 = 2999999999;
 /// The numbers of a window.
 pub(crate) const NUMBERS: u64 = 4294967296;
 
-/// Of a quota that carries, half of a window's numbers are of tickets that it draws itself, and as many of those of its share
-/// that the next one draws.
+/// Of a quota that carries, half of a window's numbers are of tickets that it draws itself, and as many of those of its
+/// share that the next one draws.
 pub(crate) const HALF: u64 = 2147483648;
 
 /// Shares that one word tells apart: 1,000,000 is the greatest.
@@ -88,8 +88,8 @@ impl Quota {
         Quota::of_kind(alloc, now, terms, false)
     }
 
-    /// A quota that carries: in each window, what the one before left of its share may be drawn first, once. It gives at most
-    /// 2147483648 tickets of a window there, and as many in the next. Else it is a quota as `new` makes it.
+    /// A quota that carries: in each window, what the one before left of its share may be drawn first, once. It gives
+    /// at most 2147483648 tickets of a window there, and as many in the next. Else it is a quota as `new` makes it.
     pub fn carrying(alloc: Global, now: Moment, terms: Terms) -> Result<(Quota, Pass), QuotaFault>
         ensures ok { IfOk result
             (λ r. (r.0.terms ≡ terms) × IsOf r.0 r.1 × (r.1.has ≡ first_of_kind true terms)) }

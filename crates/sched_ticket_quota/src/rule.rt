@@ -10,10 +10,10 @@
 //! | `Count` | some more requests | gains their numbers |
 //! | `Find` | draws are read | has found them, and has lost no race since |
 //! | `Review` | the requests of the window before are read | has read them |
-//! | `Win` | draws become the one after its next ticket, where they are what it found | gains the ticket, or a loss where the draws are past what it found |
+//! | `Win` | draws become the one after its next ticket, where they are as found | gains the ticket; else, a loss |
 //! | `Recall` | those handed back are read | has read them |
 //! | `Ask` | those handed back are read | has read them, and has lost no race since |
-//! | `Return` | those handed back become one more, where they are what it read | hands back its latest ticket, or gains a loss |
+//! | `Return` | those handed back become one more, if they are as read | hands back its latest ticket; else, a loss |
 //! | `Lapse` | none changes | hands back its latest ticket, of a window that is over |
 //! | `Part` | none changes | gives some of its parts to a new pass |
 //! | `Merge` | none changes | takes in another pass, which is spent |

@@ -78,7 +78,7 @@ pub struct View {
     pub reviews: u64,
     /// How often it looked at the word of draws.
     pub looks: u64,
-    /// How many races it lost since its last look: how often another draw came between that look and its own, or another
-    /// ticket was handed back.
+    /// How many races it lost since its last look: how often another draw came between that look and its own, or
+    /// another ticket was handed back.
     pub losses: u64,
 }

@@ -1,3 +1,4 @@
+-- A number that stops at `FAR`.
 use Rattle.std.specs.Prelude.{ℕ, min}
 use Rattle.sched_time.specs.declared.numbers.TheConstants.{FAR}
 

@@ -1,3 +1,4 @@
+-- The start that a decision names.
 use Rattle.std.specs.Prelude.{ℕ, Option, Some, None}
 use Rattle.sched_time.specs.declared.starts.Decision.{Decision}
 use Rattle.sched_time.specs.declared.starts.Decision.TheVariants.{Go, Done}

@@ -1,2 +1,3 @@
+-- The definitions that the contracts of `sched_time` cite.
 pub mod Capped
 pub mod Decision

@@ -1,4 +1,5 @@
-//! Time as schedules see it: whole milliseconds from 0 to `FAR`, where every sum and product stops.
+//! Time as schedules see it: moments, durations and starts in whole milliseconds. Every number lies between 0 and
+//! `FAR`, and every sum and product stops at `FAR`, so none wraps. It stands on the standard library alone.
 #![tactic(auto)]
 
 mod faults;

@@ -9,7 +9,8 @@ use denote.Param.Send.{IsSend, recorded_send, sendable}
 use denote.Param.SendFields.{as_row_send}
 use denote.Model.Cut.{rejoined, split_one}
 
-pub rejoined_sends : (R : RattleType) (D : Type 0) (split : D → R.Denot) (join : R.Denot → D) (e : (d : D) → join (split d) ≡ d) → IsSend R → IsSend (rejoined R D split join e)
+pub rejoined_sends : (R : RattleType) (D : Type 0) (split : D → R.Denot) (join : R.Denot → D)
+    (e : (d : D) → join (split d) ≡ d) → IsSend R → IsSend (rejoined R D split join e)
 rejoined_sends R D split join e = recorded_send R D split (split_one R D split join e)
 
 pub pair_sends : (R : RattleType) → IsSend R → IsSend (Tuple (R ∷ R ∷ []))

@@ -22,25 +22,29 @@ module _ (p : Parts val.frame) (s : IsSend (rows val.frame p deep.member-Val)) w
   R = rows val.frame p deep.member-Val
 
   shape_sends : IsSend (val.at-ValShape p)
-  shape_sends = rejoined_sends (val.layer-ValShape R R) _ deep.split-ValShape deep.join-ValShape deep.joins-ValShape (variants_send (val.type-ValShape R R) (
-    tt,
-    (
-      (field_sends _ millis_sends, tt),
-      (
-        (field_sends _ (Box-send (Tuple (R ∷ R ∷ [])) (pair_sends R s)), tt),
-        ((field_sends _ (Vec-send R s), tt), tt),
-      ),
-    ),
-  ))
+  shape_sends = rejoined_sends (val.layer-ValShape R R) _ deep.split-ValShape deep.join-ValShape deep.joins-ValShape
+      (variants_send (val.type-ValShape R R) (
+        tt,
+        (
+          (field_sends _ millis_sends, tt),
+          (
+            (field_sends _ (Box-send (Tuple (R ∷ R ∷ [])) (pair_sends R s)), tt),
+            ((field_sends _ (Vec-send R s), tt), tt),
+          ),
+        ),
+      ))
 
   inside_sends : IsSend (val.at-Val p)
-  inside_sends = rejoined_sends (val.layer-Val (val.at-ValShape p)) _ deep.split-Val deep.join-Val deep.joins-Val (declared_send (val.type-Val (val.at-ValShape p)) (field_sends _ shape_sends, tt))
+  inside_sends = rejoined_sends (val.layer-Val (val.at-ValShape p)) _ deep.split-Val deep.join-Val deep.joins-Val
+      (declared_send (val.type-Val (val.at-ValShape p)) (field_sends _ shape_sends, tt))
 
   layer_sends : IsSend (val.view-Val p)
   layer_sends = view_send (val.at-Val p) _ _ _ _ inside_sends
 
-step_sends : (p : Parts val.frame) → All (one_law deep.the_members send) (rows val.frame p) → All (one_law deep.the_members send) (rows val.frame (val.step p))
-step_sends p all deep.member-Val = has_of val.frame send (val.step p) deep.member-Val (part_has send (val.view-Val p) (layer_sends p (all deep.member-Val)))
+step_sends : (p : Parts val.frame) → All (one_law deep.the_members send) (rows val.frame p)
+    → All (one_law deep.the_members send) (rows val.frame (val.step p))
+step_sends p all deep.member-Val = has_of val.frame send (val.step p) deep.member-Val
+    (part_has send (val.view-Val p) (layer_sends p (all deep.member-Val)))
 
 pub val_sends : IsSend Val.the_row
 val_sends = tied_goals val.frame val.step val.sizes (one_law deep.the_members send) step_sends deep.member-Val

@@ -9,7 +9,8 @@ use denote.Param.Send.{IsSync, recorded_sync, sendable}
 use denote.Param.SendFields.{as_row_sync}
 use denote.Model.Cut.{rejoined, split_one}
 
-pub rejoined_shares : (R : RattleType) (D : Type 0) (split : D → R.Denot) (join : R.Denot → D) (e : (d : D) → join (split d) ≡ d) → IsSync R → IsSync (rejoined R D split join e)
+pub rejoined_shares : (R : RattleType) (D : Type 0) (split : D → R.Denot) (join : R.Denot → D)
+    (e : (d : D) → join (split d) ≡ d) → IsSync R → IsSync (rejoined R D split join e)
 rejoined_shares R D split join e = recorded_sync R D split (split_one R D split join e)
 
 pub pair_shares : (R : RattleType) → IsSync R → IsSync (Tuple (R ∷ R ∷ []))

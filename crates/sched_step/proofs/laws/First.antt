@@ -13,7 +13,8 @@ use Rattle.sched_step.specs.declared.leaves.LeafState.{LeafState}
 use Rattle.sched_step.specs.declared.turns.Turn.{Turn}
 use Rattle.sched_step.specs.Progress.{Kept, Progress, at_leaf, at_one, at_two}
 use Rattle.sched_step.specs.StateOf.{kept_of, seen, turn_of, first_seen, second_seen, first_kept, first_turn, state_of}
-use Rattle.sched_step.specs.Step.{leaf_next, leaf_answers, begins, one_next, one_answers, two_step, leaf_origin, kept_origin, turn_origin, origin, step_of}
+use Rattle.sched_step.specs.Step.{leaf_next, leaf_answers, begins, one_next, one_answers, two_step, leaf_origin}
+use Rattle.sched_step.specs.Step.{kept_origin, turn_origin, origin, step_of}
 
 seen-nil : (k : One) → seen k [] ≡ []
 seen-nil Nothing = refl
@@ -40,9 +41,11 @@ pub first_one : (k : One) (a : Schedule) → state_of (one k a) [] ≡ at_one (f
 first_one k a = λ i. at_one (kept_of-nil k (answer a) i) (state_of a (seen-nil k i))
 
 -- what a node over two schedules is made of before the first event
-pub first_two : (k : Two) (a b : Schedule) → state_of (two k a b) [] ≡ at_two (first_turn k) (state_of a []) (state_of b [])
+pub first_two : (k : Two) (a b : Schedule)
+    → state_of (two k a b) [] ≡ at_two (first_turn k) (state_of a []) (state_of b [])
 first_two k a b =
-    λ i. at_two (turn_of-nil k (answer a) i) (state_of a (first_seen-nil k (answer a) i)) (state_of b (second_seen-nil k (answer a) i))
+    λ i. at_two (turn_of-nil k (answer a) i) (state_of a (first_seen-nil k (answer a) i))
+    (state_of b (second_seen-nil k (answer a) i))
 
 -- A step that may begin anew is made of those of the parts.
 
@@ -66,7 +69,8 @@ pub one_anew : (fresh : Bool) (k : One) (a : Schedule) (s : Kept) (p : Progress)
     over_one k (kept_origin fresh k s) e (step_of a (origin (fresh || begins k s e.now) a p) e)
 one_anew true k a s p e =
     ap (λ q. step_of (one k a) q e) (first_one k a)
-    ∙ ap (λ q. over_one k (first_kept k) e (step_of a q e)) (either_anew (begins k (first_kept k) e.now) (state_of a []))
+    ∙ ap (λ q. over_one k (first_kept k) e (step_of a q e))
+    (either_anew (begins k (first_kept k) e.now) (state_of a []))
 one_anew false k a s p e = refl
 
 pub two_anew : (fresh : Bool) (k : Two) (a b : Schedule) (t : Turn) (p q : Progress) (e : Event) →

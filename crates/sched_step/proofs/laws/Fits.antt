@@ -1,5 +1,6 @@
 -- Progress that fits goes on fitting.
-use Rattle.std.proofs.Common.{ℕ, ◌≤◌, Bool, true, false, ◌&&◌, if◌then◌else◌, IsTrue, Option, Some, None, [], refl, sym, subst, arith, le-leb}
+use Rattle.std.proofs.Common.{ℕ, ◌≤◌, Bool, true, false, ◌&&◌, if◌then◌else◌, IsTrue, Option, Some, None, [], refl, sym}
+use Rattle.std.proofs.Common.{subst, arith, le-leb}
 use Rattle.std.proofs.lemmas.Bool.{and_parts, and_from, cond_both, false≢true}
 use Rattle.std.proofs.lemmas.Bool.Decides.{nat_tests}
 use Rattle.sched_plan.specs.Schedule.{Schedule, leaf, one, two}
@@ -20,9 +21,11 @@ use Rattle.sched_step.specs.declared.leaves.LeafState.{LeafState}
 use Rattle.sched_step.specs.declared.leaves.LeafState.TheVariants.{Planned, Windows, Started}
 use Rattle.sched_step.specs.declared.turns.Turn.{Turn}
 use Rattle.sched_step.specs.declared.turns.Turn.TheVariants.{Together, Uncrossed, Crossed}
-use Rattle.sched_step.specs.Progress.{Kept, since, round_since, last_at, Progress, at_leaf, at_one, at_two, is_past, leaf_keeps, leaf_began, one_keeps, one_began, two_keeps, fits}
+use Rattle.sched_step.specs.Progress.{Kept, since, round_since, last_at, Progress, at_leaf, at_one, at_two, is_past}
+use Rattle.sched_step.specs.Progress.{leaf_keeps, leaf_began, one_keeps, one_began, two_keeps, fits}
 use Rattle.sched_step.specs.StateOf.{leaf_state, first_kept, first_turn, state_of}
-use Rattle.sched_step.specs.Step.{leaf_next, begins, is_over, fold_next, round_next, one_next, at_crossing, past_crossing, two_step, kept_or_now, step_of}
+use Rattle.sched_step.specs.Step.{leaf_next, begins, is_over, fold_next, round_next, one_next, at_crossing}
+use Rattle.sched_step.specs.Step.{past_crossing, two_step, kept_or_now, step_of}
 use Rattle.sched_step.proofs.laws.First.{first_one, first_two}
 
 -- Before the first event it fits at every moment.
@@ -93,7 +96,8 @@ kept_or_now_past : (first : Option ℕ) (now m : ℕ) → IsTrue (is_past first 
 kept_or_now_past None now m past le = le-leb now m le
 kept_or_now_past (Some f) now m past le = past_later (Some f) now m past le
 
-leaf_fits_next : (l : Leaf) (s : LeafState) (e : Event) (m : ℕ) → IsTrue (leaf_keeps l s) → IsTrue (leaf_began s e.now) →
+leaf_fits_next : (l : Leaf) (s : LeafState) (e : Event) (m : ℕ) → IsTrue (leaf_keeps l s)
+    → IsTrue (leaf_began s e.now) →
     e.now ≤ m → IsTrue (leaf_keeps l (leaf_next l s e) && leaf_began (leaf_next l s e) m)
 leaf_fits_next (Fixed d) (Planned n None) e m keeps began le = le-leb e.now m le
 leaf_fits_next (Fixed d) (Planned n (Some p)) e m keeps began le = past_later (Some p.0) e.now m began le
@@ -134,7 +138,8 @@ one_began_next k s e a m keeps began le = refl
 module _
     (a b : Schedule) (e : Event) (m : ℕ) (le : e.now ≤ m)
     (front_fits : (p : Progress) → IsTrue (fits a p e.now) → IsTrue (fits a (step_of a p e).0 m))
-    (rest_fits : (q : Progress) (input : Datum) → IsTrue (fits b q e.now) → IsTrue (fits b (step_of b q (with_input input e)).0 m))
+    (rest_fits : (q : Progress) (input : Datum) → IsTrue (fits b q e.now)
+    → IsTrue (fits b (step_of b q (with_input input e)).0 m))
     (p q : Progress) (p_fits : IsTrue (fits a p e.now)) (q_fits : IsTrue (fits b q e.now)) where
   at_crossing_fits : IsTrue (fits (two Follow a b) (at_crossing (step_of a p e) q (step_of b q e)).0 m)
   at_crossing_fits =
@@ -174,6 +179,7 @@ fits_law (one k a) (at_one s p) e m fitting le =
 fits_law (two k a b) (at_two t p q) e m fitting le =
     let parts = and_parts (two_keeps k t && fits a p e.now) (fits b q e.now) fitting in
     let front = and_parts (two_keeps k t) (fits a p e.now) parts.0 in
-    two_fits a b e m le (λ r fits_r. fits_law a r e m fits_r le) (λ r input fits_r. fits_law b r (with_input input e) m fits_r le)
+    two_fits a b e m le (λ r fits_r. fits_law a r e m fits_r le)
+    (λ r input fits_r. fits_law b r (with_input input e) m fits_r le)
     p q front.1 parts.1 k t
 fits_law s p e m fitting le = absurd (false≢true fitting)

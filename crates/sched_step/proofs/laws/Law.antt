@@ -22,4 +22,5 @@ step_law (one k a) valid =
     one_law (state_of a) (answer a) (step_of a) (step_law a (and_parts (one_in_range k) (is_valid a) valid).1) k
 step_law (two k a b) valid =
     let parts = and_parts (is_valid a) (is_valid b) valid in
-    two_law (state_of a) (answer a) (step_of a) (step_law a parts.0) (state_of b) (answer b) (step_of b) (step_law b parts.1) k
+    two_law (state_of a) (answer a) (step_of a) (step_law a parts.0) (state_of b) (answer b) (step_of b)
+    (step_law b parts.1) k

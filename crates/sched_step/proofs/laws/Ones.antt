@@ -1,11 +1,13 @@
 -- The step of a node over one schedule: a lemma for each node, and the law that they make together.
-use Rattle.std.proofs.Common.{◌≡◌, ℕ, ◌+◌, ◌-◌, min, max, List, [], ◌∷◌, ◌++◌, Bool, true, false, if◌then◌else◌, nat_le, get_or, refl, sym, ap, ◌∙◌}
+use Rattle.std.proofs.Common.{◌≡◌, ℕ, ◌+◌, ◌-◌, min, max, List, [], ◌∷◌, ◌++◌, Bool, true, false, if◌then◌else◌, nat_le}
+use Rattle.std.proofs.Common.{get_or, refl, sym, ap, ◌∙◌}
 use Rattle.sched_time.specs.Capped.{capped}
 use Rattle.sched_plan.specs.Datum.{Datum}
 use Rattle.sched_plan.specs.History.{first_moment, last_moment}
 use Rattle.sched_plan.proofs.HistoryLaws.{last_moment-push, last_input-push, last_words-push}
 use Rattle.sched_plan.specs.Outputs.{goes_on, outputs, number_of, sum_in, count_in, greatest_in}
-use Rattle.sched_plan.proofs.OutputLaws.{outputs-push, earlier_outputs-push, sum_in-push, count_in-push, greatest_in-push}
+use Rattle.sched_plan.proofs.OutputLaws.{outputs-push, earlier_outputs-push, sum_in-push, count_in-push}
+use Rattle.sched_plan.proofs.OutputLaws.{greatest_in-push}
 use Rattle.sched_plan.specs.Delays.{added, added_out, jittered}
 use Rattle.sched_plan.specs.Gates.{gated}
 use Rattle.sched_plan.specs.Answer.{gathered, changed}
@@ -13,13 +15,15 @@ use Rattle.sched_plan.specs.Changes.{ended_where, goes_past, delayed, giving}
 use Rattle.sched_plan.specs.declared.nodes.Fold.{Fold}
 use Rattle.sched_plan.specs.declared.nodes.Fold.TheVariants.{Sum, Count, Max, List as Listing}
 use Rattle.sched_plan.specs.declared.nodes.One.{One}
-use Rattle.sched_plan.specs.declared.nodes.One.TheVariants.{Gate, Gather, Add, Set, Cap, AddOut, Jitter, Within, EndsBy, Renew, RenewIdle}
+use Rattle.sched_plan.specs.declared.nodes.One.TheVariants.{Gate, Gather, Add, Set, Cap, AddOut, Jitter, Within, EndsBy}
+use Rattle.sched_plan.specs.declared.nodes.One.TheVariants.{Renew, RenewIdle}
 use Rattle.sched_plan.specs.declared.history.Event.{Event}
 use Rattle.sched_plan.specs.declared.history.Answer.{Answer}
 use Rattle.sched_step.specs.Progress.{Kept, since, round_since, last_at, total, Progress, at_one}
 use Rattle.sched_step.specs.StateOf.{began_at, folded, kept_of, seen}
 use Rattle.sched_step.specs.Step.{kept_or_now, begins, fold_next, fold_shows, one_next, one_answers, one_step}
-use Rattle.sched_step.proofs.Moments.{began_at-push, first_moment_kept, ended_at-push, last_block_kept, last_run_kept, round_kept}
+use Rattle.sched_step.proofs.Moments.{began_at-push, first_moment_kept, ended_at-push, last_block_kept, last_run_kept}
+use Rattle.sched_step.proofs.Moments.{round_kept}
 
 -- Within and EndsBy: the first moment.
 
@@ -37,16 +41,19 @@ ends_by_answers-push d h e a = λ i. ended_where (goes_past (capped (first_momen
 -- Gather: a fold over the outputs so far.
 
 module _ (ds : List Datum) (x : Datum) where
-  sum_where : (goes : Bool) → (if goes then capped (sum_in ds + number_of x) else sum_in ds) ≡ sum_in (if goes then ds ++ x ∷ [] else ds)
+  sum_where : (goes : Bool)
+      → (if goes then capped (sum_in ds + number_of x) else sum_in ds) ≡ sum_in (if goes then ds ++ x ∷ [] else ds)
   sum_where true = sym (sum_in-push ds x)
   sum_where false = refl
 
-  count_where : (goes : Bool) → (if goes then capped (count_in ds + 1) else count_in ds) ≡ count_in (if goes then ds ++ x ∷ [] else ds)
+  count_where : (goes : Bool)
+      → (if goes then capped (count_in ds + 1) else count_in ds) ≡ count_in (if goes then ds ++ x ∷ [] else ds)
   count_where true = sym (count_in-push ds x)
   count_where false = refl
 
   greatest_where : (goes : Bool) →
-      (if goes then max (greatest_in ds) (number_of x) else greatest_in ds) ≡ greatest_in (if goes then ds ++ x ∷ [] else ds)
+      (if goes then max (greatest_in ds) (number_of x) else greatest_in ds)
+      ≡ greatest_in (if goes then ds ++ x ∷ [] else ds)
   greatest_where true = sym (greatest_in-push ds x)
   greatest_where false = refl
 
@@ -99,7 +106,8 @@ changed-push (Cap d) f h e =
 changed-push AddOut f h e =
     let a : Answer = f (h ++ e ∷ []) in ap (λ now. delayed (added_out a.output) now a) (sym (last_moment-push h e))
 changed-push (Jitter lane least most) f h e =
-    λ i. delayed (jittered least most (get_or (sym (last_words-push h e) i) lane 0)) (sym (last_moment-push h e) i) (f (h ++ e ∷ []))
+    λ i. delayed (jittered least most (get_or (sym (last_words-push h e) i) lane 0)) (sym (last_moment-push h e) i)
+    (f (h ++ e ∷ []))
 changed-push (Within d) f h e = within_answers-push d h e (f (h ++ e ∷ []))
 changed-push (EndsBy d) f h e = ends_by_answers-push d h e (f (h ++ e ∷ []))
 changed-push k f h e = refl

@@ -1,5 +1,6 @@
 -- No step starts before its event, from whatever progress it is made.
-use Rattle.std.proofs.Common.{ℕ, ◌+◌, ◌≤◌, if◌then◌else◌, Option, Some, None, nat_lt, nat_le, ◌-◌, le_refl, min, get_or, arith, []}
+use Rattle.std.proofs.Common.{ℕ, ◌+◌, ◌≤◌, if◌then◌else◌, Option, Some, None, nat_lt, nat_le, ◌-◌, le_refl, min, get_or}
+use Rattle.std.proofs.Common.{arith, []}
 use Rattle.std.proofs.lemmas.Bool.{cond_both}
 use Rattle.sched_time.specs.Capped.{capped}
 use Rattle.sched_time.specs.declared.numbers.TheConstants.{FAR}
@@ -14,7 +15,9 @@ use Rattle.sched_plan.specs.Answer.{is_done, next_boundary}
 use Rattle.sched_plan.specs.Starts.{StartsBy}
 use Rattle.sched_plan.proofs.Starts.{moved_starts, meet_starts, join_starts, ended_starts, passed_starts}
 use Rattle.sched_plan.specs.declared.leaves.Leaf.{Leaf}
-use Rattle.sched_plan.specs.declared.leaves.Leaf.TheVariants.{Forever, Recurs, Spaced, Fixed, Windowed, Linear, Exponential, ExponentialMilli, Fibonacci, Decorrelated, Elapsed, Identity, Unfold, Lone}
+use Rattle.sched_plan.specs.declared.leaves.Leaf.TheVariants.{Forever, Recurs, Spaced, Fixed, Windowed, Linear}
+use Rattle.sched_plan.specs.declared.leaves.Leaf.TheVariants.{Exponential, ExponentialMilli, Fibonacci, Decorrelated}
+use Rattle.sched_plan.specs.declared.leaves.Leaf.TheVariants.{Elapsed, Identity, Unfold, Lone}
 use Rattle.sched_plan.specs.declared.nodes.One.{One}
 use Rattle.sched_plan.specs.declared.nodes.One.TheVariants.{Gate, Add, Set, Cap, AddOut, Jitter, Within, EndsBy}
 use Rattle.sched_plan.specs.declared.nodes.Two.{Two}
@@ -26,7 +29,9 @@ use Rattle.sched_step.specs.declared.turns.Turn.{Turn}
 use Rattle.sched_step.specs.declared.turns.Turn.TheVariants.{Together, Uncrossed, Crossed}
 use Rattle.sched_step.specs.Progress.{Kept, Progress, at_two}
 use Rattle.sched_step.specs.StateOf.{state_of}
-use Rattle.sched_step.specs.Step.{count_of, planned_of, lone_is_past, next_fixed, leaf_decides, leaf_of, kept_or_now, since_of, begins, one_answers, past_crossing, at_crossing, follow_step, two_step, kept_in, turn_in, first_of, second_of, step_of}
+use Rattle.sched_step.specs.Step.{count_of, planned_of, lone_is_past, next_fixed, leaf_decides, leaf_of, kept_or_now}
+use Rattle.sched_step.specs.Step.{since_of, begins, one_answers, past_crossing, at_crossing, follow_step, two_step}
+use Rattle.sched_step.specs.Step.{kept_in, turn_in, first_of, second_of, step_of}
 
 next_fixed_starts : (d : ℕ) (planned : Option (ℕ × ℕ)) (now : ℕ) → now ≤ FAR → now ≤ next_fixed d planned now
 next_fixed_starts d None now far = omega arith
@@ -98,5 +103,6 @@ starts_law (one k a) p e far =
     let from : Progress = if begins k (kept_in p) e.now then state_of a [] else first_of p in
     one_starts k (kept_in p) e (step_of a from e).1 far (starts_law a from e far)
 starts_law (two k a b) p e far =
-    two_starts (step_of a) (step_of b) e (λ q. starts_law a q e far) (λ q input. starts_law b q (with_input input e) far)
+    two_starts (step_of a) (step_of b) e (λ q. starts_law a q e far)
+    (λ q input. starts_law b q (with_input input e) far)
     k (turn_in p) (first_of p) (second_of p)

@@ -22,8 +22,10 @@ module _
   -- Follow: from where the two crossed, if they did.
 
   abbrev followed : Option (List Event) → List Event → Progress × Answer
-  followed crossed h =
-      (at_two (turn_at crossed) (front (up_to_crossing crossed h)) (rest (from_crossing crossed h)), follow_answer f g crossed h)
+  followed crossed h = (
+    at_two (turn_at crossed) (front (up_to_crossing crossed h)) (rest (from_crossing crossed h)),
+    follow_answer f g crossed h,
+  )
 
   -- the step at which the first schedule may be done
   at_crossing_law : (h : List Event) (e : Event) (done : Bool) →
@@ -34,7 +36,8 @@ module _
   at_crossing_law h e false = refl
 
   follow_law : (h : List Event) (e : Event) (crossed : Option (List Event)) → crossing f h ≡ crossed →
-      follow_step front_step rest_step (turn_at crossed) (front (up_to_crossing crossed h)) (rest (from_crossing crossed h)) e ≡
+      follow_step front_step rest_step (turn_at crossed) (front (up_to_crossing crossed h))
+      (rest (from_crossing crossed h)) e ≡
       followed (crossing f (h ++ e ∷ [])) (h ++ e ∷ [])
   follow_law h e None is =
       (λ i. at_crossing (front_law h e i) (rest []) (rest_law [] e i))
@@ -48,23 +51,29 @@ module _
   -- Feed: the second schedule is given the first one's output.
 
   feed_law : (h : List Event) (e : Event) →
-      two_step Feed front_step rest_step Together (front h) (rest (fed f h)) e ≡
-      (at_two Together (front (h ++ e ∷ [])) (rest (fed f (h ++ e ∷ []))), feed_answer (f (h ++ e ∷ [])) (g (fed f (h ++ e ∷ []))))
+      two_step Feed front_step rest_step Together (front h) (rest (fed f h)) e ≡ (
+        at_two Together (front (h ++ e ∷ [])) (rest (fed f (h ++ e ∷ []))),
+        feed_answer (f (h ++ e ∷ [])) (g (fed f (h ++ e ∷ []))),
+      )
   feed_law h e =
       let a : Progress × Answer = (front (h ++ e ∷ []), f (h ++ e ∷ [])) in
       ap (λ (r : Progress × Answer). side_by_side r (rest_step (rest (fed f h)) (with_input r.1.output e))
       (feed_answer r.1 (rest_step (rest (fed f h)) (with_input r.1.output e)).1)) (front_law h e)
-      ∙ ap (λ (r : Progress × Answer). side_by_side a r (feed_answer a.1 r.1)) (rest_law (fed f h) (with_input a.1.output e))
+      ∙ ap (λ (r : Progress × Answer). side_by_side a r (feed_answer a.1 r.1))
+      (rest_law (fed f h) (with_input a.1.output e))
       ∙ ap (λ d. side_by_side a (rest d, g d) (feed_answer a.1 (g d))) (sym (fed-push f h e))
 
   -- All nodes over two schedules.
 
   pub two_law : (k : Two) (h : List Event) (e : Event) →
       two_step k front_step rest_step (turn_of k f h) (front (first_seen k f h)) (rest (second_seen k f h)) e ≡ (
-        at_two (turn_of k f (h ++ e ∷ [])) (front (first_seen k f (h ++ e ∷ []))) (rest (second_seen k f (h ++ e ∷ []))),
+        at_two (turn_of k f (h ++ e ∷ [])) (front (first_seen k f (h ++ e ∷ [])))
+            (rest (second_seen k f (h ++ e ∷ []))),
         combined k f g (h ++ e ∷ []),
       )
-  two_law Meet h e = λ i. side_by_side (front_law h e i) (rest_law h e i) (meet_answer (front_law h e i).1 (rest_law h e i).1)
-  two_law Join h e = λ i. side_by_side (front_law h e i) (rest_law h e i) (join_answer (front_law h e i).1 (rest_law h e i).1)
+  two_law Meet h e = λ i.
+      side_by_side (front_law h e i) (rest_law h e i) (meet_answer (front_law h e i).1 (rest_law h e i).1)
+  two_law Join h e = λ i.
+      side_by_side (front_law h e i) (rest_law h e i) (join_answer (front_law h e i).1 (rest_law h e i).1)
   two_law Feed h e = feed_law h e
   two_law Follow h e = follow_law h e (crossing f h) refl

@@ -28,22 +28,27 @@ module _ (p : Parts tree.frame) (s : IsSend (rows tree.frame p deep.member-Tree)
   R = rows tree.frame p deep.member-Tree
 
   shape_sends : IsSend (tree.at-TreeShape p)
-  shape_sends = rejoined_sends (tree.layer-TreeShape R R) _ deep.split-TreeShape deep.join-TreeShape deep.joins-TreeShape (variants_send (tree.type-TreeShape R R) (
-    (field_sends _ leaf_sends, (field_sends _ leaf_sends, tt)),
-    (
-      (field_sends _ (as_row_send Kept.the_field kept_sends), (field_sends _ (Box-send R s), tt)),
-      ((field_sends _ turns_sends, (field_sends _ (Box-send (Tuple (R ∷ R ∷ [])) (pair_sends R s)), tt)), tt),
-    ),
-  ))
+  shape_sends =
+      rejoined_sends (tree.layer-TreeShape R R) _ deep.split-TreeShape deep.join-TreeShape deep.joins-TreeShape
+      (variants_send (tree.type-TreeShape R R) (
+        (field_sends _ leaf_sends, (field_sends _ leaf_sends, tt)),
+        (
+          (field_sends _ (as_row_send Kept.the_field kept_sends), (field_sends _ (Box-send R s), tt)),
+          ((field_sends _ turns_sends, (field_sends _ (Box-send (Tuple (R ∷ R ∷ [])) (pair_sends R s)), tt)), tt),
+        ),
+      ))
 
   inside_sends : IsSend (tree.at-Tree p)
-  inside_sends = rejoined_sends (tree.layer-Tree (tree.at-TreeShape p)) _ deep.split-Tree deep.join-Tree deep.joins-Tree (declared_send (tree.type-Tree (tree.at-TreeShape p)) (field_sends _ shape_sends, tt))
+  inside_sends = rejoined_sends (tree.layer-Tree (tree.at-TreeShape p)) _ deep.split-Tree deep.join-Tree deep.joins-Tree
+      (declared_send (tree.type-Tree (tree.at-TreeShape p)) (field_sends _ shape_sends, tt))
 
   layer_sends : IsSend (tree.view-Tree p)
   layer_sends = view_send (tree.at-Tree p) _ _ _ _ inside_sends
 
-step_sends : (p : Parts tree.frame) → All (one_law deep.the_members send) (rows tree.frame p) → All (one_law deep.the_members send) (rows tree.frame (tree.step p))
-step_sends p all deep.member-Tree = has_of tree.frame send (tree.step p) deep.member-Tree (part_has send (tree.view-Tree p) (layer_sends p (all deep.member-Tree)))
+step_sends : (p : Parts tree.frame) → All (one_law deep.the_members send) (rows tree.frame p)
+    → All (one_law deep.the_members send) (rows tree.frame (tree.step p))
+step_sends p all deep.member-Tree = has_of tree.frame send (tree.step p) deep.member-Tree
+    (part_has send (tree.view-Tree p) (layer_sends p (all deep.member-Tree)))
 
 pub tree_sends : IsSend Tree.the_row
 tree_sends = tied_goals tree.frame tree.step tree.sizes (one_law deep.the_members send) step_sends deep.member-Tree

@@ -1,3 +1,4 @@
+-- `exponential_milli` of 1,000 times a factor answers as `exponential` of that factor does.
 use Rattle.std.proofs.Common.{ap, length}
 use Rattle.sched_plan.specs.Answer.{go_after}
 use Rattle.sched_plan.specs.Datum.{num}

@@ -1,3 +1,4 @@
+-- Copying a value ends, since each call has a smaller value; the loop has copied the items so far.
 use Rattle.std.proofs.Common.{◌≡◌, ◌+◌, ◌*◌, take}
 use Rattle.sched_plan.specs.Datum.{items_of}
 use Rattle.sched_plan.specs.DatumSize.{datum_size, items_size}

@@ -1,3 +1,4 @@
+-- Comparing two values ends, since each call has smaller values; the items compared so far are equal.
 use Rattle.std.proofs.Common.{◌≡◌, length, take}
 use Rattle.sched_plan.specs.Datum.{items_of}
 use Rattle.sched_plan.specs.DatumSize.{datum_size, items_size}

@@ -1,3 +1,4 @@
+-- Writing a value ends, since each call has a smaller value; the loop has written the items so far.
 use Rattle.std.proofs.Common.{◌≡◌, ◌++◌, drop, cond, nat_eq, string_bytes}
 use Rattle.sched_plan.specs.Datum.{items_of}
 use Rattle.sched_plan.specs.DatumSize.{datum_size, items_size}

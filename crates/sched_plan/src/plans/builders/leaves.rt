@@ -101,10 +101,10 @@ impl Plan {
         Ok(Plan::of_leaf(Leaf::Fibonacci(delay)))
     }
 
-    /// Waits a delay that the random word of the lane picks between `base` milliseconds and `thousandths` thousandths of
-    /// the delay before, rounded down, and at most `most` milliseconds; at first `base` stands for the delay before. The
-    /// output is the delay. Refused as `OutOfRange` at a lane past 3, at thousandths below 1,000 and past 1,000,000, and
-    /// at a most that is below the base or past `FAR`.
+    /// Waits a delay that the random word of the lane picks between `base` milliseconds and `thousandths` thousandths
+    /// of the delay before, rounded down, and at most `most` milliseconds; at first `base` stands for the delay before.
+    /// The output is the delay. Refused as `OutOfRange` at a lane past 3, at thousandths below 1,000 and past
+    /// 1,000,000, and at a most that is below the base or past `FAR`.
     pub fn decorrelated(
         lane: u64,
         base: u64,

@@ -1,3 +1,4 @@
+-- The initial state fits its plan at every moment.
 use Rattle.std.proofs.Common.{IsTrue, subst, sym}
 use Rattle.sched_step.specs.Progress.{fits}
 use Rattle.sched_step.proofs.laws.Fits.{fits_first}

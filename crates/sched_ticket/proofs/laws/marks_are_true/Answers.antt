@@ -1,3 +1,4 @@
+-- A pass that is marked sole stands for all, and beside one that is marked shared stands another.
 use Rattle.sched_ticket.proofs.Views.{sole_is_alone, shared_has_another}
 use Rattle.sched_ticket.proofs.laws.marks_are_true.Goals as goal
 

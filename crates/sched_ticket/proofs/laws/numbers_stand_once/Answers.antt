@@ -1,4 +1,6 @@
-use Rattle.sched_ticket.proofs.Views.{numbers_stand_once, draws_are_counted, none_is_used_up, each_refusal_is_high, refusals_are_just}
+-- Each number drawn is in one pass, as a ticket or as one that a refused draw used up.
+use Rattle.sched_ticket.proofs.Views.{numbers_stand_once, draws_are_counted, none_is_used_up, each_refusal_is_high}
+use Rattle.sched_ticket.proofs.Views.{refusals_are_just}
 use Rattle.sched_ticket.proofs.laws.numbers_stand_once.Goals as goal
 
 pub returns-clause-once : goal.returns-clause-once

@@ -1,4 +1,6 @@
-use Rattle.sched_ticket.proofs.Views.{passes_are_counted, each_is_refused_once, passes_were_split, parts_are_kept, spent_has_nothing}
+-- The passes made are those that live passes stand for and those that were refused.
+use Rattle.sched_ticket.proofs.Views.{passes_are_counted, each_is_refused_once, passes_were_split, parts_are_kept}
+use Rattle.sched_ticket.proofs.Views.{spent_has_nothing}
 use Rattle.sched_ticket.proofs.laws.passes_are_counted.Goals as goal
 
 pub returns-clause-counted : goal.returns-clause-counted

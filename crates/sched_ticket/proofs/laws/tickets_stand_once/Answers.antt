@@ -1,3 +1,4 @@
+-- The tickets of all passes are the numbers below the draws made and the limit, each in one pass.
 use Rattle.sched_ticket.proofs.Views.{tickets_stand_once, refusals_are_late}
 use Rattle.sched_ticket.proofs.laws.tickets_stand_once.Goals as goal
 

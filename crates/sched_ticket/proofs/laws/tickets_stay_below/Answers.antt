@@ -1,4 +1,6 @@
-use Rattle.sched_ticket.proofs.Views.{tickets_stay_below, each_ticket_is_below, draws_stay_below, floors_stay_below, limit_is_raised}
+-- The tickets never pass the limit.
+use Rattle.sched_ticket.proofs.Views.{tickets_stay_below, each_ticket_is_below, draws_stay_below, floors_stay_below}
+use Rattle.sched_ticket.proofs.Views.{limit_is_raised}
 use Rattle.sched_ticket.proofs.laws.tickets_stay_below.Goals as goal
 
 pub returns-clause-all : goal.returns-clause-all

@@ -1,3 +1,4 @@
+-- Reading the limit keeps the budget's rule.
 use Rattle.std.proofs.Common.{sym, ap, ◌∙◌, arith}
 use mathlib.Core.Option.{none}
 use Rattle.atomic_table.specs.Table.{step}
@@ -11,5 +12,6 @@ load-requires c =
     let of = c.requires.of in (
       of.0 ∙ sym (ap (λ (b : Name). b.table) c.budget.view_is),
       omega arith,
-      reads_limit_ok _ _ _ _ (step 0 32 0 0 none) c.requires.live (of.1 ∙ sym (ap (λ (b : Name). b.terms) c.budget.view_is) ∙ sym known.about_is),
+      reads_limit_ok _ _ _ _ (step 0 32 0 0 none) c.requires.live
+          (of.1 ∙ sym (ap (λ (b : Name). b.terms) c.budget.view_is) ∙ sym known.about_is),
     )

@@ -1,3 +1,4 @@
+-- A draw of a counted pass keeps the budget's rule.
 use Rattle.std.proofs.Common.{sym, ap, ◌∙◌, arith}
 use mathlib.Core.Option.{none}
 use Rattle.atomic_table.specs.Table.{step}

@@ -1,3 +1,4 @@
+-- A draw of a pass by parts keeps the budget's rule, whether it wins a number or finds none.
 use Rattle.std.proofs.Common.{sym, ap, ◌∙◌, arith}
 use mathlib.Core.Option.{none}
 use Rattle.atomic_table.specs.Table.{step}

@@ -1,3 +1,4 @@
+-- The loop changes the pass by what it found alone: a number below the floor, or a refusal. It ends at the limit.
 use Rattle.std.proofs.Common.{◌≡◌, ◌-◌, ◌<◌, ◌≤◌}
 use Rattle.sched_ticket.specs.View.{with_found, with_refusal}
 use Rattle.sched_ticket.proofs.pass.win.Given as goal

@@ -1,3 +1,4 @@
+-- A call opens the window of its own moment alone, and draws and counts in no earlier one.
 use Rattle.sched_ticket_quota.proofs.Clocks.{opens_its_own, draws_no_earlier, counts_no_earlier}
 use Rattle.sched_ticket_quota.proofs.laws.calls_go_by_their_moments.Goals as goal
 

@@ -1,3 +1,4 @@
+-- No ticket is given twice, and no request is counted twice.
 use Rattle.sched_ticket_quota.proofs.Views.{tickets_stand_once, requests_stand_once}
 use Rattle.sched_ticket_quota.proofs.laws.numbers_stand_once.Goals as goal
 

@@ -1,3 +1,4 @@
+-- The passes' parts are 2^62 in all, and what stands for no part has nothing.
 use Rattle.sched_ticket_quota.proofs.Views.{parts_are_kept, spent_has_nothing}
 use Rattle.sched_ticket_quota.proofs.laws.parts_are_kept.Goals as goal
 

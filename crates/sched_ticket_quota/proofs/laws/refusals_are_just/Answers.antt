@@ -1,3 +1,4 @@
+-- A pass is refused only where its window has given what its terms allow, as it read them.
 use Rattle.sched_ticket_quota.proofs.Views.{refusals_are_just, terms_were_in_force, sight_is_true}
 use Rattle.sched_ticket_quota.proofs.laws.refusals_are_just.Goals as goal
 

@@ -1,3 +1,4 @@
+-- Any run of windows has at most a reserve for each, and the share of the requests.
 use Rattle.sched_ticket_quota.proofs.Carried.{shares_are_kept, runs_are_kept}
 use Rattle.sched_ticket_quota.proofs.laws.runs_are_kept.Goals as goal
 

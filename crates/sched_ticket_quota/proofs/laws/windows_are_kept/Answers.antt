@@ -1,3 +1,4 @@
+-- The tickets of a window never pass the reserve and the share of the requests counted in it.
 use Rattle.sched_ticket_quota.proofs.Views.{windows_are_kept, unchanged_are_kept, windows_are_small, latest_is_counted}
 use Rattle.sched_ticket_quota.proofs.laws.windows_are_kept.Goals as goal
 

@@ -1,3 +1,4 @@
+-- A window that has ended is before that of the moment, and each ends within a period.
 use Rattle.sched_ticket_quota.proofs.Clocks.{windows_end, ends_within_a_period}
 use Rattle.sched_ticket_quota.proofs.laws.windows_end.Goals as goal
 

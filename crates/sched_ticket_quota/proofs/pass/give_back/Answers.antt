@@ -1,3 +1,4 @@
+-- A ticket that goes back to the quota keeps its rule.
 use Rattle.std.proofs.Common.{sym, ap, ◌∙◌, arith}
 use mathlib.Core.Option.{none}
 use Rattle.atomic_table.specs.Table.{step}
@@ -31,6 +32,7 @@ compare_exchange-found-requires c =
     let has = c.requires.has in (
       before.of.0 ∙ c.requires.of.0 ∙ sym (ap (λ (b : Name). b.table) c.quota.view_is),
       omega arith,
-      returns_ok _ _ _ _ (step 0 9 _ _ none) c.args.ticket has.0 (omega (arith, ap (λ (v : View). v.weight) before.same))
+      returns_ok _ _ _ _ (step 0 9 _ _ none) c.args.ticket has.0
+          (omega (arith, ap (λ (v : View). v.weight) before.same))
           (ap (λ (v : View). v.tickets) before.same ∙ has.1) (sym before.back_is) (omega arith) (omega arith),
     )

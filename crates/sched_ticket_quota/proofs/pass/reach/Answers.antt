@@ -1,3 +1,4 @@
+-- Coming to a window keeps the quota's rule.
 use Rattle.std.proofs.Common.{sym, ap, ◌∙◌, arith}
 use mathlib.Core.Option.{none}
 use Rattle.atomic_table.specs.Table.{step}
@@ -22,5 +23,7 @@ fetch_max-found-requires c =
     let noted = c.note.ensures in (
       noted.seat.0 ∙ read.0 ∙ c.requires.of.0 ∙ sym (ap (λ (b : Name). b.table) c.quota.view_is),
       omega arith,
-      opens_ok _ _ _ _ (step 0 24 _ 0 none) c.args.window (omega (arith, ap (λ (v : View). v.weight) noted.noted, ap (λ (m : Sat). m.0.weight) read.2.2)) (omega arith) (omega arith),
+      opens_ok _ _ _ _ (step 0 24 _ 0 none) c.args.window
+          (omega (arith, ap (λ (v : View). v.weight) noted.noted, ap (λ (m : Sat). m.0.weight) read.2.2)) (omega arith)
+          (omega arith),
     )

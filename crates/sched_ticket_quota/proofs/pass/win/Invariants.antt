@@ -1,3 +1,4 @@
+-- The loop changes nothing of the pass but what it read of the quota.
 use Rattle.std.proofs.Common.{◌≡◌, ◌+◌, ◌<◌, ◌≤◌}
 use Rattle.sched_ticket_quota.proofs.pass.win.Given as goal
 

@@ -1,3 +1,4 @@
+-- `next` keeps the stepper's invariant: its state is that of the events so far.
 use Rattle.std.proofs.Common.{◌≡◌, ℕ, ◌≤◌, List, [], ◌∷◌, ◌++◌, Some, IsTrue, ap, subst}
 use Rattle.sched_time.specs.declared.numbers.TheConstants.{FAR}
 use Rattle.sched_plan.specs.Schedule.{Schedule}
@@ -11,7 +12,12 @@ use Rattle.sched_driver_stepper.proofs.steppers.Stepper.next.Goals as goal
 
 pub invariant_of-self-2 : goal.invariant_of-self-2
 invariant_of-self-2 c =
-    let v : Standing = record { plan = c.self.inside.plan; state = c.self.inside.state; last = c.self.inside.last; floor = c.self.inside.floor } in
+    let v : Standing = record {
+      plan = c.self.inside.plan;
+      state = c.self.inside.state;
+      last = c.self.inside.last;
+      floor = c.self.inside.floor;
+    } in
     let e = event_of c.args.tick.now c.args.input.now in
     let h = c.self.invariant.history in
     let same : c.get.result.now ≡ v.plan = c.get.ensures in
@@ -28,11 +34,23 @@ invariant_of-self-2 c =
 
 pub returns-clause-law : goal.returns-clause-law
 returns-clause-law c =
-    let v : Standing = record { plan = c.self.inside.plan; state = c.self.inside.state; last = c.self.inside.last; floor = c.self.inside.floor } in
-    let new : Standing = record { plan = c.self.inside.plan; state = c.advance.new.self; last = Some c.in_ok-answer.answer; floor = c.args.tick.now.now } in
+    let v : Standing = record {
+      plan = c.self.inside.plan;
+      state = c.self.inside.state;
+      last = c.self.inside.last;
+      floor = c.self.inside.floor;
+    } in
+    let new : Standing = record {
+      plan = c.self.inside.plan;
+      state = c.advance.new.self;
+      last = Some c.in_ok-answer.answer;
+      floor = c.args.tick.now.now;
+    } in
     let e = event_of c.args.tick.now c.args.input.now in
     let same : c.get.result.now ≡ v.plan = c.get.ensures in
     let floor_is : v.floor ≡ c.args.self.now.floor = ap (λ (v : Standing). v.floor) c.self.view_is in
     let later : v.floor ≤ e.now = rw floor_is c.in_ok-check_order.ensures.ok in
-    subst (λ (o : Standing). (h : List Event) → StandsFor o h → Goes o.plan (h ++ e ∷ []) c.in_ok-answer.answer.decision new)
-    c.self.view_is (goes_on v c.get.result.now e c.advance.new.self c.in_ok-answer.answer same later c.in_ok-answer.ensures.law)
+    subst (λ (o : Standing). (h : List Event) → StandsFor o h
+    → Goes o.plan (h ++ e ∷ []) c.in_ok-answer.answer.decision new)
+    c.self.view_is
+    (goes_on v c.get.result.now e c.advance.new.self c.in_ok-answer.answer same later c.in_ok-answer.ensures.law)

@@ -1,3 +1,4 @@
+-- The loop has played the events before this one.
 use Rattle.std.proofs.Common.{take}
 use Rattle.sched_driver_stepper.proofs.Standings.{HasPlayed}
 use Rattle.sched_driver_stepper.proofs.steppers.Stepper.replay.Given as goal

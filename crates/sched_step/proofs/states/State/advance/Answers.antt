@@ -1,3 +1,4 @@
+-- A step leaves the state after one more event, and answers as the plan does on the whole history.
 use Rattle.std.proofs.Common.{◌≡◌, ℕ, ◌≤◌, List, [], ◌∷◌, ◌++◌, IsTrue, sym, ap, subst, ◌∙◌, arith}
 use Rattle.sched_time.specs.declared.numbers.TheConstants.{FAR}
 use Rattle.sched_plan.specs.Schedule.{Schedule, is_valid}
@@ -27,7 +28,8 @@ pub returns-clause-law : goal.returns-clause-law
 returns-clause-law c = λ h from.
     let e = event_of c.args.tick.now c.args.input.now in
     law_at c.args.plan.now c.args.self.now h e (c.commit.new.self.present, _) c.shape-shape.ensures.valid
-    (stepped c.args.plan.now c.args.self.now _ _ _ e _ c.in_ok-advance.ensures.step c.self.view_is c.commit.ensures) from
+    (stepped c.args.plan.now c.args.self.now _ _ _ e _ c.in_ok-advance.ensures.step c.self.view_is c.commit.ensures)
+    from
 
 pub returns-clause-starts : goal.returns-clause-starts
 returns-clause-starts c =
@@ -45,11 +47,13 @@ pub returns-clause-fits : goal.returns-clause-fits
 returns-clause-fits c = λ later after.
     let e = event_of c.args.tick.now c.args.input.now in
     fits_at c.args.plan.now c.args.self.now e (c.commit.new.self.present, _) later
-    (stepped c.args.plan.now c.args.self.now _ _ _ e _ c.in_ok-advance.ensures.step c.self.view_is c.commit.ensures) c.requires after
+    (stepped c.args.plan.now c.args.self.now _ _ _ e _ c.in_ok-advance.ensures.step c.self.view_is c.commit.ensures)
+    c.requires after
 
 pub returns-clause-shape : goal.returns-clause-shape
 returns-clause-shape c =
     let in_range : c.args.tick.now.now ≤ FAR = omega arith in
     let e = event_of c.args.tick.now c.args.input.now in
     fits_at c.args.plan.now c.args.self.now e (c.commit.new.self.present, _) FAR
-    (stepped c.args.plan.now c.args.self.now _ _ _ e _ c.in_ok-advance.ensures.step c.self.view_is c.commit.ensures) c.requires in_range
+    (stepped c.args.plan.now c.args.self.now _ _ _ e _ c.in_ok-advance.ensures.step c.self.view_is c.commit.ensures)
+    c.requires in_range

@@ -1,3 +1,4 @@
+-- A renewed state fits its plan at every moment.
 use Rattle.std.proofs.Common.{IsTrue, subst, sym, ◌∙◌}
 use Rattle.sched_step.specs.Progress.{fits}
 use Rattle.sched_step.proofs.laws.Fits.{fits_first}
@@ -5,4 +6,5 @@ use Rattle.sched_step.proofs.states.State.renew.Goals as goal
 
 pub returns-clause-fits : goal.returns-clause-fits
 returns-clause-fits c = λ now.
-    subst (λ p. IsTrue (fits c.args.plan.now p now)) (sym (c.commit.ensures ∙ c.restart.ensures.next)) (fits_first c.args.plan.now now)
+    subst (λ p. IsTrue (fits c.args.plan.now p now)) (sym (c.commit.ensures ∙ c.restart.ensures.next))
+    (fits_first c.args.plan.now now)

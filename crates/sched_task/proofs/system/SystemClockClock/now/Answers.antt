@@ -1,3 +1,4 @@
+-- The system's clock returns the moment of one reading of its source of time.
 use Rattle.std.proofs.Common.{rules}
 use Rattle.sched_task.specs.System.{reading_of}
 use Rattle.sched_task.proofs.system.SystemClockClock.now.Goals as goal

@@ -1,3 +1,4 @@
+-- A wait on the system's clock reads its source first, and sleeps where the moment is not reached.
 use Rattle.std.proofs.Common.{rules, inl, inr}
 use Rattle.sched_task.proofs.system.SystemClockClock.wait_until.Goals as goal
 

@@ -1,3 +1,4 @@
+-- A join keeps the budget's rule.
 use Rattle.std.proofs.Common.{sym, ap, ◌∙◌, arith}
 use mathlib.Core.Option.{none}
 use Rattle.atomic_table.specs.Table.{step}
@@ -23,7 +24,8 @@ load-requires c =
     let known = c.budget.invariant in
     let counted = c.self.invariant in
     let joined = c.join_seat.ensures in (
-      joined.0 ∙ ap (λ (p : Held). p.table) c.self.view_is ∙ c.requires.this.0 ∙ sym (ap (λ (b : Name). b.table) c.budget.view_is),
+      joined.0 ∙ ap (λ (p : Held). p.table) c.self.view_is ∙ c.requires.this.0
+          ∙ sym (ap (λ (b : Name). b.table) c.budget.view_is),
       omega arith,
       learns_ok _ _ _ _ (step 0 0 0 0 none) (omega (arith, ap (λ (m : Sat). m.0.weight) joined.2)),
     )

@@ -1,3 +1,4 @@
+-- Raising the limit keeps the budget's rule.
 use Rattle.std.proofs.Common.{sym, ap, ◌∙◌, arith}
 use mathlib.Core.Option.{none}
 use Rattle.atomic_table.specs.Table.{step}
@@ -13,6 +14,7 @@ fetch_max-before-requires c =
       ap (λ (p : Held). p.table) c.self.view_is ∙ c.requires.0 ∙ sym (ap (λ (b : Name). b.table) c.budget.view_is),
       omega arith,
       raises_ok _ _ _ _ (step 0 32 _ 0 none) (omega arith)
-          (ap (λ (p : Held). p.has.terms) c.self.view_is ∙ c.requires.1 ∙ sym (ap (λ (b : Name). b.terms) c.budget.view_is) ∙ sym known.about_is)
+          (ap (λ (p : Held). p.has.terms) c.self.view_is ∙ c.requires.1
+          ∙ sym (ap (λ (b : Name). b.terms) c.budget.view_is) ∙ sym known.about_is)
           (ap (λ (k : Terms). k.rises) known.about_is ∙ c.if-not-budget.false) (omega arith),
     )

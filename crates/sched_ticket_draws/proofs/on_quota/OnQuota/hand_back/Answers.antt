@@ -1,3 +1,4 @@
+-- `hand_back` returns what the quota's pass returns.
 use Rattle.sched_ticket_draws.proofs.on_quota.OnQuota.hand_back.Goals as goal
 
 pub returns-clause-ok : goal.returns-clause-ok

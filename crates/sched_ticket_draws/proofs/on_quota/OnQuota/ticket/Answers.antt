@@ -1,3 +1,4 @@
+-- `ticket` returns what a draw of the quota's pass returns.
 use Rattle.sched_ticket_draws.proofs.on_quota.OnQuota.ticket.Goals as goal
 
 pub returns-clause-ok : goal.returns-clause-ok

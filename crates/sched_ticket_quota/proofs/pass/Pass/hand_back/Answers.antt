@@ -1,3 +1,4 @@
+-- Handing back returns the latest ticket, once, and leaves the others.
 use Rattle.std.proofs.Common.{rules, ◌≡◌, ℕ, List, ◌∷◌, get_or, Option, Some, refl, sym, ap, ◌∙◌}
 use Rattle.sched_ticket_quota.specs.Calls.{HandedBack}
 use Rattle.sched_ticket_quota.proofs.pass.Pass.hand_back.Goals as goal

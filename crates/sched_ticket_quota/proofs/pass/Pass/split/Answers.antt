@@ -1,3 +1,4 @@
+-- A split keeps the quota's rule.
 use Rattle.std.proofs.Common.{sym, ap, ◌∙◌, arith}
 use Rattle.sched_ticket_quota.specs.Held.{Name, Held}
 use Rattle.sched_ticket_quota.proofs.Parts.{splits_ok}

@@ -1,3 +1,4 @@
+-- Reading the total keeps the quota's rule.
 use Rattle.std.proofs.Common.{sym, ap, ◌∙◌, arith}
 use mathlib.Core.Option.{none}
 use Rattle.atomic_table.specs.Table.{step}

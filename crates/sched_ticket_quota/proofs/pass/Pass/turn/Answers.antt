@@ -1,3 +1,4 @@
+-- After a turn, the moment is before the end of the window that the pass has seen.
 use Rattle.std.proofs.Common.{ℕ, ap, ◌∙◌, ◌-◌, ◌≤◌, subst, inl, refl, arith}
 use Rattle.sched_ticket_quota.specs.Windows.{window_of, window_at}
 use Rattle.sched_ticket_quota.specs.Held.{Held}
@@ -15,7 +16,8 @@ returns-then-get-self-clause-turned c =
     let terms = ap (λ (p : Held). p.has.terms) c.self.view_is ∙ c.requires.1 in
     let start = ap (λ (p : Held). p.start) c.self.view_is ∙ c.requires.2 in
     let seen = ap (λ (p : Held). p.has.seen) c.self.view_is in
-    let early : window_at me.terms from c.args.now ≤ window_of me.seen = omega (arith, pass.goes_on (omega arith), window_at-mono me.terms from c.args.now (until - 1) (omega arith)) in
+    let early : window_at me.terms from c.args.now ≤ window_of me.seen =
+    omega (arith, pass.goes_on (omega arith), window_at-mono me.terms from c.args.now (until - 1) (omega arith)) in
     let here : window_at me.terms from c.args.now ≤ window_of c.args.self.now.has.seen = omega arith in
     inl (
       subst (λ (k : Terms). window_at k c.args.quota.now.start c.args.now ≤ window_of c.args.self.now.has.seen) terms

@@ -1,3 +1,4 @@
+-- A join keeps the quota's rule and the pass's invariant.
 use Rattle.std.proofs.Common.{sym, ap, ◌∙◌, subst, arith}
 use mathlib.Core.Option.{none}
 use Rattle.atomic_table.specs.Table.{step}
@@ -24,7 +25,8 @@ pub load-requires : goal.load-requires
 load-requires c =
     let known = c.quota.invariant in
     let joined = c.join_seat.ensures in (
-      joined.0 ∙ ap (λ (p : Held). p.table) c.self.view_is ∙ c.requires.this.0 ∙ sym (ap (λ (b : Name). b.table) c.quota.view_is),
+      joined.0 ∙ ap (λ (p : Held). p.table) c.self.view_is ∙ c.requires.this.0
+          ∙ sym (ap (λ (b : Name). b.table) c.quota.view_is),
       omega arith,
       learns_ok _ _ _ _ (step 0 8 0 0 none),
     )
@@ -32,5 +34,6 @@ load-requires c =
 pub invariant_of-self : goal.invariant_of-self
 invariant_of-self c =
     let learnt = c.load.ensures.2 in
-    joined_known c.self.inside.seat.me c.other.inside.seat.me c.load.new.seat.me _ _ _ _ _ _ _ _ _ _ _ _ _ c.self.invariant c.other.invariant
+    joined_known c.self.inside.seat.me c.other.inside.seat.me c.load.new.seat.me _ _ _ _ _ _ _ _ _ _ _ _ _
+    c.self.invariant c.other.invariant
     (learnt.0 ∙ c.join_seat.ensures.2) (subst (λ (m : Sat). IsSound m.0) (sym learnt.0) learnt.1) c.max.ensures
