@@ -1,7 +1,7 @@
 #!/usr/bin/env python3
-"""Compares the constants and structs of rust/src/engine.rs with include/hikebox.h: each constant has the header's
-number,
-and each struct that crosses the border the header's fields. Its functions are made from the header by bin/bindings.
+"""Compares the constants and structs of rust/src/engine/sys.rs with include/hikebox.h: each constant has the header's
+number, and each struct that crosses the border the header's fields. Its functions are made from the header by
+bin/bindings.
 """
 
 import pathlib
@@ -87,7 +87,7 @@ def structs_of_rust(source):
 
 def main():
     header = without_comments((TOP / "include/hikebox.h").read_text())
-    source = without_comments((TOP / "rust/src/engine.rs").read_text())
+    source = without_comments((TOP / "rust/src/engine/sys.rs").read_text())
     differences, compared = [], 0
     for what, wanted, found in [
         ("constant", constants_of_header(header), constants_of_rust(source)),
@@ -102,7 +102,7 @@ def main():
             if found[name] != wanted.get(name)
         ]
     if differences:
-        sys.exit("rust/src/engine.rs: " + "\nrust/src/engine.rs: ".join(differences))
+        sys.exit("rust/src/engine/sys.rs: " + "\nrust/src/engine/sys.rs: ".join(differences))
     print(f"tests/bindings.py: {compared} declarations of Rust are the header's")
 
 

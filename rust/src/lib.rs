@@ -35,70 +35,25 @@
 
 #![deny(unsafe_code)]
 
-mod asynchronous;
-mod budget;
 mod clock;
-mod counters;
-mod course;
 mod engine;
-mod error;
-mod grants;
-mod hooks;
-mod host;
 #[cfg(feature = "leased")]
 mod leased;
-#[cfg(feature = "leased")]
-mod leasing;
-mod machine;
+mod limits;
 mod policy;
-mod quota;
-mod repeating;
-#[cfg(feature = "tower")]
-mod requests;
-mod retrying;
-mod schedule;
+mod random;
+mod retry;
 #[cfg(feature = "serde")]
 mod serial;
-#[cfg(feature = "leased")]
-mod slot;
-#[cfg(feature = "leased")]
-mod store;
-mod storm;
+mod storms;
 mod system;
-mod ticket;
-#[cfg(feature = "leased")]
-mod uptime;
-mod waits;
-mod words;
 
-#[cfg(feature = "tokio")]
-pub use asynchronous::retry_async;
-#[cfg(all(feature = "tokio", hikebox_async_closures))]
-pub use asynchronous::retry_async_mut;
-pub use asynchronous::{Async, AsyncSleep, Retryable};
-pub use budget::{Budget, BudgetError, Pass};
-pub use error::RetryError;
-pub use grants::{AnyBudget, Grants, Tickets, Unlimited};
-pub use hooks::{Hooked, Hooks, PlainHooks, SharedHooks};
-pub use host::{Host, Random, Sleep, SystemHost, SystemSleep, SystemWords};
 #[cfg(feature = "leased")]
-pub use leased::{Leased, LeasedQuota};
-pub use machine::{Cause, Ended, Machine, Report, Step};
-pub use policy::{Line, Policy, PolicyError, PolicyFault};
-pub use quota::{Quota, QuotaPass, Usage};
-pub use repeating::{poll_until, repeat, RepeatError, Repeating};
-#[cfg(feature = "tokio")]
-pub use repeating::{poll_until_async, repeat_async};
-#[cfg(feature = "tower")]
-pub use requests::{Noted, RetryPolicy, RetryWait, Since, Whenever};
-pub use retrying::{retry, Attempt, Blocking, BlockingRetryable, Retrying, SharedRetrying};
-pub use schedule::{Fold, Schedule, Test};
-#[cfg(feature = "leased")]
-pub use store::StoreError;
-pub use storm::{Storm, StormError, StormReport, StormTotals, StormWindow};
-pub use ticket::{NoTicket, StoreFailure, Ticket};
-
-pub use waits::Waits;
+pub use leased::{Leased, LeasedQuota, StoreError};
+pub use limits::*;
+pub use policy::{Fold, Line, Policy, PolicyError, PolicyFault, Schedule, Test, Waits};
+pub use retry::*;
+pub use storms::*;
 
 #[cfg(doctest)]
 mod pages {
@@ -129,8 +84,8 @@ mod pages {
     /// ```
     ///
     /// ```compile_fail,E0004
-    /// use hikebox::Ended::{self, *};
-    /// fn won(ended: Ended) -> bool {
+    /// use hikebox::Ending::{self, *};
+    /// fn won(ended: Ending) -> bool {
     ///     match ended {
     ///         Won => true,
     ///         ScheduleDone | Deadline | BudgetRefused | Cancelled | Broken(_) => false,

@@ -1,7 +1,7 @@
 //! Policies in what serde reads and writes, and quotas in what it reads.
 
+use crate::limits::quota::Quota;
 use crate::policy::Policy;
-use crate::quota::Quota;
 use serde::de::{Deserialize, Deserializer, Error};
 use serde::ser::{Error as _, Serialize, Serializer};
 use serde_json::{Map, Value};

@@ -1,6 +1,6 @@
 //! Deadlines: worked by hand, on a clock that the sleeps and the calls move.
 
-use hikebox::{Attempt, Budget, Ended, Machine, Policy, Quota, Report, RetryError, Retrying, Step, Unlimited};
+use hikebox::{Attempt, Budget, Ending, Machine, Policy, Quota, Report, RetryError, Retrying, Step, Unlimited};
 use std::cell::Cell;
 use std::time::{Duration, Instant};
 
@@ -183,7 +183,7 @@ fn a_machine_ends_by_it_at_the_moments_of_its_host() {
             assert_eq!(machine.step(at(start), Some(Report::Lost(5))), Step::Wait(at(start + 450)));
         }
         assert_eq!(machine.step(at(900), None), Step::Run);
-        assert_eq!(machine.step(at(900), Some(Report::Lost(5))), Step::Over(Ended::Deadline));
+        assert_eq!(machine.step(at(900), Some(Report::Lost(5))), Step::Over(Ending::Deadline));
         assert_eq!((machine.granted(), machine.runs()), (2, 3));
         assert_eq!((machine.left(at(999)), machine.left(at(1001))), (Some(at(1)), Some(at(0))));
     }
@@ -329,7 +329,7 @@ fn a_machine_that_is_stepped_past_it_is_over_and_hands_its_ticket_back() {
         let mut machine = machine.unwrap();
         assert_eq!(machine.step(at(0), None), Step::Run);
         assert_eq!(machine.step(at(0), Some(Report::Lost(5))), Step::Wait(at(450)));
-        assert_eq!(machine.step(at(1001), None), Step::Over(Ended::Deadline));
+        assert_eq!(machine.step(at(1001), None), Step::Over(Ending::Deadline));
     }
     // a budget's ticket stays drawn
     assert_eq!((budget.close().unwrap(), quota.close().unwrap()), (1, 0));

@@ -64,7 +64,7 @@ impl Numbers {
                 Duration::from_secs(9),
             ),
             13 => Schedule::unfold(self.below(5), self.below(5), self.below(5)),
-            _ => Schedule::lone(self.millis()),
+            _ => Schedule::from_duration(self.millis()),
         }
     }
 
@@ -76,17 +76,17 @@ impl Numbers {
         match self.below(25) {
             0 | 21 => under & self.schedule(depth - 1),
             1 | 22 => under | self.schedule(depth - 1),
-            2 | 23 => under.then(self.schedule(depth - 1)),
+            2 | 23 => under.and_then(self.schedule(depth - 1)),
             3 | 24 => under >> self.schedule(depth - 1),
             4 => under.while_input(self.test()),
             5 => under.until_input(self.test()),
             6 => under.while_output(self.test()),
             7 => under.until_output(self.test()),
             8 => under.gather([Fold::Sum, Fold::Count, Fold::Max, Fold::List][self.below(4) as usize]),
-            9 => under.delayed_by(self.millis()),
-            10 => under.with_delay(self.millis()),
+            9 => under.add_delay(self.millis()),
+            10 => under.set_delay(self.millis()),
             11 => under.cap(self.millis()),
-            12 => under.add_out(),
+            12 => under.add_output(),
             13 => under.jittered(0.5..1.5),
             14 => under.up_to(self.millis()),
             15 => under.renew(self.millis()),
@@ -132,7 +132,7 @@ fn a_policy_tells_how_often_it_goes_on_at_most() {
     let (two, five, second) = (Schedule::recurs(2), Schedule::recurs(5), Duration::from_secs(1));
     assert_eq!(most(two.clone() & five.clone()), Some(2));
     assert_eq!(most(two.clone() | five.clone()), Some(5));
-    assert_eq!(most(two.clone().then(five.clone()).then(Schedule::lone(second))), Some(8));
+    assert_eq!(most(two.clone().and_then(five.clone()).and_then(Schedule::from_duration(second))), Some(8));
     assert_eq!(most(Schedule::forever() >> five.clone().jittered(0.5..1.5).gather(Fold::List)), Some(5));
     assert_eq!(most(Schedule::forever() | five.clone()), None);
     assert_eq!(most(five.renew(second)), None);
@@ -145,7 +145,7 @@ fn a_preview_has_as_many_lines_as_there_are_and_their_outputs() {
     let lists = Policy::new(&Schedule::forever().gather(Fold::List)).unwrap().preview(300).unwrap();
     assert_eq!(lists.len(), 300);
     assert!((0..).zip(&lists).all(|(count, line)| line.output == format!("[{}]", numbers(count))));
-    let lone = Policy::new(&Schedule::lone(Duration::from_millis(7))).unwrap().preview(9).unwrap();
+    let lone = Policy::new(&Schedule::from_duration(Duration::from_millis(7))).unwrap().preview(9).unwrap();
     assert_eq!(lone.iter().map(|line| (line.moment, line.next)).collect::<Vec<_>>(), [(0, Some(7)), (7, None)]);
     let forever = Policy::new(&Schedule::forever()).unwrap();
     assert_eq!([0, 4096, 4097, usize::MAX].map(|steps| forever.preview(steps).unwrap().len()), [0, 4096, 4096, 4096]);

@@ -4,7 +4,7 @@ mod common;
 
 use common::ticket;
 use hikebox::{
-    retry, Budget, BudgetError, Ended, Grants, Machine, Policy, Quota, QuotaPass, Report, RetryError, Retrying, Step,
+    retry, Budget, BudgetError, Ending, Grants, Machine, Policy, Quota, QuotaPass, Report, RetryError, Retrying, Step,
     Unlimited, Usage,
 };
 use std::cell::Cell;
@@ -122,7 +122,7 @@ fn terms_out_of_their_ranges_are_refused() {
 }
 
 /// A retry by hand on the quota whose runs all fail, from this moment on: how it ended, and when it ran.
-fn all_lost(json: &str, budget: &impl Grants, start: u64) -> (Ended, Vec<u64>, u64) {
+fn all_lost(json: &str, budget: &impl Grants, start: u64) -> (Ending, Vec<u64>, u64) {
     let mut machine = Machine::new(&policy(json), budget).unwrap();
     let (mut now, mut report, mut runs) = (start, None, Vec::new());
     loop {
@@ -142,16 +142,16 @@ fn a_retry_draws_at_the_moment_of_the_failure() {
     let quota = quota(2, 0.0, 1000);
     // failures at 5,500, 5,900, 6,700 and 8,300
     let json = r#"{"meet":[{"recurs":3},{"exponential":[400,2]}]}"#;
-    assert_eq!(all_lost(json, &quota, 5500), (Ended::ScheduleDone, vec![5500, 5900, 6700, 8300], 3));
+    assert_eq!(all_lost(json, &quota, 5500), (Ending::ScheduleDone, vec![5500, 5900, 6700, 8300], 3));
     assert_eq!(told(quota.seen_at(at(6999))), [6, 0, 1, 1]);
-    assert_eq!(all_lost("\"forever\"", &quota, 6900), (Ended::BudgetRefused, vec![6900, 6900], 1));
-    assert_eq!(all_lost("\"forever\"", &quota, 8300), (Ended::BudgetRefused, vec![8300; 3], 2));
+    assert_eq!(all_lost("\"forever\"", &quota, 6900), (Ending::BudgetRefused, vec![6900, 6900], 1));
+    assert_eq!(all_lost("\"forever\"", &quota, 8300), (Ending::BudgetRefused, vec![8300; 3], 2));
     assert_eq!(quota.close().unwrap(), 6);
 }
 
 #[test]
 fn a_retry_on_nothing_ends_by_its_schedule() {
-    assert_eq!(all_lost(r#"{"recurs":4}"#, &Unlimited, 7), (Ended::ScheduleDone, vec![7; 5], 4));
+    assert_eq!(all_lost(r#"{"recurs":4}"#, &Unlimited, 7), (Ending::ScheduleDone, vec![7; 5], 4));
     let mut calls = 0;
     let result = retry(&policy(r#"{"recurs":4}"#), &Unlimited, || {
         calls += 1;
@@ -167,9 +167,9 @@ fn a_retry_on_nothing_ends_by_its_schedule() {
 #[test]
 fn a_retry_draws_of_a_rising_budget() {
     let budget = Budget::rising(2).unwrap();
-    assert_eq!(all_lost("\"forever\"", &budget, 0), (Ended::BudgetRefused, vec![0; 3], 2));
+    assert_eq!(all_lost("\"forever\"", &budget, 0), (Ending::BudgetRefused, vec![0; 3], 2));
     assert_eq!(budget.raise(3), Ok(3));
-    assert_eq!(all_lost("\"forever\"", &budget, 0), (Ended::BudgetRefused, vec![0; 2], 1));
+    assert_eq!(all_lost("\"forever\"", &budget, 0), (Ending::BudgetRefused, vec![0; 2], 1));
     assert_eq!(budget.close().unwrap(), 3);
 }
 

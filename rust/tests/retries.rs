@@ -1,7 +1,7 @@
 //! Retries: how they end, what they are granted, and what threads share.
 
 use hikebox::{
-    retry, BlockingRetryable, Budget, Cause, Ended, Machine, NoTicket, Policy, Report, RetryError, Retrying, Step,
+    retry, BlockingRetryable, Budget, Cause, Ending, Machine, NoTicket, Policy, Report, RetryError, Retrying, Step,
     Ticket, Tickets, Unlimited,
 };
 use std::cell::{Cell, RefCell};
@@ -18,7 +18,7 @@ fn policy(json: &str) -> Policy {
 }
 
 /// A retry by hand whose runs end as listed, the last one repeated: how it ended, its runs and its grants.
-fn scripted(json: &str, limit: u64, script: &[Report]) -> (Ended, u64, u64) {
+fn scripted(json: &str, limit: u64, script: &[Report]) -> (Ending, u64, u64) {
     let mut machine = Machine::new(&policy(json), &Budget::new(limit).unwrap()).unwrap();
     let mut runs = script.iter().copied().chain(std::iter::repeat(script[script.len() - 1]));
     let (mut now, mut report) = (Duration::ZERO, None);
@@ -34,18 +34,18 @@ fn scripted(json: &str, limit: u64, script: &[Report]) -> (Ended, u64, u64) {
 #[test]
 fn scripted_retries_end_as_a_pool_of_jobs_says() {
     use Report::{Lost, Won};
-    assert_eq!(scripted(r#"{"recurs":5}"#, 100, &[Lost(7), Lost(7), Won(1)]), (Ended::Won, 3, 2));
-    assert_eq!(scripted(r#"{"recurs":1}"#, 100, &[Lost(7), Lost(8)]), (Ended::ScheduleDone, 2, 1));
-    assert_eq!(scripted(r#"{"recurs":5}"#, 1, &[Lost(7), Lost(8)]), (Ended::BudgetRefused, 2, 1));
-    assert_eq!(scripted(r#"{"recurs":3}"#, 0, &[Lost(7)]), (Ended::BudgetRefused, 1, 0));
-    assert_eq!(scripted(r#""forever""#, 10_000, &[Lost(7)]), (Ended::BudgetRefused, 10_001, 10_000));
+    assert_eq!(scripted(r#"{"recurs":5}"#, 100, &[Lost(7), Lost(7), Won(1)]), (Ending::Won, 3, 2));
+    assert_eq!(scripted(r#"{"recurs":1}"#, 100, &[Lost(7), Lost(8)]), (Ending::ScheduleDone, 2, 1));
+    assert_eq!(scripted(r#"{"recurs":5}"#, 1, &[Lost(7), Lost(8)]), (Ending::BudgetRefused, 2, 1));
+    assert_eq!(scripted(r#"{"recurs":3}"#, 0, &[Lost(7)]), (Ending::BudgetRefused, 1, 0));
+    assert_eq!(scripted(r#""forever""#, 10_000, &[Lost(7)]), (Ending::BudgetRefused, 10_001, 10_000));
 }
 
 #[test]
 fn a_retry_goes_on_after_65_536_failures() {
     let mut outcomes = vec![Report::Lost(7); 70_000];
     outcomes.push(Report::Won(1));
-    assert_eq!(scripted(r#""forever""#, 100_000, &outcomes), (Ended::Won, 70_001, 70_000));
+    assert_eq!(scripted(r#""forever""#, 100_000, &outcomes), (Ending::Won, 70_001, 70_000));
 }
 
 #[test]
@@ -270,7 +270,7 @@ fn a_machine_counts_the_tickets_of_a_store_and_not_the_retries_that_were_refused
     assert_eq!(machine.step(at(10), Some(Report::Lost(1))), Step::Wait(at(20)));
     assert_eq!(machine.step(at(20), None), Step::Run);
     for _ in 0..2 {
-        assert_eq!(machine.step(at(20), Some(Report::Lost(1))), Step::Over(Ended::BudgetRefused));
+        assert_eq!(machine.step(at(20), Some(Report::Lost(1))), Step::Over(Ending::BudgetRefused));
         assert_eq!((machine.granted(), machine.runs()), (2, 3));
     }
     assert!(machine.store_failure().is_none());
@@ -305,7 +305,7 @@ fn a_clock_that_goes_back_breaks_a_retry() {
     let at = Duration::from_millis;
     assert_eq!(machine.step(at(10), None), Step::Run);
     assert_eq!(machine.step(at(10), Some(Report::Lost(1))), Step::Run);
-    assert_eq!(machine.step(at(9), Some(Report::Lost(1))), Step::Over(Ended::Broken(Cause::Backwards)));
+    assert_eq!(machine.step(at(9), Some(Report::Lost(1))), Step::Over(Ending::Broken(Cause::Backwards)));
 }
 
 #[test]
@@ -426,7 +426,7 @@ fn values_are_compared_and_are_keys() {
     fn keys<T: std::hash::Hash + Eq + Clone + std::fmt::Debug>() {}
     keys::<RetryError<u8>>();
     keys::<hikebox::RepeatError<u8, u8>>();
-    keys::<Ended>();
+    keys::<Ending>();
     keys::<Cause>();
     keys::<Report>();
     keys::<Step>();

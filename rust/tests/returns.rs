@@ -4,7 +4,7 @@ mod common;
 
 use common::ticket;
 use hikebox::{
-    retry, Budget, BudgetError, Ended, Machine, NoTicket, Policy, Quota, Report, RetryError, Retrying, Step, Ticket,
+    retry, Budget, BudgetError, Ending, Machine, NoTicket, Policy, Quota, Report, RetryError, Retrying, Step, Ticket,
     Tickets, Unlimited, Usage,
 };
 use std::cell::Cell;
@@ -322,7 +322,7 @@ fn a_store_hears_of_successes_and_of_tickets_that_come_back() {
     assert_eq!(store.told(), ["asked", "draws Some(1)", "draws Some(0)", "draws None"]);
     let mut machine = Machine::new(&policy, &store).unwrap();
     assert_eq!(machine.step(at(0), None), Step::Run);
-    assert_eq!(machine.step(at(0), Some(Report::Lost(0))), Step::Over(Ended::BudgetRefused));
+    assert_eq!(machine.step(at(0), Some(Report::Lost(0))), Step::Over(Ending::BudgetRefused));
     drop(machine);
     assert_eq!(store.told(), ["draws None"]);
 }

@@ -9,7 +9,7 @@ from ._nodes import parts_of
 __all__ = ["duration", "spelt_in_rust"]
 
 _OPERATORS = {"meet": "&", "join": "|", "feed": ">>"}
-_METHODS = {"add": "delayed_by", "set": "with_delay", "within": "up_to"}
+_NAMES = {"lone": "from_duration", "add": "add_delay", "set": "set_delay", "add_out": "add_output", "within": "up_to"}
 _TESTS = {"below": "Below", "at_least": "AtLeast", "equal": "Equal"}
 #: The leaves whose first number is a duration.
 _TIMED = ("spaced", "fixed", "windowed", "linear", "exponential", "exponential_milli", "fibonacci", "lone")
@@ -39,7 +39,7 @@ def spelt_in_rust(tree: Any) -> str:
         return f"Schedule::{_leaf(name, own)}"
     under = _as_operand(plans[0], None)
     if name == "follow":
-        return f"{under}.then({spelt_in_rust(plans[1])})"
+        return f"{under}.and_then({spelt_in_rust(plans[1])})"
     return f"{under}.{_method(name, own)}"
 
 
@@ -50,7 +50,7 @@ def _leaf(name: str, own: List[Any]) -> str:
             return f"decorrelated({duration(base)}, {factor // 1000}, {duration(longest)})"
         return f"decorrelated_milli({lane}, {duration(base)}, {factor}, {duration(longest)})"
     first = [duration(number) if name in _TIMED else str(number) for number in own[:1]]
-    return f"{name}({', '.join([*first, *map(str, own[1:])])})"
+    return f"{_NAMES.get(name, name)}({', '.join([*first, *map(str, own[1:])])})"
 
 
 def _method(name: str, own: List[Any]) -> str:
@@ -62,7 +62,7 @@ def _method(name: str, own: List[Any]) -> str:
     if name == "jitter":
         lane, least, most = own
         return f"jitter({lane}, {least}, {most})" if lane else f"jittered({least / 1000!r}..{most / 1000!r})"
-    return f"{_METHODS.get(name, name)}({', '.join(map(duration, own))})"
+    return f"{_NAMES.get(name, name)}({', '.join(map(duration, own))})"
 
 
 def _as_operand(tree: Any, before: Optional[str]) -> str:

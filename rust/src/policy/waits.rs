@@ -1,8 +1,8 @@
 //! The waits of a policy, one after another.
 
-use crate::grants::Unlimited;
-use crate::machine::{Machine, Report, Step};
+use crate::limits::grants::Unlimited;
 use crate::policy::Policy;
+use crate::retry::machine::{Machine, Report, Step};
 use std::fmt;
 use std::iter::FusedIterator;
 use std::time::Duration;

@@ -1,12 +1,13 @@
 //! Repeats of calls that succeed, and polls until an answer is there.
 
-use crate::asynchronous::AsyncSleep;
-use crate::course::{Course, Lost, Terms};
 use crate::engine::MAX_NUMBER;
-use crate::grants::Unlimited;
-use crate::host::{Host, Random, Sleep, SystemHost};
-use crate::machine::Ended;
+use crate::limits::grants::Unlimited;
 use crate::policy::{Policy, PolicyError};
+use crate::retry::asynchronous::AsyncSleep;
+use crate::retry::host::{Host, Random, Sleep, SystemHost};
+use crate::retry::machine::Ending;
+use crate::retry::options::Options;
+use crate::retry::progress::{Lost, Progress, Rules};
 use std::borrow::Cow;
 use std::error::Error;
 use std::fmt;
@@ -128,7 +129,7 @@ where
 #[must_use = "nothing is called before `call` or `until`"]
 pub struct Repeating<'a, T, C = fn(&T) -> u64, M = SystemHost> {
     policy: Cow<'a, Policy>,
-    deadline: Option<Duration>,
+    options: Options,
     code: C,
     host: M,
     value: PhantomData<fn(&T)>,
@@ -137,7 +138,8 @@ pub struct Repeating<'a, T, C = fn(&T) -> u64, M = SystemHost> {
 impl<'a, T> Repeating<'a, T> {
     /// Each value has the code 0.
     pub fn new(policy: &'a Policy) -> Self {
-        Self { policy: Cow::Borrowed(policy), deadline: None, code: |_| 0, host: Host::system(), value: PhantomData }
+        let (options, host) = (Options::default(), Host::system());
+        Self { policy: Cow::Borrowed(policy), options, code: |_| 0, host, value: PhantomData }
     }
 }
 
@@ -145,26 +147,26 @@ impl<'a, T, C, M> Repeating<'a, T, C, M> {
     /// No run but the first begins later than this (whole milliseconds) after the first one began, also where a wait took
     /// longer than it should.
     pub fn deadline(mut self, deadline: Duration) -> Self {
-        self.deadline = Some(deadline);
+        self.options.deadline = Some(deadline);
         self
     }
 
     /// The number by which the schedule knows a value, up to 2^62 - 1: its input.
     pub fn code<X: Fn(&T) -> u64>(self, code: X) -> Repeating<'a, T, X, M> {
-        let Self { policy, deadline, host, value, .. } = self;
-        Repeating { policy, deadline, code, host, value }
+        let Self { policy, options, host, value, .. } = self;
+        Repeating { policy, options, code, host, value }
     }
 
     /// The same with a policy of its own, as for a field of a type, or for a task that is spawned.
     pub fn into_owned(self) -> Repeating<'static, T, C, M> {
-        let Self { policy, deadline, code, host, value } = self;
-        Repeating { policy: Cow::Owned(policy.into_owned()), deadline, code, host, value }
+        let Self { policy, options, code, host, value } = self;
+        Repeating { policy: Cow::Owned(policy.into_owned()), options, code, host, value }
     }
 
     fn with<O>(self, host: impl FnOnce(M) -> O) -> Repeating<'a, T, C, O> {
         Repeating {
             policy: self.policy,
-            deadline: self.deadline,
+            options: self.options,
             code: self.code,
             host: host(self.host),
             value: PhantomData,
@@ -211,20 +213,20 @@ impl<T, C: Fn(&T) -> u64, K: Fn() -> Instant, S: Sleep, R: Random> Repeating<'_,
         mut wanted: impl FnMut(&T) -> bool,
         mut call: impl FnMut() -> Result<T, E>,
     ) -> Result<T, RepeatError<T, E>> {
-        let mut course = self.begin();
+        let mut progress = self.begin();
         loop {
             let value = call().map_err(RepeatError::Failed)?;
             if wanted(&value) {
                 return Ok(value);
             }
-            let wait = match self.after(&mut course, &value) {
+            let wait = match self.after(&mut progress, &value) {
                 Ok(wait) => wait,
                 Err(ended) => return Err(RepeatError::of(ended, value)),
             };
             if !wait.is_zero() {
                 self.host.sleep.sleep(wait);
             }
-            if let Err(ended) = course.resume(&self.host.clock) {
+            if let Err(ended) = progress.resume(&self.host.clock) {
                 return Err(RepeatError::of(ended, value));
             }
         }
@@ -258,20 +260,20 @@ impl<T, C: Fn(&T) -> u64, K: Fn() -> Instant, S: AsyncSleep, R: Random> Repeatin
     where
         F: Future<Output = Result<T, E>>,
     {
-        let mut course = self.begin();
+        let mut progress = self.begin();
         loop {
             let value = call().await.map_err(RepeatError::Failed)?;
             if wanted(&value) {
                 return Ok(value);
             }
-            let wait = match self.after(&mut course, &value) {
+            let wait = match self.after(&mut progress, &value) {
                 Ok(wait) => wait,
                 Err(ended) => return Err(RepeatError::of(ended, value)),
             };
             if !wait.is_zero() {
                 self.host.sleep.sleep(wait).await;
             }
-            if let Err(ended) = course.resume(&self.host.clock) {
+            if let Err(ended) = progress.resume(&self.host.clock) {
                 return Err(RepeatError::of(ended, value));
             }
         }
@@ -279,25 +281,26 @@ impl<T, C: Fn(&T) -> u64, K: Fn() -> Instant, S: AsyncSleep, R: Random> Repeatin
 }
 
 impl<T, C: Fn(&T) -> u64, K: Fn() -> Instant, S, R: Random> Repeating<'_, T, C, Host<K, S, R>> {
-    fn begin(&self) -> Course {
-        Course::new((self.host.clock)())
+    fn begin(&self) -> Progress {
+        Progress::new((self.host.clock)())
     }
 
     /// How long it is waited after a run that gave this value now, or how the schedule ended. To the engine each run whose
     /// value is not wanted is one that failed, on nothing that could refuse a retry.
-    fn after(&self, course: &mut Course, value: &T) -> Result<Duration, Ended> {
+    fn after(&self, progress: &mut Progress, value: &T) -> Result<Duration, Ending> {
         let now = (self.host.clock)();
-        let lost = Lost { now, code: (self.code)(value).min(MAX_NUMBER), words: self.host.words.draw(), asked: None };
-        course.lost(Terms { policy: &self.policy, budget: &Unlimited, deadline: self.deadline }, lost)
+        let lost =
+            Lost { now, code: (self.code)(value).min(MAX_NUMBER), words: self.host.words.draw(), retry_after: None };
+        progress.lost(Rules { policy: &self.policy, limit: &Unlimited, options: self.options }, lost)
     }
 }
 
 impl<T, E> RepeatError<T, E> {
     /// That of a repetition which ended so, with this value.
-    fn of(ended: Ended, value: T) -> Self {
+    fn of(ended: Ending, value: T) -> Self {
         match ended {
-            Ended::Broken(_) => Self::Broken(PolicyError::no_memory()),
-            Ended::Deadline => Self::Deadline(value),
+            Ending::Broken(_) => Self::Broken(PolicyError::no_memory()),
+            Ending::Deadline => Self::Deadline(value),
             _ => Self::ScheduleDone(value),
         }
     }
@@ -315,7 +318,7 @@ impl<T, C, M> fmt::Debug for Repeating<'_, T, C, M> {
     fn fmt(&self, f: &mut fmt::Formatter<'_>) -> fmt::Result {
         f.debug_struct("Repeating")
             .field("policy", &self.policy)
-            .field("deadline", &self.deadline)
+            .field("deadline", &self.options.deadline)
             .finish_non_exhaustive()
     }
 }

@@ -2,10 +2,10 @@
 //! form of a folder.
 
 use crate::engine::Stored;
-use crate::slot::{Record, COPY, SIZE};
+use crate::leased::slot::{Record, COPY, SIZE};
+use crate::leased::uptime::{boot, now, Window};
+use crate::random;
 use crate::system::{try_lock, unlock};
-use crate::uptime::{boot, now, Window};
-use crate::words;
 use std::error::Error;
 use std::fmt;
 use std::fs::{self, DirEntry, File, OpenOptions};
@@ -133,7 +133,7 @@ impl Folder {
 fn make(path: &Path, key: &Key) -> io::Result<()> {
     let folder = path.parent().unwrap_or(path);
     fs::create_dir_all(folder)?;
-    let [first, second, ..] = words::next();
+    let [first, second, ..] = random::next();
     let new = folder.join(format!(".new-{}-{first:08x}{second:08x}", std::process::id()));
     let linked = written(&new, key).and_then(|()| match fs::hard_link(&new, path) {
         Err(error) if error.kind() == io::ErrorKind::AlreadyExists => Ok(()),
@@ -167,7 +167,7 @@ fn written(path: &Path, key: &Key) -> io::Result<()> {
 /// ever. What can't be read or locked stays.
 fn prune(folder: &Path) {
     let entries: Vec<_> = fs::read_dir(folder).into_iter().flatten().flatten().collect();
-    let from = words::next()[0] as usize % entries.len().max(1);
+    let from = random::next()[0] as usize % entries.len().max(1);
     for entry in entries.iter().cycle().skip(from).take(LOOKED_AT.min(entries.len())) {
         // (what can't be taken away is looked at again some day)
         let _ = if entry.file_name().to_string_lossy().starts_with(".new-") {

@@ -1,12 +1,12 @@
 //! What a process holds of a limit that a store keeps: leases of its tickets, and when the store is asked for the next.
 
-use crate::budget::BudgetError;
 use crate::clock::whole_millis;
-use crate::engine::{Drawn, Grant, Handle, LeasedKind, Taken, Ticket as Named, MAX_NUMBER};
-use crate::store::StoreError;
+use crate::engine::{Grant, Handle, LeasedDraw, LeasedKind, Taken, Ticket as Named, MAX_NUMBER};
+use crate::leased::folder::StoreError;
+use crate::leased::uptime::{now, Window};
+use crate::limits::budget::BudgetError;
+use crate::limits::ticket::{Drawer, NoTicket, StoreFailure, Ticket};
 use crate::system::PerProcess;
-use crate::ticket::{Drawer, NoTicket, StoreFailure, Ticket};
-use crate::uptime::{now, Window};
 use std::fmt;
 use std::sync::{Mutex, MutexGuard, PoisonError};
 use std::time::Duration;
@@ -141,14 +141,14 @@ impl Leases {
             Err(error) => return Some(Err(NoTicket::failed(error))),
         };
         match held.pass.draw(now) {
-            Drawn::Ticket(Named { window, number }) => Some(Ok(Ticket::drawn(held.drawer, window, number))),
-            Drawn::LeaseWanted => None,
-            Drawn::NoMemory => Some(Err(NoTicket::failed(BudgetError::NoMemory))),
-            Drawn::NotBefore(_) if held.is_worth_asking() => {
+            LeasedDraw::Ticket(Named { window, number }) => Some(Ok(Ticket::drawn(held.drawer, window, number))),
+            LeasedDraw::LeaseWanted => None,
+            LeasedDraw::NoMemory => Some(Err(NoTicket::failed(BudgetError::NoMemory))),
+            LeasedDraw::NotBefore(_) if held.is_worth_asking() => {
                 held.may_ask();
                 None
             }
-            Drawn::NotBefore(again) => {
+            LeasedDraw::NotBefore(again) => {
                 let next_in = Duration::from_millis(again.saturating_sub(now));
                 Some(Err(match held.failure.clone() {
                     Some(failure) => NoTicket::StoreFailed { failure, next_in: Some(next_in) },

@@ -1,11 +1,11 @@
 //! A `tower` retry policy by a schedule and a budget.
 
 use crate::clock::now;
-use crate::course::{Course, Lost, Terms};
-use crate::grants::{DrawnOn, Grants, Source};
+use crate::limits::grants::{Grants, Limit, Source};
 use crate::policy::Policy;
-use crate::retrying::MAX_RETRY_AFTER;
-use crate::words;
+use crate::random;
+use crate::retry::options::Options;
+use crate::retry::progress::{Lost, Progress, Rules};
 use ::tokio::time::{sleep, Sleep};
 use std::fmt;
 use std::future::Future;
@@ -43,7 +43,7 @@ use std::time::{Duration, Instant};
 pub struct RetryPolicy<Request, Response, E, B = Whenever> {
     settings: Arc<Settings<Request, Response, E>>,
     /// The retry under way, of a run after the first.
-    course: Option<Arc<Mutex<Course>>>,
+    progress: Option<Arc<Mutex<Progress>>>,
     began: B,
 }
 
@@ -104,14 +104,13 @@ struct Settings<Request, Response, E> {
     policy: Policy,
     source: Source,
     hears_of_successes: bool,
-    deadline: Option<Duration>,
+    options: Options,
     copy: Copying<Request>,
     when: Asked<E, bool>,
     failed: Asked<Response, bool>,
     code: Asked<E, u64>,
     response_code: Asked<Response, u64>,
     retry_after: Outcome<Option<Duration>, Response, E>,
-    max_retry_after: Duration,
 }
 
 impl<Request: Clone, Response, E> RetryPolicy<Request, Response, E> {
@@ -134,16 +133,15 @@ impl<Request, Response, E> RetryPolicy<Request, Response, E> {
             policy,
             hears_of_successes: source.hears_of_successes(),
             source,
-            deadline: None,
+            options: Options::default(),
             copy: Arc::new(copy),
             when: None,
             failed: None,
             code: None,
             response_code: None,
             retry_after: None,
-            max_retry_after: MAX_RETRY_AFTER,
         };
-        Self { settings: Arc::new(settings), course: None, began: Whenever }
+        Self { settings: Arc::new(settings), progress: None, began: Whenever }
     }
 }
 
@@ -185,7 +183,7 @@ impl<Request, Response, E, B: Noted> RetryPolicy<Request, Response, E, B> {
 
     /// The longest wait that a failure is granted by [`RetryPolicy::retry_after`]: six hours, unless it is said.
     pub fn max_retry_after(mut self, longest: Duration) -> Self {
-        self.set().max_retry_after = longest;
+        self.set().options.max_retry_after = longest;
         self
     }
 
@@ -193,8 +191,8 @@ impl<Request, Response, E, B: Noted> RetryPolicy<Request, Response, E, B> {
     /// it was promised also where its timer was late; [`Retrying::deadline`](crate::Retrying::deadline) does not. A layer
     /// of `tower::timeout` ends a run that is under way.
     pub fn deadline(mut self, deadline: Duration) -> RetryPolicy<Request, Response, E, Since> {
-        self.set().deadline = Some(deadline);
-        RetryPolicy { settings: self.settings, course: None, began: Since(now()) }
+        self.set().options.deadline = Some(deadline);
+        RetryPolicy { settings: self.settings, progress: None, began: Since(now()) }
     }
 
     /// The settings, which other copies of the policy keep as they are.
@@ -206,14 +204,14 @@ impl<Request, Response, E, B: Noted> RetryPolicy<Request, Response, E, B> {
     #[inline(never)]
     fn again(&self, code: u64, result: Result<&Response, &E>) -> Option<RetryWait<Request, Response, E, B>> {
         let (settings, now) = (&*self.settings, now());
-        let course = match &self.course {
-            Some(course) => course.clone(),
-            None => Arc::new(Mutex::new(Course::new(self.began.began(now)))),
+        let progress = match &self.progress {
+            Some(progress) => progress.clone(),
+            None => Arc::new(Mutex::new(Progress::new(self.began.began(now)))),
         };
-        let asked = settings.retry_after.as_ref().and_then(|retry_after| retry_after(result));
-        let asked = asked.map(|asked| asked.min(settings.max_retry_after));
-        let wait = lock(&course).lost(settings.terms(), Lost { now, code, words: words::next(), asked }).ok()?;
-        let next = Self { settings: self.settings.clone(), course: Some(course), began: self.began };
+        let retry_after = settings.retry_after.as_ref().and_then(|retry_after| retry_after(result));
+        let wait =
+            lock(&progress).lost(settings.rules(), Lost { now, code, words: random::next(), retry_after }).ok()?;
+        let next = Self { settings: self.settings.clone(), progress: Some(progress), began: self.began };
         Some(RetryWait { next: Some(next), sleep: if wait.is_zero() { None } else { Some(sleeping(wait)) } })
     }
 }
@@ -222,7 +220,7 @@ impl<Request, Response, E, B> RetryPolicy<Request, Response, E, B> {
     /// The request was answered as it should be.
     #[inline(never)]
     fn succeeded(&self) {
-        let last = self.course.as_ref().and_then(|course| lock(course).won());
+        let last = self.progress.as_ref().and_then(|progress| lock(progress).won());
         self.settings.source.count_success_now(last);
     }
 }
@@ -232,13 +230,13 @@ fn sleeping(wait: Duration) -> Pin<Box<Sleep>> {
 }
 
 #[inline]
-fn lock(course: &Mutex<Course>) -> MutexGuard<'_, Course> {
-    course.lock().unwrap_or_else(PoisonError::into_inner)
+fn lock(progress: &Mutex<Progress>) -> MutexGuard<'_, Progress> {
+    progress.lock().unwrap_or_else(PoisonError::into_inner)
 }
 
 impl<Request, Response, E> Settings<Request, Response, E> {
-    fn terms(&self) -> Terms<'_> {
-        Terms { policy: &self.policy, budget: &self.source, deadline: self.deadline }
+    fn rules(&self) -> Rules<'_> {
+        Rules { policy: &self.policy, limit: &self.source, options: self.options }
     }
 
     /// The number by which the schedule knows what is a failure.
@@ -276,9 +274,9 @@ impl<Request, Response, E, B: Noted> Future for RetryWait<Request, Response, E, 
             }
         }
         let next = this.next.take().expect("it is not polled after its end");
-        if let (Some(_), Some(course)) = (&this.sleep, &next.course) {
+        if let (Some(_), Some(progress)) = (&this.sleep, &next.progress) {
             // Where the engine refuses it, the run that tower makes all the same is the last one.
-            let _ = lock(course).resume(now);
+            let _ = lock(progress).resume(now);
         }
         Poll::Ready(next)
     }
@@ -309,7 +307,7 @@ where
     // It is asked for a copy before each run, and of a policy with no request under way before the first one.
     #[inline]
     fn clone_request(&self, request: &Request) -> Option<Request> {
-        if self.course.is_none() {
+        if self.progress.is_none() {
             self.settings.source.count_request_now();
         }
         (self.settings.copy)(request)
@@ -320,7 +318,7 @@ where
 impl<Request, Response, E, B: Noted> Clone for RetryPolicy<Request, Response, E, B> {
     #[inline]
     fn clone(&self) -> Self {
-        Self { settings: self.settings.clone(), course: None, began: B::begins() }
+        Self { settings: self.settings.clone(), progress: None, began: B::begins() }
     }
 }
 
@@ -330,14 +328,13 @@ impl<Request, Response, E> Clone for Settings<Request, Response, E> {
             policy: self.policy.clone(),
             source: self.source.clone(),
             hears_of_successes: self.hears_of_successes,
-            deadline: self.deadline,
+            options: self.options,
             copy: self.copy.clone(),
             when: self.when.clone(),
             failed: self.failed.clone(),
             code: self.code.clone(),
             response_code: self.response_code.clone(),
             retry_after: self.retry_after.clone(),
-            max_retry_after: self.max_retry_after,
         }
     }
 }
@@ -347,7 +344,7 @@ impl<Request, Response, E, B> fmt::Debug for RetryPolicy<Request, Response, E, B
         f.debug_struct("RetryPolicy")
             .field("policy", &self.settings.policy)
             .field("budget", &self.settings.source)
-            .field("deadline", &self.settings.deadline)
+            .field("deadline", &self.settings.options.deadline)
             .finish_non_exhaustive()
     }
 }

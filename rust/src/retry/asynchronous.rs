@@ -1,14 +1,15 @@
 //! Retries of futures, on any runtime.
 
-use crate::error::RetryError;
 #[cfg(feature = "tokio")]
-use crate::grants::Grants;
-use crate::hooks::Hooked;
-#[cfg(feature = "tokio")]
-use crate::host::SystemSleep;
-use crate::host::{Host, Random};
+use crate::limits::grants::Grants;
 use crate::policy::Policy;
-use crate::retrying::{Attempt, Retrying, Then};
+use crate::retry::attempts::{Attempt, Then};
+use crate::retry::error::RetryError;
+use crate::retry::hooks::Hooked;
+#[cfg(feature = "tokio")]
+use crate::retry::host::SystemSleep;
+use crate::retry::host::{Host, Random};
+use crate::retry::retrying::Retrying;
 use std::future::Future;
 use std::time::{Duration, Instant};
 
@@ -46,20 +47,20 @@ pub struct Async<F>(F);
 /// such a future `Send`.
 macro_rules! until_it_succeeds {
     ($retrying:ident, $attempt:ident => $call:expr) => {{
-        let mut course = $retrying.begin();
+        let mut progress = $retrying.begin();
         let mut $attempt = $retrying.first();
         loop {
             let ran = $call.await;
-            let (wait, error) = match $retrying.after(&mut course, ran) {
+            let (wait, error) = match $retrying.after(&mut progress, ran) {
                 Then::Again { wait, error } => (wait, error),
                 Then::End(result) => return result,
             };
             if !wait.is_zero() {
                 $retrying.host.sleep.sleep(wait).await;
             }
-            $attempt = match $retrying.next(&mut course, $attempt) {
+            $attempt = match $retrying.next(&mut progress, $attempt) {
                 Ok(attempt) => attempt,
-                Err(ended) => return Err(course.error(ended, error)),
+                Err(ended) => return Err(progress.error(ended, error)),
             };
         }
     }};

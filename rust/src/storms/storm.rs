@@ -1,10 +1,10 @@
 //! Storms: many requests under one policy, on a peer that fails for a while.
 
-use crate::budget::BudgetError;
 use crate::clock::whole_millis;
 use crate::engine::{self, Handle, PassKind, Status, ON_BUDGET, ON_NOTHING, ON_QUOTA};
+use crate::limits::budget::BudgetError;
+use crate::limits::quota::Terms;
 use crate::policy::Policy;
-use crate::quota::Terms;
 use std::error::Error;
 use std::fmt::{self, Write as _};
 use std::ops::Range;

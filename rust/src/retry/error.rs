@@ -1,7 +1,7 @@
 //! How a retry ends without a value.
 
-use crate::machine::Cause;
-use crate::ticket::StoreFailure;
+use crate::limits::ticket::StoreFailure;
+use crate::retry::machine::Cause;
 use std::error::Error;
 use std::fmt;
 

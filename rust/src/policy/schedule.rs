@@ -188,8 +188,8 @@ impl Schedule {
     }
 
     /// Goes on once, after `delay`.
-    pub fn lone(delay: Duration) -> Self {
-        Self::leaf("lone", [millis(delay)]).checked(span(delay), format_args!("lone({delay:?})"))
+    pub fn from_duration(delay: Duration) -> Self {
+        Self::leaf("lone", [millis(delay)]).checked(span(delay), format_args!("from_duration({delay:?})"))
     }
 
     /// Goes on while both do, at the later start.
@@ -203,7 +203,7 @@ impl Schedule {
     }
 
     /// This schedule until it is done, and from that event on the other one.
-    pub fn then(self, other: Self) -> Self {
+    pub fn and_then(self, other: Self) -> Self {
         Self::over("follow", [self, other])
     }
 
@@ -244,13 +244,13 @@ impl Schedule {
     }
 
     /// Each delay is longer by `delay`.
-    pub fn delayed_by(self, delay: Duration) -> Self {
-        self.under("add", "delayed_by", delay)
+    pub fn add_delay(self, delay: Duration) -> Self {
+        self.under("add", "add_delay", delay)
     }
 
     /// Each delay is `delay`.
-    pub fn with_delay(self, delay: Duration) -> Self {
-        self.under("set", "with_delay", delay)
+    pub fn set_delay(self, delay: Duration) -> Self {
+        self.under("set", "set_delay", delay)
     }
 
     /// No delay is longer than `longest`.
@@ -259,7 +259,7 @@ impl Schedule {
     }
 
     /// Each delay is longer by the output, in milliseconds.
-    pub fn add_out(self) -> Self {
+    pub fn add_output(self) -> Self {
         Self::over("add_out", [self])
     }
 

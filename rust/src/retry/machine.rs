@@ -1,16 +1,13 @@
 //! A retry as a machine that its host steps.
 
-use crate::budget::{Budget, BudgetError};
 use crate::clock::whole_millis;
 use crate::engine::{self, Handle, Next, RetryKind, MAX_NUMBER, NO_DEADLINE};
-use crate::grants::{Grants, Source, Tickets};
+use crate::limits::budget::BudgetError;
+use crate::limits::grants::{Grants, Source, Tickets};
+use crate::limits::ticket::{NoTicket, StoreFailure, Ticket};
 use crate::policy::Policy;
-use crate::quota::Quota;
+use crate::random;
 use crate::system::generation;
-use crate::ticket::{NoTicket, StoreFailure, Ticket};
-use crate::words;
-use std::fmt;
-use std::sync::Arc;
 use std::time::Duration;
 
 /// A retry that the host steps: it says when to run the call and when to wait, and is told how each run went.
@@ -19,7 +16,7 @@ use std::time::Duration;
 /// have a clock of their own, as an event loop or a test.
 ///
 /// ```
-/// use hikebox::{Budget, Ended, Machine, Policy, Report, Step};
+/// use hikebox::{Budget, Ending, Machine, Policy, Report, Step};
 /// use std::time::Duration;
 ///
 /// let at = Duration::from_millis;
@@ -28,7 +25,7 @@ use std::time::Duration;
 /// assert_eq!(machine.step(at(0), None), Step::Run);
 /// assert_eq!(machine.step(at(5), Some(Report::Lost(7))), Step::Wait(at(105)));
 /// assert_eq!(machine.step(at(105), None), Step::Run);
-/// assert_eq!(machine.step(at(110), Some(Report::Lost(7))), Step::Over(Ended::ScheduleDone));
+/// assert_eq!(machine.step(at(110), Some(Report::Lost(7))), Step::Over(Ending::ScheduleDone));
 /// assert_eq!(machine.granted(), 1);
 /// # Ok::<(), Box<dyn std::error::Error>>(())
 /// ```
@@ -41,7 +38,9 @@ use std::time::Duration;
 pub struct Machine {
     /// `None` only while it is dropped.
     handle: Option<Handle<RetryKind>>,
-    draws_on: DrawsOn,
+    source: Source,
+    /// What was drawn of the source, where that is a store.
+    drawn: Drawn,
     /// The process in which it began.
     generation: u64,
     deadline: u64,
@@ -53,26 +52,15 @@ pub struct Machine {
     won: bool,
 }
 
-/// What a retry draws on.
-enum DrawsOn {
-    /// The engine's retry has a pass of this budget.
-    Budget(Budget),
-    /// The engine's retry has a pass of this quota.
-    Quota(Quota),
-    /// The engine's retry draws on nothing, and this store is asked for each retry to which it goes on.
-    Store(Drawn),
-    /// Nothing.
-    Nothing,
-}
-
-/// What was drawn of a store.
+/// What was drawn of a store: the engine's retry draws on nothing then, and the store is asked for each retry to which
+/// that goes on.
+#[derive(Debug, Default)]
 struct Drawn {
-    store: Arc<dyn Tickets>,
     granted: u64,
     /// The latest ticket, which is used up once its run succeeded.
     ticket: Option<Ticket>,
     failure: Option<StoreFailure>,
-    ended: Option<Ended>,
+    ended: Option<Ending>,
 }
 
 /// How a run went, with a code up to 2^62 - 1 by which the schedule knows it; a greater one counts as that.
@@ -93,13 +81,13 @@ pub enum Step {
     /// Wait until this moment, and step with no report.
     Wait(Duration),
     /// Nothing: the retry is over.
-    Over(Ended),
+    Over(Ending),
 }
 
 /// How a retry ended.
 #[derive(Clone, Copy, Debug, PartialEq, Eq, Hash)]
 #[non_exhaustive]
-pub enum Ended {
+pub enum Ending {
     /// The last run succeeded.
     Won,
     /// The last run failed, and the schedule does not go on.
@@ -137,11 +125,11 @@ impl Machine {
     }
 
     /// The same with a moment past which no run but the first begins: where the schedule plans one, it is over as
-    /// [`Ended::Deadline`], and draws no ticket for that. So it is where it is stepped past that moment while it waits; its
+    /// [`Ending::Deadline`], and draws no ticket for that. So it is where it is stepped past that moment while it waits; its
     /// ticket goes back, if it is a quota's.
     ///
     /// ```
-    /// use hikebox::{Ended, Machine, Policy, Report, Step, Unlimited};
+    /// use hikebox::{Ending, Machine, Policy, Report, Step, Unlimited};
     /// use std::time::Duration;
     ///
     /// let at = Duration::from_millis;
@@ -151,7 +139,7 @@ impl Machine {
     /// assert_eq!(machine.step(at(0), Some(Report::Lost(7))), Step::Wait(at(450)));
     /// assert_eq!(machine.left(at(450)), Some(at(150)));
     /// assert_eq!(machine.step(at(450), None), Step::Run);
-    /// assert_eq!(machine.step(at(450), Some(Report::Lost(7))), Step::Over(Ended::Deadline));
+    /// assert_eq!(machine.step(at(450), Some(Report::Lost(7))), Step::Over(Ending::Deadline));
     /// # Ok::<(), Box<dyn std::error::Error>>(())
     /// ```
     ///
@@ -169,14 +157,14 @@ impl Machine {
             Source::Store(_) | Source::Unlimited => Handle::on_nothing(policy, deadline),
         });
         let handle = Some(handle.map_err(BudgetError::of)?);
-        let (draws_on, told) = (DrawsOn::of(source), Next::default());
-        Ok(Self { handle, draws_on, generation: generation(), deadline, told, waits: false, won: false })
+        let (drawn, told) = (Drawn::default(), Next::default());
+        Ok(Self { handle, source, drawn, generation: generation(), deadline, told, waits: false, won: false })
     }
 
     /// Steps it at the moment `now`, which is not before that of the step before, with random words of its own. A
     /// report is of the run under way; where none is, it counts for nothing.
     pub fn step(&mut self, now: Duration, report: Option<Report>) -> Step {
-        self.step_with(now, report, words::next())
+        self.step_with(now, report, random::next())
     }
 
     /// The same with random words of the host's, of which each jitter takes the one of its lane: `u32::MAX / 2` picks
@@ -190,10 +178,15 @@ impl Machine {
     }
 
     /// The same at a moment in milliseconds: the one to wait for, or `None` where a run is under way.
-    pub(crate) fn step_at(&mut self, now: u64, report: Option<Report>, words: &[u32; 4]) -> Result<Option<u64>, Ended> {
+    pub(crate) fn step_at(
+        &mut self,
+        now: u64,
+        report: Option<Report>,
+        words: &[u32; 4],
+    ) -> Result<Option<u64>, Ending> {
         self.poll(now, report, words);
-        if let DrawsOn::Store(drawn) = &mut self.draws_on {
-            if let Some(ended) = drawn.refuses(self.told.granted) {
+        if let Source::Store(store) = &self.source {
+            if let Some(ended) = self.drawn.refuses(&**store, self.told.granted) {
                 self.cancel();
                 return Err(ended);
             }
@@ -222,10 +215,7 @@ impl Machine {
     /// Its run succeeded, and it is not stepped any more: the ticket of its last retry, of a store.
     pub(crate) fn succeeded(&mut self) -> Option<Ticket> {
         self.won = true;
-        match &mut self.draws_on {
-            DrawsOn::Store(drawn) => drawn.ticket.take(),
-            _ => None,
-        }
+        self.drawn.ticket.take()
     }
 
     fn poll(&mut self, now: u64, report: Option<Report>, words: &[u32; 4]) {
@@ -243,8 +233,8 @@ impl Machine {
     /// How many retries it was granted.
     #[must_use]
     pub fn granted(&self) -> u64 {
-        match &self.draws_on {
-            DrawsOn::Store(drawn) => drawn.granted,
+        match self.source {
+            Source::Store(_) => self.drawn.granted,
             _ => self.told.granted,
         }
     }
@@ -277,10 +267,7 @@ impl Machine {
     /// Why the store of tickets failed, where it did.
     #[must_use]
     pub fn store_failure(&self) -> Option<&StoreFailure> {
-        match &self.draws_on {
-            DrawsOn::Store(drawn) => drawn.failure.as_ref(),
-            _ => None,
-        }
+        self.drawn.failure.as_ref()
     }
 
     /// Ends it as cancelled, where it is not over. On a quota, where it waited, its latest ticket goes back when it is
@@ -300,77 +287,48 @@ impl Drop for Machine {
             // (in a forked child its tickets are the parent's)
             _ => return,
         };
-        match &mut self.draws_on {
-            DrawsOn::Budget(budget) => budget.with(|root| handle.end(root)),
-            DrawsOn::Quota(quota) => quota.end(handle, self.waits || (self.won && quota.returns_tickets())),
-            DrawsOn::Store(drawn) => drawn.end(self.waits),
-            DrawsOn::Nothing => (),
-        }
-    }
-}
-
-impl DrawsOn {
-    fn of(source: Source) -> Self {
-        match source {
-            Source::Budget(budget) => Self::Budget(budget),
-            Source::Quota(quota) => Self::Quota(quota),
-            Source::Store(store) => Self::Store(Drawn::new(store)),
-            Source::Unlimited => Self::Nothing,
+        match &self.source {
+            Source::Budget(budget) => budget.with(|root| handle.end(root)),
+            Source::Quota(quota) => quota.end(handle, self.waits || (self.won && quota.returns_tickets())),
+            Source::Store(store) => {
+                if let (true, Some(ticket)) = (self.waits, self.drawn.ticket.take()) {
+                    store.hand_back(ticket);
+                }
+            }
+            Source::Unlimited => (),
         }
     }
 }
 
 impl Drawn {
-    fn new(store: Arc<dyn Tickets>) -> Self {
-        Self { store, granted: 0, ticket: None, failure: None, ended: None }
-    }
-
     /// How the retry ended, where it did: the store is asked where the schedule went on to one retry more than were granted,
     /// and may have no ticket, or fail.
-    fn refuses(&mut self, wanted: u64) -> Option<Ended> {
+    fn refuses(&mut self, store: &dyn Tickets, wanted: u64) -> Option<Ending> {
         if wanted > self.granted && self.ended.is_none() {
-            match self.store.draw() {
+            match store.draw() {
                 Ok(ticket) => {
                     self.granted += 1;
                     self.ticket = Some(ticket);
                 }
-                Err(NoTicket::UsedUp { .. }) => self.ended = Some(Ended::BudgetRefused),
+                Err(NoTicket::UsedUp { .. }) => self.ended = Some(Ending::BudgetRefused),
                 Err(NoTicket::StoreFailed { failure, .. }) => {
                     self.failure = Some(failure);
-                    self.ended = Some(Ended::Broken(Cause::StoreFailed));
+                    self.ended = Some(Ending::Broken(Cause::StoreFailed));
                 }
             }
         }
         self.ended
     }
-
-    /// Hands the latest ticket back, where the run for which it was drawn never began.
-    fn end(&mut self, waits: bool) {
-        if let (true, Some(ticket)) = (waits, self.ticket.take()) {
-            self.store.hand_back(ticket);
-        }
-    }
 }
 
-impl fmt::Debug for DrawsOn {
-    fn fmt(&self, f: &mut fmt::Formatter<'_>) -> fmt::Result {
-        match self {
-            Self::Budget(budget) => budget.fmt(f),
-            Self::Quota(quota) => quota.fmt(f),
-            Self::Store(drawn) => f.debug_struct("Store").field("granted", &drawn.granted).finish_non_exhaustive(),
-            Self::Nothing => f.write_str("Nothing"),
-        }
-    }
-}
-
-fn ended_of(how: u32) -> Ended {
+fn ended_of(how: u32) -> Ending {
     match how {
-        engine::ENDED_WON => Ended::Won,
-        engine::ENDED_DONE => Ended::ScheduleDone,
-        engine::ENDED_DEADLINE => Ended::Deadline,
-        engine::ENDED_REFUSED => Ended::BudgetRefused,
-        engine::ENDED_CANCELLED => Ended::Cancelled,
-        engine::ENDED_NO_MEMORY => Ended::Broken(Cause::NoMemory),
-        _ => Ended::Broken(Cause::Backwards),
+        engine::ENDED_WON => Ending::Won,
+        engine::ENDED_DONE => Ending::ScheduleDone,
+        engine::ENDED_DEADLINE => Ending::Deadline,
+        engine::ENDED_REFUSED => Ending::BudgetRefused,
+        engine::ENDED_CANCELLED => Ending::Cancelled,
+        engine::ENDED_NO_MEMORY => Ending::Broken(Cause::NoMemory),
+        _ => Ending::Broken(Cause::Backwards),
     }
 }

@@ -1,7 +1,12 @@
-//! Policies: schedules that were read and are right.
+//! Policies: schedules that the engine has accepted.
+
+pub(crate) mod schedule;
+mod waits;
+
+pub use schedule::{Fold, Schedule, Test};
+pub use waits::Waits;
 
 use crate::engine::{self, Event, Handle, Place, PolicyKind, Size, Status, MAX_STEPS};
-use crate::schedule::Schedule;
 use crate::system::PerProcess;
 use std::error::Error;
 use std::fmt;

@@ -2,20 +2,20 @@
 
 use crate::clock::whole_millis;
 use crate::engine::{MAX_NUMBER, NO_DEADLINE};
-use crate::error::RetryError;
-use crate::grants::DrawnOn;
-use crate::machine::{Cause, Ended, Machine, Report};
+use crate::limits::grants::Limit;
+use crate::limits::ticket::Ticket;
 use crate::policy::Policy;
-use crate::ticket::Ticket;
+use crate::retry::error::RetryError;
+use crate::retry::machine::{Cause, Ending, Machine, Report};
+use crate::retry::options::Options;
 use std::time::{Duration, Instant};
 
 /// What a retry goes by.
 #[derive(Clone, Copy)]
-pub(crate) struct Terms<'a> {
+pub(crate) struct Rules<'a> {
     pub(crate) policy: &'a Policy,
-    pub(crate) budget: &'a dyn DrawnOn,
-    /// How long after the first run began the last one may begin.
-    pub(crate) deadline: Option<Duration>,
+    pub(crate) limit: &'a dyn Limit,
+    pub(crate) options: Options,
 }
 
 /// A run that failed.
@@ -25,14 +25,14 @@ pub(crate) struct Lost {
     pub(crate) code: u64,
     pub(crate) words: [u32; 4],
     /// How long the error asks to wait.
-    pub(crate) asked: Option<Duration>,
+    pub(crate) retry_after: Option<Duration>,
 }
 
 /// A retry from its first run on. The engine hears of it at its first failure, with the moments at which the first run
 /// began and failed: until then there is nothing to decide, and nothing is drawn, locked or allocated. Of a success it
 /// hears nothing: the retry is dropped then, and gives its tickets to be counted.
 #[derive(Debug)]
-pub(crate) struct Course {
+pub(crate) struct Progress {
     began: Instant,
     begun: Option<Begun>,
 }
@@ -55,7 +55,7 @@ struct Begun {
 /// The random words of a step at which the schedule is not asked.
 const NO_WORDS: [u32; 4] = [0; 4];
 
-impl Course {
+impl Progress {
     /// One whose first run begins now.
     pub(crate) fn new(now: Instant) -> Self {
         Self { began: now, begun: None }
@@ -68,15 +68,16 @@ impl Course {
 
     /// The run under way failed: how long it is to be waited from then on, or how the retry ended. The wait is the
     /// planned one in full, whatever part of a millisecond the run ended at, or what the error asks for.
-    pub(crate) fn lost(&mut self, terms: Terms<'_>, lost: Lost) -> Result<Duration, Ended> {
+    pub(crate) fn lost(&mut self, rules: Rules<'_>, lost: Lost) -> Result<Duration, Ending> {
         let passed = self.passed(lost.now);
-        let asked = lost.asked.unwrap_or(Duration::ZERO);
-        if !asked.is_zero() && terms.deadline.map_or(false, |deadline| passed.saturating_add(asked) > deadline) {
-            return Err(Ended::Deadline);
+        let Options { deadline, max_retry_after } = rules.options;
+        let asked = lost.retry_after.unwrap_or(Duration::ZERO).min(max_retry_after);
+        if !asked.is_zero() && deadline.map_or(false, |deadline| passed.saturating_add(asked) > deadline) {
+            return Err(Ending::Deadline);
         }
         let begun = match &mut self.begun {
             Some(begun) => begun,
-            None => self.begun.insert(Begun::new(terms, self.began)?),
+            None => self.begun.insert(Begun::new(rules, self.began)?),
         };
         begun.due = begun.step(passed, Some(Report::Lost(lost.code)), &lost.words)?;
         let wait = match begun.due {
@@ -95,7 +96,7 @@ impl Course {
 
     /// Begins the run that was waited for: in the engine, too, where that did not at the failure before. Past the deadline
     /// the retry is over. `None` is answered where nobody had to look at the clock.
-    pub(crate) fn resume(&mut self, clock: impl FnOnce() -> Instant) -> Result<Option<Instant>, Ended> {
+    pub(crate) fn resume(&mut self, clock: impl FnOnce() -> Instant) -> Result<Option<Instant>, Ending> {
         let began = self.began;
         match &mut self.begun {
             Some(begun) if begun.due.is_some() || begun.deadline.is_some() => {
@@ -111,31 +112,31 @@ impl Course {
     }
 
     /// The error of a retry that ended so.
-    pub(crate) fn error<E>(&self, ended: Ended, error: E) -> RetryError<E> {
+    pub(crate) fn error<E>(&self, ended: Ending, error: E) -> RetryError<E> {
         let failure = || self.begun.as_ref().and_then(|begun| begun.machine.store_failure());
         match ended {
-            Ended::BudgetRefused => RetryError::BudgetRefused(error),
-            Ended::Broken(cause) => match failure() {
+            Ending::BudgetRefused => RetryError::BudgetRefused(error),
+            Ending::Broken(cause) => match failure() {
                 Some(failure) => RetryError::StoreFailed(failure.clone(), error),
                 None => RetryError::Broken(cause, error),
             },
-            Ended::ScheduleDone => RetryError::ScheduleDone(error),
-            Ended::Deadline => RetryError::Deadline(error),
-            Ended::Won | Ended::Cancelled => RetryError::NotRetried(error),
+            Ending::ScheduleDone => RetryError::ScheduleDone(error),
+            Ending::Deadline => RetryError::Deadline(error),
+            Ending::Won | Ending::Cancelled => RetryError::NotRetried(error),
         }
     }
 }
 
 impl Begun {
     /// A retry whose first run began then.
-    fn new(terms: Terms<'_>, began: Instant) -> Result<Self, Ended> {
-        let origin = terms.budget.origin(began);
-        let deadline = terms.deadline.map(|deadline| Duration::from_millis(whole_millis(deadline)));
+    fn new(rules: Rules<'_>, began: Instant) -> Result<Self, Ending> {
+        let origin = rules.limit.origin(began);
+        let deadline = rules.options.deadline.map(|deadline| Duration::from_millis(whole_millis(deadline)));
         let until =
             deadline.map_or(NO_DEADLINE, |deadline| origin.saturating_add(whole_millis(deadline)).min(MAX_NUMBER));
-        let machine = Machine::on(terms.policy, terms.budget.source(), until);
+        let machine = Machine::on(rules.policy, rules.limit.source(), until);
         // (for want of passes 2^42 of them would have to be alive)
-        let machine = machine.map_err(|_| Ended::Broken(Cause::NoMemory))?;
+        let machine = machine.map_err(|_| Ending::Broken(Cause::NoMemory))?;
         let mut begun = Self { machine, origin, latest: origin, due: None, deadline };
         begun.step(Duration::ZERO, None, &NO_WORDS)?;
         Ok(begun)
@@ -143,12 +144,12 @@ impl Begun {
 
     /// Begins the run that is due, or that the engine has begun and an error had wait. A clock that did not move while it
     /// was waited is taken to have moved.
-    fn resume(&mut self, passed: Duration) -> Result<(), Ended> {
+    fn resume(&mut self, passed: Duration) -> Result<(), Ending> {
         let due = self.due.take();
         if self.deadline.map_or(false, |deadline| passed > deadline) {
             self.machine.set_waits(true);
             self.machine.cancel();
-            return Err(Ended::Deadline);
+            return Err(Ending::Deadline);
         }
         match due {
             Some(due) => {
@@ -162,7 +163,7 @@ impl Begun {
 
     /// A step so long after the first run began, and not before the latest: when the next run is due, or `None` where it
     /// is under way.
-    fn step(&mut self, passed: Duration, report: Option<Report>, words: &[u32; 4]) -> Result<Option<u64>, Ended> {
+    fn step(&mut self, passed: Duration, report: Option<Report>, words: &[u32; 4]) -> Result<Option<u64>, Ending> {
         let passed = match self.deadline {
             Some(_) => passed.saturating_add(Duration::from_nanos(999_999)),
             None => passed,

@@ -1,13 +1,20 @@
 //! Budgets and quotas that the processes of a machine share: tickets in ranges from a folder that counts.
 
-use crate::budget::BudgetError;
+mod folder;
+mod share;
+mod slot;
+mod uptime;
+
+pub use folder::StoreError;
+
 use crate::engine::{lease_of_budget, lease_of_quota, Asking, Range, Stored, MAX_TICKETS};
-use crate::grants::{DrawnOn, Grants, Source, Tickets};
-use crate::leasing::{Answer, Share, Tell, AGAIN_AFTER};
-use crate::quota::{thousandths, AtomicTerms, Terms, Usage, Uses};
-use crate::store::{Folder, Key, StoreError};
-use crate::ticket::{NoTicket, Ticket};
-use crate::uptime::Window;
+use crate::leased::folder::{Folder, Key};
+use crate::leased::share::{Answer, Share, Tell, AGAIN_AFTER};
+use crate::leased::uptime::Window;
+use crate::limits::budget::BudgetError;
+use crate::limits::grants::{Grants, Limit, Source, Tickets};
+use crate::limits::quota::{thousandths, AtomicTerms, Terms, Usage, Uses};
+use crate::limits::ticket::{NoTicket, Ticket};
 use std::path::Path;
 use std::sync::Arc;
 use std::time::{Duration, Instant};
@@ -327,7 +334,7 @@ impl Terms {
 
 impl Grants for Leased {}
 
-impl DrawnOn for Leased {
+impl Limit for Leased {
     fn source(&self) -> Source {
         Source::Store(Arc::new(self.clone()))
     }
@@ -341,7 +348,7 @@ impl Tickets for Leased {
 
 impl Grants for LeasedQuota {}
 
-impl DrawnOn for LeasedQuota {
+impl Limit for LeasedQuota {
     fn source(&self) -> Source {
         Source::Store(Arc::new(self.clone()))
     }

@@ -1,13 +1,13 @@
 //! Quotas of retries, in windows of time.
 
-use crate::budget::BudgetError;
 use crate::clock::{now, whole_millis};
-use crate::counters::{Counter, Counters};
 #[cfg(feature = "leased")]
 use crate::engine::{quota_allows, MAX_NUMBER, MAX_TICKETS};
 use crate::engine::{Handle, PassKind, RetryKind, Status, Used};
+use crate::limits::budget::BudgetError;
+use crate::limits::counters::{Counter, Counters};
+use crate::limits::ticket::{Drawer, NoTicket, Ticket};
 use crate::system::{generation, PerProcess};
-use crate::ticket::{Drawer, NoTicket, Ticket};
 use std::fmt;
 use std::sync::atomic::{AtomicU64, Ordering};
 use std::sync::{Arc, Mutex, MutexGuard, PoisonError};

@@ -1,8 +1,8 @@
 //! Budgets of retries.
 
 use crate::engine::{Handle, PassKind, Status};
+use crate::limits::ticket::{Drawer, NoTicket, Ticket};
 use crate::system::{generation, PerProcess};
-use crate::ticket::{Drawer, NoTicket, Ticket};
 use std::error::Error;
 use std::fmt;
 use std::sync::atomic::{AtomicU64, Ordering};

@@ -1,7 +1,7 @@
 //! The bytes of a slot: two copies of one record, each with a checksum.
 
 use crate::engine::Stored;
-use crate::uptime::{Boot, Window};
+use crate::leased::uptime::{Boot, Window};
 use std::fs::File;
 use std::os::unix::fs::FileExt;
 

@@ -1,12 +1,12 @@
 //! What retries draw on.
 
-use crate::budget::Budget;
 #[cfg(feature = "tower")]
 use crate::clock::now;
 #[cfg(feature = "leased")]
 use crate::leased::{Leased, LeasedQuota};
-use crate::quota::Quota;
-use crate::ticket::{NoTicket, Ticket};
+use crate::limits::budget::Budget;
+use crate::limits::quota::Quota;
+use crate::limits::ticket::{NoTicket, Ticket};
 use std::fmt;
 use std::sync::Arc;
 use std::time::Instant;
@@ -32,7 +32,7 @@ use std::time::Instant;
 /// ```
 ///
 /// It is sealed. A store of one's own implements [`Tickets`].
-pub trait Grants: DrawnOn {}
+pub trait Grants: Limit {}
 
 impl Grants for Budget {}
 impl Grants for Quota {}
@@ -140,7 +140,7 @@ mod sealed {
     use super::{Instant, Source, Ticket};
 
     /// What a retry draws on, and by which clock.
-    pub trait DrawnOn: Send + Sync + 'static {
+    pub trait Limit: Send + Sync + 'static {
         /// What a retry that has begun holds of it.
         fn source(&self) -> Source;
 
@@ -162,7 +162,7 @@ mod sealed {
     }
 }
 
-pub(crate) use sealed::DrawnOn;
+pub(crate) use sealed::Limit;
 
 /// What a retry that has begun holds of what it draws on.
 #[derive(Clone)]
@@ -190,7 +190,7 @@ impl Source {
     }
 }
 
-impl DrawnOn for Source {
+impl Limit for Source {
     fn source(&self) -> Source {
         self.clone()
     }
@@ -227,13 +227,13 @@ impl DrawnOn for Source {
     }
 }
 
-impl DrawnOn for Budget {
+impl Limit for Budget {
     fn source(&self) -> Source {
         Source::Budget(self.clone())
     }
 }
 
-impl DrawnOn for Quota {
+impl Limit for Quota {
     fn source(&self) -> Source {
         Source::Quota(self.clone())
     }
@@ -259,7 +259,7 @@ impl DrawnOn for Quota {
     }
 }
 
-impl<S: Tickets + 'static> DrawnOn for Arc<S> {
+impl<S: Tickets + 'static> Limit for Arc<S> {
     fn source(&self) -> Source {
         Source::Store(self.clone())
     }
@@ -278,7 +278,7 @@ impl<S: Tickets + 'static> DrawnOn for Arc<S> {
 }
 
 impl AnyBudget {
-    fn get(&self) -> &dyn DrawnOn {
+    fn get(&self) -> &dyn Limit {
         match self {
             Self::Unlimited => &Unlimited,
             Self::Budget(budget) => budget,
@@ -291,7 +291,7 @@ impl AnyBudget {
     }
 }
 
-impl DrawnOn for AnyBudget {
+impl Limit for AnyBudget {
     fn source(&self) -> Source {
         self.get().source()
     }
@@ -346,7 +346,7 @@ impl<B: Into<AnyBudget>> From<Option<B>> for AnyBudget {
     }
 }
 
-impl DrawnOn for Unlimited {
+impl Limit for Unlimited {
     fn source(&self) -> Source {
         Source::Unlimited
     }

@@ -1,54 +1,19 @@
-//! Retries of calls: settings, and the loop that blocks its thread.
+//! Retries of calls: their settings.
 
-use crate::course::{later, Course, Lost, Terms};
-use crate::error::RetryError;
-use crate::grants::{DrawnOn, Grants, Source, Unlimited};
-use crate::hooks::{Hooked, Hooks, PlainHooks, SharedHooks};
-use crate::host::{Host, Random, Sleep, SystemHost};
-use crate::machine::Ended;
+use crate::limits::grants::{Grants, Limit, Source, Unlimited};
 use crate::policy::Policy;
+use crate::retry::hooks::{Hooked, Hooks, PlainHooks, SharedHooks};
+use crate::retry::host::{Host, SystemHost};
+use crate::retry::options::Options;
+use crate::retry::progress::Rules;
 use std::borrow::Cow;
 use std::fmt;
 use std::marker::PhantomData;
 use std::time::{Duration, Instant};
 
-/// Runs the call until it succeeds, again after each failure as the policy says, with a ticket of the budget for each
-/// retry. The first run needs none, and is a request of a [`Quota`](crate::Quota).
-///
-/// ```
-/// use hikebox::{retry, Budget, Policy, RetryError, Schedule};
-/// use std::time::Duration;
-///
-/// let policy = Policy::new(&(Schedule::recurs(3) & Schedule::spaced(Duration::from_millis(1))))?;
-/// let budget = Budget::new(100)?;
-///
-/// let mut calls = 0;
-/// let value = retry(&policy, &budget, || {
-///     calls += 1;
-///     if calls < 3 { Err("not yet") } else { Ok(calls) }
-/// });
-/// assert_eq!(value.ok(), Some(3));
-/// assert_eq!(budget.granted(), 2);
-///
-/// let value = retry(&policy, &budget, || Err::<(), _>("never"));
-/// assert!(matches!(value, Err(RetryError::ScheduleDone("never"))));
-/// # Ok::<(), Box<dyn std::error::Error>>(())
-/// ```
-///
-/// # Errors
-///
-/// [`RetryError`] keeps the last error of the call.
-pub fn retry<T, E>(
-    policy: &Policy,
-    budget: &impl Grants,
-    call: impl FnMut() -> Result<T, E>,
-) -> Result<T, RetryError<E>> {
-    Retrying::new(policy, budget).call(call)
-}
-
 /// How to retry: which errors, by which numbers the schedule knows them, how long an error asks to wait, how long it may
 /// take in all, who hears of each retry, and by which clock. It is made by [`Retrying::new`], or of a call itself by
-/// [`BlockingRetryable`] or [`Retryable`](crate::Retryable), and called as often as one likes.
+/// [`BlockingRetryable`](crate::BlockingRetryable) or [`Retryable`](crate::Retryable), and called as often as one likes.
 ///
 /// ```
 /// use hikebox::{Budget, Policy, RetryError, Retrying};
@@ -98,12 +63,11 @@ pub fn retry<T, E>(
 #[must_use = "nothing is called before `call` or `run`"]
 pub struct Retrying<'a, E, F = (), H = PlainHooks<E>, M = SystemHost> {
     policy: Cow<'a, Policy>,
-    budget: DrawsOn<'a>,
-    deadline: Option<Duration>,
-    max_retry_after: Duration,
-    pub(crate) call: F,
-    hooks: H,
-    pub(crate) host: M,
+    pub(super) budget: CowLimit<'a>,
+    pub(super) options: Options,
+    call: F,
+    pub(super) hooks: H,
+    pub(super) host: M,
     error: PhantomData<fn(&E)>,
 }
 
@@ -112,69 +76,19 @@ pub type SharedRetrying<E> = Retrying<'static, E, (), SharedHooks<E>>;
 
 /// What a [`Retrying`] draws on.
 #[derive(Clone)]
-enum DrawsOn<'a> {
-    Borrowed(&'a dyn DrawnOn),
+pub(super) enum CowLimit<'a> {
+    Borrowed(&'a dyn Limit),
     Owned(Source),
 }
 
-impl DrawsOn<'_> {
-    fn get(&self) -> &dyn DrawnOn {
+impl CowLimit<'_> {
+    pub(super) fn get(&self) -> &dyn Limit {
         match self {
             Self::Borrowed(budget) => *budget,
             Self::Owned(budget) => budget,
         }
     }
 }
-
-/// A run of a call, as [`Retrying::call_with`] tells it.
-#[derive(Clone, Copy, Debug, PartialEq, Eq, Hash)]
-pub struct Attempt {
-    number: u64,
-    left: Option<Duration>,
-}
-
-impl Attempt {
-    /// Which run it is, from 1 on.
-    #[must_use]
-    pub fn number(&self) -> u64 {
-        self.number
-    }
-
-    /// How long it is from the run's beginning to the deadline, or `None` where there is none.
-    #[must_use]
-    pub fn left(&self) -> Option<Duration> {
-        self.left
-    }
-}
-
-/// Calls that block, which can be retried: all that give a `Result`.
-///
-/// ```
-/// use hikebox::{BlockingRetryable, Budget, Policy};
-/// use std::io::ErrorKind;
-///
-/// let policy: Policy = r#"{"meet":[{"recurs":3},{"spaced":1}]}"#.parse()?;
-/// let budget = Budget::new(10)?;
-/// let text = (|| std::fs::read_to_string("Cargo.toml"))
-///     .retry(&policy)
-///     .budget(&budget)
-///     .when(|error| error.kind() == ErrorKind::Interrupted)
-///     .run()?;
-/// # assert!(text.contains("hikebox"));
-/// # Ok::<(), Box<dyn std::error::Error>>(())
-/// ```
-pub trait BlockingRetryable<T, E>: FnMut() -> Result<T, E> + Sized {
-    /// The call, to be retried by the policy; on no budget, unless [`Retrying::budget`] gives one.
-    fn retry(self, policy: &Policy) -> Retrying<'_, E, Blocking<Self>> {
-        Retrying::of(policy, Blocking(self))
-    }
-}
-
-impl<T, E, F: FnMut() -> Result<T, E>> BlockingRetryable<T, E> for F {}
-
-/// A call that blocks.
-#[derive(Clone, Copy)]
-pub struct Blocking<F>(F);
 
 impl<'a, E> Retrying<'a, E> {
     /// Retries every error, by the code 0.
@@ -184,12 +98,11 @@ impl<'a, E> Retrying<'a, E> {
 }
 
 impl<'a, E, F> Retrying<'a, E, F> {
-    pub(crate) fn of(policy: &'a Policy, call: F) -> Self {
+    pub(super) fn of(policy: &'a Policy, call: F) -> Self {
         Self {
             policy: Cow::Borrowed(policy),
-            budget: DrawsOn::Borrowed(&Unlimited),
-            deadline: None,
-            max_retry_after: MAX_RETRY_AFTER,
+            budget: CowLimit::Borrowed(&Unlimited),
+            options: Options::default(),
             call,
             hooks: Hooks::plain(),
             host: Host::system(),
@@ -198,19 +111,16 @@ impl<'a, E, F> Retrying<'a, E, F> {
     }
 }
 
-/// How long an error may ask to wait, unless [`Retrying::max_retry_after`] says otherwise: six hours.
-pub(crate) const MAX_RETRY_AFTER: Duration = Duration::from_secs(6 * 3600);
-
 impl<'a, E, F, H, M> Retrying<'a, E, F, H, M> {
     /// Each retry draws a ticket on this.
     pub fn budget(mut self, budget: &'a impl Grants) -> Self {
-        self.budget = DrawsOn::Borrowed(budget);
+        self.budget = CowLimit::Borrowed(budget);
         self
     }
 
     /// The longest wait that an error is granted by [`Retrying::retry_after`]: six hours, unless it is said.
     pub fn max_retry_after(mut self, longest: Duration) -> Self {
-        self.max_retry_after = longest;
+        self.options.max_retry_after = longest;
         self
     }
 
@@ -218,6 +128,8 @@ impl<'a, E, F, H, M> Retrying<'a, E, F, H, M> {
     /// error, would wait longer, the retry ends as [`RetryError::Deadline`], and draws no ticket for that. It ends so, too,
     /// where a wait took longer than it should: then a quota has the ticket back. A run that is under way is not ended:
     /// [`Retrying::call_with`] tells it how long it has left.
+    ///
+    /// [`RetryError::Deadline`]: crate::RetryError::Deadline
     ///
     /// ```
     /// use hikebox::{Policy, RetryError, Retrying, Unlimited};
@@ -234,7 +146,7 @@ impl<'a, E, F, H, M> Retrying<'a, E, F, H, M> {
     /// # Ok::<(), hikebox::PolicyError>(())
     /// ```
     pub fn deadline(mut self, deadline: Duration) -> Self {
-        self.deadline = Some(deadline);
+        self.options.deadline = Some(deadline);
         self
     }
 
@@ -259,14 +171,13 @@ impl<'a, E, F, H, M> Retrying<'a, E, F, H, M> {
     /// ```
     pub fn into_owned(self) -> Retrying<'static, E, F, H, M> {
         let source = match self.budget {
-            DrawsOn::Borrowed(budget) => budget.source(),
-            DrawsOn::Owned(source) => source,
+            CowLimit::Borrowed(budget) => budget.source(),
+            CowLimit::Owned(source) => source,
         };
         Retrying {
             policy: Cow::Owned(self.policy.into_owned()),
-            budget: DrawsOn::Owned(source),
-            deadline: self.deadline,
-            max_retry_after: self.max_retry_after,
+            budget: CowLimit::Owned(source),
+            options: self.options,
             call: self.call,
             hooks: self.hooks,
             host: self.host,
@@ -287,8 +198,7 @@ impl<'a, E, F, H, M> Retrying<'a, E, F, H, M> {
         Retrying {
             policy: self.policy,
             budget: self.budget,
-            deadline: self.deadline,
-            max_retry_after: self.max_retry_after,
+            options: self.options,
             call: self.call,
             hooks: hooks(self.hooks),
             host: host(self.host),
@@ -297,18 +207,20 @@ impl<'a, E, F, H, M> Retrying<'a, E, F, H, M> {
     }
 
     /// The settings, and the call.
-    pub(crate) fn parted(self) -> (Retrying<'a, E, (), H, M>, F) {
-        let Self { policy, budget, deadline, max_retry_after, call, hooks, host, error } = self;
-        (Retrying { policy, budget, deadline, max_retry_after, call: (), hooks, host, error }, call)
+    pub(super) fn parted(self) -> (Retrying<'a, E, (), H, M>, F) {
+        let Self { policy, budget, options, call, hooks, host, error } = self;
+        (Retrying { policy, budget, options, call: (), hooks, host, error }, call)
     }
 
-    fn terms(&self) -> Terms<'_> {
-        Terms { policy: &self.policy, budget: self.budget.get(), deadline: self.deadline }
+    pub(super) fn rules(&self) -> Rules<'_> {
+        Rules { policy: &self.policy, limit: self.budget.get(), options: self.options }
     }
 }
 
 impl<'a, E, F, W, C, A, N, M> Retrying<'a, E, F, Hooks<W, C, A, N>, M> {
     /// Retries only errors of which this is true. Another one ends the retry as [`RetryError::NotRetried`].
+    ///
+    /// [`RetryError::NotRetried`]: crate::RetryError::NotRetried
     pub fn when<X: Fn(&E) -> bool>(self, when: X) -> Retrying<'a, E, F, Hooks<X, C, A, N>, M> {
         self.with(|Hooks { code, retry_after, notify, .. }| Hooks { when, code, retry_after, notify }, |host| host)
     }
@@ -352,130 +264,12 @@ impl<'a, E, F, H, K, S, R> Retrying<'a, E, F, H, Host<K, S, R>> {
     }
 }
 
-impl<E, H: Hooked<E>, K: Fn() -> Instant, S: Sleep, R: Random> Retrying<'_, E, (), H, Host<K, S, R>> {
-    /// Runs the call until it succeeds. Between runs the thread sleeps.
-    ///
-    /// # Errors
-    ///
-    /// [`RetryError`] keeps the last error of the call.
-    pub fn call<T>(&self, mut call: impl FnMut() -> Result<T, E>) -> Result<T, RetryError<E>> {
-        self.call_with(|_| call())
-    }
-
-    /// The same of a call that is told which run it is, and how long it has left up to the [`Retrying::deadline`].
-    ///
-    /// ```
-    /// use hikebox::{Policy, Retrying, Unlimited};
-    /// use std::time::Duration;
-    ///
-    /// let policy: Policy = r#"{"recurs":3}"#.parse()?;
-    /// let retrying = Retrying::new(&policy, &Unlimited).deadline(Duration::from_secs(2));
-    /// let answer = retrying.call_with(|attempt| {
-    ///     let timeout = attempt.left().unwrap_or(Duration::MAX);
-    ///     if attempt.number() < 3 { Err(timeout) } else { Ok(attempt.number()) }
-    /// });
-    /// assert_eq!(answer, Ok(3));
-    /// # Ok::<(), hikebox::PolicyError>(())
-    /// ```
-    ///
-    /// # Errors
-    ///
-    /// [`RetryError`] keeps the last error of the call.
-    pub fn call_with<T>(&self, mut call: impl FnMut(Attempt) -> Result<T, E>) -> Result<T, RetryError<E>> {
-        let mut course = self.begin();
-        let mut attempt = self.first();
-        loop {
-            let (wait, error) = match self.after(&mut course, call(attempt)) {
-                Then::Again { wait, error } => (wait, error),
-                Then::End(result) => return result,
-            };
-            if !wait.is_zero() {
-                self.host.sleep.sleep(wait);
-            }
-            attempt = match self.next(&mut course, attempt) {
-                Ok(attempt) => attempt,
-                Err(ended) => return Err(course.error(ended, error)),
-            };
-        }
-    }
-}
-
-impl<E, F, H: Hooked<E>, K: Fn() -> Instant, S: Sleep, R: Random> Retrying<'_, E, Blocking<F>, H, Host<K, S, R>> {
-    /// Runs the call until it succeeds. Between runs the thread sleeps.
-    ///
-    /// # Errors
-    ///
-    /// [`RetryError`] keeps the last error of the call.
-    pub fn run<T>(self) -> Result<T, RetryError<E>>
-    where
-        F: FnMut() -> Result<T, E>,
-    {
-        let (retrying, Blocking(call)) = self.parted();
-        retrying.call(call)
-    }
-}
-
-impl<E, H: Hooked<E>, K: Fn() -> Instant, S, R: Random> Retrying<'_, E, (), H, Host<K, S, R>> {
-    /// A request, and its retry, whose first run begins.
-    pub(crate) fn begin(&self) -> Course {
-        let now = (self.host.clock)();
-        self.budget.get().count_request(now);
-        Course::new(now)
-    }
-
-    /// The first run, which begins with the retry.
-    pub(crate) fn first(&self) -> Attempt {
-        Attempt { number: 1, left: self.deadline }
-    }
-
-    /// What follows a run that ended so.
-    pub(crate) fn after<T>(&self, course: &mut Course, ran: Result<T, E>) -> Then<T, E> {
-        let error = match ran {
-            Ok(value) => {
-                if self.budget.get().hears_of_successes() {
-                    self.succeeded(course);
-                }
-                return Then::End(Ok(value));
-            }
-            Err(error) => error,
-        };
-        let now = (self.host.clock)();
-        if !self.hooks.when(&error) {
-            return Then::End(Err(RetryError::NotRetried(error)));
-        }
-        let asked = self.hooks.retry_after(&error).map(|asked| asked.min(self.max_retry_after));
-        let lost = Lost { now, code: self.hooks.code(&error), words: self.host.words.draw(), asked };
-        let wait = match course.lost(self.terms(), lost) {
-            Ok(wait) => wait,
-            Err(ended) => return Then::End(Err(course.error(ended, error))),
-        };
-        self.hooks.notify(&error, wait);
-        if wait.is_zero() {
-            return Then::Again { wait, error };
-        }
-        Then::Again { wait: later(now, wait).saturating_duration_since((self.host.clock)()), error }
-    }
-
-    #[cold]
-    fn succeeded(&self, course: &mut Course) {
-        self.budget.get().count_success(course.won(), &self.host.clock);
-    }
-
-    /// The next run, which begins after the wait for it, or how the retry ended.
-    pub(crate) fn next(&self, course: &mut Course, last: Attempt) -> Result<Attempt, Ended> {
-        let began = course.resume(&self.host.clock)?;
-        let left = |(deadline, now): (Duration, Instant)| deadline.saturating_sub(course.passed(now));
-        Ok(Attempt { number: last.number + 1, left: self.deadline.zip(began).map(left) })
-    }
-}
-
 impl<E, F: Clone, H: Clone, M: Clone> Clone for Retrying<'_, E, F, H, M> {
     fn clone(&self) -> Self {
         Self {
             policy: self.policy.clone(),
             budget: self.budget.clone(),
-            deadline: self.deadline,
-            max_retry_after: self.max_retry_after,
+            options: self.options,
             call: self.call.clone(),
             hooks: self.hooks.clone(),
             host: self.host.clone(),
@@ -489,21 +283,8 @@ impl<E, F, H, M> fmt::Debug for Retrying<'_, E, F, H, M> {
         f.debug_struct("Retrying")
             .field("policy", &self.policy)
             .field("budget", &self.budget.get().source())
-            .field("max_retry_after", &self.max_retry_after)
-            .field("deadline", &self.deadline)
+            .field("max_retry_after", &self.options.max_retry_after)
+            .field("deadline", &self.options.deadline)
             .finish_non_exhaustive()
     }
-}
-
-/// What follows a run.
-pub(crate) enum Then<T, E> {
-    /// Another run after this error.
-    Again {
-        /// How long it is until then.
-        wait: Duration,
-        /// The error.
-        error: E,
-    },
-    /// The end.
-    End(Result<T, RetryError<E>>),
 }

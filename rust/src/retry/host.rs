@@ -1,6 +1,6 @@
 //! Where a retry has its clock, its waits and its random words from.
 
-use crate::{clock, words};
+use crate::{clock, random};
 use std::thread;
 use std::time::{Duration, Instant};
 
@@ -55,7 +55,7 @@ impl<F: Fn(Duration)> Sleep for F {
 
 impl Random for SystemWords {
     fn draw(&self) -> [u32; 4] {
-        words::next()
+        random::next()
     }
 }
 

@@ -1,0 +1,95 @@
+//! Policies of the engine, and the storms that they play.
+
+use super::sys::*;
+use super::{text, Handle, Kind, Status};
+
+/// The kind of a policy.
+#[derive(Debug)]
+pub(crate) enum PolicyKind {}
+
+impl Kind for PolicyKind {
+    const FREE: unsafe extern "C" fn(*mut Raw) -> u32 = hikebox_policy_free;
+}
+
+impl Handle<PolicyKind> {
+    /// The policy that the text spells, or its first fault, and where that is if the text is not JSON.
+    pub(crate) fn read(json: &str) -> Result<Self, (Status, Place)> {
+        let mut place = Place::default();
+        let read = Self::filled(|policy| unsafe { hikebox_policy_read(json.as_ptr(), json.len(), policy, &mut place) });
+        read.map_err(|status| (status, place))
+    }
+
+    /// The policy of the node of this name with these numbers, over these policies, of which there are two at most.
+    pub(crate) fn node(name: &str, numbers: &[u64], over: &mut [Self]) -> Result<Self, Status> {
+        let (mut none, mut neither, mut over) = (Raw::EMPTY, Raw::EMPTY, over.iter_mut().map(Self::raw));
+        let first = over.next().unwrap_or(&mut none);
+        let second = over.next().unwrap_or(&mut neither);
+        Self::filled(|made| unsafe {
+            hikebox_policy_node(name.as_ptr(), name.len(), numbers.as_ptr(), numbers.len(), first, second, made)
+        })
+    }
+
+    /// A second handle to the same policy.
+    pub(crate) fn share(&mut self) -> Result<Self, Status> {
+        Self::filled(|other| unsafe { hikebox_policy_share(self.raw(), other) })
+    }
+
+    /// Its JSON, without spaces.
+    pub(crate) fn json(&mut self) -> Result<String, Status> {
+        text(|text, room, length| unsafe { hikebox_policy_json(self.raw(), text, room, length) })
+    }
+
+    pub(crate) fn size(&mut self) -> Size {
+        let (mut nodes, mut depth, mut most) = (0, 0, 0);
+        let status = unsafe { hikebox_policy_size(self.raw(), &mut nodes, &mut depth, &mut most) };
+        debug_assert_eq!(status, OK);
+        Size { nodes, depth, most: (most != NO_BOUND).then_some(most) }
+    }
+
+    /// What it does along a course: its lines, and their outputs, one after another.
+    pub(crate) fn course(&mut self, course: Course, events: &[Event]) -> Result<(Vec<Line>, String), Status> {
+        let (mut lines, mut count) = (vec![Line::default(); 16], 0);
+        let text = text(|text, room, length| {
+            lines.resize(lines.len().max(count), Line::default());
+            unsafe {
+                hikebox_policy_course(
+                    self.raw(),
+                    &course,
+                    events.as_ptr(),
+                    events.len(),
+                    lines.as_mut_ptr(),
+                    lines.len(),
+                    &mut count,
+                    text,
+                    room,
+                    length,
+                )
+            }
+        })?;
+        lines.truncate(count);
+        Ok((lines, text))
+    }
+
+    /// Plays a storm under it, of at most so many windows: those that there are, and the totals.
+    pub(crate) fn play(&mut self, storm: &Storm, room: usize) -> Result<(Vec<Window>, Totals), Status> {
+        let (mut windows, mut count, mut totals) = (vec![Window::default(); room], 0, Totals::default());
+        Status::of(unsafe {
+            hikebox_storm_play(self.raw(), storm, windows.as_mut_ptr(), windows.len(), &mut count, &mut totals)
+        })?;
+        windows.truncate(count);
+        Ok((windows, totals))
+    }
+}
+
+/// How many nodes a policy has, how deep it is, and at how many events it goes on at most, where its nodes tell.
+#[derive(Clone, Copy, Debug)]
+pub(crate) struct Size {
+    pub(crate) nodes: u64,
+    pub(crate) depth: u64,
+    pub(crate) most: Option<u64>,
+}
+
+/// What is wrong with a text that is no policy, and where.
+pub(crate) fn fault(json: &str) -> Result<String, Status> {
+    text(|text, room, length| unsafe { hikebox_policy_fault(json.as_ptr(), json.len(), text, room, length) })
+}

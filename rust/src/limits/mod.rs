@@ -1,0 +1,12 @@
+//! Limits: what retries draw their tickets on.
+
+pub(crate) mod budget;
+mod counters;
+pub(crate) mod grants;
+pub(crate) mod quota;
+pub(crate) mod ticket;
+
+pub use budget::{Budget, BudgetError, Pass};
+pub use grants::{AnyBudget, Grants, Tickets, Unlimited};
+pub use quota::{Quota, QuotaPass, Usage};
+pub use ticket::{NoTicket, StoreFailure, Ticket};

@@ -1,0 +1,97 @@
+//! What the loops of a retry have in common: each attempt, and what follows it.
+
+use crate::retry::error::RetryError;
+use crate::retry::hooks::Hooked;
+use crate::retry::host::{Host, Random};
+use crate::retry::machine::Ending;
+use crate::retry::progress::{later, Lost, Progress};
+use crate::retry::retrying::Retrying;
+use std::time::{Duration, Instant};
+
+/// A run of a call, as [`Retrying::call_with`] tells it.
+#[derive(Clone, Copy, Debug, PartialEq, Eq, Hash)]
+pub struct Attempt {
+    number: u64,
+    left: Option<Duration>,
+}
+
+impl Attempt {
+    /// Which run it is, from 1 on.
+    #[must_use]
+    pub fn number(&self) -> u64 {
+        self.number
+    }
+
+    /// How long it is from the run's beginning to the deadline, or `None` where there is none.
+    #[must_use]
+    pub fn left(&self) -> Option<Duration> {
+        self.left
+    }
+}
+
+/// What follows a run.
+pub(crate) enum Then<T, E> {
+    /// Another run after this error.
+    Again {
+        /// How long it is until then.
+        wait: Duration,
+        /// The error.
+        error: E,
+    },
+    /// The end.
+    End(Result<T, RetryError<E>>),
+}
+
+impl<E, H: Hooked<E>, K: Fn() -> Instant, S, R: Random> Retrying<'_, E, (), H, Host<K, S, R>> {
+    /// A request, and its retry, whose first run begins.
+    pub(crate) fn begin(&self) -> Progress {
+        let now = (self.host.clock)();
+        self.budget.get().count_request(now);
+        Progress::new(now)
+    }
+
+    /// The first run, which begins with the retry.
+    pub(crate) fn first(&self) -> Attempt {
+        Attempt { number: 1, left: self.options.deadline }
+    }
+
+    /// What follows a run that ended so.
+    pub(crate) fn after<T>(&self, progress: &mut Progress, ran: Result<T, E>) -> Then<T, E> {
+        let error = match ran {
+            Ok(value) => {
+                if self.budget.get().hears_of_successes() {
+                    self.succeeded(progress);
+                }
+                return Then::End(Ok(value));
+            }
+            Err(error) => error,
+        };
+        let now = (self.host.clock)();
+        if !self.hooks.when(&error) {
+            return Then::End(Err(RetryError::NotRetried(error)));
+        }
+        let (retry_after, code) = (self.hooks.retry_after(&error), self.hooks.code(&error));
+        let lost = Lost { now, code, words: self.host.words.draw(), retry_after };
+        let wait = match progress.lost(self.rules(), lost) {
+            Ok(wait) => wait,
+            Err(ended) => return Then::End(Err(progress.error(ended, error))),
+        };
+        self.hooks.notify(&error, wait);
+        if wait.is_zero() {
+            return Then::Again { wait, error };
+        }
+        Then::Again { wait: later(now, wait).saturating_duration_since((self.host.clock)()), error }
+    }
+
+    #[cold]
+    fn succeeded(&self, progress: &mut Progress) {
+        self.budget.get().count_success(progress.won(), &self.host.clock);
+    }
+
+    /// The next run, which begins after the wait for it, or how the retry ended.
+    pub(crate) fn next(&self, progress: &mut Progress, last: Attempt) -> Result<Attempt, Ending> {
+        let began = progress.resume(&self.host.clock)?;
+        let left = |(deadline, now): (Duration, Instant)| deadline.saturating_sub(progress.passed(now));
+        Ok(Attempt { number: last.number + 1, left: self.options.deadline.zip(began).map(left) })
+    }
+}

@@ -1,0 +1,136 @@
+//! Retries of calls that block their thread.
+
+use crate::limits::grants::Grants;
+use crate::policy::Policy;
+use crate::retry::attempts::{Attempt, Then};
+use crate::retry::error::RetryError;
+use crate::retry::hooks::Hooked;
+use crate::retry::host::{Host, Random, Sleep};
+use crate::retry::retrying::Retrying;
+use std::time::Instant;
+
+/// Runs the call until it succeeds, again after each failure as the policy says, with a ticket of the budget for each
+/// retry. The first run needs none, and is a request of a [`Quota`](crate::Quota).
+///
+/// ```
+/// use hikebox::{retry, Budget, Policy, RetryError, Schedule};
+/// use std::time::Duration;
+///
+/// let policy = Policy::new(&(Schedule::recurs(3) & Schedule::spaced(Duration::from_millis(1))))?;
+/// let budget = Budget::new(100)?;
+///
+/// let mut calls = 0;
+/// let value = retry(&policy, &budget, || {
+///     calls += 1;
+///     if calls < 3 { Err("not yet") } else { Ok(calls) }
+/// });
+/// assert_eq!(value.ok(), Some(3));
+/// assert_eq!(budget.granted(), 2);
+///
+/// let value = retry(&policy, &budget, || Err::<(), _>("never"));
+/// assert!(matches!(value, Err(RetryError::ScheduleDone("never"))));
+/// # Ok::<(), Box<dyn std::error::Error>>(())
+/// ```
+///
+/// # Errors
+///
+/// [`RetryError`] keeps the last error of the call.
+pub fn retry<T, E>(
+    policy: &Policy,
+    budget: &impl Grants,
+    call: impl FnMut() -> Result<T, E>,
+) -> Result<T, RetryError<E>> {
+    Retrying::new(policy, budget).call(call)
+}
+
+/// Calls that block, which can be retried: all that give a `Result`.
+///
+/// ```
+/// use hikebox::{BlockingRetryable, Budget, Policy};
+/// use std::io::ErrorKind;
+///
+/// let policy: Policy = r#"{"meet":[{"recurs":3},{"spaced":1}]}"#.parse()?;
+/// let budget = Budget::new(10)?;
+/// let text = (|| std::fs::read_to_string("Cargo.toml"))
+///     .retry(&policy)
+///     .budget(&budget)
+///     .when(|error| error.kind() == ErrorKind::Interrupted)
+///     .run()?;
+/// # assert!(text.contains("hikebox"));
+/// # Ok::<(), Box<dyn std::error::Error>>(())
+/// ```
+pub trait BlockingRetryable<T, E>: FnMut() -> Result<T, E> + Sized {
+    /// The call, to be retried by the policy; on no budget, unless [`Retrying::budget`] gives one.
+    fn retry(self, policy: &Policy) -> Retrying<'_, E, Blocking<Self>> {
+        Retrying::of(policy, Blocking(self))
+    }
+}
+
+impl<T, E, F: FnMut() -> Result<T, E>> BlockingRetryable<T, E> for F {}
+
+/// A call that blocks.
+#[derive(Clone, Copy)]
+pub struct Blocking<F>(F);
+
+impl<E, H: Hooked<E>, K: Fn() -> Instant, S: Sleep, R: Random> Retrying<'_, E, (), H, Host<K, S, R>> {
+    /// Runs the call until it succeeds. Between runs the thread sleeps.
+    ///
+    /// # Errors
+    ///
+    /// [`RetryError`] keeps the last error of the call.
+    pub fn call<T>(&self, mut call: impl FnMut() -> Result<T, E>) -> Result<T, RetryError<E>> {
+        self.call_with(|_| call())
+    }
+
+    /// The same of a call that is told which run it is, and how long it has left up to the [`Retrying::deadline`].
+    ///
+    /// ```
+    /// use hikebox::{Policy, Retrying, Unlimited};
+    /// use std::time::Duration;
+    ///
+    /// let policy: Policy = r#"{"recurs":3}"#.parse()?;
+    /// let retrying = Retrying::new(&policy, &Unlimited).deadline(Duration::from_secs(2));
+    /// let answer = retrying.call_with(|attempt| {
+    ///     let timeout = attempt.left().unwrap_or(Duration::MAX);
+    ///     if attempt.number() < 3 { Err(timeout) } else { Ok(attempt.number()) }
+    /// });
+    /// assert_eq!(answer, Ok(3));
+    /// # Ok::<(), hikebox::PolicyError>(())
+    /// ```
+    ///
+    /// # Errors
+    ///
+    /// [`RetryError`] keeps the last error of the call.
+    pub fn call_with<T>(&self, mut call: impl FnMut(Attempt) -> Result<T, E>) -> Result<T, RetryError<E>> {
+        let mut progress = self.begin();
+        let mut attempt = self.first();
+        loop {
+            let (wait, error) = match self.after(&mut progress, call(attempt)) {
+                Then::Again { wait, error } => (wait, error),
+                Then::End(result) => return result,
+            };
+            if !wait.is_zero() {
+                self.host.sleep.sleep(wait);
+            }
+            attempt = match self.next(&mut progress, attempt) {
+                Ok(attempt) => attempt,
+                Err(ended) => return Err(progress.error(ended, error)),
+            };
+        }
+    }
+}
+
+impl<E, F, H: Hooked<E>, K: Fn() -> Instant, S: Sleep, R: Random> Retrying<'_, E, Blocking<F>, H, Host<K, S, R>> {
+    /// Runs the call until it succeeds. Between runs the thread sleeps.
+    ///
+    /// # Errors
+    ///
+    /// [`RetryError`] keeps the last error of the call.
+    pub fn run<T>(self) -> Result<T, RetryError<E>>
+    where
+        F: FnMut() -> Result<T, E>,
+    {
+        let (retrying, Blocking(call)) = self.parted();
+        retrying.call(call)
+    }
+}

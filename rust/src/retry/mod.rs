@@ -1,0 +1,33 @@
+//! Retries and repeats: their settings, the loops that run a call, and the machine that decides.
+
+mod asynchronous;
+mod attempts;
+mod blocking;
+mod error;
+mod hooks;
+mod host;
+pub(crate) mod machine;
+mod options;
+mod progress;
+mod repeating;
+mod retrying;
+#[cfg(feature = "tower")]
+mod tower;
+
+#[cfg(feature = "tower")]
+pub use self::tower::{Noted, RetryPolicy, RetryWait, Since, Whenever};
+#[cfg(feature = "tokio")]
+pub use asynchronous::retry_async;
+#[cfg(all(feature = "tokio", hikebox_async_closures))]
+pub use asynchronous::retry_async_mut;
+pub use asynchronous::{Async, AsyncSleep, Retryable};
+pub use attempts::Attempt;
+pub use blocking::{retry, Blocking, BlockingRetryable};
+pub use error::RetryError;
+pub use hooks::{Hooked, Hooks, PlainHooks, SharedHooks};
+pub use host::{Host, Random, Sleep, SystemHost, SystemSleep, SystemWords};
+pub use machine::{Cause, Ending, Machine, Report, Step};
+pub use repeating::{poll_until, repeat, RepeatError, Repeating};
+#[cfg(feature = "tokio")]
+pub use repeating::{poll_until_async, repeat_async};
+pub use retrying::{Retrying, SharedRetrying};
