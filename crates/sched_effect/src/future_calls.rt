@@ -26,7 +26,8 @@ pub trait FutureAction: Drop {
 }
 
 /// An effect whose runs are futures, one after another, each polled once in a poll. It keeps the list of its finished
-/// runs: room for a run is reserved before it is started, so that nothing that finished is lost where memory is refused.
+/// runs: room for a run is reserved before it is started, so that nothing that finished is lost where memory is
+/// refused.
 #[derive(Drop)]
 pub struct FutureCall<A: FutureAction> {
     action: A,

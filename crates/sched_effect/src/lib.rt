@@ -1,5 +1,6 @@
 //! Effects that are run again and again: what a run leaves, an effect that follows a script, and a fallback for the
-//! last failure.
+//! last failure. A scripted effect ends its runs with the outcomes of its script in order, the last one repeated. It
+//! stands on `sched_plan` and the kit's `futures`.
 #![tactic(auto)]
 
 mod calls;

@@ -1,5 +1,6 @@
 -- What a reading answers follows from what its parts answer.
-use Rattle.std.proofs.Common.{◌≡◌, Bool, true, false, ◌||◌, not, if◌then◌else◌, Option, Some, None, option_map, Result, Ok, Err, IsTrue, refl, sym, ◌∙◌, ap, subst}
+use Rattle.std.proofs.Common.{◌≡◌, Bool, true, false, ◌||◌, not, if◌then◌else◌, Option, Some, None, option_map, Result}
+use Rattle.std.proofs.Common.{Ok, Err, IsTrue, refl, sym, ◌∙◌, ap, subst}
 use Rattle.sched_plan.specs.declared.plans.PlanFault.TheVariants.{OutOfRange, TooDeep, TooMany, NoMemory}
 use Rattle.sched_plan_json.specs.declared.faults.ReadFault.{ReadFault}
 use Rattle.sched_plan_json.specs.declared.faults.ReadFault.TheVariants.{NotAPlan, Plan}
@@ -10,7 +11,8 @@ use Rattle.sched_plan.specs.declared.plans.PlanFault.{PlanFault}
 use Rattle.sched_plan.specs.declared.leaves.Leaf.{Leaf}
 use Rattle.sched_plan.specs.declared.nodes.One.{One}
 use Rattle.sched_plan.specs.declared.nodes.Two.{Two}
-use Rattle.sched_plan_json.specs.Reading.{Reading, Reads, found_value, then_read, read_on, of_builder, built_leaf, built_node}
+use Rattle.sched_plan_json.specs.Reading.{Reading, Reads, found_value, then_read, read_on, of_builder, built_leaf}
+use Rattle.sched_plan_json.specs.Reading.{built_node}
 use Rattle.sched_plan_json.specs.Forms.{LacksForm, of_leaf, over_one, over_two, meant_by}
 use Rattle.sched_plan_json.specs.Nodes.{names}
 use Rattle.sched_plan_json.specs.PlanOf.{both_plans, part_of, reading_of, reading_of_leaf, reading_of_node, spelt_of}
@@ -78,8 +80,10 @@ pub leaf_read : (d : Data) (l : Leaf) (answer : Result Schedule ReadFault) → s
 leaf_read d l answer spelt h = subst (Reads answer) (sym (reading_of_spelt d ∙ ap reading_of_node spelt)) h
 
 -- a value that has not the form of a node is no plan
-pub lacking_read : (d : Data) (fault : ReadFault) → LacksForm (spelt_of d) fault → Reads {A = Schedule} (Err fault) (reading_of d)
-lacking_read d fault h = rw h.0 (subst (Reads {A = Schedule} (Err NotAPlan)) (sym (reading_of_spelt d ∙ ap reading_of_node h.1)) refl)
+pub lacking_read : (d : Data) (fault : ReadFault) → LacksForm (spelt_of d) fault
+    → Reads {A = Schedule} (Err fault) (reading_of d)
+lacking_read d fault h =
+    rw h.0 (subst (Reads {A = Schedule} (Err NotAPlan)) (sym (reading_of_spelt d ∙ ap reading_of_node h.1)) refl)
 
 -- of two plans the first was read, and the second gave a fault
 pub both_plans-second : (a b : Data) (first : Schedule) (fault : ReadFault)
@@ -87,7 +91,8 @@ pub both_plans-second : (a b : Data) (first : Schedule) (fault : ReadFault)
     → Reads {A = Schedule × Schedule} (Err fault) (both_plans (part_of a) (part_of b))
 both_plans-second a b first fault is h =
     let next : Schedule → Reading (Schedule × Schedule) = λ x. then_read (reading_of b) (λ y. found_value (x, y)) in
-    let second : Reads {A = Schedule × Schedule} (Err fault) (next first) = reads_fault fault (reading_of b) (λ y. found_value (first, y)) h in
+    let second : Reads {A = Schedule × Schedule} (Err fault) (next first) =
+    reads_fault fault (reading_of b) (λ y. found_value (first, y)) h in
     reads_then (Err fault) (reading_of a) next first is second
 
 -- a node over one plan: its reading is that of the plan and then of the node
@@ -101,38 +106,47 @@ pub reading_of_two : (d a b : Data) (k : Two) → spelt_of d ≡ Some (over_two 
 reading_of_two d a b k e = reading_of_spelt d ∙ ap reading_of_node e
 
 -- a node over one plan answers what its builder does of the plan that was read, or the plan's fault
-pub one_read : (d a : Data) (k : One) (s : Schedule) (answer : Result Schedule ReadFault) → spelt_of d ≡ Some (over_one k (part_of a)) →
+pub one_read : (d a : Data) (k : One) (s : Schedule) (answer : Result Schedule ReadFault)
+    → spelt_of d ≡ Some (over_one k (part_of a)) →
     Reads (Ok s) (reading_of a) → Reads answer (built_node (one k s)) → Reads answer (reading_of d)
 one_read d a k s answer spelt is h =
-    subst (Reads answer) (sym (reading_of_one d a k spelt)) (reads_then answer (reading_of a) (λ x. built_node (one k x)) s is h)
+    subst (Reads answer) (sym (reading_of_one d a k spelt))
+    (reads_then answer (reading_of a) (λ x. built_node (one k x)) s is h)
 
 pub one_fault : (d a : Data) (k : One) (fault : ReadFault) → spelt_of d ≡ Some (over_one k (part_of a)) →
     Reads {A = Schedule} (Err fault) (reading_of a) → Reads {A = Schedule} (Err fault) (reading_of d)
 one_fault d a k fault spelt h =
-    subst (Reads {A = Schedule} (Err fault)) (sym (reading_of_one d a k spelt)) (reads_fault fault (reading_of a) (λ x. built_node (one k x)) h)
+    subst (Reads {A = Schedule} (Err fault)) (sym (reading_of_one d a k spelt))
+    (reads_fault fault (reading_of a) (λ x. built_node (one k x)) h)
 
 module _ (d a b : Data) (k : Two) (spelt : spelt_of d ≡ Some (over_two k (part_of a) (part_of b))) where
   whole : (answer : Result Schedule ReadFault) →
-      Reads answer (then_read (both_plans (part_of a) (part_of b)) (λ p. built_node (two k p.0 p.1))) → Reads answer (reading_of d)
+      Reads answer (then_read (both_plans (part_of a) (part_of b)) (λ p. built_node (two k p.0 p.1)))
+      → Reads answer (reading_of d)
   whole answer h = subst (Reads answer) (sym (reading_of_two d a b k spelt)) h
 
   -- a node over two plans answers what its builder does of both, or the first fault from the left
-  pub two_first_fault : (fault : ReadFault) → Reads {A = Schedule} (Err fault) (reading_of a) → Reads {A = Schedule} (Err fault) (reading_of d)
+  pub two_first_fault : (fault : ReadFault) → Reads {A = Schedule} (Err fault) (reading_of a)
+      → Reads {A = Schedule} (Err fault) (reading_of d)
   two_first_fault fault h =
       whole (Err fault)
       (reads_fault fault (both_plans (part_of a) (part_of b)) (λ p. built_node (two k p.0 p.1))
       (reads_fault fault (reading_of a) (λ x. then_read (reading_of b) (λ y. found_value (x, y))) h))
 
-  pub two_second_fault : (s : Schedule) (fault : ReadFault) → Reads (Ok s) (reading_of a) → Reads {A = Schedule} (Err fault) (reading_of b) →
+  pub two_second_fault : (s : Schedule) (fault : ReadFault) → Reads (Ok s) (reading_of a)
+      → Reads {A = Schedule} (Err fault) (reading_of b) →
       Reads {A = Schedule} (Err fault) (reading_of d)
   two_second_fault s fault is h =
       whole (Err fault)
-      (reads_fault fault (both_plans (part_of a) (part_of b)) (λ p. built_node (two k p.0 p.1)) (both_plans-second a b s fault is h))
+      (reads_fault fault (both_plans (part_of a) (part_of b)) (λ p. built_node (two k p.0 p.1))
+      (both_plans-second a b s fault is h))
 
-  pub two_read : (s t : Schedule) (answer : Result Schedule ReadFault) → Reads (Ok s) (reading_of a) → Reads (Ok t) (reading_of b) →
+  pub two_read : (s t : Schedule) (answer : Result Schedule ReadFault) → Reads (Ok s) (reading_of a)
+      → Reads (Ok t) (reading_of b) →
       Reads answer (built_node (two k s t)) → Reads answer (reading_of d)
   two_read s t answer is also h =
       let both : Ok (s, t) ≡ (both_plans (part_of a) (part_of b)).answer =
       reads_then (Ok (s, t)) (reading_of a) (λ x. then_read (reading_of b) (λ y. found_value (x, y))) s is
       (reads_then (Ok (s, t)) (reading_of b) (λ y. found_value (s, y)) t also refl) in
-      whole answer (reads_then answer (both_plans (part_of a) (part_of b)) (λ p. built_node (two k p.0 p.1)) (s, t) both h)
+      whole answer
+      (reads_then answer (both_plans (part_of a) (part_of b)) (λ p. built_node (two k p.0 p.1)) (s, t) both h)

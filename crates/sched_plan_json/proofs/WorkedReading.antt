@@ -32,7 +32,8 @@ abbrev pub nested : ℕ → Data
 nested zero = forever
 nested (suc n) = of_two (codes "meet") (nested n) forever
 
-pub meet_of_recurs_and_spaced : plan_of (of_two (codes "meet") (of_number (codes "recurs") 3) (of_number (codes "spaced") 100)) ≡
+pub meet_of_recurs_and_spaced : plan_of
+    (of_two (codes "meet") (of_number (codes "recurs") 3) (of_number (codes "spaced") 100)) ≡
     Ok (two Meet (leaf (Recurs 3)) (leaf (Spaced 100)))
 meet_of_recurs_and_spaced = refl
 
@@ -43,15 +44,18 @@ follow_of_forever_and_recurs = refl
 pub number_is_no_plan : plan_of seven ≡ Err NotAPlan
 number_is_no_plan = refl
 
-pub one_plan_is_no_meet : plan_of (node (codes "meet") (array (item (of_number (codes "recurs") 3) no_items))) ≡ Err NotAPlan
+pub one_plan_is_no_meet : plan_of (node (codes "meet") (array (item (of_number (codes "recurs") 3) no_items)))
+    ≡ Err NotAPlan
 one_plan_is_no_meet = refl
 
 -- no item is read where their number is wrong
-pub three_plans_are_no_meet : plan_of (node (codes "meet") (array (item (of_number (codes "fixed") 0) (item forever (item forever no_items))))) ≡
+pub three_plans_are_no_meet : plan_of
+    (node (codes "meet") (array (item (of_number (codes "fixed") 0) (item forever (item forever no_items))))) ≡
     Err NotAPlan
 three_plans_are_no_meet = refl
 
-pub two_members_are_no_plan : plan_of (object (member (codes "recurs") seven (member (codes "spaced") seven no_members))) ≡ Err NotAPlan
+pub two_members_are_no_plan : plan_of
+    (object (member (codes "recurs") seven (member (codes "spaced") seven no_members))) ≡ Err NotAPlan
 two_members_are_no_plan = refl
 
 pub fixed_of_0 : plan_of (of_number (codes "fixed") 0) ≡ Err (Plan OutOfRange)
@@ -74,5 +78,6 @@ too_deep_before_no_plan = refl
 pub no_memory_for_one_plan : (reading_of (of_two (codes "meet") forever seven)).asked ≡ false
 no_memory_for_one_plan = refl
 
-pub memory_for_two_plans : (reading_of (of_two (codes "meet") (of_two (codes "meet") forever forever) seven)).asked ≡ true
+pub memory_for_two_plans : (reading_of (of_two (codes "meet") (of_two (codes "meet") forever forever) seven)).asked
+    ≡ true
 memory_for_two_plans = refl

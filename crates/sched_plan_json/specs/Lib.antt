@@ -1,3 +1,4 @@
+-- Which plan a JSON value spells, and which fault it has first.
 pub mod Reading
 pub mod Words
 pub mod Forms

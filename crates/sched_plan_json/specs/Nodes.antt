@@ -1,10 +1,15 @@
 -- The tables of all nodes: how each is spelt in JSON.
 use Rattle.std.specs.Prelude.{ℕ, List, [], ◌∷◌, ◌++◌, codes}
 use Rattle.sched_plan.specs.declared.leaves.Leaf.{Leaf}
-use Rattle.sched_plan.specs.declared.leaves.Leaf.TheVariants.{Forever, Recurs, Spaced, Fixed, Windowed, Linear, Exponential, ExponentialMilli, Fibonacci, Decorrelated, Elapsed, Identity, Unfold, Lone}
-use Rattle.sched_plan.specs.declared.nodes.One.TheVariants.{Add, Set, Cap, AddOut, Within, EndsBy, Renew, RenewIdle, First, Second, Nothing}
+use Rattle.sched_plan.specs.declared.leaves.Leaf.TheVariants.{Forever, Recurs, Spaced, Fixed, Windowed, Linear}
+use Rattle.sched_plan.specs.declared.leaves.Leaf.TheVariants.{Exponential, ExponentialMilli, Fibonacci, Decorrelated}
+use Rattle.sched_plan.specs.declared.leaves.Leaf.TheVariants.{Elapsed, Identity, Unfold, Lone}
+use Rattle.sched_plan.specs.declared.nodes.One.TheVariants.{Add, Set, Cap, AddOut, Within, EndsBy, Renew, RenewIdle}
+use Rattle.sched_plan.specs.declared.nodes.One.TheVariants.{First, Second, Nothing}
 use Rattle.sched_plan.specs.declared.nodes.Two.TheVariants.{Meet, Join, Follow, Feed}
-use Rattle.sched_plan_json.specs.Forms.{Row, jitter_and_part, gate_and_part, gather_and_part, a_number, two_numbers, three_numbers, four_numbers, a_plan, a_number_and_a_plan, parameters_and_a_plan, two_plans}
+use Rattle.sched_plan_json.specs.Forms.{Row, jitter_and_part, gate_and_part, gather_and_part, a_number, two_numbers}
+use Rattle.sched_plan_json.specs.Forms.{three_numbers, four_numbers, a_plan, a_number_and_a_plan, parameters_and_a_plan}
+use Rattle.sched_plan_json.specs.Forms.{two_plans}
 
 -- leaves that are spelt as a string
 abbrev pub names : List (List ℕ × Leaf)

@@ -8,7 +8,8 @@ use Rattle.sched_plan_json.specs.PlanOf.{plan_of}
 use Rattle.sched_plan_json.specs.declared.faults.ReadFault.{ReadFault}
 use Rattle.sched_plan_json.specs.declared.faults.ReadFault.TheVariants as reading
 use Rattle.sched_plan_json.specs.declared.texts.TextFault.{TextFault}
-use Rattle.sched_plan_json.specs.declared.texts.TextFault.TheVariants.{NotJson, NotAPlan, OutOfRange, TooDeep, TooMany, NoMemory}
+use Rattle.sched_plan_json.specs.declared.texts.TextFault.TheVariants.{NotJson, NotAPlan, OutOfRange, TooDeep, TooMany}
+use Rattle.sched_plan_json.specs.declared.texts.TextFault.TheVariants.{NoMemory}
 
 -- the bytes are a JSON text, of a value of which P is true
 abbrev pub Spells : List ℕ → (Data → Type 0) → Type 0

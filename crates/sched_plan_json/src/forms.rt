@@ -4,7 +4,10 @@ ghost use Rattle.serde_json.specs.Data.{depth, items_depth};
 ghost use Rattle.serde_json.specs.View.{view, items_view};
 ghost use Rattle.sched_plan.specs.declared.nodes.One.TheVariants.{Gate, Gather, Jitter};
 ghost use Rattle.sched_plan_json.specs.Reading.{or_not_a_plan};
-ghost use Rattle.sched_plan_json.specs.Forms.{LacksForm, number_in, two_numbers_in, three_numbers_in, four_numbers_in, number_and_part, jitter_and_part, gate_and_part, gather_and_part, two_of as two_parts, three_of as three_parts, four_of as four_parts, five_of as five_parts};
+ghost use Rattle.sched_plan_json.specs.Forms.{LacksForm, number_in, two_numbers_in, three_numbers_in, four_numbers_in};
+ghost use Rattle.sched_plan_json.specs.Forms.{number_and_part, jitter_and_part, gate_and_part, gather_and_part};
+ghost use Rattle.sched_plan_json.specs.Forms.{two_of as two_parts, three_of as three_parts, four_of as four_parts};
+ghost use Rattle.sched_plan_json.specs.Forms.{five_of as five_parts};
 ghost use Rattle.sched_plan_json.specs.PlanOf.{part_of, parts_of, parts_of_items};
 
 use crate::faults::ReadFault;

@@ -1,4 +1,5 @@
-//! Plans from JSON: which plan a JSON value spells, or the first fault found in it.
+//! Plans from JSON: reads the plan that a JSON value or a text spells. It returns that plan, or the first fault of the
+//! value; `specs/` defines that plan node by node. It stands on `sched_plan` and on the kit's `serde_json`.
 #![tactic(auto)]
 
 mod faults;
