@@ -1,1 +1,2 @@
+-- A driver may go to another thread.
 pub mod Sends

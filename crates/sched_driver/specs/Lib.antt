@@ -1,3 +1,4 @@
+-- What a driver has done, and what its methods do.
 pub mod Driven
 pub mod Driver
 pub use Rattle.sched_driver_stepper.specs.Standing

@@ -1,5 +1,6 @@
 -- What is found below a node, and what leads on from it.
-use Rattle.std.proofs.Common.{◌≡◌, inl, inr, ℕ, List, [], ◌∷◌, ◌++◌, Option, Some, None, Result, Ok, Err, IfOk, sym, ap, ◌∙◌, subst}
+use Rattle.std.proofs.Common.{◌≡◌, inl, inr, ℕ, List, [], ◌∷◌, ◌++◌, Option, Some, None, Result, Ok, Err, IfOk, sym, ap}
+use Rattle.std.proofs.Common.{◌∙◌, subst}
 use Rattle.std.proofs.lemmas.List.{append_assoc, append-nil}
 use Rattle.serde_json.specs.Data.{Data}
 use Rattle.serde_json.specs.View.{view}
@@ -15,18 +16,21 @@ use Rattle.sched_plan_check.specs.PlanFaults.{IsNext, plans_in, name_in, steps_t
 use Rattle.sched_plan_check.proofs.Leads.{leads, refused, whole}
 
 -- the first of one plan is the first of two
-pub first_stays : (p q : Option ℕ × Data) (b : Below) → IsFirstBelow (p ∷ []) (Some b) → IsFirstBelow (p ∷ q ∷ []) (Some b)
+pub first_stays : (p q : Option ℕ × Data) (b : Below) → IsFirstBelow (p ∷ []) (Some b)
+    → IsFirstBelow (p ∷ q ∷ []) (Some b)
 first_stays p q b (inl e, is) = (inl e, is)
 first_stays p q b (inr later, is) = absurd later.1
 
 -- after a plan that is read the first of the second is the first of both
-pub then_second : (p q : Option ℕ × Data) (found : Option Below) → IsFirstBelow (p ∷ []) None → IsFirstBelow (q ∷ []) found →
+pub then_second : (p q : Option ℕ × Data) (found : Option Below) → IsFirstBelow (p ∷ []) None
+    → IsFirstBelow (q ∷ []) found →
     IsFirstBelow (p ∷ q ∷ []) found
 then_second p q None read h = (read.0, h)
 then_second p q (Some b) read h = (inr (read.0, h.0), h.1)
 
 -- where no plan below is refused, the place is this one
-pub leads_here : (d : Data) (place : List Into) (fault : ReadFault) → plan_of d ≡ Err fault → IsFirstBelow (plans_in (spelt_of d)) None →
+pub leads_here : (d : Data) (place : List Into) (fault : ReadFault) → plan_of d ≡ Err fault
+    → IsFirstBelow (plans_in (spelt_of d)) None →
     LeadsOn fault d place place d
 leads_here d place fault is all = ([], sym (append-nil place), own d is all)
 
@@ -34,8 +38,11 @@ leads_here d place fault is all = ([], sym (append-nil place), own d is all)
 pub leads_below : (d a v : Data) (item : Option ℕ) (before next place : List Into) (fault : ReadFault) →
     IsNext (plans_in (spelt_of d)) item a → next ≡ before ++ steps_to (name_in d) item → LeadsOn fault a next place v →
     LeadsOn fault d before place v
-leads_below d a v item before next place fault is steps on =
-    (steps_to (name_in d) item ++ on.0, on.1 ∙ ap (λ p. p ++ on.0) steps ∙ append_assoc before _ on.0, below d a v item on.0 is on.2)
+leads_below d a v item before next place fault is steps on = (
+  steps_to (name_in d) item ++ on.0,
+  on.1 ∙ ap (λ p. p ++ on.0) steps ∙ append_assoc before _ on.0,
+  below d a v item on.0 is on.2,
+)
 
 -- from no step at all the place leads to the first fault
 pub plan_fault : (d : Data) (found : Fault) (steps : List Step) → steps ≡ [] →

@@ -6,7 +6,8 @@ use Rattle.serde_json.specs.Data.{Data, null, boolean, number, string, array, ob
 use Rattle.serde_json.specs.Find.{at, as_bool}
 use Rattle.sched_plan.specs.declared.leaves.Leaf.{Leaf}
 use Rattle.sched_plan.specs.declared.nodes.One.{One}
-use Rattle.sched_plan.specs.declared.nodes.One.TheVariants.{Gate, Gather, Add, Set, Cap, AddOut, Jitter, Within, EndsBy, Renew, RenewIdle, First, Second, Nothing}
+use Rattle.sched_plan.specs.declared.nodes.One.TheVariants.{Gate, Gather, Add, Set, Cap, AddOut, Jitter, Within, EndsBy}
+use Rattle.sched_plan.specs.declared.nodes.One.TheVariants.{Renew, RenewIdle, First, Second, Nothing}
 use Rattle.sched_plan.specs.declared.nodes.Two.{Two}
 use Rattle.sched_plan.specs.declared.nodes.Two.TheVariants.{Meet, Join, Follow, Feed}
 use Rattle.sched_plan.specs.declared.nodes.Fold.{Fold}
@@ -14,7 +15,10 @@ use Rattle.sched_plan.specs.declared.nodes.Side.{Side}
 use Rattle.sched_plan.specs.declared.nodes.Test.{Test}
 use Rattle.sched_plan.specs.declared.leaves.Leaf.TheVariants as leaf
 use Rattle.sched_plan_json.specs.Words.{sides, tests, folds}
-use Rattle.sched_plan_json.specs.Forms.{Part, Spelt, of_leaf, over_one, over_two, Form, Row, spelt_by, number_in, word_in, two_numbers_in, three_numbers_in, four_numbers_in, jitter_and_part, gate_and_part, gather_and_part, a_number, two_numbers, three_numbers, four_numbers, a_plan, a_number_and_a_plan, parameters_and_a_plan, two_plans}
+use Rattle.sched_plan_json.specs.Forms.{Part, Spelt, of_leaf, over_one, over_two, Form, Row, spelt_by, number_in}
+use Rattle.sched_plan_json.specs.Forms.{word_in, two_numbers_in, three_numbers_in, four_numbers_in, jitter_and_part}
+use Rattle.sched_plan_json.specs.Forms.{gate_and_part, gather_and_part, a_number, two_numbers, three_numbers}
+use Rattle.sched_plan_json.specs.Forms.{four_numbers, a_plan, a_number_and_a_plan, parameters_and_a_plan, two_plans}
 use Rattle.sched_plan_json.specs.Nodes.{from_pairs}
 use Rattle.sched_plan_json.specs.PlanOf.{part_of, parts_of, reading_of}
 use Rattle.sched_plan_check.specs.PlanFaults.{item_in}
@@ -99,9 +103,12 @@ jitter_has (array (item a (item b (item c (item d no_items))))) =
 jitter_has (array (item a (item b (item c (item d (item e ds)))))) = tt
 
 -- [SIDE,WANT,TEST,bound,A]
-gate_and : (v e : Data) (want : Option Bool) (side : Option Side) (test : Option Test) (bound : Option ℕ) → at 4 v ≡ Some e →
+gate_and : (v e : Data) (want : Option Bool) (side : Option Side) (test : Option Test) (bound : Option ℕ)
+    → at 4 v ≡ Some e →
     HasParts v (option_map (λ (p : One × Part). over_one p.0 p.1)
-    (option_and_then (λ w. option_and_then (λ s. option_and_then (λ t. option_map (λ n. (Gate s w t n, part_of e)) bound) test) side) want))
+    (option_and_then
+    (λ w. option_and_then (λ s. option_and_then (λ t. option_map (λ n. (Gate s w t n, part_of e)) bound) test) side)
+    want))
 gate_and v e None side test bound is = tt
 gate_and v e (Some w) None test bound is = tt
 gate_and v e (Some w) (Some s) None bound is = tt
@@ -149,7 +156,8 @@ pair_has k (string s) = tt
 pair_has k (object ms) = tt
 pair_has k (array no_items) = tt
 pair_has k (array (item a no_items)) = tt
-pair_has k (array (item a (item b no_items))) = (record { stands = refl; reads = refl }, record { stands = refl; reads = refl })
+pair_has k (array (item a (item b no_items))) =
+    (record { stands = refl; reads = refl }, record { stands = refl; reads = refl })
 pair_has k (array (item a (item b (item c ds)))) = tt
 
 abbrev HaveForms : List Row → Type 0
@@ -243,10 +251,12 @@ all_have = (
   ),
 )
 
-by_rows : (rows : List Row) → HaveForms rows → (name : List ℕ) (v : Data) → HasParts v (spelt_by rows name (part_of v) (parts_of v))
+by_rows : (rows : List Row) → HaveForms rows → (name : List ℕ) (v : Data)
+    → HasParts v (spelt_by rows name (part_of v) (parts_of v))
 by_rows [] all name v = tt
 by_rows (row ∷ rows) all name v =
-    cond_both (bytes_eq name row.0) (row.1 (part_of v) (parts_of v)) (spelt_by rows name (part_of v) (parts_of v)) (HasParts v)
+    cond_both (bytes_eq name row.0) (row.1 (part_of v) (parts_of v)) (spelt_by rows name (part_of v) (parts_of v))
+    (HasParts v)
     (λ _. all.0 v) (λ _. by_rows rows all.1 name v)
 
 -- the plans of a node stand in its value

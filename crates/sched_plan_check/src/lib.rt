@@ -1,4 +1,5 @@
-//! Checking a plan in JSON: its first fault, with the place of the value that has it.
+//! Checks a plan in JSON: finds its first fault and the place of the value that has it. The fault is the one that
+//! reading the plan returns. It stands on `sched_plan_json`.
 #![tactic(auto)]
 
 mod below;
