@@ -203,7 +203,7 @@ without_kit() {
 
 # A crate, and those that stand on it, are proved by `rt ci`, and the last line is that of rt.
 with_kit() {
-  local few=$work/few line status
+  local few=$work/few
   mkdir -p "$few/bin" "$few/dist"
   cp bin/check bin/crates bin/digest bin/kit "$few/bin"
   : >"$few/dist/SOURCES"
@@ -216,14 +216,21 @@ with_kit() {
   # shellcheck disable=SC2016
   printf '#!/bin/sh\necho "$*" >>%s\necho "rt: ok"\necho "$LINE"\n[ "$LINE" = "9 passed, 0 failed" ]\n' "$work/asked" >"$HIKEBOX_RT"
   chmod +x "$HIKEBOX_RT"
+  asks 'ci middle middle_tests program' middle
+  asks 'ci middle side' middle side --alone
+  wants 2 '' 'bin/crates: crates.txt has no crate none' "$few/bin/check" none --alone
+}
+
+# asks WORDS WORD..: bin/check WORD.. hands WORDS to rt, and ends as rt does
+asks() {
+  local line status
   for line in '9 passed, 0 failed' '8 passed, 1 failed'; do
     : >"$work/asked"
     status=0
-    LINE=$line "$few/bin/check" middle >"$work/out" 2>&1 </dev/null || status=$?
+    LINE=$line "$few/bin/check" "${@:2}" >"$work/out" 2>&1 </dev/null || status=$?
     tried=$((tried + 1))
-    [ "$(tail -n 1 "$work/out")" = "$line" ] && [ "$status" = "${line:10:1}" ] &&
-      [ "$(cat "$work/asked")" = 'ci middle middle_tests program' ] || {
-      echo "tests/commands.sh: bin/check middle: status $status, asked for $(cat "$work/asked"): $(cat "$work/out")" >&2
+    [ "$(tail -n 1 "$work/out")" = "$line" ] && [ "$status" = "${line:10:1}" ] && [ "$(cat "$work/asked")" = "$1" ] || {
+      echo "tests/commands.sh: bin/check ${*:2}: status $status, asked for $(cat "$work/asked"): $(cat "$work/out")" >&2
       failed=1
     }
   done
