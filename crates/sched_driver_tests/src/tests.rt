@@ -1,4 +1,5 @@
-//! Drivers at work. Tests answer nothing and end by `expect` in helpers, which take values as they are: so they hold few.
+//! Drivers at work. Tests answer nothing and end by `expect` in helpers, which take values as they are: so they hold
+//! few.
 use sched_driver::{DriveFault, Driver, Event};
 use sched_plan::{Plan, Val};
 use sched_time::{Decision, Interval, Moment, Tick};

@@ -1,2 +1,3 @@
+-- The proof of the bound.
 pub mod Crossings
 pub mod BoundLaw

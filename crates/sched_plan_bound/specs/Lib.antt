@@ -1,1 +1,2 @@
+-- The bound of a schedule.
 pub mod Bound

@@ -1,4 +1,5 @@
-//! The bound of a plan: how often it goes on at most.
+//! The bound of a plan: how often it goes on at most, where its nodes imply such a number. No history on which the plan
+//! is stepped makes it go on more often. It stands on `sched_plan`.
 #![tactic(auto)]
 
 mod bounds;

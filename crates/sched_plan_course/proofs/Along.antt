@@ -1,5 +1,7 @@
 -- What is true while a plan is stepped along a course, one event after another.
-use Rattle.std.proofs.Common.{◌≡◌, ℕ, zero, suc, ◌+◌, ◌-◌, ◌≤◌, List, [], ◌∷◌, ◌++◌, length, map, Option, Some, None, option_map, IsTrue, refl, sym, ◌∙◌, ap, subst, arith, add-one, length-append, append_assoc}
+use Rattle.std.proofs.Common.{◌≡◌, ℕ, zero, suc, ◌+◌, ◌-◌, ◌≤◌, List, [], ◌∷◌, ◌++◌, length, map, Option, Some, None}
+use Rattle.std.proofs.Common.{option_map, IsTrue, refl, sym, ◌∙◌, ap, subst, arith, add-one, length-append}
+use Rattle.std.proofs.Common.{append_assoc}
 use Rattle.std.proofs.lemmas.List.{append-nil, map-append}
 use Rattle.sched_time.specs.Capped.{capped}
 use Rattle.sched_time.specs.Decision.{start_of}
@@ -22,10 +24,12 @@ use Rattle.sched_plan_course.specs.declared.lines.Line.{Line}
 -- a longer history has one line more
 pub lines_of-push : (s : Schedule) (h : List Event) (e : Event) →
     lines_of s (h ++ e ∷ []) ≡ lines_of s h ++ line_after s (h ++ e ∷ []) ∷ []
-lines_of-push s h e = ap (map (line_after s)) (prefixes-push h e) ∙ map-append (line_after s) (prefixes h) ((h ++ e ∷ []) ∷ [])
+lines_of-push s h e =
+    ap (map (line_after s)) (prefixes-push h e) ∙ map-append (line_after s) (prefixes h) ((h ++ e ∷ []) ∷ [])
 
 -- what a step gives of the history with its event is that history's line
-pub line_told : (s : Schedule) (h : List Event) (e : Event) (state : Progress) (given : Answer) → IsStep s (h ++ e ∷ []) state given →
+pub line_told : (s : Schedule) (h : List Event) (e : Event) (state : Progress) (given : Answer)
+    → IsStep s (h ++ e ∷ []) state given →
     IsLine s (h ++ e ∷ []) state (record { moment = e.now; output = given.output; decision = given.decision })
 line_told s h e state given step = record {
   state_is = step.state_is;
@@ -40,11 +44,13 @@ line_told s h e state given step = record {
 run-grows : (s : Schedule) (o : Course) (n now : ℕ) → next_moment s o (run s o n) ≡ Some now → length (run s o n) ≡ n →
     run s o (n + 1) ≡ run s o n ++ event_at o n now ∷ []
 run-grows s o n now next count =
-    let grown : run s o (n + 1) ≡ run s o n ++ event_at o (length (run s o n)) now ∷ [] = rw add-one (ap (λ m. and_at o (run s o n) m) next) in
+    let grown : run s o (n + 1) ≡ run s o n ++ event_at o (length (run s o n)) now ∷ [] =
+    rw add-one (ap (λ m. and_at o (run s o n) m) next) in
     grown ∙ ap (λ k. run s o n ++ event_at o k now ∷ []) count
 
 -- where no event follows, the run stays as it is
-run-ends : (s : Schedule) (o : Course) (n : ℕ) → next_moment s o (run s o n) ≡ None → (k : ℕ) → run s o (n + k) ≡ run s o n
+run-ends : (s : Schedule) (o : Course) (n : ℕ) → next_moment s o (run s o n) ≡ None → (k : ℕ)
+    → run s o (n + k) ≡ run s o n
 run-ends s o n ends zero =
     let same : n + zero ≡ n = omega arith in
     ap (λ m. run s o m) same
@@ -57,7 +63,8 @@ run-ends s o n ends (suc k) =
 abbrev Leads : List Line → List Line → Type 0
 Leads front all = (rest : List Line) × (all ≡ front ++ rest)
 
-leads_on : (s : Schedule) (o : Course) (front : List Line) (h : List Event) (m : Option ℕ) → Leads front (lines_of s h) →
+leads_on : (s : Schedule) (o : Course) (front : List Line) (h : List Event) (m : Option ℕ)
+    → Leads front (lines_of s h) →
     Leads front (lines_of s (and_at o h m))
 leads_on s o front h None leads = leads
 leads_on s o front h (Some now) leads = (
@@ -70,7 +77,8 @@ leads_on s o front h (Some now) leads = (
 run-leads : (s : Schedule) (o : Course) (n k : ℕ) → Leads (lines_of s (run s o n)) (lines_of s (run s o (n + k)))
 run-leads s o n zero =
     let same : n ≡ n + zero = omega arith in
-    subst (λ m. Leads (lines_of s (run s o n)) (lines_of s (run s o m))) same ([], sym (append-nil (lines_of s (run s o n))))
+    subst (λ m. Leads (lines_of s (run s o n)) (lines_of s (run s o m))) same
+    ([], sym (append-nil (lines_of s (run s o n))))
 run-leads s o n (suc k) =
     let step : suc (n + k) ≡ n + suc k = omega arith in
     subst (λ m. Leads (lines_of s (run s o n)) (lines_of s (run s o m))) step
@@ -104,10 +112,16 @@ pub record IsAlong (s : Schedule) (o : Course) (n now : ℕ) (state : Progress) 
 
 pub along_init : (s : Schedule) (o : Course) (now : ℕ) (state : Progress) → now ≡ o.from → state ≡ state_of s [] →
     IsTrue (fits s state now) → IsAlong s o 0 now state
-along_init s o now state first is fit = record { state_is = is; next_is = ap Some (sym first); count = refl; fits_now = fit }
+along_init s o now state first is fit = record {
+  state_is = is;
+  next_is = ap Some (sym first);
+  count = refl;
+  fits_now = fit;
+}
 
 -- the event at `now` comes, and the line is its own
-module _ (s : Schedule) (o : Course) (n now : ℕ) (e : Event) (state next : Progress) (line : Line) (along : IsAlong s o n now state)
+module _ (s : Schedule) (o : Course) (n now : ℕ) (e : Event) (state next : Progress) (line : Line)
+    (along : IsAlong s o n now state)
     (event_is : e ≡ event_at o n now)
     (stepped : (h : List Event) → state ≡ state_of s h → IsLine s (h ++ e ∷ []) next line) where
   grown : run s o (n + 1) ≡ run s o n ++ event_at o n now ∷ []

@@ -1,3 +1,4 @@
+-- A course of events, a plan's run along it, and its lines.
 pub mod Course
 pub mod Run
 pub mod Lines

@@ -1,4 +1,5 @@
-//! A plan that is stepped along a course: what it does, event by event, as records.
+//! Steps a plan along a course of events, and returns what it does at each as a line. The lines are those that the
+//! plan's answers define. It stands on `sched_step`.
 #![tactic(auto)]
 
 mod courses;

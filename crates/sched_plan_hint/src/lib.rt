@@ -1,4 +1,5 @@
-//! Hints at the fault of a plan's text: the text of its place, and what is wanted there.
+//! Messages for the fault of a plan's text: where it is, and what is expected there. The place is that of the first
+//! fault, and a text that is no JSON gets its line and column. It stands on `sched_plan_check`.
 #![tactic(auto)]
 
 mod faults;

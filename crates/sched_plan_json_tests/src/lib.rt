@@ -1,5 +1,5 @@
-//! Tests of `sched_plan_json`, of what writes plans and of what finds a text's first fault, of their public calls alone: here
-//! they are proved without a second proof of these libraries.
+//! Tests of `sched_plan_json`, `sched_plan_json_write` and `sched_plan_hint` by their public calls alone. They stand
+//! apart so that they are proved without a second proof of these libraries.
 #![tactic(auto)]
 
 #[cfg(test)]

@@ -1,4 +1,5 @@
-//! Tests of the forms that the tables of nodes spell, and of which fault is answered first; of the texts of plans; of hints.
+//! Tests of the forms that the tables of nodes spell, and of which fault is answered first; of the texts of plans; of
+//! hints.
 mod fault_texts;
 mod first_faults;
 mod forms;

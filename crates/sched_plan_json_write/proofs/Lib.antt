@@ -1,1 +1,2 @@
+-- What is written of a plan is read as the same plan.
 pub mod Writings

@@ -1,5 +1,7 @@
 -- What is written of a valid schedule reads as that schedule.
-use Rattle.std.proofs.Common.{◌≡◌, ℕ, ◌+◌, ◌≤◌, Bool, true, false, not, ◌&&◌, if◌then◌else◌, nat_lt, IsTrue, List, [], ◌∷◌, ◌++◌, map, Some, Ok, Err, String, string_bytes, Vec, Global, refl, sym, ◌∙◌, ap, append_assoc, arith}
+use Rattle.std.proofs.Common.{◌≡◌, ℕ, ◌+◌, ◌≤◌, Bool, true, false, not, ◌&&◌, if◌then◌else◌, nat_lt, IsTrue, List, []}
+use Rattle.std.proofs.Common.{◌∷◌, ◌++◌, map, Some, Ok, Err, String, string_bytes, Vec, Global, refl, sym, ◌∙◌, ap}
+use Rattle.std.proofs.Common.{append_assoc, arith}
 use Rattle.std.proofs.lemmas.Bool.Decides.{nat_tests}
 use Rattle.std.proofs.lemmas.List.{map-append}
 use Rattle.std.proofs.lemmas.Str.{IsUtf8-string_bytes}
@@ -9,13 +11,17 @@ use Rattle.serde_json.specs.View.{view, items_of, items_view}
 use Rattle.serde_json.specs.Written.{has_float, compact_text}
 use Rattle.serde_json.specs.declared.value.Value.{Value, Array}
 use Rattle.serde_json.proofs.Views.{view-Array}
-use Rattle.sched_plan.specs.Schedule.{Schedule, leaf, one, two, nodes_of, depth_of, node_in_range, one_in_range, is_valid}
+use Rattle.sched_plan.specs.Schedule.{Schedule, leaf, one, two, nodes_of, depth_of, node_in_range, one_in_range}
+use Rattle.sched_plan.specs.Schedule.{is_valid}
 use Rattle.sched_plan.specs.Plan.{built_plan}
 use Rattle.sched_plan.specs.declared.plans.PlanFault.TheVariants.{OutOfRange, TooDeep, TooMany}
 use Rattle.sched_plan.specs.declared.leaves.Leaf.{Leaf}
-use Rattle.sched_plan.specs.declared.leaves.Leaf.TheVariants.{Forever, Recurs, Spaced, Fixed, Windowed, Linear, Exponential, ExponentialMilli, Fibonacci, Decorrelated, Elapsed, Identity, Unfold, Lone}
+use Rattle.sched_plan.specs.declared.leaves.Leaf.TheVariants.{Forever, Recurs, Spaced, Fixed, Windowed, Linear}
+use Rattle.sched_plan.specs.declared.leaves.Leaf.TheVariants.{Exponential, ExponentialMilli, Fibonacci, Decorrelated}
+use Rattle.sched_plan.specs.declared.leaves.Leaf.TheVariants.{Elapsed, Identity, Unfold, Lone}
 use Rattle.sched_plan.specs.declared.nodes.One.{One}
-use Rattle.sched_plan.specs.declared.nodes.One.TheVariants.{Gate, Gather, Add, Set, Cap, AddOut, Jitter, Within, EndsBy, Renew, RenewIdle, First, Second, Nothing}
+use Rattle.sched_plan.specs.declared.nodes.One.TheVariants.{Gate, Gather, Add, Set, Cap, AddOut, Jitter, Within, EndsBy}
+use Rattle.sched_plan.specs.declared.nodes.One.TheVariants.{Renew, RenewIdle, First, Second, Nothing}
 use Rattle.sched_plan.specs.declared.nodes.Two.{Two}
 use Rattle.sched_plan.specs.declared.nodes.Two.TheVariants.{Meet, Join, Follow, Feed}
 use Rattle.sched_plan.specs.declared.nodes.Side.TheVariants.{Input, Output}
@@ -106,7 +112,8 @@ json_reads (leaf l) valid shallow few =
 json_reads (one k a) valid shallow few =
     let inner = json_reads a (right_of (one_in_range k) (is_valid a) valid) (omega arith) (omega arith) in
     let whole = built (one k a) (left_of (one_in_range k) (is_valid a) valid) shallow few in
-    sym (one_read (json_of (one k a)) (json_of a) k a (Ok (one k a)) (one_spelt k (json_of a)) (sym inner) (sym (ap of_builder whole)))
+    sym (one_read (json_of (one k a)) (json_of a) k a (Ok (one k a)) (one_spelt k (json_of a)) (sym inner)
+    (sym (ap of_builder whole)))
 json_reads (two k a b) valid shallow few =
     let first = json_reads a (left_of (is_valid a) (is_valid b) valid) (omega arith) (omega arith) in
     let second = json_reads b (right_of (is_valid a) (is_valid b) valid) (omega arith) (omega arith) in
@@ -116,7 +123,8 @@ json_reads (two k a b) valid shallow few =
     (sym first) (sym second) (sym (ap of_builder whole)))
 
 -- the same of a value that was written
-pub written_reads : (d : Data) (s : Schedule) → d ≡ json_of s → IsTrue (is_valid s) → depth_of s ≤ 32 → nodes_of s ≤ 256 →
+pub written_reads : (d : Data) (s : Schedule) → d ≡ json_of s → IsTrue (is_valid s) → depth_of s ≤ 32
+    → nodes_of s ≤ 256 →
     plan_of d ≡ Ok s
 written_reads d s is valid shallow few = ap plan_of is ∙ json_reads s valid shallow few
 
@@ -211,8 +219,10 @@ text_reads d s text is reads shallow back =
     (d, IsUtf8-string_bytes text, back nested, reads)
 
 -- two more items
-pub two_more : (list : Vec Value Global) (before : List Value) (a b : Value) → list.items ≡ (before ++ a ∷ []) ++ b ∷ [] →
+pub two_more : (list : Vec Value Global) (before : List Value) (a b : Value)
+    → list.items ≡ (before ++ a ∷ []) ++ b ∷ [] →
     view (Array list) ≡ array (items_of (map view before ++ view a ∷ view b ∷ []))
 two_more list before a b is =
     let all : list.items ≡ before ++ a ∷ b ∷ [] = is ∙ append_assoc before (a ∷ []) (b ∷ []) in
-    view-Array list ∙ ap (λ vs. array (items_view vs)) all ∙ ap (λ ds. array (items_of ds)) (map-append view before (a ∷ b ∷ []))
+    view-Array list ∙ ap (λ vs. array (items_view vs)) all
+    ∙ ap (λ ds. array (items_of ds)) (map-append view before (a ∷ b ∷ []))

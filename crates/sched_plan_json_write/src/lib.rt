@@ -1,4 +1,5 @@
-//! Plans as JSON, which is read as the same plans.
+//! Plans as JSON: writes a plan as a JSON value or as a text without spaces. `sched_plan_json` reads the same plan from
+//! what is written. It stands on `sched_plan_json`.
 #![tactic(auto)]
 
 mod forms;

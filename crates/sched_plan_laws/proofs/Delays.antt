@@ -11,8 +11,10 @@ picks : (base most more : ℕ) → base ≤ most → most ≤ FAR →
     (base ≤ min most (capped (base + more))) × (min most (capped (base + more)) ≤ most)
 picks base most more low high = (omega (arith, low, high), omega arith)
 
-delays : (base thousandths most : ℕ) → base ≤ most → most ≤ FAR → (before : ℕ) → base ≤ before → before ≤ most → (words : List ℕ) →
-    (base ≤ fold (decorrelated_after base thousandths most) before words) × (fold (decorrelated_after base thousandths most) before words ≤ most)
+delays : (base thousandths most : ℕ) → base ≤ most → most ≤ FAR → (before : ℕ) → base ≤ before → before ≤ most
+    → (words : List ℕ) →
+    (base ≤ fold (decorrelated_after base thousandths most) before words)
+    × (fold (decorrelated_after base thousandths most) before words ≤ most)
 delays base thousandths most low high before above below [] = (above, below)
 delays base thousandths most low high before above below (word ∷ words) =
     let next = picks base most _ low high in

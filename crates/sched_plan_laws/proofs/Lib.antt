@@ -1,1 +1,2 @@
+-- The laws of delays.
 pub mod Delays

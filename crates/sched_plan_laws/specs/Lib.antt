@@ -1,1 +1,2 @@
+-- What the laws of delays say.
 pub mod Delays

@@ -1,4 +1,5 @@
-//! What holds of the delays of plans, on every history. Each function does nothing: its contract is a law.
+//! Laws of the delays of plans, on every history. Each function does nothing: its contract is a law, which readers can
+//! cite. It stands on `sched_plan`.
 #![tactic(auto)]
 
 ghost use Rattle.sched_plan_laws.specs.Delays.{DecorrelatedIsBounded};

@@ -1,5 +1,6 @@
 -- A node's answer, by what its builder answers.
-use Rattle.std.proofs.Common.{◌≡◌, ℕ, Bool, true, false, not, if◌then◌else◌, List, Option, Some, None, option_map, Result, Ok, Err, refl, sym}
+use Rattle.std.proofs.Common.{◌≡◌, ℕ, Bool, true, false, not, if◌then◌else◌, List, Option, Some, None, option_map}
+use Rattle.std.proofs.Common.{Result, Ok, Err, refl, sym}
 use Rattle.sched_plan.specs.Schedule.{Schedule, leaf, leaf_in_range}
 use Rattle.sched_plan.specs.declared.leaves.Leaf.{Leaf}
 use Rattle.sched_plan.specs.declared.plans.PlanFault.TheVariants.{OutOfRange, TooDeep, TooMany, NoMemory}
@@ -10,7 +11,8 @@ use Rattle.sched_plan_node.specs.declared.faults.NodeFault.{NodeFault}
 use Rattle.sched_plan_node.specs.declared.faults.NodeFault.TheVariants.{NotANode, Plan}
 
 -- a leaf asks for no memory
-in_range_or_not : (b : Bool) (s : Schedule) → of_builder (if not b then Err OutOfRange else Ok s) ≡ Err (Plan NoMemory) → ⊥
+in_range_or_not : (b : Bool) (s : Schedule)
+    → of_builder (if not b then Err OutOfRange else Ok s) ≡ Err (Plan NoMemory) → ⊥
 in_range_or_not true s h = cc
 in_range_or_not false s h = cc
 

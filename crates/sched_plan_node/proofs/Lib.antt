@@ -1,1 +1,2 @@
+-- Lemmas on the answers of a node's builder.
 pub mod Answered

@@ -1,4 +1,6 @@
-//! Nodes by their names, numbers and plans.
+//! Nodes by their names: builds the node of a name from the numbers and plans that it takes. It returns what the
+//! builder of that node in `sched_plan` returns, or that the name, the numbers or the plans don't fit. It stands on
+//! `sched_plan`.
 #![tactic(auto)]
 
 mod faults;

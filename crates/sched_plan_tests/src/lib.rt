@@ -1,5 +1,5 @@
-//! Tests of `sched_plan`, of nodes by their names and of courses, of their public calls alone: here they are proved without a
-//! second proof of these libraries.
+//! Tests of `sched_plan`, `sched_plan_node` and `sched_plan_course` by their public calls alone. They stand apart so
+//! that they are proved without a second proof of these libraries.
 #![tactic(auto)]
 
 #[cfg(test)]

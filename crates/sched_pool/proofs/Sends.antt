@@ -10,8 +10,10 @@ use Rattle.sched_pool.specs.contracts.boards.Board as Board
 use Rattle.sched_pool.specs.contracts.runs.Shift as Shift
 use Rattle.sched_pool.specs.contracts.runs.Worker as Worker
 
-pub board_shares : (κ : _) (X N I F : _) (e ic fc n : _) → IsSend X → IsSend N → IsSend I → IsSend F → IsSync (Board.the_row κ X N I F e ic fc n)
-board_shares κ X N I F e ic fc n x sn i f = search (sendable, crosses, job_sends, claims.the_sync, budget.the_sync) depth 60
+pub board_shares : (κ : _) (X N I F : _) (e ic fc n : _) → IsSend X → IsSend N → IsSend I → IsSend F
+    → IsSync (Board.the_row κ X N I F e ic fc n)
+board_shares κ X N I F e ic fc n x sn i f =
+    search (sendable, crosses, job_sends, claims.the_sync, budget.the_sync) depth 60
 
 pub station_sends : (C G : _) → IsSend C → IsSend G → IsSend (Station.the_row C G)
 station_sends C G c g = search (sendable, crosses) depth 60

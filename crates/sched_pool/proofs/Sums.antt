@@ -1,5 +1,6 @@
 -- The ends of a board's jobs, one by one, and their sum.
-use Rattle.std.proofs.Common.{◌≡◌, ℕ, suc, ◌+◌, ◌<◌, ◌≤◌, true, false, List, [], ◌∷◌, ◌++◌, map, length, refl, sym, ap, ◌∙◌, arith, length-append}
+use Rattle.std.proofs.Common.{◌≡◌, ℕ, suc, ◌+◌, ◌<◌, ◌≤◌, true, false, List, [], ◌∷◌, ◌++◌, map, length, refl, sym, ap}
+use Rattle.std.proofs.Common.{◌∙◌, arith, length-append}
 use Rattle.std.specs.Prelude.{All, slice_index_or}
 use Rattle.std.proofs.lemmas.List.Elements.{All-nil, All-push}
 use Rattle.sched_ticket.specs.Lists.{total}
@@ -35,7 +36,8 @@ joined_push [] x = append_none x
 joined_push (y ∷ ys) x = ap (λ l. y ++ l) (joined_push ys x) ∙ sym (append_twice y (joined ys) x)
 
 -- a pass's tickets are within the limit of a budget that keeps it
-limited : (b : Name) (p : Held) → IsOf b p → IsWithin p.has → b.terms.rises ≡ false → length p.has.tickets ≤ b.terms.limit
+limited : (b : Name) (p : Held) → IsOf b p → IsWithin p.has → b.terms.rises ≡ false
+    → length p.has.tickets ≤ b.terms.limit
 limited b p of within keeps =
     omega (arith, within.few, within.fixed (ap (λ (t : Terms). t.rises) of.1 ∙ keeps), ap (λ (t : Terms). t.limit) of.1)
 
@@ -81,16 +83,27 @@ count_taken b n before ends pass granted h =
 -- a pass keeps its refusals where another is joined into it
 more_refused : (p mine q : Held) → q.has ≡ joined_view p.has mine.has → (v : Past) → IsRefusedBy p v → IsRefusedBy q v
 more_refused p mine q join v refused = λ denied.
-    omega (arith, refused denied, ap (λ (w : View). length w.refusals) join, length-append p.has.refusals mine.has.refusals)
+    omega (
+      arith,
+      refused denied,
+      ap (λ (w : View). length w.refusals) join,
+      length-append p.has.refusals mine.has.refusals,
+    )
 
 its_refusal : (p mine q : Held) → q.has ≡ joined_view p.has mine.has → (v : Past) → IsRefusedBy mine v → IsRefusedBy q v
 its_refusal p mine q join v refused = λ denied.
-    omega (arith, refused denied, ap (λ (w : View). length w.refusals) join, length-append p.has.refusals mine.has.refusals)
+    omega (
+      arith,
+      refused denied,
+      ap (λ (w : View). length w.refusals) join,
+      length-append p.has.refusals mine.has.refusals,
+    )
 
 -- one more job is taken back, with its pass
 pub one_taken : (b : Name) (n : ℕ) (before p mine q : Held) (ends : List Past) (granted : ℕ) (v : Past) →
     IsEnd b n before ends p granted → Law retry v → v.granted ≡ length mine.has.tickets → IsRefusedBy mine v →
-    IsOf b q → q.has ≡ joined_view p.has mine.has → IsSound q.has → IsEnd b (n + 1) before (ends ++ v ∷ []) q (granted + v.granted)
+    IsOf b q → q.has ≡ joined_view p.has mine.has → IsSound q.has
+    → IsEnd b (n + 1) before (ends ++ v ∷ []) q (granted + v.granted)
 one_taken b n before p mine q ends granted v h law same refused of join sound =
     let f : Past → ℕ = λ w. w.granted in
     let counted : length q.has.tickets ≡ length before.has.tickets + (granted + v.granted) = omega (
@@ -118,20 +131,24 @@ one_taken b n before p mine q ends granted v h law same refused of join sound =
       limited = λ keeps. omega (arith, limited b q of sound.within keeps, counted);
       found = omega (arith, sound.within.few, counted);
       refused = All-push (IsRefusedBy q) ends v
-          (λ k d small. more_refused p mine q join (slice_index_or ends k d) (h.refused k d small)) (its_refusal p mine q join v refused);
+          (λ k d small. more_refused p mine q join (slice_index_or ends k d) (h.refused k d small))
+          (its_refusal p mine q join v refused);
     }
 
 -- where a job was refused, so was the pass
-was_refused : (pass : Held) (ends : List Past) → All (Law retry) ends → All (IsRefusedBy pass) ends → has_refused ends ≡ true →
+was_refused : (pass : Held) (ends : List Past) → All (Law retry) ends → All (IsRefusedBy pass) ends
+    → has_refused ends ≡ true →
     0 < length pass.has.refusals
 was_refused pass [] laws refused some = absurd (cc)
 was_refused pass (v ∷ ends) laws refused some =
     by_test (is_refused v.over)
     (λ yes. refused 0 v (omega arith) (denied_is retry refl v v.over (laws 0 v (omega arith)).ended ∙ yes))
-    (λ no. was_refused pass ends (λ k d small. laws (suc k) d (omega (arith, small))) (λ k d small. refused (suc k) d (omega (arith, small))) (rw no at some))
+    (λ no. was_refused pass ends (λ k d small. laws (suc k) d (omega (arith, small)))
+    (λ k d small. refused (suc k) d (omega (arith, small))) (rw no at some))
 
 pub agrees : (b : Name) (n : ℕ) (before : Held) (ends : List Past) (pass : Held) (granted : ℕ) →
-    IsEnd b n before ends pass granted → (closed : IsWhole b.terms pass.has) → Agrees b before ends pass granted closed.limit
+    IsEnd b n before ends pass granted → (closed : IsWhole b.terms pass.has)
+    → Agrees b before ends pass granted closed.limit
 agrees b n before ends pass granted h closed = record {
   count = count_taken b n before ends pass granted h;
   full = λ some unraised. omega (arith, closed.count unraised, was_refused pass ends h.laws h.refused some);

@@ -1,3 +1,4 @@
+-- What a board's jobs, ends and runs are.
 pub mod Boards
 pub mod Ends
 pub mod Runs

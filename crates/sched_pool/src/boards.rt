@@ -1,5 +1,6 @@
 //! The board: jobs under locks, with watchers and cancels beside the workers.
-ghost use Rattle.std.specs.Prelude.{◌≡◌, ◌+◌, ◌<◌, ◌≤◌, ◌↔◌, ℕ, length, None, IsTrue, IsSome, IfOk, IfErr, OnOk, IfSome};
+ghost use Rattle.std.specs.Prelude.{◌≡◌, ◌+◌, ◌<◌, ◌≤◌, ◌↔◌, ℕ, length, None, IsTrue, IsSome, IfOk, IfErr, OnOk};
+ghost use Rattle.std.specs.Prelude.{IfSome};
 ghost use Rattle.sched_task_law.specs.Past.{nothing_yet};
 ghost use Rattle.sched_pool_job.specs.Jobs.{IsSeen};
 ghost use Rattle.sched_pool.specs.Boards.{Boarded, RefusesAdd, RefusesShares, SharedOut};

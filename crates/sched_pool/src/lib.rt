@@ -1,11 +1,11 @@
 //! A pool of retries: a board of jobs under locks that any number of workers poll, while others watch it and cancel
-//! jobs beside them.
+//! jobs beside them. When the board is taken back, each job's law holds, and the retries granted are the tickets that
+//! the budget gave. It stands on `sched_pool_claim`, `sched_pool_worker` and `sched_pool_job`.
 //!
-//! All jobs of a board draw on one budget, which the board's type names: so whoever holds a job's lock knows whose
-//! tickets the job has. In the end the board is taken back: each job's law still holds, and the passes of all are one
-//! again.
+//! All jobs of a board draw on one budget, which the board's type names, so whoever holds a job's lock knows whose
+//! tickets the job has. Taking back the board makes the passes of all jobs one again.
 //!
-//! Beside the board stand here all names that a program with a pool uses: of plans, drivers, effects, retries, budgets,
+//! The crate also exports all names that a program with a pool uses: of plans, drivers, effects, retries, budgets,
 //! clocks, workers and what is left of jobs.
 #![tactic(auto)]
 

@@ -1,5 +1,6 @@
 -- The first fault of jobs, and where it is.
-use Rattle.std.specs.Prelude.{◌≡◌, ◌⊎◌, ℕ, zero, suc, Bool, true, false, ◌||◌, ◌==◌, nat_lt, codes, List, [], ◌∷◌, ◌++◌, Some, None, Ok, Err}
+use Rattle.std.specs.Prelude.{◌≡◌, ◌⊎◌, ℕ, zero, suc, Bool, true, false, ◌||◌, ◌==◌, nat_lt, codes, List, [], ◌∷◌, ◌++◌}
+use Rattle.std.specs.Prelude.{Some, None, Ok, Err}
 use Rattle.serde_json.specs.Data.{Data, array, Items, no_items, item}
 use Rattle.serde_json.specs.Find.{as_array}
 use Rattle.sched_plan_json.specs.declared.faults.ReadFault.{ReadFault}

@@ -1,1 +1,2 @@
+-- The lemmas on a share's portion of the jobs.
 pub mod Portions

@@ -1,5 +1,6 @@
 -- A claim keeps what is true of every share, and so does closing a job.
-use Rattle.std.proofs.Common.{◌≡◌, ℕ, zero, suc, ◌+◌, ◌<◌, ◌≤◌, false, List, [], ◌∷◌, ◌++◌, length, min, take, drop, refl, sym, ap, ◌∙◌, subst, arith}
+use Rattle.std.proofs.Common.{◌≡◌, ℕ, zero, suc, ◌+◌, ◌<◌, ◌≤◌, false, List, [], ◌∷◌, ◌++◌, length, min, take, drop}
+use Rattle.std.proofs.Common.{refl, sym, ap, ◌∙◌, subst, arith}
 use Rattle.std.specs.Prelude.{All, remove}
 use Rattle.std.proofs.lemmas.List.Elements.{All-append, All-push, All-take, All-drop}
 use mathlib.Core.Logic.{dite}
@@ -39,15 +40,26 @@ drawn_tickets h v k w d =
     omega (arith, ap (λ (u : View). total h u.tickets) d.gained, ap (λ (u : View). total h u.tickets) d.asks.same)
 
 -- fewer jobs are active than were claimed, and those are fewer than the ticket's number
-pub has_room : (p : Held) (active : List ℕ) (room k : ℕ) (w : View) → IsPortion p active room → Drew p.has k w → length active < room
+pub has_room : (p : Held) (active : List ℕ) (room k : ℕ) (w : View) → IsPortion p active room → Drew p.has k w
+    → length active < room
 has_room p active room k w s d =
-    omega (arith, s.claimed (λ _. 1), total-one active, total-one p.has.tickets, d.later.1, drawn_below p.has k w s.fixed d, s.room_is)
+    omega (
+      arith,
+      s.claimed (λ _. 1),
+      total-one active,
+      total-one p.has.tickets,
+      d.later.1,
+      drawn_below p.has k w s.fixed d,
+      s.room_is,
+    )
 
-pub takes : (p q : Held) (active : List ℕ) (room k : ℕ) → IsPortion p active room → Drew p.has k q.has → IsPortion q (active ++ k ∷ []) room
+pub takes : (p q : Held) (active : List ℕ) (room k : ℕ) → IsPortion p active room → Drew p.has k q.has
+    → IsPortion q (active ++ k ∷ []) room
 takes p q active room k s d =
     let same = drawn_terms p.has k q.has d in
     record {
-      once = λ job. omega (arith, drawn_tickets (is job) p.has k q.has d, once_more job k p.has.tickets d.later.0 (s.once job));
+      once = λ job.
+          omega (arith, drawn_tickets (is job) p.has k q.has d, once_more job k p.has.tickets d.later.0 (s.once job));
       claimed = λ h. omega (arith, s.claimed h, total-append h active (k ∷ []), drawn_tickets h p.has k q.has d);
       below = subst (λ t. All (λ job. job < t.limit) (active ++ k ∷ [])) (sym same)
           (All-push (λ job. job < p.has.terms.limit) active k s.below (drawn_below p.has k q.has s.fixed d));
@@ -71,10 +83,12 @@ pub min_of_more : (d n : ℕ) → n < d → min d n ≡ n
 min_of_more d n h = omega arith
 
 -- one more share
-pub claims_of-push : (job : ℕ) (all rest : List Portion) (share : Portion) → all ≡ rest ++ share ∷ [] → claims_of job all ≡ claims_of job rest + times job share.pass.has.tickets
+pub claims_of-push : (job : ℕ) (all rest : List Portion) (share : Portion) → all ≡ rest ++ share ∷ []
+    → claims_of job all ≡ claims_of job rest + times job share.pass.has.tickets
 claims_of-push job all rest share e =
     omega (arith, ap (claims_of job) e, total-append (λ (s : Portion). times job s.pass.has.tickets) rest (share ∷ []))
 
-pub refusals_of-push : (all rest : List Portion) (share : Portion) → all ≡ rest ++ share ∷ [] → refusals_of all ≡ refusals_of rest + length share.pass.has.refusals
+pub refusals_of-push : (all rest : List Portion) (share : Portion) → all ≡ rest ++ share ∷ []
+    → refusals_of all ≡ refusals_of rest + length share.pass.has.refusals
 refusals_of-push all rest share e =
     omega (arith, ap refusals_of e, total-append (λ (s : Portion). length s.pass.has.refusals) rest (share ∷ []))

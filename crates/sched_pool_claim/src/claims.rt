@@ -1,5 +1,6 @@
 //! The jobs that are to be claimed, and making and taking back their shares.
-ghost use Rattle.std.specs.Prelude.{◌≡◌, ℕ, ◌<◌, ◌≤◌, false, length, vec_len, All, Option, Some, IfOk, IfSome, option_copied};
+ghost use Rattle.std.specs.Prelude.{◌≡◌, ℕ, ◌<◌, ◌≤◌, false, length, vec_len, All, Option, Some, IfOk, IfSome};
+ghost use Rattle.std.specs.Prelude.{option_copied};
 ghost use Rattle.sched_ticket.specs.Lists.{times, once_below};
 ghost use Rattle.sched_ticket.specs.View.{terms};
 ghost use Rattle.sched_ticket.specs.Held.{Name, IsOf};

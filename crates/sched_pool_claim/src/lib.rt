@@ -1,4 +1,5 @@
-//! Numbered jobs that any number of workers claim, each job once, with no lock and no wait.
+//! Numbered jobs that any number of workers claim, with no lock and no wait. Each job is claimed at most once, and all
+//! jobs are claimed once a worker is refused. It stands on `sched_ticket`.
 //!
 //! The number of jobs is the limit of a budget of its own, and a claim is a draw of it. Each worker has a `Share`,
 //! which keeps the jobs that it claimed and has not closed. Nothing is allocated once the shares are made.

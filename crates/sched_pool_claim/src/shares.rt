@@ -1,5 +1,6 @@
 //! A worker's share: the right to claim jobs, and those that it claimed and has not closed.
-ghost use Rattle.std.specs.Prelude.{◌≡◌, ℕ, ◌<◌, ◌≤◌, [], ◌∷◌, length, vec_len, vec_capacity, false, None, All, IfSome, IfNone, MatchOption, remove, slice_index_or};
+ghost use Rattle.std.specs.Prelude.{◌≡◌, ℕ, ◌<◌, ◌≤◌, [], ◌∷◌, length, vec_len, vec_capacity, false, None, All, IfSome};
+ghost use Rattle.std.specs.Prelude.{IfNone, MatchOption, remove, slice_index_or};
 ghost use Rattle.sched_ticket.specs.Lists.{times};
 ghost use Rattle.sched_pool_claim.specs.Portion.{IsShareOf, Took, TookNone};
 

@@ -1,6 +1,7 @@
 -- Worked examples, computed with the definitions alone: which jobs a JSON value spells, or its first fault.
 use Rattle.std.specs.Prelude.{◌≡◌, ℕ, zero, suc, codes, [], ◌∷◌, Ok, Err, true, false, refl}
-use Rattle.serde_json.specs.Data.{Data, number, unsigned, string, array, object, Items, no_items, item, no_members, member}
+use Rattle.serde_json.specs.Data.{Data, number, unsigned, string, array, object, Items, no_items, item, no_members}
+use Rattle.serde_json.specs.Data.{member}
 use Rattle.sched_plan.specs.Schedule.{leaf}
 use Rattle.sched_plan.specs.declared.leaves.Leaf.TheVariants.{Forever, Recurs}
 use Rattle.sched_plan.specs.declared.plans.PlanFault.TheVariants.{OutOfRange}
@@ -40,8 +41,13 @@ times (suc n) d = item d (times n d)
 pub no_job : jobs_of (array no_items) ≡ Ok []
 no_job = refl
 
-pub two_jobs : jobs_of (array (item (job recurs_5 (item (lost 7) (one_of (won 1)))) (one_of (job forever (one_of (lost 4611686018427387903)))))) ≡
-    Ok (record { plan = leaf (Recurs 5); script = Lost 7 ∷ Won 1 ∷ [] } ∷ record { plan = leaf Forever; script = Lost 4611686018427387903 ∷ [] } ∷ [])
+pub two_jobs : jobs_of
+    (array (item (job recurs_5 (item (lost 7) (one_of (won 1))))
+    (one_of (job forever (one_of (lost 4611686018427387903)))))) ≡
+    Ok (record { plan = leaf (Recurs 5); script = Lost 7 ∷ Won 1 ∷ [] } ∷ record {
+      plan = leaf Forever;
+      script = Lost 4611686018427387903 ∷ [];
+    } ∷ [])
 two_jobs = refl
 
 pub number_is_no_list : jobs_of seven ≡ Err NotAPlan
@@ -50,11 +56,16 @@ number_is_no_list = refl
 pub job_alone_is_no_list : jobs_of (job forever (one_of (won 1))) ≡ Err NotAPlan
 job_alone_is_no_list = refl
 
-pub third_member : jobs_of (array (one_of (object (member (codes "more") seven (member (codes "plan") forever (member (codes "runs") (array (one_of (won 1))) no_members)))))) ≡
+pub third_member : jobs_of
+    (array (one_of
+    (object
+    (member (codes "more") seven
+    (member (codes "plan") forever (member (codes "runs") (array (one_of (won 1))) no_members)))))) ≡
     Err NotAPlan
 third_member = refl
 
-pub code_past_the_end : jobs_of (array (one_of (job forever (one_of (won 4611686018427387904))))) ≡ Err (Plan OutOfRange)
+pub code_past_the_end : jobs_of (array (one_of (job forever (one_of (won 4611686018427387904)))))
+    ≡ Err (Plan OutOfRange)
 code_past_the_end = refl
 
 -- the number of runs is looked at before the runs and the plan
@@ -72,7 +83,8 @@ pub run_before_plan : jobs_of (array (one_of (job seven (one_of (won 46116860184
 run_before_plan = refl
 
 -- a job's plan is looked at before the next job
-pub plan_before_next_job : jobs_of (array (item (job seven (one_of (won 1))) (one_of (job forever no_items)))) ≡ Err NotAPlan
+pub plan_before_next_job : jobs_of (array (item (job seven (one_of (won 1))) (one_of (job forever no_items))))
+    ≡ Err NotAPlan
 plan_before_next_job = refl
 
 -- memory is asked for a job's runs, once their number is right

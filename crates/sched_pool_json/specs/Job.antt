@@ -1,3 +1,4 @@
+-- What a job is: a plan and a script of runs.
 use Rattle.std.specs.Prelude.{List}
 use Rattle.sched_plan.specs.Schedule.{Schedule}
 use Rattle.sched_effect.specs.declared.ran.Ran.{Ran}

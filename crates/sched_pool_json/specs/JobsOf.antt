@@ -1,6 +1,7 @@
 -- Which jobs a JSON value spells, or the first fault found in it. An object has its members in the order of their
 -- names.
-use Rattle.std.specs.Prelude.{false, ℕ, zero, suc, nat_lt, ◌||◌, ◌&&◌, ◌==◌, if◌then◌else◌, bytes_eq, codes, List, [], ◌∷◌, Option, Some, None, Result, Ok, Err}
+use Rattle.std.specs.Prelude.{false, ℕ, zero, suc, nat_lt, ◌||◌, ◌&&◌, ◌==◌, if◌then◌else◌, bytes_eq, codes, List, []}
+use Rattle.std.specs.Prelude.{◌∷◌, Option, Some, None, Result, Ok, Err}
 use Rattle.serde_json.specs.Data.{Data, array, object, Items, no_items, item, no_members, member}
 use Rattle.sched_time.specs.declared.numbers.TheConstants.{FAR}
 use Rattle.sched_plan.specs.declared.plans.PlanFault.TheVariants.{OutOfRange}

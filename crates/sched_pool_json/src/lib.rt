@@ -1,4 +1,5 @@
-//! Jobs from JSON: which plans with which scripts of runs a JSON value spells, or the first fault found in it.
+//! Jobs from JSON: reads the plans, with their scripts of runs, that a JSON value spells. It returns these jobs, or the
+//! first fault of the value. It stands on `sched_plan_json` and `sched_effect`.
 #![tactic(auto)]
 
 mod jobs;

@@ -1,3 +1,4 @@
+-- The lemmas on jobs that were run on a budget or on a quota, with a worked batch.
 pub mod Totals
 pub mod Passes
 pub mod Polls

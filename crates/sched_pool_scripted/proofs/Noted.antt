@@ -1,5 +1,6 @@
 -- Lists with the same numbers, each as often.
-use Rattle.std.proofs.Common.{◌≡◌, ℕ, ◌<◌, suc, zero, List, [], ◌∷◌, ◌++◌, map, Option, Some, None, refl, sym, ap, subst, arith}
+use Rattle.std.proofs.Common.{◌≡◌, ℕ, ◌<◌, suc, zero, List, [], ◌∷◌, ◌++◌, map, Option, Some, None, refl, sym, ap}
+use Rattle.std.proofs.Common.{subst, arith}
 use mathlib.Core.Logic.{dite}
 use native.Mathlib.Decide.{ℕ_discrete}
 use Rattle.std.specs.Prelude.{Vec, IfSome, IsSomeAnd}
@@ -45,7 +46,8 @@ stands : (xs : List ℕ) (x : ℕ) → 0 < times x xs → Contains xs x
 stands [] x some = absurd (omega (arith, some))
 stands (y ∷ ys) x some = dite (ℕ_discrete y x)
     (λ here. (0, omega arith, here))
-    (λ not. let there = stands ys x (omega (arith, some, is-other x y not)) in (suc there.0, omega (arith, there.1), there.2))
+    (λ not. let there = stands ys x (omega (arith, some, is-other x y not)) in
+    (suc there.0, omega (arith, there.1), there.2))
 
 pub have_same : (ws xs : List ℕ) → IsSame ws xs → HaveSame ws xs
 have_same ws xs same = λ x. (
@@ -63,7 +65,8 @@ distinct_of_same n ws xs has same = record {
 }
 
 -- the window of one more ticket is noted
-pub noted_more : (old new : Option (Vec ℕ Global)) (w t : ℕ) (before after : List ℕ) → w ≡ window_of t → after ≡ t ∷ before →
+pub noted_more : (old new : Option (Vec ℕ Global)) (w t : ℕ) (before after : List ℕ) → w ≡ window_of t
+    → after ≡ t ∷ before →
     IfSome old (λ ws. IsSame ws.items (map window_of before)) →
     IfSome new (λ more. IsSomeAnd old (λ ws. IsSame more.items (w ∷ ws.items))) →
     IfSome new (λ ws. IsSame ws.items (map window_of after))
@@ -71,4 +74,5 @@ noted_more old None w t before after of grown was noted = tt
 noted_more None (Some more) w t before after of grown was noted = absurd noted
 noted_more (Some ws) (Some more) w t before after of grown was noted =
     subst (λ (ts : List ℕ). IsSame more.items (map window_of ts)) (sym grown)
-    (subst (λ (v : ℕ). IsSame more.items (v ∷ map window_of before)) of (same_more ws.items (map window_of before) more.items w was noted))
+    (subst (λ (v : ℕ). IsSame more.items (v ∷ map window_of before)) of
+    (same_more ws.items (map window_of before) more.items w was noted))

@@ -40,7 +40,8 @@ drew_kept d now e drew =
     let kept = turned_kept d.quota now d.pass.has drew.2.0 drew.2.1 in
     ap kept_of won.gained ∙ ap kept_of won.tries.same ∙ kept
 
-pub drew_none_kept : (d : OfQuota) (now : ℕ) (e : OfQuota) → QuotaDrew d now false e → kept_of e.pass.has ≡ kept_of d.pass.has
+pub drew_none_kept : (d : OfQuota) (now : ℕ) (e : OfQuota) → QuotaDrew d now false e
+    → kept_of e.pass.has ≡ kept_of d.pass.has
 drew_none_kept d now e drew =
     let kept = turned_kept d.quota now d.pass.has drew.2.0 drew.2.1 in
     ap kept_of drew.2.2.tries.same ∙ kept
@@ -49,7 +50,8 @@ drew_none_kept d now e drew =
 pub counts_one : (b : Name) (now : ℕ) (v w : View) → IsUnused v → Deposited b now v w → length w.requests ≡ 1
 counts_one b now v w unused counted =
     let u = counted.0 in
-    let none : length u.requests ≡ 0 = ap (λ (xs : List ℕ × List ℕ). length xs.0) (turned_kept b now v u counted.1) ∙ ap length unused.requests in
+    let none : length u.requests ≡ 0 =
+    ap (λ (xs : List ℕ × List ℕ). length xs.0) (turned_kept b now v u counted.1) ∙ ap length unused.requests in
     let told : u.told ≡ 0 = turned_told b now v u counted.1 ∙ unused.told in
     elim counted.2 [
       | inl past ↦ absurd (omega (arith, told, past.0))
@@ -88,10 +90,12 @@ pub told_tickets : (b : Name) (now : ℕ) (v w : View) (told : Usage) → Told b
 told_tickets b now v w told is = ap (λ (v : View). v.tickets) is.tries.same ∙ turned_tickets b now v is.turned is.turns
 
 pub told_requests : (b : Name) (now : ℕ) (v w : View) (told : Usage) → Told b now v w told → w.requests ≡ v.requests
-told_requests b now v w told is = ap (λ (v : View). v.requests) is.tries.same ∙ ap (λ (xs : List ℕ × List ℕ). xs.0) (turned_kept b now v is.turned is.turns)
+told_requests b now v w told is = ap (λ (v : View). v.requests) is.tries.same
+    ∙ ap (λ (xs : List ℕ × List ℕ). xs.0) (turned_kept b now v is.turned is.turns)
 
 -- the request of an unused pass is of the window 0, where that is the latest at a look after it
-pub counts_early : (b : Name) (now then : ℕ) (v w u : View) (told : Usage) → IsUnused v → Deposited b now v w → Told b then w u told →
+pub counts_early : (b : Name) (now then : ℕ) (v w u : View) (told : Usage) → IsUnused v → Deposited b now v w
+    → Told b then w u told →
     told.window ≡ 0 → Each (λ n. window_of n ≡ 0) u.requests
 counts_early b now then v w u told unused counted is none =
     let turned = counted.0 in
@@ -103,5 +107,6 @@ counts_early b now then v w u told unused counted is none =
           let before = ap (λ (xs : List ℕ × List ℕ). xs.0) (turned_kept b now v turned counted.1) ∙ unused.requests in
           let requests = kept ∙ ap (λ (v : View). v.requests) one.3 ∙ ap (λ (ns : List ℕ). numbers n 1 ++ ns) before in
           let seen : w.seen ≡ n + 1 = ap (λ (v : View). v.seen) one.3 in
-          subst (Each (λ n. window_of n ≡ 0)) (sym requests) (omega (arith, seen, turned_seen b then w is.turned is.turns, is.tries.later, is.window, none), tt)
+          subst (Each (λ n. window_of n ≡ 0)) (sym requests)
+          (omega (arith, seen, turned_seen b then w is.turned is.turns, is.tries.later, is.window, none), tt)
     ]

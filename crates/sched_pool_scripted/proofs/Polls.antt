@@ -5,7 +5,8 @@ use Rattle.std.proofs.lemmas.List.Elements.{All-set}
 use Rattle.sched_time.specs.declared.numbers.Tick.{Tick}
 use Rattle.sched_task.specs.declared.endings.How.{How}
 use Rattle.sched_task_law.specs.Kind.{retry}
-use Rattle.sched_task_law.specs.Poll.{Happened, stays, cannot_begin, runs_on, cannot_run, ends, breaks, stops_done, stops_denied, recurs, asks, cannot_ask, falls}
+use Rattle.sched_task_law.specs.Poll.{Happened, stays, cannot_begin, runs_on, cannot_run, ends, breaks, stops_done}
+use Rattle.sched_task_law.specs.Poll.{stops_denied, recurs, asks, cannot_ask, falls}
 use Rattle.sched_wheel.specs.Polled.{Standing, Poll, polled, ArePolls}
 use Rattle.sched_ticket.specs.Lists.{Each}
 use Rattle.sched_ticket_quota.specs.Windows.{window_of}
@@ -53,7 +54,12 @@ stays_driven quota v t ready u was poll = record {
   of = poll.budget ∙ was.of;
   had = poll.had ∙ was.had;
   untaken = polled_untaken quota_grants v u t ready was.untaken poll;
-  asked = ap (λ (xs : List ℕ × List ℕ). length xs.0) (draws_kept poll.poll.happened t.now v.drawing u.drawing poll.drawing) ∙ was.asked;
-  unchanged = ap (λ (xs : List ℕ × List ℕ). xs.1) (draws_kept poll.poll.happened t.now v.drawing u.drawing poll.drawing) ∙ was.unchanged;
-  early = subst (Each (λ n. window_of n ≡ 0)) (sym (ap (λ (xs : List ℕ × List ℕ). xs.0) (draws_kept poll.poll.happened t.now v.drawing u.drawing poll.drawing))) was.early;
+  asked = ap (λ (xs : List ℕ × List ℕ). length xs.0)
+      (draws_kept poll.poll.happened t.now v.drawing u.drawing poll.drawing) ∙ was.asked;
+  unchanged = ap (λ (xs : List ℕ × List ℕ). xs.1) (draws_kept poll.poll.happened t.now v.drawing u.drawing poll.drawing)
+      ∙ was.unchanged;
+  early =
+      subst (Each (λ n. window_of n ≡ 0))
+      (sym (ap (λ (xs : List ℕ × List ℕ). xs.0) (draws_kept poll.poll.happened t.now v.drawing u.drawing poll.drawing)))
+      was.early;
 }

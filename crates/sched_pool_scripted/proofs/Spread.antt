@@ -15,7 +15,8 @@ times_between (x ∷ xs) w zero zero few-a few-b below from through past =
     omega (
       arith,
       is-other w x (λ e. omega (arith, not, e)),
-      times_between xs w 0 0 (omega arith) (omega arith) (λ i low. absurd (omega (arith, low))) (λ i low lt. from (suc i) (omega arith) (omega (arith, lt)))
+      times_between xs w 0 0 (omega arith) (omega arith) (λ i low. absurd (omega (arith, low)))
+          (λ i low lt. from (suc i) (omega arith) (omega (arith, lt)))
           (λ i low. absurd (omega (arith, low))) (λ i low lt. past (suc i) (omega arith) (omega (arith, lt))),
     )
 times_between (x ∷ xs) w zero (suc b) few-a few-b below from through past =
@@ -24,8 +25,10 @@ times_between (x ∷ xs) w zero (suc b) few-a few-b below from through past =
     omega (
       arith,
       is-same w x (omega (arith, here, there)),
-      times_between xs w 0 b (omega arith) (omega (arith, few-b)) (λ i low. absurd (omega (arith, low))) (λ i low lt. from (suc i) (omega arith) (omega (arith, lt)))
-          (λ i low. through (suc i) (omega (arith, low))) (λ i low lt. past (suc i) (omega (arith, low)) (omega (arith, lt))),
+      times_between xs w 0 b (omega arith) (omega (arith, few-b)) (λ i low. absurd (omega (arith, low)))
+          (λ i low lt. from (suc i) (omega arith) (omega (arith, lt)))
+          (λ i low. through (suc i) (omega (arith, low)))
+          (λ i low lt. past (suc i) (omega (arith, low)) (omega (arith, lt))),
     )
 times_between (x ∷ xs) w (suc a) zero few-a few-b below from through past =
     let here = below 0 (omega arith) in
@@ -36,8 +39,10 @@ times_between (x ∷ xs) w (suc a) (suc b) few-a few-b below from through past =
     omega (
       arith,
       is-other w x (λ e. omega (arith, not, e)),
-      times_between xs w a b (omega (arith, few-a)) (omega (arith, few-b)) (λ i low. below (suc i) (omega (arith, low))) (λ i low lt. from (suc i) (omega (arith, low)) (omega (arith, lt)))
-          (λ i low. through (suc i) (omega (arith, low))) (λ i low lt. past (suc i) (omega (arith, low)) (omega (arith, lt))),
+      times_between xs w a b (omega (arith, few-a)) (omega (arith, few-b)) (λ i low. below (suc i) (omega (arith, low)))
+          (λ i low lt. from (suc i) (omega (arith, low)) (omega (arith, lt)))
+          (λ i low. through (suc i) (omega (arith, low)))
+          (λ i low lt. past (suc i) (omega (arith, low)) (omega (arith, lt))),
     )
 
 -- the last event's moment

@@ -1,5 +1,6 @@
 -- Retries that are taken back, one by one, and the close of their quota.
-use Rattle.std.proofs.Common.{◌≡◌, ℕ, ◌+◌, ◌≤◌, Option, None, Some, true, List, [], ◌∷◌, ◌++◌, map, length, cond, refl, sym, ap, ◌∙◌, subst, arith, length-append, eq-eqb, ne_eqb, lt_of_not-le}
+use Rattle.std.proofs.Common.{◌≡◌, ℕ, ◌+◌, ◌≤◌, Option, None, Some, true, List, [], ◌∷◌, ◌++◌, map, length, cond, refl}
+use Rattle.std.proofs.Common.{sym, ap, ◌∙◌, subst, arith, length-append, eq-eqb, ne_eqb, lt_of_not-le}
 use Rattle.std.specs.Prelude.{All}
 use mathlib.Core.Logic.{dite}
 use native.Mathlib.Decide.{ℕ_discrete, dec_le}
@@ -42,7 +43,8 @@ record IsBoth (v w u : View) : Type 0 where
   tickets : length u.tickets ≡ length v.tickets + length w.tickets
   windows : IsSame (map window_of v.tickets ++ map window_of w.tickets) (map window_of u.tickets)
   requests : length u.requests ≡ length v.requests + length w.requests
-  early : Each (λ n. window_of n ≡ 0) v.requests → Each (λ n. window_of n ≡ 0) w.requests → Each (λ n. window_of n ≡ 0) u.requests
+  early : Each (λ n. window_of n ≡ 0) v.requests → Each (λ n. window_of n ≡ 0) w.requests
+      → Each (λ n. window_of n ≡ 0) u.requests
   unchanged : v.changes ≡ [] → w.changes ≡ [] → u.changes ≡ []
 
 has_both : (v w u : View) → u ≡ joined_view v w → IsBoth v w u
@@ -52,14 +54,21 @@ has_both v w u joined =
       tickets = ap length tickets ∙ length-append v.tickets w.tickets;
       windows = λ h. ap (total h) (sym (ap (map window_of) tickets ∙ mapped_append window_of v.tickets w.tickets));
       requests = ap length requests ∙ length-append v.requests w.requests;
-      early = λ these those. subst (Each (λ n. window_of n ≡ 0)) (sym requests) (Each-append (λ n. window_of n ≡ 0) v.requests w.requests these those);
-      unchanged = λ none none'. ap (λ (x : View). x.changes) joined ∙ ap (λ (xs : List ℕ). xs ++ w.changes) none ∙ none';
+      early = λ these those. subst (Each (λ n. window_of n ≡ 0)) (sym requests)
+          (Each-append (λ n. window_of n ≡ 0) v.requests w.requests these those);
+      unchanged = λ none none'.
+          ap (λ (x : View). x.changes) joined ∙ ap (λ (xs : List ℕ). xs ++ w.changes) none ∙ none';
     }
 
 turned : (v w u : View) → IsBoth w v u → IsBoth v w u
 turned v w u both = record {
   tickets = omega (arith, both.tickets);
-  windows = λ h. omega (arith, both.windows h, total-append h (map window_of v.tickets) (map window_of w.tickets), total-append h (map window_of w.tickets) (map window_of v.tickets));
+  windows = λ h. omega (
+    arith,
+    both.windows h,
+    total-append h (map window_of v.tickets) (map window_of w.tickets),
+    total-append h (map window_of w.tickets) (map window_of v.tickets),
+  );
   requests = omega (arith, both.requests);
   early = λ these those. both.early those these;
   unchanged = λ none none'. both.unchanged none' none;
@@ -78,7 +87,8 @@ pub one_taken : (quota : Name) (ends : List Past) (v : Past) (p own q : Held) (w
 one_taken quota ends v p own q windows noted taken law granted asked unchanged early same of join once =
     let f : Past → ℕ = λ w. w.granted in
     let both = joined_both own.latest p.has own.has q.has join.has in
-    let noted-same = joined_same windows (map window_of p.has.tickets) noted (map window_of own.has.tickets) taken.noted same in
+    let noted-same =
+    joined_same windows (map window_of p.has.tickets) noted (map window_of own.has.tickets) taken.noted same in
     record {
       laws = All-push (Law retry) ends v taken.laws law;
       of = of;
@@ -99,9 +109,11 @@ as_many (job ∷ jobs) (v ∷ ends) each = omega (arith, as_many jobs ends each.
 -- a number is of a window where it is among the window's
 within-is : (w n : ℕ) → within (first_of w) 4294967296 n ≡ is w (window_of n)
 within-is w n = dite (ℕ_discrete (window_of n) w)
-    (λ here. omega (arith, is-same w (window_of n) here, within-yes (first_of w) 4294967296 n (omega arith) (omega arith)))
+    (λ here.
+    omega (arith, is-same w (window_of n) here, within-yes (first_of w) 4294967296 n (omega arith) (omega arith)))
     (λ not. dite (dec_le (first_of w) n)
-    (λ from. omega (arith, is-other w (window_of n) not, within-high (first_of w) 4294967296 n (omega (arith, from, not))))
+    (λ from.
+    omega (arith, is-other w (window_of n) not, within-high (first_of w) 4294967296 n (omega (arith, from, not))))
     (λ low. omega (arith, is-other w (window_of n) not, within-low (first_of w) 4294967296 n (lt_of_not-le low))))
 
 count-times : (w : ℕ) (xs : List ℕ) → count_in w xs ≡ times w (map window_of xs)
@@ -132,14 +144,18 @@ count-asked w (n ∷ ns) early = dite (ℕ_discrete w 0)
     ))
 
 -- a window is full that stands as often among those of the tickets
-full_where : (k : Terms) (all : View) (requests : ℕ) (sorted : List ℕ) (w : ℕ) → IsSame sorted (map window_of all.tickets) →
-    length all.requests ≡ requests → Each (λ n. window_of n ≡ 0) all.requests → times w sorted ≡ allowed k (asked_in requests w) → IsFull k all w
+full_where : (k : Terms) (all : View) (requests : ℕ) (sorted : List ℕ) (w : ℕ)
+    → IsSame sorted (map window_of all.tickets) →
+    length all.requests ≡ requests → Each (λ n. window_of n ≡ 0) all.requests
+    → times w sorted ≡ allowed k (asked_in requests w) → IsFull k all w
 full_where k all requests sorted w same many early just =
-    let asked : asked_in requests w ≡ count_in w all.requests = ap (λ n. asked_in n w) (sym many) ∙ sym (count-asked w all.requests early) in
+    let asked : asked_in requests w ≡ count_in w all.requests =
+    ap (λ n. asked_in n w) (sym many) ∙ sym (count-asked w all.requests early) in
     count-times w all.tickets ∙ sym (same (is w)) ∙ just ∙ ap (allowed k) asked
 
 -- the jobs that were taken back were run on the quota that was closed with their pass
-pub are_run : (jobs : List Job) (quota : Name) (k : Terms) (ends : List Past) (pass : Held) (windows sorted : List ℕ) (granted count : ℕ) →
+pub are_run : (jobs : List Job) (quota : Name) (k : Terms) (ends : List Past) (pass : Held) (windows sorted : List ℕ)
+    (granted count : ℕ) →
     quota.terms ≡ k → AreEndsOf jobs ends → AreTaken quota ends pass windows → IsWhole quota.terms pass.has →
     granted ≡ length pass.has.tickets → IsSame sorted (map window_of pass.has.tickets) → HasDistinct count sorted →
     All (IsJust k (length jobs) sorted) ends → AreRunOnQuota jobs k ends granted count
@@ -152,7 +168,10 @@ are_run jobs quota k ends pass windows sorted granted count made each taken whol
   once = taken.once;
   requests = taken.asked ∙ as_many jobs ends each;
   within = (subst (λ (t : Terms). IsWhole t pass.has) made whole).unchanged taken.unchanged;
-  windows_are = distinct_of_same count sorted (map window_of pass.has.tickets) counted (have_same sorted (map window_of pass.has.tickets) same);
-  full = All-weaker (IsJust k (length jobs) sorted) (λ v. is_refused v.over ≡ true → IsFull k pass.has (last_window k v))
-      (λ v just refused. full_where k pass.has (length jobs) sorted (last_window k v) same (taken.asked ∙ as_many jobs ends each) taken.early (just refused)) ends just;
+  windows_are = distinct_of_same count sorted (map window_of pass.has.tickets) counted
+      (have_same sorted (map window_of pass.has.tickets) same);
+  full = All-weaker (IsJust k (length jobs) sorted)
+      (λ v. is_refused v.over ≡ true → IsFull k pass.has (last_window k v))
+      (λ v just refused. full_where k pass.has (length jobs) sorted (last_window k v) same
+      (taken.asked ∙ as_many jobs ends each) taken.early (just refused)) ends just;
 }

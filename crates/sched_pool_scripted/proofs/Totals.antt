@@ -11,7 +11,8 @@ use Rattle.sched_pool_scripted.specs.Ends.{AreEndsOf}
 use Rattle.sched_pool_scripted.specs.Batch.{AreRun, IsNewEnd}
 
 -- what the jobs were granted is what a budget of this limit gave out
-pub are_run : TotalsAgree → (jobs : List Job) (limit : ℕ) (budget : Name) (n : ℕ) (ends : List Past) (pass : Held) (granted total : ℕ)
+pub are_run : TotalsAgree
+    → (jobs : List Job) (limit : ℕ) (budget : Name) (n : ℕ) (ends : List Past) (pass : Held) (granted total : ℕ)
     → budget.terms ≡ terms limit false → IsNewEnd budget n ends pass granted → IsWhole budget.terms pass.has
     → total ≡ length pass.has.tickets → AreEndsOf jobs ends → AreRun jobs limit ends total
 are_run agree jobs limit budget n ends pass granted total made end whole count each =

@@ -1,5 +1,7 @@
--- A worked example, computed with the definitions alone: three requests at moment 0, a reserve of one ticket each 100 ms and
--- a share of a third. Two jobs draw the two tickets of the window 0, the third fails there and is refused, and the first
+-- A worked example, computed with the definitions alone: three requests at moment 0, a reserve of one ticket each 100
+-- ms and
+-- a share of a third. Two jobs draw the two tickets of the window 0, the third fails there and is refused, and the
+-- first
 -- draws the reserves of the windows 1 and 2.
 use Rattle.std.proofs.Common.{ℕ, [], ◌∷◌, true, Some, refl, arith}
 use Rattle.sched_plan.specs.Datum.{num}
@@ -23,7 +25,10 @@ all = record (first_view k) { tickets = 8589934592 ∷ 4294967296 ∷ 1 ∷ 0 �
 -- a job whose only run failed at this moment
 abbrev failed_at : ℕ → Past
 failed_at now = record {
-  driver = record { plan = leaf Forever; journal = record { now = now; words = 0 ∷ 0 ∷ 0 ∷ 0 ∷ []; input = num 9 } ∷ [] };
+  driver = record {
+    plan = leaf Forever;
+    journal = record { now = now; words = 0 ∷ 0 ∷ 0 ∷ 0 ∷ []; input = num 9 } ∷ [];
+  };
   runs = ran.Lost 9 ∷ [];
   begun = 0 ∷ [];
   over = Some BudgetRefused;

@@ -55,7 +55,8 @@ pub record AreTaken (quota : Name) (ends : List Past) (pass : Held) (windows : L
 abbrev pub asked_in : ℕ → ℕ → ℕ
 asked_in requests w = if w == 0 then requests else 0
 
--- where a job was refused, these windows of all tickets have the one in which it failed last as often as so many requests
+-- where a job was refused, these windows of all tickets have the one in which it failed last as often as so many
+-- requests
 -- in the window 0 allow
 abbrev pub IsJust : Terms → ℕ → List ℕ → Past → Type 0
 IsJust k requests windows v = is_refused v.over ≡ true →

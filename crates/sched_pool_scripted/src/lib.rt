@@ -1,5 +1,6 @@
-//! Scripted jobs of a pool, run as they were read: each is retried by its plan, all on one budget on a board, or all on
-//! one quota by a loop, and those that ended are compared with those that were read.
+//! Runs scripted jobs as they were read: each is retried by its plan, all on one budget on a board, or all on one quota
+//! by a loop. The jobs that ended are compared with those that were read, and what differs is refused. It stands on
+//! `sched_pool` and `sched_pool_json`.
 #![tactic(auto)]
 
 mod batches;

@@ -40,8 +40,8 @@ pub enum QuotaBatchFault {
     /// A growth was refused, or the system gave no random bytes for the name of the loop's queue.
     #[error("no memory")]
     NoMemory,
-    /// An ended job is not the one that was read at its place, or it was refused where tickets were left, or a request was
-    /// counted in a later window than the first, or the quota was not closed: no right run meets that.
+    /// An ended job is not the one that was read at its place, or it was refused where tickets were left, or a request
+    /// was counted in a later window than the first, or the quota was not closed: no right run meets that.
     #[error("the jobs were mixed up")]
     Mixed,
 }
@@ -99,9 +99,9 @@ impl TakenBack {
 /// and all of them draw on one quota of these terms. Each job's first run is a request at moment 0; all requests are
 /// counted before the first run begins.
 ///
-/// Refused as `NoMemory`; and as `Mixed`, which no right run meets: where an ended job is not the one that was read at its
-/// place, or it was refused where tickets were left, or a request was counted in a later window than the first, or the
-/// quota was not closed.
+/// Refused as `NoMemory`; and as `Mixed`, which no right run meets: where an ended job is not the one that was read at
+/// its place, or it was refused where tickets were left, or a request was counted in a later window than the first, or
+/// the quota was not closed.
 pub fn run_on_quota<R>(
     rt: &R,
     alloc: Global,

@@ -15,8 +15,8 @@ use sched_pool_job::JobEnd;
 use sched_task::How;
 use sched_ticket_quota::{LAST_WINDOW, MAX_RESERVE, Terms};
 
-/// Whether each job that was refused failed last in a window that gave as many tickets as its requests allow. The windows
-/// are those of all tickets, which rise, and all requests are of the window 0.
+/// Whether each job that was refused failed last in a window that gave as many tickets as its requests allow. The
+/// windows are those of all tickets, which rise, and all requests are of the window 0.
 pub(crate) fn are_just(
     ends: &[JobEnd<Scripted>],
     windows: &[u64],

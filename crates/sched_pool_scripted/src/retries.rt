@@ -10,8 +10,8 @@ use sched_ticket_draws::Draws;
 use sched_time::NoMemory;
 use std::alloc::Global;
 
-/// A retry of the job: its runs go as the job's script says, by the job's plan, and its tickets are drawn by this value.
-/// Fails only with `NoMemory`.
+/// A retry of the job: its runs go as the job's script says, by the job's plan, and its tickets are drawn by this
+/// value. Fails only with `NoMemory`.
 pub(crate) fn retry_of<D: Draws>(
     alloc: Global,
     job: &JobRead,

@@ -1,5 +1,5 @@
-//! Tests of `sched_pool_scripted`, of its call on a quota alone: here they are proved without a second proof of that
-//! library.
+//! Tests of `sched_pool_scripted` by its call on a quota alone. They stand apart so that they are proved without a
+//! second proof of that library.
 #![tactic(auto)]
 
 #[cfg(test)]

@@ -1,5 +1,7 @@
 -- A share goes on by claims and by closing jobs.
-use Rattle.std.proofs.Common.{◌≡◌, ℕ, ◌+◌, ◌<◌, ◌≤◌, Bool, true, false, List, [], ◌∷◌, ◌++◌, length, take, drop, Option, Some, None, is_some, if◌then◌else◌, refl, sym, ap, ◌∙◌, subst, arith, append_assoc, length-append, take-append-drop, ⊎_elim}
+use Rattle.std.proofs.Common.{◌≡◌, ℕ, ◌+◌, ◌<◌, ◌≤◌, Bool, true, false, List, [], ◌∷◌, ◌++◌, length, take, drop, Option}
+use Rattle.std.proofs.Common.{Some, None, is_some, if◌then◌else◌, refl, sym, ap, ◌∙◌, subst, arith, append_assoc}
+use Rattle.std.proofs.Common.{length-append, take-append-drop, ⊎_elim}
 use Rattle.std.specs.Option.{ForSome}
 use Rattle.sched_ticket.specs.Lists.{total}
 use Rattle.sched_ticket.specs.Held.{Name, Held, IsOf}
@@ -17,7 +19,8 @@ went_then s t u first rest = record {
   claimed = rest.claimed ++ first.claimed;
   closed = first.closed ++ rest.closed;
   tickets =
-      rest.tickets ∙ ap (λ ts. rest.claimed ++ ts) first.tickets ∙ sym (append_assoc rest.claimed first.claimed s.pass.has.tickets);
+      rest.tickets ∙ ap (λ ts. rest.claimed ++ ts) first.tickets
+      ∙ sym (append_assoc rest.claimed first.claimed s.pass.has.tickets);
   active = λ h. omega (
     arith,
     first.active h,
@@ -76,14 +79,19 @@ refused v w none = ⊎_elim
       terms = ap (λ (u : View). u.terms) before.2;
     })
     (λ now. record {
-      refusals = omega (arith, ap (λ (u : View). length u.refusals) now.gained, ap (λ (u : View). length u.refusals) now.asks.same);
+      refusals = omega (
+        arith,
+        ap (λ (u : View). length u.refusals) now.gained,
+        ap (λ (u : View). length u.refusals) now.asks.same,
+      );
       some = omega (arith, ap (λ (u : View). length u.refusals) now.gained);
       terms = ap (λ (u : View). u.terms) now.gained ∙ ap (λ (u : View). u.terms) now.asks.same;
     })
     none
 
 -- no job is left to claim
-pub went_none : (s t : Portion) → DrawRefused s.pass.has t.pass.has → t.pass.has.tickets ≡ s.pass.has.tickets → t.active ≡ s.active → WentOn s t
+pub went_none : (s t : Portion) → DrawRefused s.pass.has t.pass.has → t.pass.has.tickets ≡ s.pass.has.tickets
+    → t.active ≡ s.active → WentOn s t
 went_none s t none tickets active = record {
   claimed = [];
   closed = [];
@@ -92,7 +100,8 @@ went_none s t none tickets active = record {
   refusals = (refused s.pass.has t.pass.has none).refusals;
 }
 
-pub to_do_of_none : (s t : Portion) → DrawRefused s.pass.has t.pass.has → t.pass.has.tickets ≡ s.pass.has.tickets → t.active ≡ s.active →
+pub to_do_of_none : (s t : Portion) → DrawRefused s.pass.has t.pass.has → t.pass.has.tickets ≡ s.pass.has.tickets
+    → t.active ≡ s.active →
     still_to_do t ≡ still_to_do s
 to_do_of_none s t none tickets active = omega (
   arith,
@@ -115,7 +124,8 @@ each_weighs h n true = omega arith
 each_weighs h n false = omega arith
 
 -- a job is over or open
-over_or_open : (h : ℕ → ℕ) (seats : List Noted) → total h (over_numbers seats) + total h (open_numbers seats) ≡ total h (numbers seats)
+over_or_open : (h : ℕ → ℕ) (seats : List Noted)
+    → total h (over_numbers seats) + total h (open_numbers seats) ≡ total h (numbers seats)
 over_or_open h [] = omega arith
 over_or_open h (seat ∷ seats) = omega (
   arith,

@@ -1,1 +1,2 @@
+-- What a worker does with its share.
 pub mod Working

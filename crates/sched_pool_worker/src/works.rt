@@ -1,5 +1,6 @@
 //! Working through a share.
-ghost use Rattle.std.specs.Prelude.{◌≡◌, ◌<◌, ◌≤◌, ◌++◌, [], max, true, false, length, vec_len, drop, take, All, IfOk, IfErr, OnOk};
+ghost use Rattle.std.specs.Prelude.{◌≡◌, ◌<◌, ◌≤◌, ◌++◌, [], max, true, false, length, vec_len, drop, take, All, IfOk};
+ghost use Rattle.std.specs.Prelude.{IfErr, OnOk};
 ghost use Rattle.std.specs.Option.{ForSome};
 ghost use Rattle.sched_pool_claim.specs.Portion.{IsShareOf};
 ghost use Rattle.sched_wheel.specs.Polled.{IsLeft};

@@ -1,8 +1,9 @@
-//! Storms: what a policy does to a peer that fails for a while, when many requests have it.
+//! Storms: what a policy does to a peer that fails for a while, when many requests have it. A `Storm` is made of
+//! `Parameters`, each in its range, and depends on these and on the plan alone. It stands on `sched_driver_stepper`,
+//! `sched_ticket_quota` and `sched_task`.
 //!
-//! A `Storm` is made of `Parameters`, each in its range, and is determined by these and by the plan: it plays the calls of
-//! all requests on a virtual clock, event by event, and counts them window by window. It takes no time of a clock, and
-//! random words by a seed alone.
+//! It plays the calls of all requests on a virtual clock, event by event, and counts them window by window. It takes no
+//! time of a clock, and random words by a seed alone.
 #![tactic(auto)]
 
 mod calls;

@@ -1,5 +1,6 @@
 -- No ticket is drawn once its window is over.
-use Rattle.std.proofs.Common.{◌≡◌, ℕ, ◌+◌, ◌<◌, ◌≤◌, ◌⊎◌, min, List, [], ◌∷◌, inl, inr, sym, ap, subst, arith, ◌∙◌, ⊎_elim}
+use Rattle.std.proofs.Common.{◌≡◌, ℕ, ◌+◌, ◌<◌, ◌≤◌, ◌⊎◌, min, List, [], ◌∷◌, inl, inr, sym, ap, subst, arith, ◌∙◌}
+use Rattle.std.proofs.Common.{⊎_elim}
 use Rattle.sched_ticket.specs.Lists.{Each}
 use Rattle.sched_ticket_lease.specs.Holders.{Holder, Takes, AddsGrant, TurnsTo}
 use Rattle.sched_ticket_lease.specs.Histories.{Call, Does, Step, AreMade, IsInTime, EndsBy, AllEnd, NoneIsDrawnLate}
@@ -39,7 +40,8 @@ module _ (g : Grant) where
   in-time (told since n) h k d heeds = tt
   in-time (left_alone m) h k d heeds = tt
 
-  all-in-time : (h : Holder) (steps : List Step) → AreMade h steps → Heeds g h → Each (λ (s : Step). IsInTime g s.call) steps
+  all-in-time : (h : Holder) (steps : List Step) → AreMade h steps → Heeds g h
+      → Each (λ (s : Step). IsInTime g s.call) steps
   all-in-time h [] made heeds = tt
   all-in-time h (s ∷ ss) made heeds = (
     in-time s.call h s.after made.0 heeds,

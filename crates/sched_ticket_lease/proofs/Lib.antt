@@ -1,3 +1,4 @@
+-- The laws of leases, and the lemmas that these cite.
 pub mod Counts
 pub mod Ranges
 pub mod Weights

@@ -1,12 +1,14 @@
 -- Leases of a store that never goes back: no number is given twice, and no window gives more than it may.
-use Rattle.std.proofs.Common.{◌≡◌, ℕ, ◌+◌, ◌-◌, ◌<◌, ◌≤◌, ◌≢◌, ◌⊎◌, inl, inr, ⊎_elim, List, [], ◌∷◌, ap, arith, lt_of_not-le}
+use Rattle.std.proofs.Common.{◌≡◌, ℕ, ◌+◌, ◌-◌, ◌<◌, ◌≤◌, ◌≢◌, ◌⊎◌, inl, inr, ⊎_elim, List, [], ◌∷◌, ap, arith}
+use Rattle.std.proofs.Common.{lt_of_not-le}
 use mathlib.Core.Logic.{dite}
 use native.Mathlib.Decide.{ℕ_discrete, dec_le}
 use Rattle.sched_ticket.specs.Lists.{total, Each}
 use Rattle.sched_ticket_quota.specs.Windows.{within}
 use Rattle.sched_ticket_quota.proofs.Numbers.{within-yes, within-low, within-high}
 use Rattle.sched_ticket_lease.specs.Leases.{allows, given_of, asked_of, IsLease}
-use Rattle.sched_ticket_lease.specs.Laws.{Taken, Keeps, AreTaken, has, tickets_in, told_in, RangesStandOnce, WindowsAreKept}
+use Rattle.sched_ticket_lease.specs.Laws.{Taken, Keeps, AreTaken, has, tickets_in, told_in, RangesStandOnce}
+use Rattle.sched_ticket_lease.specs.Laws.{WindowsAreKept}
 use Rattle.sched_ticket_lease.specs.declared.lease.Grants.{Grants}
 use Rattle.sched_ticket_lease.specs.declared.lease.Stored.{Stored}
 use Rattle.sched_ticket_lease.proofs.Counts.{given-anew, given-on, asked-anew, asked-on, of-same, of-other, allows-mono}
@@ -32,7 +34,10 @@ module _ (w n : ℕ) (t : Taken) (begun : t.from.window ≤ t.ask.window) (is : 
   over-leased : Over w n t.from → Over w n t.lease.stored
   over-leased (inl past) = inl (omega (arith, is.window))
   over-leased (inr here) = dite (ℕ_discrete t.ask.window w)
-      (λ same. inr (omega (arith, is.window, same), omega (arith, is.given, is.first, given-on t.from t.ask.window (omega (arith, here.0)), here.1)))
+      (λ same. inr (
+        omega (arith, is.window, same),
+        omega (arith, is.given, is.first, given-on t.from t.ask.window (omega (arith, here.0)), here.1),
+      ))
       (λ other. inl (omega (arith, is.window, here.0, other)))
 
   -- a lease has no such number
@@ -61,7 +66,11 @@ module _ (w n : ℕ) (t : Taken) (begun : t.from.window ≤ t.ask.window) (is : 
       )))
       (λ not. let lt : n < t.lease.first + t.lease.tickets = lt_of_not-le not in
       inr (
-        omega (arith, of-same t.ask.window w (within t.lease.first t.lease.tickets n) same, within-one t.lease.first t.lease.tickets n),
+        omega (
+          arith,
+          of-same t.ask.window w (within t.lease.first t.lease.tickets n) same,
+          within-one t.lease.first t.lease.tickets n,
+        ),
         inr (omega (arith, is.window, same), omega (arith, is.given)),
       )))
       (λ other. inl (of-other t.ask.window w (within t.lease.first t.lease.tickets n) other))
@@ -124,7 +133,8 @@ abbrev Bounded : Grants → ℕ → Stored → List Taken → Type 0
 Bounded g w s ts = total (tickets_in w) ts ≤ allows g (asked_of s w + total (told_in w) ts) - given_of s w
 
 module _ (g : Grants) (w : ℕ) (s : Stored) (t : Taken) (ts : List Taken) (kept : Keeps s t.from)
-    (begun : t.from.window ≤ t.ask.window) (is : IsLease t.from t.ask t.lease) (rest : Bounded g w t.lease.stored ts) where
+    (begun : t.from.window ≤ t.ask.window) (is : IsLease t.from t.ask t.lease)
+    (rest : Bounded g w t.lease.stored ts) where
   bounded-here : t.ask.window ≡ w → t.ask.grants ≡ g → Bounded g w s (t ∷ ts)
   bounded-here same terms =
       let n : ℕ = total (told_in w) ts in
@@ -144,8 +154,10 @@ module _ (g : Grants) (w : ℕ) (s : Stored) (t : Taken) (ts : List Taken) (kept
         told-are,
         asked-kept w s t.from (omega (arith, begun, same)) kept,
       ) in
-      let allowed-now : allows t.ask.grants t.lease.stored.asked ≡ allows g t.lease.stored.asked = ap (λ (h : Grants). allows h t.lease.stored.asked) terms in
-      let up : allows g t.lease.stored.asked ≤ allows g (now + n) = allows-mono g t.lease.stored.asked (now + n) (omega (arith, now-is)) in
+      let allowed-now : allows t.ask.grants t.lease.stored.asked ≡ allows g t.lease.stored.asked =
+      ap (λ (h : Grants). allows h t.lease.stored.asked) terms in
+      let up : allows g t.lease.stored.asked ≤ allows g (now + n) =
+      allows-mono g t.lease.stored.asked (now + n) (omega (arith, now-is)) in
       let up-more : allows g (now + n) ≤ allows g then = allows-mono g (now + n) then more in
       omega (
         arith,
@@ -178,11 +190,13 @@ module _ (g : Grants) (w : ℕ) (s : Stored) (t : Taken) (ts : List Taken) (kept
         given-anew s w (omega (arith, no-earlier s t.from kept, begun, before)),
       )
 
-bounded : (g : Grants) (w : ℕ) (s : Stored) (ts : List Taken) → AreTaken s ts → Asks g w ts → s.window ≤ w → Bounded g w s ts
+bounded : (g : Grants) (w : ℕ) (s : Stored) (ts : List Taken) → AreTaken s ts → Asks g w ts → s.window ≤ w
+    → Bounded g w s ts
 bounded g w s [] taken asks to = omega arith
 bounded g w s (t ∷ ts) taken asks to = dite (dec_le t.ask.window w)
     (λ le.
-    let rest : Bounded g w t.lease.stored ts = bounded g w t.lease.stored ts taken.3 asks.1 (omega (arith, taken.2.window, le)) in
+    let rest : Bounded g w t.lease.stored ts =
+    bounded g w t.lease.stored ts taken.3 asks.1 (omega (arith, taken.2.window, le)) in
     dite (ℕ_discrete t.ask.window w)
     (λ same. bounded-here g w s t ts taken.0 taken.1 taken.2 rest same (asks.0 same))
     (λ other. bounded-before g w s t ts taken.0 taken.1 taken.2 rest (omega (arith, le, other))))

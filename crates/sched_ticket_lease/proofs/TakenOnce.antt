@@ -1,12 +1,14 @@
 -- A holder takes each number of a window once, and once more for each time that it lent it.
-use Rattle.std.proofs.Common.{◌≡◌, ℕ, ◌+◌, ◌-◌, ◌<◌, ◌≤◌, ◌⊎◌, max, List, [], ◌∷◌, inl, inr, refl, sym, ap, subst, arith, ◌∙◌, ⊎_elim, lt_of_not-le}
+use Rattle.std.proofs.Common.{◌≡◌, ℕ, ◌+◌, ◌-◌, ◌<◌, ◌≤◌, ◌⊎◌, max, List, [], ◌∷◌, inl, inr, refl, sym, ap, subst}
+use Rattle.std.proofs.Common.{arith, ◌∙◌, ⊎_elim, lt_of_not-le}
 use mathlib.Core.Logic.{dite}
 use native.Mathlib.Decide.{ℕ_discrete, dec_le}
 use Rattle.sched_ticket.specs.Lists.{below, is, once_below}
 use Rattle.sched_ticket.proofs.Sums.{below-is, once_below-yes, once_below-no, once_below-le}
 use Rattle.sched_ticket_lease.specs.Spans.{between, span_weight, weight}
 use Rattle.sched_ticket_lease.specs.Holders.{Holder, Remembers, Takes, Adds, AddsGrant, TurnsTo}
-use Rattle.sched_ticket_lease.specs.Histories.{Call, Does, Step, AreMade, IsHistory, took_by, lent_by, took_in, lent_in, drew_in, back_in, NumbersAreTakenOnce, NumbersAreOutOnce}
+use Rattle.sched_ticket_lease.specs.Histories.{Call, Does, Step, AreMade, IsHistory, took_by, lent_by, took_in, lent_in}
+use Rattle.sched_ticket_lease.specs.Histories.{drew_in, back_in, NumbersAreTakenOnce, NumbersAreOutOnce}
 use Rattle.sched_ticket_lease.specs.Histories.Call.{drew, took, handed_back, lent, counted, told, left_alone}
 use Rattle.sched_ticket_lease.specs.declared.span.Span.{Span}
 use Rattle.sched_ticket_lease.specs.declared.ticket.Grant.{Grant}
@@ -31,7 +33,8 @@ abbrev Settled : ℕ → ℕ → Holder → Type 0
 Settled w n h = (w < h.window) ⊎ ((h.window ≡ w) × ((n < h.floor) ⊎ (0 < held_of n h)))
 
 -- what was out is still out, or is forgotten and below the floor
-still-held : (n : ℕ) (weighs : (ℕ → ℕ) → ℕ) (floor : ℕ) (out : List Span) (after rest : ℕ) → Remembers weighs floor out after →
+still-held : (n : ℕ) (weighs : (ℕ → ℕ) → ℕ) (floor : ℕ) (out : List Span) (after rest : ℕ)
+    → Remembers weighs floor out after →
     (n < floor) ⊎ (0 < rest + weighs (is n)) → (n < after) ⊎ (0 < rest + weight (is n) out)
 still-held n weighs floor out after rest (inl r) (inl low) = inl (omega (arith, r.1, low))
 still-held n weighs floor out after rest (inl r) (inr some) = inr (omega (arith, r.0 (is n), some))
@@ -42,7 +45,8 @@ still-held n weighs floor out after rest (inr r) (inr some) = dite (dec_le r.0.e
 
 module _ (w n : ℕ) where
   -- a range of the holder's window has no number that is settled
-  adds-settled : (g : Grant) (h k : Holder) → Adds h g.first (g.first + g.tickets) g.until k.at_hand k.out k.floor k.until → (n < h.floor) ⊎ (0 < held_of n h) →
+  adds-settled : (g : Grant) (h k : Holder) → Adds h g.first
+      (g.first + g.tickets) g.until k.at_hand k.out k.floor k.until → (n < h.floor) ⊎ (0 < held_of n h) →
       (between (is n) g.first (g.first + g.tickets) ≡ 0) × ((n < k.floor) ⊎ (0 < held_of n k))
   adds-settled g h k adds settled = (
     dite (dec_le g.first n)
@@ -51,12 +55,14 @@ module _ (w n : ℕ) where
         (λ not. let high : n < g.first + g.tickets = lt_of_not-le not in
         ⊎_elim
         (λ (below : n < h.floor). let above : h.floor ≤ g.first = adds.free.above (omega arith) in omega arith)
-        (λ (some : 0 < held_of n h). let none = adds.free.at_hand n low high in let no = adds.free.out n low high in omega arith)
+        (λ (some : 0 < held_of n h). let none = adds.free.at_hand n low high in let no = adds.free.out n low high in
+        omega arith)
         settled))
         (λ not. between-out n g.first (g.first + g.tickets) (inl (lt_of_not-le not))),
     ⊎_elim
         (λ (below : n < h.floor). inl (omega (arith, adds.floor_is, below)))
-        (λ (some : 0 < held_of n h). inr (omega (arith, adds.at_hand_is (is n), ap (λ xs. weight (is n) xs) adds.out_is, some)))
+        (λ (some : 0 < held_of n h).
+        inr (omega (arith, adds.at_hand_is (is n), ap (λ xs. weight (is n) xs) adds.out_is, some)))
         settled,
   )
 
@@ -74,7 +80,8 @@ module _ (w n : ℕ) where
     inl (omega (arith, d.window, turns.later, later)),
   )
   took-settled g h k d (inr turns) (inr here) = (
-    of-other g.window w _ (λ e. let past : h.window < g.window = turns.later in let at : h.window ≡ w = here.0 in omega arith),
+    of-other g.window w _
+        (λ e. let past : h.window < g.window = turns.later in let at : h.window ≡ w = here.0 in omega arith),
     inl (omega (arith, d.window, turns.later, here.0)),
   )
 

@@ -1,5 +1,6 @@
 -- What is told was counted, and is told once.
-use Rattle.std.proofs.Common.{◌≡◌, ℕ, ◌+◌, ◌<◌, ◌≤◌, ◌⊎◌, min, List, [], ◌∷◌, ◌++◌, take, drop, length, cond, inl, inr, ap, arith, lt-ltb, le-ltb, lt_of_not-le}
+use Rattle.std.proofs.Common.{◌≡◌, ℕ, ◌+◌, ◌<◌, ◌≤◌, ◌⊎◌, min, List, [], ◌∷◌, ◌++◌, take, drop, length, cond, inl, inr}
+use Rattle.std.proofs.Common.{ap, arith, lt-ltb, le-ltb, lt_of_not-le}
 use Rattle.std.specs.Prelude.{if◌then◌else◌, nat_lt}
 use mathlib.Core.Logic.{dite}
 use native.Mathlib.Decide.{dec_le}
@@ -27,7 +28,11 @@ module _ (since : ℕ) where
   pushed : (xs ys : List Slice) (s : Slice) → ys ≡ xs ++ s ∷ [] →
       since_then since ys ≡ since_then since xs + slice_since since s
   pushed xs ys s e =
-      omega (arith, ap (λ (zs : List Slice). since_then since zs) e, sum_by_push (λ (t : Slice). slice_since since t) xs s)
+      omega (
+        arith,
+        ap (λ (zs : List Slice). since_then since zs) e,
+        sum_by_push (λ (t : Slice). slice_since since t) xs s,
+      )
 
   recent-less : (xs : List Slice) → since_then since (recent xs) ≤ since_then since xs
   recent-less xs = dite (dec_le 32 (length xs))
@@ -36,7 +41,8 @@ module _ (since : ℕ) where
         ap (λ b. since_then since (cond b xs (drop 1 xs))) (le-ltb (length xs) 32 many),
         sum_by-take-drop (λ (t : Slice). slice_since since t) xs 1,
       ))
-      (λ not. omega (arith, ap (λ b. since_then since (cond b xs (drop 1 xs))) (lt-ltb (length xs) 32 (lt_of_not-le not))))
+      (λ not.
+      omega (arith, ap (λ b. since_then since (cond b xs (drop 1 xs))) (lt-ltb (length xs) 32 (lt_of_not-le not))))
 
   grows-less : (now n : ℕ) (old new : List Slice) → Grows now n old new →
       since_then since new ≤ (if nat_lt now since then 0 else n) + since_then since old

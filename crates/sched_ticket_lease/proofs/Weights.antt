@@ -1,5 +1,6 @@
 -- Sets of numbers as spans, by what they weigh.
-use Rattle.std.proofs.Common.{◌≡◌, ℕ, zero, suc, ◌+◌, ◌-◌, ◌*◌, ◌<◌, ◌≤◌, ◌⊎◌, List, [], ◌∷◌, ◌++◌, length, get_or, inl, inr, subst, ap, arith}
+use Rattle.std.proofs.Common.{◌≡◌, ℕ, zero, suc, ◌+◌, ◌-◌, ◌*◌, ◌<◌, ◌≤◌, ◌⊎◌, List, [], ◌∷◌, ◌++◌, length, get_or, inl}
+use Rattle.std.proofs.Common.{inr, subst, ap, arith}
 use Rattle.std.specs.Prelude.{All, HoldsAt, sum_by}
 use Rattle.std.proofs.lemmas.List.Sums.{sum_by-le, sum_by_push}
 use Rattle.sched_ticket.specs.Lists.{below, is, once_below}
@@ -47,7 +48,8 @@ apart-none s a b n (inr after) low high = omega (arith, below-is n s.end, once_b
 pub all-apart : (spans : List Span) (a b : ℕ) → All (λ s. IsApart s a b) spans → HasNone spans a b
 all-apart spans a b apart n low high =
     let none : sum_by (λ (s : Span). span_weight (is n) s) spans ≤ length spans * 0 =
-    sum_by-le (λ (s : Span). span_weight (is n) s) 0 spans (λ k d lt. apart-none (get_or spans k d) a b n (apart k d lt) low high) in
+    sum_by-le (λ (s : Span). span_weight (is n) s) 0 spans
+    (λ k d lt. apart-none (get_or spans k d) a b n (apart k d lt) low high) in
     omega arith
 
 not-in : (s : Span) (n : ℕ) → IsNotIn s n → span_weight (is n) s ≤ 0
@@ -68,7 +70,8 @@ none-in spans n none =
     omega arith
 
 -- one span more at the end
-pub one-more : (xs ys : List Span) (s : Span) → ys ≡ xs ++ s ∷ [] → (q : ℕ → ℕ) → weight q ys ≡ weight q xs + span_weight q s
+pub one-more : (xs ys : List Span) (s : Span) → ys ≡ xs ++ s ∷ [] → (q : ℕ → ℕ)
+    → weight q ys ≡ weight q xs + span_weight q s
 one-more xs ys s e q =
     omega (arith, ap (λ (zs : List Span). weight q zs) e, sum_by_push (λ (t : Span). span_weight q t) xs s)
 

@@ -4,7 +4,8 @@ use Rattle.sched_ticket.specs.Lists.{total, Each, is}
 use Rattle.sched_ticket_lease.specs.Leases.{allows}
 use Rattle.sched_ticket_lease.specs.Laws.{Taken, AreTaken, told_in}
 use Rattle.sched_ticket_lease.specs.Spans.{between}
-use Rattle.sched_ticket_lease.specs.Holders.{Holder, IsHolder, IsNew, Draws, Takes, HandsBack, Lends, CountsRequests, TellsRequests}
+use Rattle.sched_ticket_lease.specs.Holders.{Holder, IsHolder, IsNew, Draws, Takes, HandsBack, Lends, CountsRequests}
+use Rattle.sched_ticket_lease.specs.Holders.{TellsRequests}
 use Rattle.sched_ticket_lease.specs.declared.lease.Grants.{Grants}
 use Rattle.sched_ticket_lease.specs.declared.lease.Stored.{Stored}
 use Rattle.sched_ticket_lease.specs.declared.ticket.Ticket.{Ticket}
@@ -92,7 +93,8 @@ abbrev pub DrawsWereGranted : Type 0
 DrawsWereGranted = (steps : List Step) → IsHistory steps → (q : ℕ → ℕ) (w : ℕ) →
     drew_in q w steps + lent_in q w steps ≤ back_in q w steps + took_in q w steps
 
--- whatever a store answers, and how often: a holder takes each number of a window once, and once more for each time that it lent
+-- whatever a store answers, and how often: a holder takes each number of a window once, and once more for each time
+-- that it lent
 -- it; so it draws it at most once more than it was handed back
 abbrev pub NumbersAreTakenOnce : Type 0
 NumbersAreTakenOnce = (steps : List Step) → IsHistory steps → (w n : ℕ) →
@@ -108,14 +110,17 @@ WereLeased all ts = (q : ℕ → ℕ) (w : ℕ) → total (took_in q w) all ≤ 
 
 -- of all holders of what a store keeps: each number of a window is drawn at most once more than it was handed back
 abbrev pub SharedNumbersStandOnce : Type 0
-SharedNumbersStandOnce = (all : List (List Step)) → Each IsHistory all → (s : Stored) (ts : List Taken) → AreTaken s ts →
+SharedNumbersStandOnce = (all : List (List Step)) → Each IsHistory all → (s : Stored) (ts : List Taken)
+    → AreTaken s ts →
     WereLeased all ts → (w n : ℕ) → total (drew_in (is n) w) all ≤ 1 + total (back_in (is n) w) all
 
--- and where all who ask in a window name the same terms, they draw in it no more tickets than it may give for the requests that
+-- and where all who ask in a window name the same terms, they draw in it no more tickets than it may give for the
+-- requests that
 -- the store was told, and one for each that was handed back
 abbrev pub SharedWindowsAreKept : Type 0
 SharedWindowsAreKept = (all : List (List Step)) → Each IsHistory all → (s : Stored) (ts : List Taken) → s.asked ≡ 0 →
-    AreTaken s ts → WereLeased all ts → (g : Grants) (w : ℕ) → Each (λ (t : Taken). t.ask.window ≡ w → t.ask.grants ≡ g) ts →
+    AreTaken s ts → WereLeased all ts → (g : Grants) (w : ℕ)
+    → Each (λ (t : Taken). t.ask.window ≡ w → t.ask.grants ≡ g) ts →
     total (drew_in (λ _. 1) w) all ≤ allows g (total (told_in w) ts) + total (back_in (λ _. 1) w) all
 
 -- once a range was taken, none of its window is drawn after the moment that was said to end it
@@ -134,7 +139,8 @@ AllEnd (s ∷ later) = EndsBy s.call later × AllEnd later
 abbrev pub NoneIsDrawnLate : Type 0
 NoneIsDrawnLate = (steps : List Step) → IsHistory steps → AllEnd steps
 
--- the requests that are told for windows that began at a moment or later are at most those that were counted from that moment
+-- the requests that are told for windows that began at a moment or later are at most those that were counted from that
+-- moment
 -- on: none is told twice
 abbrev pub counted_by : ℕ → Call → ℕ
 counted_by since (counted now n) = if nat_lt now since then 0 else n

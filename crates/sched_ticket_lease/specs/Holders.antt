@@ -13,7 +13,8 @@ use Rattle.sched_ticket_lease.specs.declared.ticket.GrantFault.TheVariants as gr
 use Rattle.sched_ticket_lease.specs.declared.ticket.NotBack.{NotBack}
 use Rattle.sched_ticket_lease.specs.declared.ticket.NotBack.TheVariants as not_back
 
--- A holder has numbers of one window: those that it may draw until the window ends, and those that are out, which were drawn
+-- A holder has numbers of one window: those that it may draw until the window ends, and those that are out, which were
+-- drawn
 -- and may be handed back. Those below the floor that it has not are forgotten.
 pub record Holder : Type 0 where
   pub window : ℕ
@@ -41,12 +42,14 @@ pub record IsNew (h : Holder) : Type 0 where
   pub drawn : h.drawn ≡ 0
   pub slices : h.requests.slices ≡ []
 
--- what is out weighs so much, and nothing is forgotten; or it was too many spans, and the first of them is forgotten: no range
+-- what is out weighs so much, and nothing is forgotten; or it was too many spans, and the first of them is forgotten:
+-- no range
 -- that begins below its end is taken any more
 abbrev pub Remembers : ((ℕ → ℕ) → ℕ) → ℕ → List Span → ℕ → Type 0
 Remembers weighs floor out after =
     (((q : ℕ → ℕ) → weight q out ≡ weighs q) × (after ≡ floor))
-    ⊎ ((s : Span) × ((q : ℕ → ℕ) → weighs q ≡ weight q out + span_weight q s) × (after ≡ max floor s.end) × (length out ≡ 1024))
+    ⊎ ((s : Span) × ((q : ℕ → ℕ) → weighs q ≡ weight q out + span_weight q s) × (after ≡ max floor s.end)
+    × (length out ≡ 1024))
 
 -- a ticket of the holder's window is drawn before the window ends: a number that was at hand is out
 pub record Draws (now : ℕ) (h : Holder) (t : Ticket) (k : Holder) : Type 0 where
@@ -75,7 +78,8 @@ pub record IsFree (h : Holder) (a b : ℕ) : Type 0 where
   pub at_hand : HasNone h.at_hand a b
   pub out : HasNone h.out a b
 
--- The numbers from a up to b, of the holder's window that ends then, come to what is at hand: none of them was held, nor is below
+-- The numbers from a up to b, of the holder's window that ends then, come to what is at hand: none of them was held,
+-- nor is below
 -- the floor.
 pub record Adds (h : Holder) (a b until : ℕ) (at_hand out : List Span) (floor ends : ℕ) : Type 0 where
   pub at_hand_is : (q : ℕ → ℕ) → weight q at_hand ≡ weight q h.at_hand + between q a b

@@ -1,4 +1,5 @@
--- What holds of leases that a store takes one after another. Each law is the contract of a function of the module `laws`.
+-- What holds of leases that a store takes one after another. Each law is the contract of a function of the module
+-- `laws`.
 use Rattle.std.specs.Prelude.{◌≡◌, ℕ, ◌<◌, ◌≤◌, ◌⊎◌, List, [], ◌∷◌, if◌then◌else◌, ◌==◌}
 use Rattle.sched_ticket.specs.Lists.{total, Each}
 use Rattle.sched_ticket_quota.specs.Windows.{within}
@@ -14,7 +15,8 @@ pub record Taken : Type 0 where
   pub ask : Ask
   pub lease : Lease
 
--- A store keeps its numbers until the next lease: it may pass over tickets and lose requests, and it may come to a later
+-- A store keeps its numbers until the next lease: it may pass over tickets and lose requests, and it may come to a
+-- later
 -- window, of which it was told no request. It never goes back.
 abbrev pub Keeps : Stored → Stored → Type 0
 Keeps s t =

@@ -8,7 +8,8 @@ use Rattle.sched_ticket_lease.specs.declared.lease.Stored.{Stored}
 use Rattle.sched_ticket_lease.specs.declared.lease.Ask.{Ask}
 use Rattle.sched_ticket_lease.specs.declared.lease.Lease.{Lease}
 
--- the tickets that a window of so many requests may give: of a budget its limit, of a quota what its terms allow for the
+-- the tickets that a window of so many requests may give: of a budget its limit, of a quota what its terms allow for
+-- the
 -- requests, of which 4294967296 count
 abbrev pub allows : Grants → ℕ → ℕ
 allows (Budget limit) asked = limit
@@ -25,7 +26,8 @@ asked_of s w = if nat_lt s.window w then 0 else s.asked
 abbrev pub count_of : Stored → ℕ → Stored
 count_of s w = record { window = w; given = given_of s w; asked = asked_of s w }
 
--- A lease has the tickets that follow those given of its window, as many of those wanted as the window may yet give, its
+-- A lease has the tickets that follow those given of its window, as many of those wanted as the window may yet give,
+-- its
 -- requests told. The store keeps both counts.
 pub record IsLease (s : Stored) (a : Ask) (l : Lease) : Type 0 where
   pub window : l.stored.window ≡ a.window

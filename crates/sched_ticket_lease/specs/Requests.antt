@@ -1,5 +1,6 @@
 -- Requests that were counted and not told, by slices of time.
-use Rattle.std.specs.Prelude.{◌≡◌, ℕ, ◌+◌, ◌≤◌, ◌<◌, ◌⊎◌, min, List, [], ◌∷◌, ◌++◌, drop, length, sum_by, if◌then◌else◌, nat_lt}
+use Rattle.std.specs.Prelude.{◌≡◌, ℕ, ◌+◌, ◌≤◌, ◌<◌, ◌⊎◌, min, List, [], ◌∷◌, ◌++◌, drop, length, sum_by, if◌then◌else◌}
+use Rattle.std.specs.Prelude.{nat_lt}
 use Rattle.sched_ticket_lease.specs.declared.slice.Slice.{Slice}
 
 -- what contracts see of them: how long a window is, a moment at which one ends, and the slices, the oldest first
@@ -41,7 +42,8 @@ pub record Begins (now n : ℕ) (old new : List Slice) : Type 0 where
 
 -- so many requests are counted at this moment
 abbrev pub Counts : ℕ → ℕ → Asked → Asked → Type 0
-Counts now n a b = (b.period ≡ a.period) × (b.border ≡ a.border) × (Grows now n a.slices b.slices ⊎ Begins now n a.slices b.slices)
+Counts now n a b = (b.period ≡ a.period) × (b.border ≡ a.border)
+    × (Grows now n a.slices b.slices ⊎ Begins now n a.slices b.slices)
 
 -- the requests since then are told, and none is told again
 pub record Tells (since n : ℕ) (a b : Asked) : Type 0 where

@@ -74,9 +74,9 @@ fn room(terms: Terms, asked: u64) -> u64
 }
 
 impl Stored {
-    /// The lease that is taken where a store keeps these numbers: the tickets that follow those given of the window, as many
-    /// of those wanted as the window may give for the requests told. `None` where the store counts a later window already:
-    /// it has lost its count of this one, and its numbers stay.
+    /// The lease that is taken where a store keeps these numbers: the tickets that follow those given of the window, as
+    /// many of those wanted as the window may give for the requests told. `None` where the store counts a later window
+    /// already: it has lost its count of this one, and its numbers stay.
     pub fn lease(self, ask: Ask) -> Option<Lease>
         ensures some { IfSome result (λ l. (self.window ≤ ask.window) × IsLease self ask l) }
         ensures none { IfNone result (ask.window < self.window) }

@@ -1,8 +1,10 @@
 //! A leased pass: what one holder has of a limit that a store keeps.
-ghost use Rattle.std.specs.Prelude.{◌≡◌, ℕ, [], ◌<◌, ◌≤◌, IfOk, IfErr, IfSome, IfNone, MatchBool, min, max, length, ◌⊎◌};
+ghost use Rattle.std.specs.Prelude.{◌≡◌, ℕ, [], ◌<◌, ◌≤◌, IfOk, IfErr, IfSome, IfNone, MatchBool, min, max, length};
+ghost use Rattle.std.specs.Prelude.{◌⊎◌};
 ghost use Rattle.sched_ticket_lease.specs.Spans.{weight};
 ghost use Rattle.sched_ticket_lease.specs.Requests.{since_then};
-ghost use Rattle.sched_ticket_lease.specs.Holders.{IsNew, Remembers, Draws, DrawsNone, IsFree, Holds, HoldsNone, Takes, TakesNone};
+ghost use Rattle.sched_ticket_lease.specs.Holders.{IsNew, Remembers, Draws, DrawsNone, IsFree, Holds, HoldsNone, Takes};
+ghost use Rattle.sched_ticket_lease.specs.Holders.{TakesNone};
 ghost use Rattle.sched_ticket_lease.specs.Holders.{HandsBack, HandsNone, Lends, CountsRequests, TellsRequests};
 
 use crate::requests::Requests;
@@ -15,9 +17,9 @@ use std::marker::Model;
 /// The most spans of tickets that are kept of those that are out. Tickets of the spans before them are not taken back.
 const MAX_SPANS: usize = 1024;
 
-/// What one holder, a thread or a process, has of a limit that a store keeps: tickets of one window, which it may draw until the
-/// window ends, and those that it drew, which may come back. It has no clock and no store: its owner hands over what the store
-/// answered. Contracts see it as a `Holder`.
+/// What one holder, a thread or a process, has of a limit that a store keeps: tickets of one window, which it may draw
+/// until the window ends, and those that it drew, which may come back. It has no clock and no store: its owner hands
+/// over what the store answered. Contracts see it as a `Holder`.
 #[derive(Drop)]
 pub struct Leased {
     window: u64,
@@ -99,8 +101,8 @@ impl Leased {
         })
     }
 
-    /// Takes what the store granted. With tickets, the store may be asked again once they are used up; without, once the
-    /// window is over.
+    /// Takes what the store granted. With tickets, the store may be asked again once they are used up; without, once
+    /// the window is over.
     pub fn granted(&mut self, grant: Grant) -> Result<(), GrantFault>
         ensures ok { IfOk result (λ _. Takes self.old grant self.new) }
         ensures err { IfErr result (λ why. TakesNone self.old grant why × (self.new ≡ self.old)) }
@@ -218,8 +220,8 @@ impl Leased {
         }
     }
 
-    /// Gives up to so many tickets of one range to another holder, which takes them as if the store had granted them. `None`
-    /// where none is at hand, or `most` is 0.
+    /// Gives up to so many tickets of one range to another holder, which takes them as if the store had granted them.
+    /// `None` where none is at hand, or `most` is 0.
     pub fn lend(&mut self, most: u64) -> Option<Grant>
         ensures some { IfSome result (λ grant. Lends most self.old grant self.new) }
         ensures none { IfNone result ((most ≡ 0) ⊎ (self.old.at_hand ≡ [])) }
@@ -245,8 +247,8 @@ impl Leased {
         self.requests.count(now, requests)
     }
 
-    /// The requests to tell the store, whose present window began at the moment `since`: those that were counted from then on,
-    /// and not told. None is told again, and none of those before.
+    /// The requests to tell the store, whose present window began at the moment `since`: those that were counted from
+    /// then on, and not told. None is told again, and none of those before.
     pub fn tell(&mut self, since: Moment) -> u64
         ensures { TellsRequests since result self.old self.new }
     {

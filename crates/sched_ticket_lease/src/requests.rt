@@ -13,7 +13,8 @@ const MAX_SLICES: usize = 32;
 /// Into how many slices a window is cut.
 const SLICES: u64 = 16;
 
-/// Requests by slices of time, since a store counts those of its present window alone. Contracts see them as their slices.
+/// Requests by slices of time, since a store counts those of its present window alone. Contracts see them as their
+/// slices.
 #[derive(Drop)]
 pub(crate) struct Requests {
     /// How long a window is; 0 where there are none.
@@ -60,7 +61,8 @@ impl Requests {
         Ok(())
     }
 
-    /// How many were counted in the slices that began at this moment or later. None of all that were counted is told again.
+    /// How many were counted in the slices that began at this moment or later. None of all that were counted is told
+    /// again.
     pub(crate) fn tell(&mut self, since: Moment) -> u64
         ensures { Tells since result self.old self.new }
     {

@@ -1,5 +1,6 @@
 //! Sets of numbers, kept as spans.
-ghost use Rattle.std.specs.Prelude.{◌≡◌, ℕ, ◌+◌, ◌-◌, ◌<◌, ◌≤◌, [], ◌∷◌, IfSome, IfNone, IfOk, IfErr, OnErr, HoldsAt, All, length, MatchBool, min, true, false, vec_len, vec_capacity};
+ghost use Rattle.std.specs.Prelude.{◌≡◌, ℕ, ◌+◌, ◌-◌, ◌<◌, ◌≤◌, [], ◌∷◌, IfSome, IfNone, IfOk, IfErr, OnErr, HoldsAt};
+ghost use Rattle.std.specs.Prelude.{All, length, MatchBool, min, true, false, vec_len, vec_capacity};
 ghost use Rattle.sched_ticket.specs.Lists.{is};
 ghost use Rattle.sched_ticket_lease.specs.Spans.{between, span_weight, weight, HasNone, IsApart, IsIn, IsNotIn, Moves};
 

@@ -10,8 +10,8 @@ pub struct Ticket {
     pub number: u64,
 }
 
-/// What a store granted: `tickets` numbers of a window from `first` on, or none, and the moment at which the window ends, by the
-/// holder's clock: `FAR` where there are no windows.
+/// What a store granted: `tickets` numbers of a window from `first` on, or none, and the moment at which the window
+/// ends, by the holder's clock: `FAR` where there are no windows.
 #[derive(Clone, Copy, Debug, PartialEq, Eq, Drop)]
 pub struct Grant {
     pub window: u64,

@@ -1,4 +1,5 @@
-//! Leased passes at work, by hand. A test lists what is done, so that a call is proved once, and not wherever it is made.
+//! Leased passes at work, by hand. A test lists what is done, so that a call is proved once, and not wherever it is
+//! made.
 ghost use Rattle.std.specs.Prelude.{◌≤◌};
 
 use sched_ticket_lease::{Grant, GrantFault, Leased, NoTicket, NotBack, Ticket};
@@ -183,8 +184,8 @@ fn what_comes_back(rt: HostRuntime) {
     );
 }
 
-// An answer that is handed over twice, or that has numbers of one that was, is refused, whatever became of its tickets; and one of
-// an earlier window.
+// An answer that is handed over twice, or that has numbers of one that was, is refused, whatever became of its tickets;
+// and one of an earlier window.
 #[test]
 fn answers_that_come_twice(rt: HostRuntime) {
     let again = Err(GrantFault::HeldAlready);
@@ -294,8 +295,8 @@ fn requests_that_are_told(rt: HostRuntime) {
     );
 }
 
-// No list grows with the leases of a window: of 2000 ranges apart from one another the last 1024 come back, and none of the
-// others is granted again.
+// No list grows with the leases of a window: of 2000 ranges apart from one another the last 1024 come back, and none of
+// the others is granted again.
 #[test]
 fn ranges_without_end(rt: HostRuntime) {
     let mut leased = Leased::new(rt.alloc(), Millis::from(1600));

@@ -1,5 +1,5 @@
-//! Tests of `sched_ticket`, of its public calls alone, and examples of its theorem: here they are proved without a second
-//! proof of that library.
+//! Tests of `sched_ticket` by its public calls alone, and examples of its theorem. They stand apart so that they are
+//! proved without a second proof of that library.
 #![tactic(auto)]
 
 pub mod locked;

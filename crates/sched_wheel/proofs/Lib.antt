@@ -1,1 +1,2 @@
+-- The lemmas on the polls of a loop.
 pub mod Polls

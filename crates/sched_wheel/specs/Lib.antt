@@ -1,1 +1,2 @@
+-- The polls of a loop over many tasks.
 pub mod Polled

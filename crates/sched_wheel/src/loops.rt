@@ -1,5 +1,6 @@
 //! The loop.
-ghost use Rattle.std.specs.Prelude.{◌≡◌, ◌≤◌, ◌<◌, true, false, All, Any, HoldsAt, length, IfOk, IfErr, IfSome, OnOk, OnErr, OnSome, is_some};
+ghost use Rattle.std.specs.Prelude.{◌≡◌, ◌≤◌, ◌<◌, true, false, All, Any, HoldsAt, length, IfOk, IfErr, IfSome, OnOk};
+ghost use Rattle.std.specs.Prelude.{OnErr, OnSome, is_some};
 ghost use Rattle.sched_wheel.specs.Polled.{IsAsked, IsCourse, IsOpen, standing};
 
 use crate::agenda::Agenda;

@@ -12,7 +12,8 @@ pub(crate) const TOO_DEEP: ReadFault = ReadFault::Plan(PlanFault::TooDeep);
 
 pub(crate) const TOO_MANY: ReadFault = ReadFault::Plan(PlanFault::TooMany);
 
-// Adds the whole plan: each node as `Debug` is derived for it, with all its parameters, and the plans that it stands on.
+// Adds the whole plan: each node as `Debug` is derived for it, with all its parameters, and the plans that it stands
+// on.
 fn show(text: &mut String, plan: &Plan) -> Result<(), AllocError> {
     match plan.shape() {
         PlanShape::Leaf(leaf) => write!(text, "{leaf:?}"),

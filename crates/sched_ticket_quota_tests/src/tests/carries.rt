@@ -79,8 +79,8 @@ fn no_reserve_is_carried(rt: HostRuntime) {
     );
 }
 
-// Five are carried to window 1, which draws one of them. Window 2 has one of the two requests of window 1, and none of the
-// others.
+// Five are carried to window 1, which draws one of them. Window 2 has one of the two requests of window 1, and none of
+// the others.
 #[test]
 fn nothing_twice(rt: HostRuntime) {
     alone(

@@ -168,8 +168,8 @@ fn a_year_ahead(rt: HostRuntime) {
     );
 }
 
-// Three calls whose clocks are ahead, each further: three reserves more at one moment. One that is ahead, but behind the
-// latest window, gives none.
+// Three calls whose clocks are ahead, each further: three reserves more at one moment. One that is ahead, but behind
+// the latest window, gives none.
 #[test]
 fn three_calls_ahead(rt: HostRuntime) {
     by_two(

@@ -1,3 +1,4 @@
+-- The loop has the state and the lines of the events so far.
 use Rattle.std.proofs.Common.{◌≡◌}
 use Rattle.sched_plan_course.specs.Course.{course_of}
 use Rattle.sched_plan_course.specs.Run.{run}

@@ -1,3 +1,4 @@
+-- A line has the moment of its event, and the plan's answer to it.
 use Rattle.sched_plan_course.proofs.Along.{line_told}
 use Rattle.sched_plan_course.proofs.lines.line_at.Goals as goal
 

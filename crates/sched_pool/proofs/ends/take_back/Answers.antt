@@ -1,3 +1,4 @@
+-- Taking back a job adds its pass, with its tickets, to those taken back before.
 use Rattle.std.proofs.Common.{◌≡◌, ◌+◌, ◌∙◌, ℕ, [], ◌∷◌, ◌++◌, length, vec_len, arith, subst, length-append}
 use Rattle.sched_ticket.specs.Lists.{total}
 use Rattle.sched_ticket.specs.Held.{Name, IsOf}
@@ -28,14 +29,21 @@ loop-job-preserved g c =
     let granted : Past → ℕ = λ v. v.granted in
     let ends = c.loop-job.ends.items in
     let end = c.into_end-end.result.0 in
-    let sum : total granted (ends ++ end ∷ []) ≡ total granted ends + end.granted = omega (arith, total-append granted ends (end ∷ [])) in
+    let sum : total granted (ends ++ end ∷ []) ≡ total granted ends + end.granted =
+    omega (arith, total-append granted ends (end ∷ [])) in
     let of = subst (λ (b : Name). IsOf b c.join-pass.result) c.requires.name joined.of in
-    let taken = one_taken g.N.Naming.budget (length c.loop-job.yielded) c.args.pass c.loop-job.pass c.into_end-end.result.1 c.join-pass.result
+    let taken = one_taken g.N.Naming.budget
+    (length c.loop-job.yielded) c.args.pass c.loop-job.pass c.into_end-end.result.1 c.join-pass.result
     ends (total granted ends) end before.ends e.law e.granted e.refused of joined.joined joined.sound in
     record {
       ends = rw (c.push_reserved.ensures.items, length-append c.loop-job.yielded (c.in-Some.job ∷ []), sum) taken;
       handed_in = before.handed_in;
-      left = omega (arith, before.left, c.in-Some.ensures.steps.1, length-append c.loop-job.yielded (c.in-Some.job ∷ []));
+      left = omega (
+        arith,
+        before.left,
+        c.in-Some.ensures.steps.1,
+        length-append c.loop-job.yielded (c.in-Some.job ∷ []),
+      );
       room = rw c.push_reserved.ensures.capacity before.room;
     }
 

@@ -1,3 +1,4 @@
+-- The shares are of the board's claims, and the loop ends since each turn takes one.
 use Rattle.std.proofs.Common.{◌+◌, ◌≤◌, vec_len, vec_capacity, All}
 use Rattle.sched_pool_claim.specs.Portion.{IsShareOf}
 use Rattle.sched_pool.proofs.runs.crew.Given as goal

@@ -1,3 +1,4 @@
+-- The jobs before this one have no fault.
 use Rattle.std.proofs.Common.{drop}
 use Rattle.serde_json.specs.View.{items_view}
 use Rattle.sched_pool_json.specs.JobsOf.{job_in}

@@ -1,3 +1,4 @@
+-- `first_run` returns the first run that has a fault, or that none has.
 use Rattle.std.proofs.Common.{◌+◌, sym, drop, arith}
 use Rattle.serde_json.specs.View.{view, items_view}
 use Rattle.sched_pool_json.specs.JobsOf.{run_in}
@@ -10,7 +11,8 @@ returns-in-Err c =
     let values = c.args.runs.now in
     let v = c.index-runs-index.result in
     past_refused run_in (items_view values) (items_view (drop (n + 1) values)) (view v) n c.in-Err.fault
-    (next_of run_in (items_view values) values n v (omega arith) c.index-runs-index.is c.loop-index.invariant) (sym c.in-Err.ensures)
+    (next_of run_in (items_view values) values n v (omega arith) c.index-runs-index.is c.loop-index.invariant)
+    (sym c.in-Err.ensures)
 
 pub loop-index-preserved : goal.loop-index-preserved
 loop-index-preserved c =
@@ -18,4 +20,5 @@ loop-index-preserved c =
     let values = c.args.runs.now in
     let v = c.index-runs-index.result in
     past_item run_in (items_view values) (items_view (drop (n + 1) values)) (view v) n
-    (next_of run_in (items_view values) values n v (omega arith) c.index-runs-index.is c.loop-index.invariant) (c.in_default.field-0, sym c.in_default.ensures)
+    (next_of run_in (items_view values) values n v (omega arith) c.index-runs-index.is c.loop-index.invariant)
+    (c.in_default.field-0, sym c.in_default.ensures)

@@ -1,3 +1,4 @@
+-- The fault of a job is in its form, its plan or its runs, and its place leads there.
 use Rattle.std.proofs.Common.{sym, ◌∙◌}
 use Rattle.serde_json.specs.View.{view, items_view}
 use Rattle.sched_plan_check.specs.Places.{place_of}
@@ -11,23 +12,27 @@ returns-in_default c =
 
 pub unreachable-requires : goal.unreachable-requires
 unreachable-requires c =
-    has_runs (view c.args.job.now) (view c.in-Ok.plan.now) (items_view c.in-Ok.runs.now) c.in-Ok.ensures.ok c.in_default-get.ensures
+    has_runs (view c.args.job.now) (view c.in-Ok.plan.now)
+    (items_view c.in-Ok.runs.now) c.in-Ok.ensures.ok c.in_default-get.ensures
 
 pub returns-then-is_wrong_number : goal.returns-then-is_wrong_number
 returns-then-is_wrong_number c =
-    to_number (view c.args.job.now) (view c.in-Ok.plan.now) (view c.in-Some.value.now) (items_view c.in-Ok.runs.now) c.args.fault (place_of c.args.place.items) _
+    to_number (view c.args.job.now) (view c.in-Ok.plan.now) (view c.in-Some.value.now)
+    (items_view c.in-Ok.runs.now) c.args.fault (place_of c.args.place.items) _
     c.in-Ok.ensures.ok (sym c.is_wrong_number.ensures ∙ c.if-is_wrong_number.true) c.in-Some.ensures c.requires
     (pushed c.args.place.items c.push.new.self.items _ c.in_ok-push.ensures.items)
 
 pub fault_of_part-requires : goal.fault_of_part-requires
 fault_of_part-requires c =
-    part_refused (view c.args.job.now) (view c.in-Ok.plan.now) (items_view c.in-Ok.runs.now) c.args.fault c.in-Ok.ensures.ok
+    part_refused (view c.args.job.now) (view c.in-Ok.plan.now)
+    (items_view c.in-Ok.runs.now) c.args.fault c.in-Ok.ensures.ok
     (sym c.is_wrong_number.ensures ∙ c.if-is_wrong_number.false) c.requires
 
 pub returns : goal.returns
 returns c =
     if_ok_by c.fault_of_part.result _ _
     (λ found on.
-    to_part (view c.args.job.now) (view c.in-Ok.plan.now) (view found.value.now) (items_view c.in-Ok.runs.now) found.fault (place_of c.args.place.items)
+    to_part (view c.args.job.now) (view c.in-Ok.plan.now) (view found.value.now)
+    (items_view c.in-Ok.runs.now) found.fault (place_of c.args.place.items)
     (place_of found.place.items) c.in-Ok.ensures.ok (sym c.is_wrong_number.ensures ∙ c.if-is_wrong_number.false) on)
     c.fault_of_part.ensures

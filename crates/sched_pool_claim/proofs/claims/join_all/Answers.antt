@@ -1,3 +1,4 @@
+-- Joining a share adds its claims and its refusals to those joined before.
 use Rattle.std.proofs.Common.{length, ap, arith, length-append}
 use Rattle.std.proofs.lemmas.Grind.{common_steps}
 use Rattle.std.proofs.lemmas.List.Elements.{All-take}
@@ -17,8 +18,16 @@ loop-share-init c =
     record {
       of = grind (arith, common_steps);
       shares = rw c.pop.ensures.rest (All-take (IsPartOf c.args.budget.now) _ _ c.requires);
-      claims = λ job. omega (arith, claims_of-push job _ rest share popped, ap (λ (p : Held). times job p.has.tickets) c.into_pass-pass.ensures.pass);
-      refusals = omega (arith, refusals_of-push _ rest share popped, ap (λ (p : Held). length p.has.refusals) c.into_pass-pass.ensures.pass);
+      claims = λ job. omega (
+        arith,
+        claims_of-push job _ rest share popped,
+        ap (λ (p : Held). times job p.has.tickets) c.into_pass-pass.ensures.pass,
+      );
+      refusals = omega (
+        arith,
+        refusals_of-push _ rest share popped,
+        ap (λ (p : Held). length p.has.refusals) c.into_pass-pass.ensures.pass,
+      );
       once = c.into_pass-pass.ensures.once;
     }
 

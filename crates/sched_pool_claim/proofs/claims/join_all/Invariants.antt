@@ -1,3 +1,4 @@
+-- The pass and the shares left have all claims and refusals, each job claimed once.
 use Rattle.std.proofs.Common.{◌≡◌, ℕ, ◌+◌, ◌≤◌, length, vec_len, All}
 use Rattle.sched_ticket.specs.Lists.{times}
 use Rattle.sched_ticket.specs.Held.{IsOf}

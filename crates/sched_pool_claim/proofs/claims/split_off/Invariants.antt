@@ -1,3 +1,4 @@
+-- The shares split off so far are of the budget and unused, and are counted.
 use Rattle.std.proofs.Common.{◌≡◌, ◌+◌, vec_len, All}
 use Rattle.sched_pool_claim.specs.Portion.{IsNewOf, IsUnused}
 use Rattle.sched_pool_claim.proofs.claims.split_off.Given as goal

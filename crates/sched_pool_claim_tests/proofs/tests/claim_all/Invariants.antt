@@ -1,3 +1,4 @@
+-- The loop keeps a share of the claims, and ends since each turn claims a job.
 use Rattle.std.proofs.Common.{◌-◌, length}
 use Rattle.sched_pool_claim.specs.Portion.{IsPartOf}
 use Rattle.sched_pool_claim_tests.proofs.tests.claim_all.Given as goal

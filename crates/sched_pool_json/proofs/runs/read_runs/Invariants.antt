@@ -1,3 +1,4 @@
+-- The runs read so far are those that the items before this one spell.
 use Rattle.std.proofs.Common.{◌≡◌, length, drop}
 use Rattle.serde_json.specs.View.{items_view}
 use Rattle.sched_pool_json.specs.JobsOf.{run_in}

@@ -1,3 +1,4 @@
+-- The batch has the ends of the jobs that were read, and the tickets that the budget gave.
 use Rattle.std.proofs.Common.{List, subst, sym}
 use Rattle.sched_task_law.specs.Past.{Past}
 use Rattle.sched_pool_scripted.specs.Ends.{AreEndsOf}

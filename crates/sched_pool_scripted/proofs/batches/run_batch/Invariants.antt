@@ -1,3 +1,4 @@
+-- The jobs run on the budget of this call.
 use Rattle.sched_pool_scripted.proofs.batches.run_batch.Given as goal
 
 -- the budget of this call

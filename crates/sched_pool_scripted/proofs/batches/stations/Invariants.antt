@@ -1,3 +1,4 @@
+-- There is a station for each worker so far.
 use Rattle.std.proofs.Common.{◌≡◌, vec_len}
 use Rattle.sched_pool_scripted.proofs.batches.stations.Given as goal
 

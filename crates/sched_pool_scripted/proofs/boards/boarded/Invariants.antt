@@ -1,3 +1,4 @@
+-- The board has the jobs so far, with passes of the budget, and the pass keeps its tickets.
 use Rattle.std.proofs.Common.{◌≡◌, None}
 use Rattle.sched_ticket.specs.Held.{IsOf}
 use Rattle.sched_pool_scripted.proofs.boards.boarded.Given as goal

@@ -1,3 +1,4 @@
+-- If the rest are the ends of the jobs that were read, all are.
 use Rattle.std.proofs.Common.{◌≡◌, length, drop}
 use Rattle.sched_pool_scripted.specs.Ends.{AreEndsOf}
 use Rattle.sched_pool_scripted.proofs.ends.are_ends_of.Given as goal

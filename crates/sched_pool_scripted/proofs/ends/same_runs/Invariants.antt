@@ -1,3 +1,4 @@
+-- The runs compared so far are the same.
 use Rattle.std.proofs.Common.{◌≡◌, length, take}
 use Rattle.sched_pool_scripted.proofs.ends.same_runs.Given as goal
 

@@ -1,3 +1,4 @@
+-- The count is of the windows that gave a ticket, each once.
 use Rattle.std.proofs.Common.{rules}
 use Rattle.std.proofs.lemmas.List.Filters.{dedup_is}
 use Rattle.std.proofs.lemmas.List.Kept.{Contains-dedup_nat, Contains-from_dedup}

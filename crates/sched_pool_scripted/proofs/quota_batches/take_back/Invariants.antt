@@ -1,3 +1,4 @@
+-- The rest were driven on the quota, and what is taken back is of the retries so far.
 use Rattle.std.specs.Prelude.{All}
 use Rattle.std.specs.Vec.Iter.{into_iter_items}
 use Rattle.sched_pool_scripted.specs.Driven.{IsDriven}

@@ -1,3 +1,4 @@
+-- If `are_just` is true, each job that was refused was refused justly.
 use Rattle.std.proofs.Common.{sym, subst}
 use Rattle.std.proofs.lemmas.List.{take_all}
 use Rattle.std.proofs.lemmas.List.Elements.{All-same, All-more}

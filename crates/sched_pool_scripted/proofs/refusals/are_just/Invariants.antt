@@ -1,3 +1,4 @@
+-- The ends so far are just.
 use Rattle.std.specs.Prelude.{All, take}
 use Rattle.sched_pool_scripted.specs.QuotaBatch.{IsJust}
 use Rattle.sched_pool_scripted.proofs.refusals.are_just.Given as goal

@@ -1,3 +1,4 @@
+-- `last_moment` returns the moment of the journal's last event.
 use Rattle.std.proofs.Common.{◌-◌, length, ap, arith}
 use Rattle.sched_plan.specs.declared.history.Event.{Event}
 use Rattle.sched_pool_scripted.proofs.Spread.{last_at}

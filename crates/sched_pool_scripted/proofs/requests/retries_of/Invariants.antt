@@ -1,3 +1,4 @@
+-- The retries so far are driven on the quota, and the pass is unused.
 use Rattle.std.specs.Prelude.{All}
 use Rattle.sched_ticket_quota.specs.Held.{IsOf}
 use Rattle.sched_pool_scripted.specs.Driven.{IsDriven, IsUnused}

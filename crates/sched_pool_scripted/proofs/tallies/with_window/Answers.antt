@@ -1,3 +1,4 @@
+-- The windows have one more, or are lost where memory was refused.
 use Rattle.std.proofs.Common.{rules, ◌≡◌, [], ◌∷◌, ◌++◌, Some}
 use Rattle.sched_pool_scripted.proofs.Noted.{pushed_same}
 use Rattle.sched_pool_scripted.proofs.tallies.with_window.Goals as goal

@@ -1,3 +1,4 @@
+-- Each claim goes on from the share, holds no more jobs than it may, and leaves the jobs to do.
 use Rattle.std.proofs.Common.{[], ◌∷◌, length, refl, ap, ◌∙◌, length-append, arith}
 use Rattle.sched_pool_worker.proofs.Shares.{went_nowhere, went_then, went_on_by, to_do_as_before}
 use Rattle.sched_pool_worker.proofs.works.claim_some.Goals as goal

@@ -1,3 +1,4 @@
+-- The share has gone on by claims alone, and holds no more jobs than it may.
 use Rattle.std.proofs.Common.{◌≡◌, ◌-◌, ◌≤◌, length, max}
 use Rattle.sched_pool_claim.specs.Portion.{IsShareOf}
 use Rattle.sched_pool_worker.specs.Working.{WentOn, still_to_do}

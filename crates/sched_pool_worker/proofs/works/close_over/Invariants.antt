@@ -1,3 +1,4 @@
+-- The share has the jobs of the open seats and those past the seats.
 use Rattle.std.proofs.Common.{◌≡◌, ◌++◌, drop, vec_len}
 use Rattle.sched_pool_worker.specs.Working.{open_numbers}
 use Rattle.sched_pool_worker.proofs.Closings.{IsClosing}

@@ -1,3 +1,4 @@
+-- Each turn takes one seat more, for the next job of the share.
 use Rattle.std.proofs.Common.{arith}
 use Rattle.std.proofs.lemmas.Grind.{common_steps}
 use Rattle.sched_pool_worker.proofs.Closings.{numbers_more}

@@ -1,3 +1,4 @@
+-- The seats so far are for the share's first jobs, in order.
 use Rattle.std.proofs.Common.{◌≡◌, length, take, vec_len, vec_capacity}
 use Rattle.sched_pool_worker.specs.Working.{numbers}
 use Rattle.sched_pool_worker.proofs.works.take_seats.Given as goal

@@ -1,3 +1,4 @@
+-- A round of work goes on from the share, and closes the jobs that are over.
 use Rattle.std.proofs.Common.{◌≡◌, rules, length, take, min, ap, subst, arith}
 use Rattle.std.proofs.lemmas.Result.{IfOk-weaker, IfErr-weaker}
 use Rattle.sched_wheel.specs.Polled.{IsLeft}
@@ -15,7 +16,8 @@ close_over-requires g c =
     let made = c.in_ok-seats.seats.items in
     let active = c.args.share.now.active in
     let first = c.min-first.result in
-    let are : numbers made ≡ take first active = subst (λ l. numbers made ≡ take first l) c.active-active.ensures.active c.in_ok-seats.ensures in
+    let are : numbers made ≡ take first active =
+    subst (λ l. numbers made ≡ take first l) c.active-active.ensures.active c.in_ok-seats.ensures in
     let kept = course_numbers _ _ _ _ _ _ _ c.run-ended.ensures.polled in
     let long : c.in_ok-seats.seats.len ≡ length made = omega (arith, c.in_ok-seats.seats.ok.0) in
     let least : first ≡ min (length active) c.args.station.now.hold = search rules in
@@ -27,7 +29,8 @@ returns-clause-went_on g c =
     let made = c.in_ok-seats.seats.items in
     let active = c.args.share.now.active in
     let first = c.min-first.result in
-    let are : numbers made ≡ take first active = subst (λ l. numbers made ≡ take first l) c.active-active.ensures.active c.in_ok-seats.ensures in
+    let are : numbers made ≡ take first active =
+    subst (λ l. numbers made ≡ take first l) c.active-active.ensures.active c.in_ok-seats.ensures in
     let kept = course_numbers _ _ _ _ _ _ _ c.run-ended.ensures.polled in
     let long : c.in_ok-seats.seats.len ≡ length made = omega (arith, c.in_ok-seats.seats.ok.0) in
     let least : first ≡ min (length active) c.args.station.now.hold = search rules in
@@ -39,7 +42,8 @@ returns-clause-fewer g c =
     let made = c.in_ok-seats.seats.items in
     let active = c.args.share.now.active in
     let first = c.min-first.result in
-    let are : numbers made ≡ take first active = subst (λ l. numbers made ≡ take first l) c.active-active.ensures.active c.in_ok-seats.ensures in
+    let are : numbers made ≡ take first active =
+    subst (λ l. numbers made ≡ take first l) c.active-active.ensures.active c.in_ok-seats.ensures in
     let kept = course_numbers _ _ _ _ _ _ _ c.run-ended.ensures.polled in
     let long : c.in_ok-seats.seats.len ≡ length made = omega (arith, c.in_ok-seats.seats.ok.0) in
     let least : first ≡ min (length active) c.args.station.now.hold = search rules in
@@ -51,33 +55,39 @@ returns-clause-over g c =
     let made = c.in_ok-seats.seats.items in
     let active = c.args.share.now.active in
     let first = c.min-first.result in
-    let are : numbers made ≡ take first active = subst (λ l. numbers made ≡ take first l) c.active-active.ensures.active c.in_ok-seats.ensures in
+    let are : numbers made ≡ take first active =
+    subst (λ l. numbers made ≡ take first l) c.active-active.ensures.active c.in_ok-seats.ensures in
     let kept = course_numbers _ _ _ _ _ _ _ c.run-ended.ensures.polled in
     let long : c.in_ok-seats.seats.len ≡ length made = omega (arith, c.in_ok-seats.seats.ok.0) in
     let least : first ≡ min (length active) c.args.station.now.hold = search rules in
     let drives = drove made _ _ active first _ _ are c.as_mut_slice-tasks.ensures.value kept long least in
-    IfOk-weaker c.run-ended.result _ _ (λ used all. all_closed _ _ _ _ _ _ c.close_over.ensures.active drives all) c.run-ended.ensures.over
+    IfOk-weaker c.run-ended.result _ _
+    (λ used all. all_closed _ _ _ _ _ _ c.close_over.ensures.active drives all) c.run-ended.ensures.over
 
 pub returns-clause-spent : goal.returns-clause-spent
 returns-clause-spent g c =
     let made = c.in_ok-seats.seats.items in
     let active = c.args.share.now.active in
     let first = c.min-first.result in
-    let are : numbers made ≡ take first active = subst (λ l. numbers made ≡ take first l) c.active-active.ensures.active c.in_ok-seats.ensures in
+    let are : numbers made ≡ take first active =
+    subst (λ l. numbers made ≡ take first l) c.active-active.ensures.active c.in_ok-seats.ensures in
     let kept = course_numbers _ _ _ _ _ _ _ c.run-ended.ensures.polled in
     let long : c.in_ok-seats.seats.len ≡ length made = omega (arith, c.in_ok-seats.seats.ok.0) in
     let least : first ≡ min (length active) c.args.station.now.hold = search rules in
     let drives = drove made _ _ active first _ _ are c.as_mut_slice-tasks.ensures.value kept long least in
-    IfErr-weaker c.run-ended.result _ _ (λ stop left spent. some_left _ _ _ _ _ _ c.close_over.ensures.active drives (left spent)) c.run-ended.ensures.spent
+    IfErr-weaker c.run-ended.result _ _
+    (λ stop left spent. some_left _ _ _ _ _ _ c.close_over.ensures.active drives (left spent)) c.run-ended.ensures.spent
 
 pub returns-clause-polls : goal.returns-clause-polls
 returns-clause-polls g c =
-    subst (λ rng. IsLeft c.args.turns (g.G.Rng.stream rng) (g.G.Rng.stream c.run-ended.new.rng)) (ap (λ p. p.rng) c.station.view_is)
+    subst (λ rng. IsLeft c.args.turns (g.G.Rng.stream rng) (g.G.Rng.stream c.run-ended.new.rng))
+    (ap (λ p. p.rng) c.station.view_is)
     (left_by_course _ _ _ _ _ _ _ _ c.run-ended.ensures.polled)
 
 pub returns-clause-used : goal.returns-clause-used
 returns-clause-used g c =
     IfOk-weaker c.run-ended.result _ _
-    (λ used course. subst (λ rng. IsLeft used (g.G.Rng.stream rng) (g.G.Rng.stream c.run-ended.new.rng)) (ap (λ p. p.rng) c.station.view_is)
+    (λ used course. subst (λ rng. IsLeft used (g.G.Rng.stream rng) (g.G.Rng.stream c.run-ended.new.rng))
+    (ap (λ p. p.rng) c.station.view_is)
     (left_by_course _ _ _ _ _ _ _ _ course))
     c.run-ended.ensures.used

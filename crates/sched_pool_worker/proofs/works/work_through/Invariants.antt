@@ -1,3 +1,4 @@
+-- The share has gone on by claims and closings, within the turns and what it may hold.
 use Rattle.std.proofs.Common.{◌≡◌, ◌≤◌, length, max}
 use Rattle.sched_pool_claim.specs.Portion.{IsShareOf}
 use Rattle.sched_wheel.specs.Polled.{IsLeft}

@@ -1,3 +1,4 @@
+-- Each number of a window is in at most one range.
 use Rattle.sched_ticket_lease.proofs.Ranges.{ranges_stand_once}
 use Rattle.sched_ticket_lease.proofs.laws.ranges_stand_once.Goals as goal
 

@@ -11,9 +11,11 @@ loop-span-init c = refl
 
 pub loop-span-preserved : goal.loop-span-preserved
 loop-span-preserved c =
-    let so-far : c.loop-span.count ≡ min (weight (λ _. 1) (take c.loop-span.span-index c.args.spans.now)) 18446744073709551615 =
+    let so-far : c.loop-span.count
+    ≡ min (weight (λ _. 1) (take c.loop-span.span-index c.args.spans.now)) 18446744073709551615 =
     c.loop-span.invariant in
-    let more = sum_by_more (λ (s : Span). span_weight (λ _. 1) s) c.args.spans.now c.loop-span.span-index c.span-item.result
+    let more =
+    sum_by_more (λ (s : Span). span_weight (λ _. 1) s) c.args.spans.now c.loop-span.span-index c.span-item.result
     c.loop-span-test.true in
     let this = ap (λ (s : Span). span_weight (λ _. 1) s) c.span-item.is in
     let many = counted c.span-item.result.first c.span-item.result.end in
@@ -21,7 +23,9 @@ loop-span-preserved c =
 
 pub returns : goal.returns
 returns c =
-    let so-far : c.loop-span.count ≡ min (weight (λ _. 1) (take c.loop-span.span-index c.args.spans.now)) 18446744073709551615 =
+    let so-far : c.loop-span.count
+    ≡ min (weight (λ _. 1) (take c.loop-span.span-index c.args.spans.now)) 18446744073709551615 =
     c.loop-span.invariant in
-    let whole = ap (λ (xs : List Span). weight (λ _. 1) xs) (take_all c.loop-span.span-index c.args.spans.now c.loop-span-test.false) in
+    let whole = ap (λ (xs : List Span). weight (λ _. 1) xs)
+    (take_all c.loop-span.span-index c.args.spans.now c.loop-span-test.false) in
     omega arith

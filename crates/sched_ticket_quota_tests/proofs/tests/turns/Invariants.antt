@@ -1,3 +1,4 @@
+-- Each turn leaves two passes of the quota.
 use Rattle.sched_ticket_quota.specs.Held.{IsOf}
 use Rattle.sched_ticket_quota_tests.proofs.tests.turns.Given as goal
 

@@ -1,3 +1,4 @@
+-- The two jobs draw from the budget of this call.
 use Rattle.sched_ticket_tests.proofs.locked.drawn_by_two.Given as goal
 
 -- the budget of this call

@@ -1,3 +1,4 @@
+-- Each act leaves a pass of the budget.
 use Rattle.sched_ticket.specs.Held.{IsOf}
 use Rattle.sched_ticket_tests.proofs.tests.acts.Given as goal
 

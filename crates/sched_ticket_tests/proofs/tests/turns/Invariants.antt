@@ -1,3 +1,4 @@
+-- Each turn leaves two passes of the budget.
 use Rattle.sched_ticket.specs.Held.{IsOf}
 use Rattle.sched_ticket_tests.proofs.tests.turns.Given as goal
 

@@ -1,3 +1,4 @@
+-- The list has the tickets that the pass drew, and the loop ends since each turn draws one.
 use Rattle.std.proofs.Common.{◌-◌, length}
 use Rattle.sched_ticket.specs.Lists.{IsSame}
 use Rattle.sched_ticket.specs.Held.{IsOf}

@@ -1,3 +1,4 @@
+-- Joining a worker's pass adds its tickets and its refusals.
 use Rattle.std.proofs.Common.{ℕ, Vec, Global, length, [], ◌∷◌, ap, arith, length-append}
 use Rattle.std.proofs.lemmas.Grind.{common_steps}
 use Rattle.sched_ticket.specs.Lists.{total}
@@ -25,6 +26,11 @@ loop-haul-preserved c =
             ap (λ (v : View). total h v.tickets) joined,
             total-append h mine.tickets haul.pass.has.tickets,
           );
-      refused = omega (arith, ap (λ (v : View). length v.refusals) joined, length-append mine.refusals haul.pass.has.refusals, before.refused);
+      refused = omega (
+        arith,
+        ap (λ (v : View). length v.refusals) joined,
+        length-append mine.refusals haul.pass.has.refusals,
+        before.refused,
+      );
       counted = grind (arith, common_steps);
     }

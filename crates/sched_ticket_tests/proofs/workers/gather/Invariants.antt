@@ -1,3 +1,4 @@
+-- The lists so far have the tickets of the pass, and each refusal is kept.
 use Rattle.std.proofs.Common.{◌≡◌, ℕ, ◌+◌, ◌≤◌, length, vec_len}
 use Rattle.std.specs.Prelude.{All, IfOk}
 use Rattle.sched_ticket.specs.Lists.{total}

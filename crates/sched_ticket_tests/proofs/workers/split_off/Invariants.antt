@@ -1,3 +1,4 @@
+-- The passes split so far are of the budget and have no ticket.
 use Rattle.std.proofs.Common.{◌≡◌, [], vec_len}
 use Rattle.std.specs.Prelude.{All}
 use Rattle.sched_ticket.specs.Held.{IsOf}

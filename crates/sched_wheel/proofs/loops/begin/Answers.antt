@@ -1,3 +1,4 @@
+-- The clock was asked for the moment at which the loop begins.
 use Rattle.sched_wheel.proofs.Polls.{asked_now}
 use Rattle.sched_wheel.proofs.loops.begin.Goals as goal
 

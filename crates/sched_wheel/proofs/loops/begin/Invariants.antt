@@ -1,3 +1,4 @@
+-- The agenda counts each task.
 use Rattle.std.proofs.Common.{◌≡◌, length}
 use Rattle.sched_wheel.proofs.loops.begin.Given as goal
 

@@ -1,3 +1,4 @@
+-- The turns so far are a course of polls that leads from the first tasks to these.
 use Rattle.std.proofs.Common.{◌≡◌, length}
 use Rattle.sched_wheel.specs.Polled.{standing, IsCourse}
 use Rattle.sched_wheel.proofs.loops.drive.Given as goal

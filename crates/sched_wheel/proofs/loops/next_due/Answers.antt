@@ -1,3 +1,4 @@
+-- The clock was asked once, whichever task is due next.
 use Rattle.sched_wheel.proofs.Polls.{asked_now}
 use Rattle.sched_wheel.proofs.loops.next_due.Goals as goal
 

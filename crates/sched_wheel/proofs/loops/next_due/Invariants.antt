@@ -1,3 +1,4 @@
+-- The loop keeps the clock's answer, and ends since each turn takes a task from the queue.
 use Rattle.std.proofs.Common.{◌≡◌}
 use Rattle.std.specs.VecDeque.{deque_len}
 use Rattle.sched_wheel.proofs.loops.next_due.Given as goal

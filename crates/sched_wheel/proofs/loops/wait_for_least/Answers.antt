@@ -1,3 +1,4 @@
+-- The clock was asked to wait until the least moment.
 use Rattle.sched_wheel.proofs.Polls.{asked_until}
 use Rattle.sched_wheel.proofs.loops.wait_for_least.Goals as goal
 

@@ -1,3 +1,4 @@
+-- What the two threads take with them may go to another thread.
 use denote.Param.Send.{sendable}
 use Rattle.std.proofs.Crossing.{crosses}
 use Rattle.sched_driver.proofs.Sends.{driver_sends}

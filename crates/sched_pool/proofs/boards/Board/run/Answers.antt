@@ -1,3 +1,4 @@
+-- `run` works with as many shares as it was asked for, or returns why there are not so many.
 use Rattle.std.proofs.Common.{refl, subst, arith}
 use Rattle.sched_pool.specs.Boards.{RefusesShares}
 use Rattle.sched_pool.specs.declared.faults.ShareFault.{ShareFault}
@@ -10,5 +11,7 @@ work_beside-requires-after_bounds g c κs within = are_shares _ _ _ _ c.in-Ok.en
 pub returns-in-Err-BadWorkers-clause-err : goal.returns-in-Err-BadWorkers-clause-err
 returns-in-Err-BadWorkers-clause-err g c =
     let refused = c.in-Err-BadWorkers.ensures.err in
-    let out = subst (λ (fault : ShareFault). RefusesShares c.args.self c.len.result fault) c.in-Err-BadWorkers.field-0-is refused.0 in
+    let out =
+    subst (λ (fault : ShareFault). RefusesShares c.args.self c.len.result fault) c.in-Err-BadWorkers.field-0-is
+    refused.0 in
     ((λ crew. out (omega (arith, crew.0), omega (arith, crew.1))), refused.1, refl)

@@ -1,3 +1,4 @@
+-- A claim has room in the share's list, and keeps the share's invariant.
 use Rattle.std.proofs.Common.{arith}
 use Rattle.sched_pool_claim.proofs.Portions.{has_room, takes}
 use Rattle.sched_pool_claim.proofs.shares.Share.claim.Goals as goal

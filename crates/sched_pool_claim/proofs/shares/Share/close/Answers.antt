@@ -1,3 +1,4 @@
+-- Closing a job keeps the share's invariant.
 use Rattle.sched_pool_claim.proofs.Portions.{closes}
 use Rattle.sched_pool_claim.proofs.shares.Share.close.Goals as goal
 

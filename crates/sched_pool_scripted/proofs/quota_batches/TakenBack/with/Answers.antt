@@ -1,3 +1,4 @@
+-- Taking back a retry adds its end, its tickets and their windows.
 use Rattle.std.proofs.Common.{rules, ◌≡◌, [], ◌∷◌, ◌++◌, map, length, ap, sym, subst, ◌∙◌, arith}
 use Rattle.sched_ticket.specs.Lists.{Each, IsSame}
 use Rattle.sched_ticket_quota.specs.Windows.{window_of}
@@ -22,6 +23,8 @@ returns c =
     let pushed : c.push_reserved.new.self.items ≡ before.ends.items ++ end ∷ [] = search rules in
     rw (pushed, extended)
     (one_taken quota before.ends.items end before.pass own c.join-pass.result before.windows.items noted
-    c.requires.taken e.law (omega (arith, ap (λ (h : Held). length h.has.tickets) p.pass, e.granted, here.had)) (ap (λ (h : Held). length h.has.requests) is_own ∙ here.asked)
+    c.requires.taken e.law (omega (arith, ap (λ (h : Held). length h.has.tickets) p.pass, e.granted, here.had))
+    (ap (λ (h : Held). length h.has.requests) is_own ∙ here.asked)
     (ap (λ (h : Held). h.has.changes) is_own ∙ here.unchanged)
-    (subst (λ (h : Held). Each (λ n. window_of n ≡ 0) h.has.requests) (sym is_own) here.early) same c.join-pass.ensures.of c.join-pass.ensures.joined c.join-pass.ensures.sound.once)
+    (subst (λ (h : Held). Each (λ n. window_of n ≡ 0) h.has.requests) (sym is_own) here.early) same
+    c.join-pass.ensures.of c.join-pass.ensures.joined c.join-pass.ensures.sound.once)

@@ -1,3 +1,4 @@
+-- The test's jobs draw on the budget of this test.
 use Rattle.sched_pool_tests.proofs.tests.boards.full_board.Given as goal
 
 -- the budget of this test

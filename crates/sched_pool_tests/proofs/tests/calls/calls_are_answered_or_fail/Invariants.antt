@@ -1,3 +1,4 @@
+-- The test's calls draw on the budget of this board.
 use Rattle.sched_pool_tests.proofs.tests.calls.calls_are_answered_or_fail.Given as goal
 
 -- the budget of this board

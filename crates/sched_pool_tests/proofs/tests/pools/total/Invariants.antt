@@ -1,3 +1,4 @@
+-- The test's jobs draw on the budget of this pool.
 use Rattle.sched_pool_tests.proofs.tests.pools.total.Given as goal
 
 -- the budget of this pool

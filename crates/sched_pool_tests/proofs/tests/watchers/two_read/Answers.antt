@@ -1,3 +1,4 @@
+-- What the two watchers take to their threads may go there.
 use denote.Exit.{no}
 use denote.Param.{arg, param}
 use denote.Param.Send.{IsSend, IsSync, sendable, param_send, arg_send, shr_send}
@@ -19,9 +20,11 @@ stuck_sends = search (sendable, crosses) depth 60
 code_sends : IsSend Code.the_row
 code_sends = search (sendable, crosses) depth 60
 
-its_board_shares : (κ N n : _) → IsSend N → IsSync (Board.the_row κ Stuck.the_row N Code.the_row Code.the_row stuck.ghosts coded.ghosts coded.ghosts n)
+its_board_shares : (κ N n : _) → IsSend N
+    → IsSync (Board.the_row κ Stuck.the_row N Code.the_row Code.the_row stuck.ghosts coded.ghosts coded.ghosts n)
 its_board_shares κ N n s =
-    board_shares κ Stuck.the_row N Code.the_row Code.the_row stuck.ghosts coded.ghosts coded.ghosts n stuck_sends s code_sends code_sends
+    board_shares κ Stuck.the_row N Code.the_row Code.the_row stuck.ghosts coded.ghosts coded.ghosts n stuck_sends s
+    code_sends code_sends
 
 all_send : (ν : _) (A B : RattleType) → IsSend A → IsSend B → IsSend (TupleAt ν (A ∷ B ∷ []))
 all_send ν A B a b = search sendable depth 30

@@ -1,3 +1,4 @@
+-- What the worker and the watcher take to their threads may go there.
 use denote.Exit.{no}
 use denote.Param.{arg, param}
 use denote.Param.Send.{IsSend, IsSync, sendable, param_send, arg_send, shr_send}
@@ -23,9 +24,11 @@ stuck_sends = search (sendable, crosses) depth 60
 code_sends : IsSend Code.the_row
 code_sends = search (sendable, crosses) depth 60
 
-its_board_shares : (κ N n : _) → IsSend N → IsSync (Board.the_row κ Stuck.the_row N Code.the_row Code.the_row stuck.ghosts coded.ghosts coded.ghosts n)
+its_board_shares : (κ N n : _) → IsSend N
+    → IsSync (Board.the_row κ Stuck.the_row N Code.the_row Code.the_row stuck.ghosts coded.ghosts coded.ghosts n)
 its_board_shares κ N n s =
-    board_shares κ Stuck.the_row N Code.the_row Code.the_row stuck.ghosts coded.ghosts coded.ghosts n stuck_sends s code_sends code_sends
+    board_shares κ Stuck.the_row N Code.the_row Code.the_row stuck.ghosts coded.ghosts coded.ghosts n stuck_sends s
+    code_sends code_sends
 
 noting_shares : IsSync Noting.the_row
 noting_shares = search (sendable, crosses) depth 60
@@ -36,11 +39,13 @@ clock_sends = search (sendable, crosses) depth 60
 words_send : IsSend MidWords.the_row
 words_send = search (sendable, crosses) depth 60
 
-all_send : (ν : _) (A B C D E : RattleType) → IsSend A → IsSend B → IsSend C → IsSend D → IsSend E → IsSend (TupleAt ν (A ∷ B ∷ C ∷ D ∷ E ∷ []))
+all_send : (ν : _) (A B C D E : RattleType) → IsSend A → IsSend B → IsSend C → IsSend D → IsSend E
+    → IsSend (TupleAt ν (A ∷ B ∷ C ∷ D ∷ E ∷ []))
 all_send ν A B C D E a b c d e = search sendable depth 30
 
 -- what a closure takes along
-captured : (ν δ : _) (A B C D E : RattleType) → IsSend A → IsSend B → IsSend C → IsSend D → IsSend E → IsSend (param 1 (arg δ no (TupleAt ν (A ∷ B ∷ C ∷ D ∷ E ∷ []))))
+captured : (ν δ : _) (A B C D E : RattleType) → IsSend A → IsSend B → IsSend C → IsSend D → IsSend E
+    → IsSend (param 1 (arg δ no (TupleAt ν (A ∷ B ∷ C ∷ D ∷ E ∷ []))))
 captured ν δ A B C D E a b c d e = param_send 1 _ (arg_send δ no _ (all_send ν A B C D E a b c d e))
 
 pub join-finish-requires-send-F : goal.join-finish-requires-send-F

@@ -1,3 +1,4 @@
+-- The jobs of a play draw on its budget.
 use Rattle.sched_pool_tests.proofs.tests.works.plays.Given as goal
 
 -- the budget of this play

@@ -1,3 +1,4 @@
+-- The loop keeps a share of the board's claims.
 use Rattle.sched_pool.specs.Portion.{IsShareOf}
 use Rattle.sched_pool_tests.proofs.tests.works.takes.Given as goal
 

@@ -1,3 +1,4 @@
+-- The jobs of the play draw on its budget.
 use Rattle.sched_pool_tests.proofs.tests.works.two_shares_of_three_jobs.Given as goal
 
 -- the budget of this play

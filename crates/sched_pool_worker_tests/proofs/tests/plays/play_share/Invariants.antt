@@ -1,3 +1,4 @@
+-- The loop keeps a share of the claims.
 use Rattle.sched_pool_claim.specs.Portion.{IsPartOf}
 use Rattle.sched_pool_worker_tests.proofs.tests.plays.play_share.Given as goal
 

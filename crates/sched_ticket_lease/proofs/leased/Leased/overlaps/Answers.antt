@@ -11,12 +11,13 @@ by-answer true P Q p q = p refl
 by-answer false P Q p q = q refl
 
 pub returns : goal.returns
-returns c = by-answer c.overlaps-2.result (c.args.first < c.args.end) (IsFree c.args.self.now c.args.first c.args.end) (λ _. omega arith) (λ e. record {
-  above = λ _. let seen = ap (λ (h : Holder). h.floor) c.self.view_is in omega arith;
-  at_hand = λ n low high.
-      let seen = ap (λ (h : Holder). weight (is n) h.at_hand) c.self.view_is in
-      omega (arith, c.overlaps.ensures c.if-overlaps.false n low high);
-  out = λ n low high.
-      let seen = ap (λ (h : Holder). weight (is n) h.out) c.self.view_is in
-      omega (arith, c.overlaps-2.ensures e n low high);
-})
+returns c = by-answer c.overlaps-2.result (c.args.first < c.args.end) (IsFree c.args.self.now c.args.first c.args.end)
+    (λ _. omega arith) (λ e. record {
+      above = λ _. let seen = ap (λ (h : Holder). h.floor) c.self.view_is in omega arith;
+      at_hand = λ n low high.
+          let seen = ap (λ (h : Holder). weight (is n) h.at_hand) c.self.view_is in
+          omega (arith, c.overlaps.ensures c.if-overlaps.false n low high);
+      out = λ n low high.
+          let seen = ap (λ (h : Holder). weight (is n) h.out) c.self.view_is in
+          omega (arith, c.overlaps-2.ensures e n low high);
+    })

@@ -12,6 +12,7 @@ returns-clause-some c = (
       let last = one-more _ _ _ c.in_ok-last.ensures.items q in
       let seen = ap (λ (xs : List Span). weight q xs) c.self.view_is in
       let rest = c.put_if_any.ensures.weight q in
-      let cut = joined q c.in_ok-last.last.first (c.in_ok-last.last.first + c.args.most) c.in_ok-last.last.end (omega arith) (omega arith) in
+      let cut = joined q c.in_ok-last.last.first (c.in_ok-last.last.first + c.args.most) c.in_ok-last.last.end
+      (omega arith) (omega arith) in
       omega arith,
 )

@@ -1,3 +1,4 @@
+-- The loop keeps a pass of the quota.
 use Rattle.sched_ticket_quota.specs.Held.{IsOf}
 use Rattle.sched_ticket_quota_tests.proofs.tests.passes.split_and_join.Given as goal
 

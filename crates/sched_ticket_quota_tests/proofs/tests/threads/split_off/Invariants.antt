@@ -1,3 +1,4 @@
+-- The passes split so far are of the quota.
 use Rattle.std.specs.Prelude.{All}
 use Rattle.sched_ticket_quota.specs.Held.{IsOf}
 use Rattle.sched_ticket_quota_tests.proofs.tests.threads.split_off.Given as goal

@@ -1,3 +1,4 @@
+-- The loop keeps a pass of the budget, and ends since each turn draws a ticket.
 use Rattle.std.proofs.Common.{◌-◌, length}
 use Rattle.sched_ticket.specs.Held.{IsOf}
 use Rattle.sched_ticket_tests.proofs.tests.threads.act.Given as goal

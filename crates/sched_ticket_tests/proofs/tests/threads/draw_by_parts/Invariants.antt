@@ -1,3 +1,4 @@
+-- The loop keeps a pass of the budget.
 use Rattle.sched_ticket.specs.Held.{IsOf}
 use Rattle.sched_ticket_tests.proofs.tests.threads.draw_by_parts.Given as goal
 

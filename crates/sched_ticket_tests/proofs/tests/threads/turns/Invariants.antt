@@ -1,3 +1,4 @@
+-- The loop keeps a pass of the budget for each turn.
 use Rattle.std.specs.Prelude.{All}
 use Rattle.sched_ticket.specs.Held.{IsOf}
 use Rattle.sched_ticket_tests.proofs.tests.threads.turns.Given as goal

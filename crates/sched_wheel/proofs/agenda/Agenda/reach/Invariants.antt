@@ -1,3 +1,4 @@
+-- The loop keeps the number of tasks and the moment, and ends since each turn takes one of the tasks that wait.
 use Rattle.std.proofs.Common.{◌≡◌, ◌+◌}
 use Rattle.std.specs.BinaryHeap.{heap_len}
 use Rattle.futures.specs.LinkedLists.Wheel.{armed_count}
