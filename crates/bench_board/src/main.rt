@@ -1,6 +1,6 @@
-//! Runs a board of 64 jobs whose effect computes for some 20 microseconds at each poll: `bench_board [WORKERS] [RUNS]`;
-//! one worker and 10 runs of each job where nothing is said. It prints how many retries were granted and no time; a
-//! script measures it from outside.
+//! Runs a board of 64 jobs whose effect computes for some 20 microseconds at each poll: `bench_board [WORKERS] [RUNS]`,
+//! by default with one worker and 10 runs of each job. It prints how many retries were granted and no time; a script
+//! measures it from outside.
 #![tactic(auto)]
 
 ghost use Rattle.std.specs.Prelude.{◌≡◌, [], IfSome};

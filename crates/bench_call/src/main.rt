@@ -1,5 +1,4 @@
-//! Calls a closure by `retry_call`: `bench_call [WHAT] [ON] [CALLS]`; 1,000 granted retries on a budget where nothing is
-//! said.
+//! Calls a closure by `retry_call`: `bench_call [WHAT] [ON] [CALLS]`, by default 1,000 granted retries on a budget.
 //!
 //! WHAT is `call`, a closure called with no retry, `success`, calls that succeed at once, each with a retry of its own,
 //! `granted`, one whose retries are granted, with no wait, or `refused`, calls that fail and are refused a retry. ON is
@@ -125,8 +124,8 @@ impl Splits for Unlimited {
     }
 }
 
-// Calls of this kind, with retries of this plan; it answers how many retries were granted, and for calls that succeed at
-// once the sum of what they gave.
+// Calls of this kind, with retries of this plan; it answers how many retries were granted, and for calls that succeed
+// at once the sum of what they gave.
 fn calls_by<R: Wait + AllocGlobal, D: Splits>(
     rt: &R,
     what: What,
@@ -146,8 +145,8 @@ fn calls_by<R: Wait + AllocGlobal, D: Splits>(
     sum
 }
 
-// One call, which fails so often and then succeeds, with a retry of its own; it answers how many retries were granted, and
-// what the call gave where there was none.
+// One call, which fails so often and then succeeds, with a retry of its own; it answers how many retries were granted,
+// and what the call gave where there was none.
 fn one_call<R: Wait + AllocGlobal, D: Splits>(
     rt: &R,
     plan: &SharedPlan,

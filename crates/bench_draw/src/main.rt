@@ -1,6 +1,6 @@
-//! Draws tickets of one budget with several threads: `bench_draw [THREADS] [DRAWS] [rising] [parts]`, of 2 threads and
-//! 1,000 draws each where nothing is said, and of a budget that keeps its limit, or of a rising one, which counts its
-//! passes or goes by parts. It prints what was drawn and no time; a script measures it from outside.
+//! Draws tickets of one budget with several threads: `bench_draw [THREADS] [DRAWS] [rising] [parts]`, by default with 2
+//! threads and 1,000 draws each. The budget keeps its limit, or with `rising` may raise it; it counts its passes, or
+//! with `parts` goes by parts. It prints what was drawn and no time; a script measures it from outside.
 #![tactic(auto)]
 
 ghost use Rattle.std.specs.Prelude.{◌≡◌, ◌*◌, ◌≤◌, false, All, IfOk, IfSome};

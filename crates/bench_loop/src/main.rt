@@ -1,8 +1,8 @@
-//! Drives tasks by the loop: `bench_loop [TASKS] [TURNS]`; 10 tasks and 1,000 turns where nothing is said.
+//! Drives tasks by the loop: `bench_loop [TASKS] [TURNS]`, by default 10 tasks and 1,000 turns.
 //!
-//! Each task waits for as many milliseconds as there are tasks, and each for moments of its own: so whatever their
-//! number, one poll and one wait take turns. It prints where the clock stood in the end and no time; a script measures
-//! it from outside.
+//! Each task waits for as many milliseconds as there are tasks, and each for moments of its own, so one poll and one
+//! wait take turns, whatever the number of tasks. It prints where the clock stood in the end and no time; a script
+//! measures it from outside.
 #![tactic(auto)]
 
 use futures::task::{Context, Poll};

@@ -1,6 +1,6 @@
 //! Calls one quota from several threads: `bench_quota [CALL] [THREADS] [CALLS]`, where CALL is `granted`, `refused` or
-//! `deposit`, of 2 threads and 1,000 deposits each where nothing is said. It prints what was given and asked, and no
-//! time; a script measures it from outside.
+//! `deposit`, by default with 2 threads and 1,000 deposits each. It prints what was given and asked, and no time; a
+//! script measures it from outside.
 #![tactic(auto)]
 
 ghost use Rattle.std.specs.Prelude.{◌≡◌, ◌≤◌, All, IfOk};

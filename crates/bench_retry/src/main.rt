@@ -1,4 +1,4 @@
-//! Polls retries by hand: `bench_retry [WHAT] [PLAN] [ROUNDS]`; a round of `retry` of `pair` where nothing is said.
+//! Polls retries by hand: `bench_retry [WHAT] [PLAN] [ROUNDS]`, by default one round of `retry` of `pair`.
 //!
 //! WHAT is `retry`, a thousand retries of an effect that fails each time, `step`, a thousand steps of its driver alone,
 //! or `wait`, a thousand polls of a retry that waits. PLAN is `pair` or `spaced`. It prints a count and no time; a

@@ -1,7 +1,7 @@
 //! Steps a schedule in place: `bench_steps [PLAN] [EVENTS] [driver|stepper]`, where PLAN is `pair`, `fixed`, `tree`,
-//! `crossed`, `exponential`, `retry` or `rounds`; of `pair` and 1,000 events where nothing is said. With `driver` a
-//! driver steps it, which keeps a journal, and with `stepper` one that keeps none. It prints where the run ended and no
-//! time; a script measures it from outside.
+//! `crossed`, `exponential`, `retry` or `rounds`, by default `pair` with 1,000 events. With `driver` a driver steps it,
+//! which keeps a journal, and with `stepper` one that keeps none. It prints where the run ended and no time; a script
+//! measures it from outside.
 #![tactic(auto)]
 
 ghost use Rattle.std.specs.Prelude.{ℕ, ◌≤◌, IfOk};

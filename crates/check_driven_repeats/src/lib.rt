@@ -1,4 +1,4 @@
-//! Repeats that the loop drives, by tests alone.
+//! Repeats that the loop drives, checked by tests alone.
 #![tactic(auto)]
 
 #[cfg(test)]

@@ -1,7 +1,7 @@
-//! Checks growths that are refused: makes calls that ask for memory, and prints what stands before and after each.
+//! Checks growths that are refused: makes calls that ask for memory, and prints what is there before and after each.
 //!
-//! Where a call is refused, it prints the fault with what stands then, and makes the same call again. A script runs it
-//! with each growth refused in turn; status 5 says that memory was refused to something else than such a call.
+//! Where a call is refused, it prints the fault with what is there then, and makes the same call again. A script runs
+//! it with each growth refused in turn; status 5 says that something else than such a call was refused memory.
 #![tactic(auto)]
 
 ghost use Rattle.std.specs.Prelude.{◌≡◌, ◌+◌, length, IfSome, IfNone};

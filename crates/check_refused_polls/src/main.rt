@@ -1,8 +1,7 @@
 //! Checks polls that are refused memory: polls a retry, a retry with a fallback, a repeat and a retry of calls by hand,
 //! and prints what each shows after each poll.
 //!
-//! A script runs it with each growth refused in turn; status 5 says that memory was refused to something else than a
-//! poll.
+//! A script runs it with each growth refused in turn; status 5 says that something else than a poll was refused memory.
 #![tactic(auto)]
 
 ghost use Rattle.std.specs.Prelude.{◌≡◌, [], IfSome, is_some};

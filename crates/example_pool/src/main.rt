@@ -1,6 +1,6 @@
 //! `example_pool` makes 200 calls to a service on four threads, while a fifth prints on standard error how many are
 //! over. The service turns every third call away; those are retried, with a ticket of one budget for each retry. Which
-//! calls are retried varies from run to run, but not that there are 99 retries in all.
+//! calls are retried varies from run to run, but there are always 99 retries in all.
 #![tactic(auto)]
 
 ghost use Rattle.std.specs.Prelude.{◌≡◌};

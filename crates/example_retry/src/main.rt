@@ -1,6 +1,5 @@
-//! `example_retry FILE` prints a file, and waits for one that is not there yet: reading it is tried again after 100,
-//! 200, 400 and 800 milliseconds, each made up to a fifth shorter or longer. Where it was never read, the program ends
-//! in the last error.
+//! `example_retry FILE` prints a file, and waits for one that is not there yet: it tries again after 100, 200, 400 and
+//! 800 milliseconds, each made up to a fifth shorter or longer. If it never reads the file, it ends in the last error.
 #![tactic(auto)]
 
 ghost use Rattle.std.specs.Prelude.{◌≡◌, [], IfOk};

@@ -1,6 +1,7 @@
 -- What is printed of a text that is there as a whole is printed of the input that it is.
 use Rattle.std.specs.Prelude.{◌⊎◌}
-use Rattle.std.proofs.Common.{◌≡◌, inl, inr, Bool, true, false, ℕ, ◌+◌, ◌≤◌, List, ◌++◌, length, Option, Some, None, Result, Ok, Err, sym, ap, subst, ◌∙◌, arith, length-append}
+use Rattle.std.proofs.Common.{◌≡◌, inl, inr, Bool, true, false, ℕ, ◌+◌, ◌≤◌, List, ◌++◌, length, Option, Some, None}
+use Rattle.std.proofs.Common.{Result, Ok, Err, sym, ap, subst, ◌∙◌, arith, length-append}
 use Rattle.std.proofs.lemmas.List.{append-nil}
 use Rattle.std.specs.Io.KnownBytes.{Appends, Consumes, IsAtEnd, Keeps}
 use Rattle.sched_plan.specs.Schedule.{Schedule}
@@ -14,7 +15,8 @@ use Rattle.sched_cli_plan.specs.PlanText.{plan_text}
 use Rattle.sched_cli_plan.specs.Printing.{Prints, IsInput, SpellsPlan, SpellsFault, SpellsNothing}
 use Rattle.sched_cli_plan.specs.Whole.{IsWholeInput, StopsReading, WritesFront, count_of_reads}
 use Rattle.sched_cli_plan.specs.declared.faults.PrintFault.{PrintFault}
-use Rattle.sched_cli_plan.specs.declared.faults.PrintFault.TheVariants.{ReadFailed, TooLong, NotJson, NotAPlan, OutOfRange}
+use Rattle.sched_cli_plan.specs.declared.faults.PrintFault.TheVariants.{ReadFailed, TooLong, NotJson, NotAPlan}
+use Rattle.sched_cli_plan.specs.declared.faults.PrintFault.TheVariants.{OutOfRange}
 use Rattle.sched_cli_plan.specs.declared.faults.PrintFault.TheVariants.{TooDeep, TooMany, NoMemory, WriteFailed}
 use Rattle.sched_cli_pool.specs.JobsPrinting.{PrintsJobs, SpellsJobs, SpellsNoJobs, WritesPool, count_of_pool_reads}
 use Rattle.sched_cli_pool.specs.declared.faults.PoolFault.{PoolFault}
@@ -44,7 +46,8 @@ module _ (text given : List ℕ) (m : Option (List ℕ)) (same : given ≡ text)
   input_again P again l l' whole =
       (text, whole, subst P (whole_is given again.0 m again.1.reads again.1.ends ∙ same) again.2)
 
-  or_again : (K : Type 0) (P : List ℕ → Type 0) → K ⊎ IsInput (Some given) m P → ForInput text (λ l l'. K ⊎ IsInput l l' P)
+  or_again : (K : Type 0) (P : List ℕ → Type 0) → K ⊎ IsInput (Some given) m P
+      → ForInput text (λ l l'. K ⊎ IsInput l l' P)
   or_again K P (inl k) l l' whole = inl k
   or_again K P (inr again) l l' whole = inr (input_again P again l l' whole)
 
@@ -56,18 +59,22 @@ module _ (text given : List ℕ) (m : Option (List ℕ)) (same : given ≡ text)
   module _ (t t' : Option (List ℕ)) where
     pub plan_again : (o : Course) (result : Result (Unit {0}) PrintFault) → Prints o (Some given) m t t' result →
         0 ≡ count_of_reads result 0 → ForInput text (λ l l'. Prints o l l' t t' result)
-    plan_again o (Ok done) again reads = input_again (λ bytes. (s : Schedule) × SpellsPlan bytes s × Appends t t' (plan_text s o)) again
+    plan_again o (Ok done) again reads =
+        input_again (λ bytes. (s : Schedule) × SpellsPlan bytes s × Appends t t' (plan_text s o)) again
     plan_again o (Err ReadFailed) again reads = absurd (no_failed_read reads)
     plan_again o (Err TooLong) again reads = λ l l' whole. absurd (long_again l l' whole again.0)
     plan_again o (Err NotJson) again reads = λ l l' whole. (input_again SpellsNothing again.0 l l' whole, again.1)
     plan_again o (Err NotAPlan) again reads =
         λ l l' whole. (input_again (λ bytes. SpellsFault bytes reading.NotAPlan) again.0 l l' whole, again.1)
     plan_again o (Err OutOfRange) again reads =
-        λ l l' whole. (input_again (λ bytes. SpellsFault bytes (reading.Plan refused.OutOfRange)) again.0 l l' whole, again.1)
+        λ l l' whole.
+        (input_again (λ bytes. SpellsFault bytes (reading.Plan refused.OutOfRange)) again.0 l l' whole, again.1)
     plan_again o (Err TooDeep) again reads =
-        λ l l' whole. (input_again (λ bytes. SpellsFault bytes (reading.Plan refused.TooDeep)) again.0 l l' whole, again.1)
+        λ l l' whole.
+        (input_again (λ bytes. SpellsFault bytes (reading.Plan refused.TooDeep)) again.0 l l' whole, again.1)
     plan_again o (Err TooMany) again reads =
-        λ l l' whole. (input_again (λ bytes. SpellsFault bytes (reading.Plan refused.TooMany)) again.0 l l' whole, again.1)
+        λ l l' whole.
+        (input_again (λ bytes. SpellsFault bytes (reading.Plan refused.TooMany)) again.0 l l' whole, again.1)
     plan_again o (Err NoMemory) again reads =
         or_again _ (λ bytes. (s : Schedule) × SpellsPlan bytes s × WritesFront t t' (plan_text s o)) again
     plan_again o (Err WriteFailed) again reads =
@@ -105,15 +112,19 @@ module _ (text given : List ℕ) (m : Option (List ℕ)) (same : given ≡ text)
       jobs_again (Err Mixed) again reads = input_again Unprinted again
       jobs_again (Err (Print ReadFailed)) again reads = absurd (no_failed_read reads)
       jobs_again (Err (Print TooLong)) again reads = λ l l' whole. absurd (long_again l l' whole again.0)
-      jobs_again (Err (Print NotJson)) again reads = λ l l' whole. (input_again SpellsNothing again.0 l l' whole, again.1)
+      jobs_again (Err (Print NotJson)) again reads = λ l l' whole.
+          (input_again SpellsNothing again.0 l l' whole, again.1)
       jobs_again (Err (Print NotAPlan)) again reads =
           λ l l' whole. (input_again (λ bytes. SpellsNoJobs bytes reading.NotAPlan) again.0 l l' whole, again.1)
       jobs_again (Err (Print OutOfRange)) again reads =
-          λ l l' whole. (input_again (λ bytes. SpellsNoJobs bytes (reading.Plan refused.OutOfRange)) again.0 l l' whole, again.1)
+          λ l l' whole.
+          (input_again (λ bytes. SpellsNoJobs bytes (reading.Plan refused.OutOfRange)) again.0 l l' whole, again.1)
       jobs_again (Err (Print TooDeep)) again reads =
-          λ l l' whole. (input_again (λ bytes. SpellsNoJobs bytes (reading.Plan refused.TooDeep)) again.0 l l' whole, again.1)
+          λ l l' whole.
+          (input_again (λ bytes. SpellsNoJobs bytes (reading.Plan refused.TooDeep)) again.0 l l' whole, again.1)
       jobs_again (Err (Print TooMany)) again reads =
-          λ l l' whole. (input_again (λ bytes. SpellsNoJobs bytes (reading.Plan refused.TooMany)) again.0 l l' whole, again.1)
+          λ l l' whole.
+          (input_again (λ bytes. SpellsNoJobs bytes (reading.Plan refused.TooMany)) again.0 l l' whole, again.1)
 
 -- how a storm that was printed is answered
 abbrev pub storm_answer : Result Bool PrintFault → Result (Unit {0}) PoolFault
@@ -121,7 +132,8 @@ storm_answer (Ok true) = Err Unfinished
 storm_answer (Ok false) = Ok tt
 storm_answer (Err fault) = Err (Print fault)
 
-pub storm_again : (text : List ℕ) (t t' : Option (List ℕ)) (result : Result Bool PrintFault) → PrintsStorm text t t' result →
+pub storm_again : (text : List ℕ) (t t' : Option (List ℕ)) (result : Result Bool PrintFault)
+    → PrintsStorm text t t' result →
     ForInput text (λ l l'. AnswersStorm l l' t t' (storm_answer result))
 storm_again text t t' (Ok true) prints = λ l l' whole. (text, whole, prints)
 storm_again text t t' (Ok false) prints = λ l l' whole. (text, whole, prints)

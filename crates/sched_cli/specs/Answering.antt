@@ -10,7 +10,8 @@ use Rattle.sched_plan_course.specs.Course.{course_of, steady}
 use Rattle.sched_cli_plan.specs.Printing.{Prints, IsInput}
 use Rattle.sched_cli_plan.specs.Whole.{IsWholeInput, StopsReading}
 use Rattle.sched_cli_plan.specs.declared.faults.PrintFault.{PrintFault}
-use Rattle.sched_cli_plan.specs.declared.faults.PrintFault.TheVariants.{ReadFailed, TooLong, NotJson, NotAPlan, OutOfRange}
+use Rattle.sched_cli_plan.specs.declared.faults.PrintFault.TheVariants.{ReadFailed, TooLong, NotJson, NotAPlan}
+use Rattle.sched_cli_plan.specs.declared.faults.PrintFault.TheVariants.{OutOfRange}
 use Rattle.sched_cli_plan.specs.declared.faults.PrintFault.TheVariants.{TooDeep, TooMany, NoMemory, WriteFailed}
 use Rattle.std.specs.Io.KnownBytes.{Keeps}
 use Rattle.sched_cli_storm.specs.StormPrinting.{PrintsStorm}
@@ -91,7 +92,8 @@ IsLineOf (Some fault) (More line) = string_bytes line ≡ told_text fault
 abbrev pub TellsSome : (Option ToldFault → Type 0) → Told → Type 0
 TellsSome P told = (found : Option ToldFault) × P found × IsLineOf found told
 
--- of a text that is refused its first fault is told, as a plan, where that is the only one, or as jobs; a check has printed it
+-- of a text that is refused its first fault is told, as a plan, where that is the only one, or as jobs; a check has
+-- printed it
 abbrev pub TellsText : Asked → List ℕ → Told → Type 0
 TellsText (asked.Plan options origin) bytes told = TellsSome (plans.FindsFault bytes) told
 TellsText (asked.Course course origin) bytes told = TellsSome (plans.FindsFault bytes) told

@@ -1,5 +1,6 @@
-//! The command-line interface of the program `zsched`, under one name: the words of its command line, what it does with
-//! an input, what it prints of plans, of pools and of storms and tells of texts, and what it tells where it stops.
+//! The command-line interface of the program `zsched`, under one name: it reads the command line, does the command with
+//! its input, and writes the answer. What it writes, and the message and the exit status where it stops, are defined in
+//! `specs/`. It stands on the other crates of the command line.
 #![tactic(auto)]
 
 mod answers;

@@ -17,7 +17,8 @@ use Rattle.sched_plan_hint.specs.declared.faults.ToldFault.TheVariants.{NotJson,
 use Rattle.sched_cli_check.specs.JobsFaults.{TellsFault, FindsFault}
 
 -- the first fault of jobs is told with the text of its place
-pub tells_fault : (d : Data) (found : Fault) (t : ToldFault) → IsJobsFault d found → IsTold found t → TellsFault d (Some t)
+pub tells_fault : (d : Data) (found : Fault) (t : ToldFault) → IsJobsFault d found → IsTold found t
+    → TellsFault d (Some t)
 tells_fault d found (NotJson line column why) is told = absurd told
 tells_fault d found (Refused fault place hint) is told =
     let whole : jobs_of d ≡ Err fault = rw told.0 is.fault in
@@ -32,13 +33,15 @@ tells_fault d found (Refused fault place hint) is told =
       told = told.1;
     }
 
-spelt : (bytes : List ℕ) (d : Data) (found : Option ToldFault) → IsUtf8 bytes → read bytes ≡ Some d → TellsFault d found → FindsFault bytes found
+spelt : (bytes : List ℕ) (d : Data) (found : Option ToldFault) → IsUtf8 bytes → read bytes ≡ Some d → TellsFault d found
+    → FindsFault bytes found
 spelt bytes d None utf8 is told = (d, utf8, is, told)
 spelt bytes d (Some (Refused fault place hint)) utf8 is told = (d, utf8, is, told)
 spelt bytes d (Some (NotJson line column why)) utf8 is told = absurd told
 
 -- what is told of the value that bytes spell is told of the bytes
-pub found_in : (bytes : List ℕ) (v : Value) (result : Result (Option ToldFault) NoMemory) → IsUtf8 bytes → read bytes ≡ Some (view v) →
+pub found_in : (bytes : List ℕ) (v : Value) (result : Result (Option ToldFault) NoMemory) → IsUtf8 bytes
+    → read bytes ≡ Some (view v) →
     IfOk result (TellsFault (view v)) → IfOk result (FindsFault bytes)
 found_in bytes v (Ok found) utf8 is told = spelt bytes (view v) found utf8 is told
 found_in bytes v (Err e) utf8 is told = told

@@ -1,5 +1,6 @@
 -- What is told follows from what was checked.
-use Rattle.std.proofs.Common.{◌≡◌, ℕ, List, ◌++◌, true, false, Some, Result, Ok, Err, IfOk, IsUtf8, is_some, string_bytes, sym, ap, ◌∙◌}
+use Rattle.std.proofs.Common.{◌≡◌, ℕ, List, ◌++◌, true, false, Some, Result, Ok, Err, IfOk, IsUtf8, is_some}
+use Rattle.std.proofs.Common.{string_bytes, sym, ap, ◌∙◌}
 use Rattle.std.specs.Prelude.{codes}
 use Rattle.std.proofs.lemmas.Bool.{false≢true}
 use Rattle.serde_json.specs.Data.{Data, null, boolean, number, string, array, object}
@@ -19,7 +20,8 @@ use Rattle.sched_plan_hint.specs.declared.faults.ToldFault.TheVariants as what
 use Rattle.sched_cli_check.specs.declared.reports.Report.{Report}
 use Rattle.sched_cli_check.specs.declared.reports.Report.TheVariants.{Read, Refused, NotJson}
 
-pub tells_plan : (d : Data) (found : Fault) (t : ToldFault) (text : List ℕ) → IsPlanFault d found → IsTold found t → text ≡ told_text t ++ codes "\n" →
+pub tells_plan : (d : Data) (found : Fault) (t : ToldFault) (text : List ℕ) → IsPlanFault d found → IsTold found t
+    → text ≡ told_text t ++ codes "\n" →
     TellsPlanFault d found.fault text
 tells_plan d found (what.NotJson line column why) text is at is_line = absurd at
 tells_plan d found (what.Refused fault place hint) text is at is_line = record {
@@ -32,7 +34,8 @@ tells_plan d found (what.Refused fault place hint) text is at is_line = record {
   told = is_line ∙ ap (λ p. (p ++ codes ": " ++ string_bytes hint) ++ codes "\n") at.1;
 }
 
-pub tells_jobs : (d : Data) (found : Fault) (t : ToldFault) (text : List ℕ) → IsJobsFault d found → IsTold found t → text ≡ told_text t ++ codes "\n" →
+pub tells_jobs : (d : Data) (found : Fault) (t : ToldFault) (text : List ℕ) → IsJobsFault d found → IsTold found t
+    → text ≡ told_text t ++ codes "\n" →
     TellsJobsFault d found.fault text
 tells_jobs d found (what.NotJson line column why) text is at is_line = absurd at
 tells_jobs d found (what.Refused fault place hint) text is at is_line = record {
@@ -61,11 +64,13 @@ plan_too (number n) r is told = told
 plan_too (string s) r is told = told
 plan_too (object ms) r is told = told
 
-pub as_jobs : (d : Data) (result : Result Report NoMemory) → is_some (as_array d) ≡ true → IfOk result (ReportsJobs d) → IfOk result (Reports d)
+pub as_jobs : (d : Data) (result : Result Report NoMemory) → is_some (as_array d) ≡ true → IfOk result (ReportsJobs d)
+    → IfOk result (Reports d)
 as_jobs d (Ok r) is told = jobs_too d r is told
 as_jobs d (Err e) is told = told
 
-pub as_plan : (d : Data) (result : Result Report NoMemory) → is_some (as_array d) ≡ false → IfOk result (ReportsPlan d) → IfOk result (Reports d)
+pub as_plan : (d : Data) (result : Result Report NoMemory) → is_some (as_array d) ≡ false → IfOk result (ReportsPlan d)
+    → IfOk result (Reports d)
 as_plan d (Ok r) is told = plan_too d r is told
 as_plan d (Err e) is told = told
 
@@ -78,12 +83,14 @@ json_is_told (number n) text told = told
 json_is_told (string s) text told = told
 json_is_told (object ms) text told = told
 
-bytes_too : (bytes : List ℕ) (v : Value) (r : Report) → IsUtf8 bytes → read bytes ≡ Some (view v) → Reports (view v) r → IsReport bytes r
+bytes_too : (bytes : List ℕ) (v : Value) (r : Report) → IsUtf8 bytes → read bytes ≡ Some (view v) → Reports (view v) r
+    → IsReport bytes r
 bytes_too bytes v (Read text) utf8 is told = (view v, utf8, is, told)
 bytes_too bytes v (Refused fault text) utf8 is told = (view v, utf8, is, told)
 bytes_too bytes v (NotJson text) utf8 is told = absurd (json_is_told (view v) text told)
 
-pub reported : (bytes : List ℕ) (v : Value) (result : Result Report NoMemory) → IsUtf8 bytes → read bytes ≡ Some (view v) →
+pub reported : (bytes : List ℕ) (v : Value) (result : Result Report NoMemory) → IsUtf8 bytes
+    → read bytes ≡ Some (view v) →
     IfOk result (Reports (view v)) → IfOk result (IsReport bytes)
 reported bytes v (Ok r) utf8 is told = bytes_too bytes v r utf8 is told
 reported bytes v (Err e) utf8 is told = told

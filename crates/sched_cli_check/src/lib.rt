@@ -1,4 +1,5 @@
-//! What the program tells of a text, a plan or jobs: what it is, or where it is wrong, as a line.
+//! What the program says of a text: that it is a plan or jobs, or where it is wrong, as a line. The fault is the first
+//! one, as `sched_plan_hint` and `sched_pool_check` find it. It stands on those two crates and on `sched_plan_bound`.
 #![tactic(auto)]
 
 mod hints;

@@ -15,7 +15,9 @@ use Rattle.sched_cli_plan.specs.Printing.{Prints, ReadsPlan, ReadsValue}
 use Rattle.sched_cli_plan.specs.Whole.{IsWholeInput}
 use Rattle.sched_plan_course.specs.Course.{Course}
 use Rattle.sched_cli_plan.specs.declared.faults.PrintFault.{PrintFault}
-use Rattle.sched_cli_plan.specs.declared.faults.PrintFault.TheVariants.{ReadFailed, TooLong, NotJson, NotAPlan, OutOfRange, TooDeep, TooMany, NoMemory, WriteFailed}
+use Rattle.sched_cli_plan.specs.declared.faults.PrintFault.TheVariants.{ReadFailed, TooLong, NotJson, NotAPlan}
+use Rattle.sched_cli_plan.specs.declared.faults.PrintFault.TheVariants.{OutOfRange, TooDeep, TooMany, NoMemory}
+use Rattle.sched_cli_plan.specs.declared.faults.PrintFault.TheVariants.{WriteFailed}
 
 -- a fault of reading ends the printing, with nothing written
 pub prints_fault : (o : Course) (l m t : Option (List ℕ)) (bytes : List ℕ) (fault : PrintFault) →
@@ -31,7 +33,8 @@ prints_fault o l m t bytes TooLong whole reads = absurd reads
 prints_fault o l m t bytes WriteFailed whole reads = absurd reads
 
 -- bytes that spell no value spell no plan
-pub plan_in_no_value : (bytes : List ℕ) (fault : PrintFault) → ReadsValue bytes (Err fault) → ReadsPlan bytes (Err fault)
+pub plan_in_no_value : (bytes : List ℕ) (fault : PrintFault) → ReadsValue bytes (Err fault)
+    → ReadsPlan bytes (Err fault)
 plan_in_no_value bytes NotJson reads = reads
 plan_in_no_value bytes NoMemory reads = reads
 plan_in_no_value bytes NotAPlan reads = absurd reads

@@ -15,13 +15,15 @@ pub IsFront-trans : (a b c : List ℕ) → IsFront a b → IsFront b c → IsFro
 IsFront-trans a b c ab bc = (ab.0 ++ bc.0, bc.1 ∙ ap (λ t. t ++ bc.0) ab.1 ∙ append_assoc a ab.0 bc.0)
 
 -- the text of the first lines is a front of that of all
-pub front_of_plan : (s : Schedule) (o : Course) (n : ℕ) → n ≤ o.steps → IsFront (lines_text (lines_of s (run s o n))) (plan_text s o)
+pub front_of_plan : (s : Schedule) (o : Course) (n : ℕ) → n ≤ o.steps
+    → IsFront (lines_text (lines_of s (run s o n))) (plan_text s o)
 front_of_plan s o n within =
     let leads = course-leads s o n within in
     (lines_text leads.0, ap lines_text leads.1 ∙ flat_map-append line_text (lines_of s (run s o n)) leads.0)
 
 -- n lines of the plan are written but for what is pending, and the next event is at `now`
-pub record IsPrinted (s : Schedule) (o : Course) (n now : ℕ) (state : Progress) (pending : List ℕ) (old new : Option (List ℕ)) : Type 0 where
+pub record IsPrinted (s : Schedule) (o : Course) (n now : ℕ) (state : Progress) (pending : List ℕ)
+    (old new : Option (List ℕ)) : Type 0 where
   pub along : IsAlong s o n now state
   pub wrote : WritesAllBut old new (lines_text (lines_of s (run s o n))) pending
 

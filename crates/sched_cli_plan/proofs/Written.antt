@@ -5,7 +5,9 @@ use Rattle.std.proofs.KnownBytes.{Appends-trans}
 use Rattle.sched_cli_plan.specs.Printing.{WritesText}
 use Rattle.sched_cli_plan.specs.Whole.{WritesAllBut, WritesFront, StopsWriting}
 use Rattle.sched_cli_plan.specs.declared.faults.PrintFault.{PrintFault}
-use Rattle.sched_cli_plan.specs.declared.faults.PrintFault.TheVariants.{ReadFailed, TooLong, NotJson, NotAPlan, OutOfRange, TooDeep, TooMany, NoMemory, WriteFailed}
+use Rattle.sched_cli_plan.specs.declared.faults.PrintFault.TheVariants.{ReadFailed, TooLong, NotJson, NotAPlan}
+use Rattle.sched_cli_plan.specs.declared.faults.PrintFault.TheVariants.{OutOfRange, TooDeep, TooMany, NoMemory}
+use Rattle.sched_cli_plan.specs.declared.faults.PrintFault.TheVariants.{WriteFailed}
 
 module _ (old mid : Option (List ℕ)) (text pending : List ℕ) (written : WritesAllBut old mid text pending) where
   -- the text grows by a line, which is pending too
@@ -17,7 +19,8 @@ module _ (old mid : Option (List ℕ)) (text pending : List ℕ) (written : Writ
   )
 
   -- some of what was pending is written
-  pub moves : (new : Option (List ℕ)) (rest : List ℕ) → WritesAllBut mid new pending rest → WritesAllBut old new text rest
+  pub moves : (new : Option (List ℕ)) (rest : List ℕ) → WritesAllBut mid new pending rest
+      → WritesAllBut old new text rest
   moves new rest put = (
     written.0 ++ put.0,
     written.1 ∙ ap (λ l. written.0 ++ l) put.1 ∙ sym (append_assoc written.0 put.0 rest),
@@ -37,7 +40,8 @@ module _ (old mid : Option (List ℕ)) (text pending : List ℕ) (written : Writ
   )
 
   -- writing what is pending stops at a fault
-  pub stops : (new : Option (List ℕ)) (fault : PrintFault) → StopsWriting fault mid new pending → WritesText old new text (Err fault)
+  pub stops : (new : Option (List ℕ)) (fault : PrintFault) → StopsWriting fault mid new pending
+      → WritesText old new text (Err fault)
   stops new WriteFailed stop = breaks new stop
   stops new ReadFailed stop = absurd stop
   stops new TooLong stop = absurd stop
@@ -50,6 +54,7 @@ module _ (old mid : Option (List ℕ)) (text pending : List ℕ) (written : Writ
 
   -- writing what is pending is the last that happens
   pub closes : (new : Option (List ℕ)) (result : Result (Unit {0}) PrintFault)
-      → MatchResult result (λ _. Appends mid new pending) (λ fault. StopsWriting fault mid new pending) → WritesText old new text result
+      → MatchResult result (λ _. Appends mid new pending) (λ fault. StopsWriting fault mid new pending)
+      → WritesText old new text result
   closes new (Ok done) put = ends new put
   closes new (Err fault) put = stops new fault put

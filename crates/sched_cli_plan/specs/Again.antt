@@ -1,3 +1,4 @@
+-- What is left to read of a text that is given as a stream.
 use Rattle.std.specs.Prelude.{ℕ, List}
 use Rattle.sched_cli_plan.specs.declared.again.Given.{Given}
 

@@ -1,3 +1,4 @@
+-- A stream that counts how many of its calls fail.
 use Rattle.std.specs.Prelude.{ℕ, Option}
 use Rattle.std.specs.declared.io.Error.{Error}
 use Rattle.sched_cli_plan.specs.declared.counts.Counted.{Counted}

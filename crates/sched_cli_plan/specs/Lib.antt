@@ -1,3 +1,4 @@
+-- What the program reads and writes of a plan, and why it stops.
 pub mod Counted
 pub mod Again
 pub mod Failures

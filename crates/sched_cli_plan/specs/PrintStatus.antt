@@ -1,3 +1,4 @@
+-- The exit status where printing a plan stopped.
 use Rattle.std.specs.Prelude.{ℕ, List, codes}
 use Rattle.sched_cli_plan.specs.declared.faults.PrintFault.{PrintFault}
 use Rattle.sched_cli_plan.specs.declared.faults.PrintFault.TheVariants as print

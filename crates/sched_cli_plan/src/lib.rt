@@ -1,5 +1,6 @@
-//! What the program prints of a plan: it is read as JSON from a stream, stepped, and printed to another, a line for
-//! each event.
+//! What the program prints of a plan: it reads the plan as JSON from a stream, steps it, and prints a line for each
+//! event to another stream. The lines are those that the plan's answers define, and where printing stops, a front of
+//! them is written. It stands on `sched_plan_json` and `sched_plan_course`.
 #![tactic(auto)]
 
 mod again;

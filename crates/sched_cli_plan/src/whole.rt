@@ -1,6 +1,7 @@
 ghost use Rattle.std.specs.Prelude.{◌≡◌, MatchResult, string_bytes};
 ghost use Rattle.std.specs.Io.KnownBytes.{Appends};
-ghost use Rattle.sched_cli_plan.specs.Whole.{IsWholeInput, StopsReading, WritesAllBut, StopsWriting, count_of_reads, count_of_writes};
+ghost use Rattle.sched_cli_plan.specs.Whole.{IsWholeInput, StopsReading, WritesAllBut, StopsWriting, count_of_reads};
+ghost use Rattle.sched_cli_plan.specs.Whole.{count_of_writes};
 
 use crate::faults::PrintFault;
 use crate::streams::{Sink, Source};

@@ -16,7 +16,8 @@ use Rattle.sched_pool_json.specs.Job.{Job}
 use Rattle.sched_cli_plan.specs.Whole.{IsWholeInput}
 use Rattle.sched_cli_pool.specs.JobsPrinting.{SpellsJobs, ReadsJobs, IsRunFault, WritesPool, PrintsJobs}
 use Rattle.sched_cli_plan.specs.declared.faults.PrintFault.{PrintFault}
-use Rattle.sched_cli_plan.specs.declared.faults.PrintFault.TheVariants.{ReadFailed, TooLong, NotJson, NotAPlan, OutOfRange}
+use Rattle.sched_cli_plan.specs.declared.faults.PrintFault.TheVariants.{ReadFailed, TooLong, NotJson, NotAPlan}
+use Rattle.sched_cli_plan.specs.declared.faults.PrintFault.TheVariants.{OutOfRange}
 use Rattle.sched_cli_plan.specs.declared.faults.PrintFault.TheVariants.{TooDeep, TooMany, NoMemory, WriteFailed}
 use Rattle.sched_cli_pool.specs.declared.faults.PoolFault.{PoolFault}
 use Rattle.sched_cli_pool.specs.declared.faults.PoolFault.TheVariants.{Print, NotStarted, Unfinished, Mixed}
@@ -56,8 +57,10 @@ module _ (Runs : List Job → List Past → List ℕ → Type 0) (may : Type 0)
         (result : Result (Unit {0}) PoolFault) → WritesPool t t' ends text result → PrintsJobs Runs may l m t t' result
     jobs_written t' ends text run (Ok done) wrote = (bytes, whole, (jobs, spelt, (ends, text, run, wrote)))
     jobs_written t' ends text run (Err Unfinished) wrote = (bytes, whole, (jobs, spelt, (ends, text, run, wrote)))
-    jobs_written t' ends text run (Err (Print WriteFailed)) wrote = (bytes, whole, (jobs, spelt, (ends, text, run, wrote)))
-    jobs_written t' ends text run (Err (Print NoMemory)) wrote = inr (bytes, whole, (jobs, spelt, (ends, text, run, wrote)))
+    jobs_written t' ends text run (Err (Print WriteFailed)) wrote =
+        (bytes, whole, (jobs, spelt, (ends, text, run, wrote)))
+    jobs_written t' ends text run (Err (Print NoMemory)) wrote =
+        inr (bytes, whole, (jobs, spelt, (ends, text, run, wrote)))
     jobs_written t' ends text run (Err (Print ReadFailed)) wrote = absurd wrote
     jobs_written t' ends text run (Err (Print TooLong)) wrote = absurd wrote
     jobs_written t' ends text run (Err (Print NotJson)) wrote = absurd wrote
@@ -69,7 +72,8 @@ module _ (Runs : List Job → List Past → List ℕ → Type 0) (may : Type 0)
     jobs_written t' ends text run (Err Mixed) wrote = absurd wrote
 
 -- bytes that spell no value spell no jobs
-pub jobs_in_no_value : (bytes : List ℕ) (fault : PrintFault) → ReadsValue bytes (Err fault) → ReadsJobs bytes (Err fault)
+pub jobs_in_no_value : (bytes : List ℕ) (fault : PrintFault) → ReadsValue bytes (Err fault)
+    → ReadsJobs bytes (Err fault)
 jobs_in_no_value bytes NotJson reads = reads
 jobs_in_no_value bytes NoMemory reads = reads
 jobs_in_no_value bytes NotAPlan reads = absurd reads

@@ -1,5 +1,6 @@
 -- What is true while the lines of jobs are written, one job after another.
-use Rattle.std.proofs.Common.{◌≡◌, ℕ, ◌+◌, List, [], ◌∷◌, ◌++◌, drop, Option, Err, sym, ◌∙◌, ap, subst, append_assoc, refl}
+use Rattle.std.proofs.Common.{◌≡◌, ℕ, ◌+◌, List, [], ◌∷◌, ◌++◌, drop, Option, Err, sym, ◌∙◌, ap, subst, append_assoc}
+use Rattle.std.proofs.Common.{refl}
 use Rattle.std.proofs.lemmas.List.{append-nil}
 use Rattle.std.proofs.KnownBytes.{Appends-nil}
 use Rattle.sched_task_law.specs.Past.{Past}
@@ -18,7 +19,8 @@ pub record IsPrintedTo (ends : List Past) (n : ℕ) (pending : List ℕ) (old ne
   pub wrote : WritesAllBut old new front pending
 
 -- the text is the lines of the jobs, and this last one
-module _ (ends : List Past) (last : List ℕ) (n : ℕ) (old mid : Option (List ℕ)) (pending : List ℕ) (printed : IsPrintedTo ends n pending old mid) where
+module _ (ends : List Past) (last : List ℕ) (n : ℕ) (old mid : Option (List ℕ)) (pending : List ℕ)
+    (printed : IsPrintedTo ends n pending old mid) where
   -- the lines so far are a front of the text
   front_of_pool : IsFront printed.front (lines_from 0 ends ++ last)
   front_of_pool =
@@ -28,10 +30,14 @@ module _ (ends : List Past) (last : List ℕ) (n : ℕ) (old mid : Option (List 
   -- where printing stops between two lines, a front of the text is written
   pub pool_stopped : WritesFront old mid (lines_from 0 ends ++ last)
   pool_stopped =
-      let wrote = printed.wrote in
-      (wrote.0, IsFront-trans wrote.0 printed.front (lines_from 0 ends ++ last) (pending, wrote.1) front_of_pool, wrote.2)
+      let wrote = printed.wrote in (
+        wrote.0,
+        IsFront-trans wrote.0 printed.front (lines_from 0 ends ++ last) (pending, wrote.1) front_of_pool,
+        wrote.2,
+      )
 
-  module _ (v : Past) (at : drop n ends ≡ v ∷ drop (n + 1) ends) (more : List ℕ) (more_is : more ≡ pending ++ job_text n v) where
+  module _ (v : Past) (at : drop n ends ≡ v ∷ drop (n + 1) ends) (more : List ℕ)
+      (more_is : more ≡ pending ++ job_text n v) where
     -- the lines up to this one
     split_more : lines_from 0 ends ≡ (printed.front ++ job_text n v) ++ lines_from (n + 1) (drop (n + 1) ends)
     split_more =
@@ -42,7 +48,8 @@ module _ (ends : List Past) (last : List ℕ) (n : ℕ) (old mid : Option (List 
     wrote_more = grows old mid printed.front pending printed.wrote (job_text n v) more more_is
 
     -- the next job's line is printed too
-    pub pool_goes_on : (new : Option (List ℕ)) (rest : List ℕ) → WritesAllBut mid new more rest → IsPrintedTo ends (n + 1) rest old new
+    pub pool_goes_on : (new : Option (List ℕ)) (rest : List ℕ) → WritesAllBut mid new more rest
+        → IsPrintedTo ends (n + 1) rest old new
     pool_goes_on new rest put = record {
       front = printed.front ++ job_text n v;
       split = split_more;
@@ -59,12 +66,15 @@ module _ (ends : List Past) (last : List ℕ) (n : ℕ) (old mid : Option (List 
         (stops old mid (printed.front ++ job_text n v) more wrote_more new fault stop)
 
   -- after the last job and the last line, all of the text is written but what is pending
-  pub pool_ends : drop n ends ≡ [] → (more : List ℕ) → more ≡ pending ++ last → WritesAllBut old mid (lines_from 0 ends ++ last) more
+  pub pool_ends : drop n ends ≡ [] → (more : List ℕ) → more ≡ pending ++ last
+      → WritesAllBut old mid (lines_from 0 ends ++ last) more
   pool_ends none more more_is =
-      let all : lines_from 0 ends ≡ printed.front = printed.split ∙ ap (λ vs. printed.front ++ lines_from n vs) none ∙ append-nil printed.front in
+      let all : lines_from 0 ends ≡ printed.front =
+      printed.split ∙ ap (λ vs. printed.front ++ lines_from n vs) none ∙ append-nil printed.front in
       subst (λ front. WritesAllBut old mid (front ++ last) more) (sym all)
       (grows old mid printed.front pending printed.wrote last more more_is)
 
 -- before the first job
-pub pool_begins : (ends : List Past) (pending : List ℕ) (w : Option (List ℕ)) → pending ≡ [] → IsPrintedTo ends 0 pending w w
+pub pool_begins : (ends : List Past) (pending : List ℕ) (w : Option (List ℕ)) → pending ≡ []
+    → IsPrintedTo ends 0 pending w w
 pool_begins ends pending w empty = record { front = []; split = refl; wrote = ([], sym empty, Appends-nil w) }

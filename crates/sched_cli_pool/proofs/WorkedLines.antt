@@ -26,11 +26,13 @@ pub won : job_text 0 (ended (Some Won) (ran.Lost 7 ∷ ran.Lost 7 ∷ ran.Won 1 
 unfolding digits
 won = refl
 
-pub schedule_done : job_text 1 (ended (Some ScheduleDone) (ran.Lost 7 ∷ ran.Lost 8 ∷ []) 1) ≡ codes "job 1: schedule done, failure 8, granted 1\n"
+pub schedule_done : job_text 1 (ended (Some ScheduleDone) (ran.Lost 7 ∷ ran.Lost 8 ∷ []) 1)
+    ≡ codes "job 1: schedule done, failure 8, granted 1\n"
 unfolding digits
 schedule_done = refl
 
-pub budget_refused : job_text 12 (ended (Some BudgetRefused) (ran.Lost 7 ∷ []) 10000) ≡ codes "job 12: budget refused, failure 7, granted 10000\n"
+pub budget_refused : job_text 12 (ended (Some BudgetRefused) (ran.Lost 7 ∷ []) 10000)
+    ≡ codes "job 12: budget refused, failure 7, granted 10000\n"
 unfolding digits
 budget_refused = refl
 
@@ -38,15 +40,18 @@ pub cancelled : job_text 2 (ended (Some Cancelled) [] 0) ≡ codes "job 2: cance
 unfolding digits
 cancelled = refl
 
-pub no_memory : job_text 3 (ended (Some (Broken NoMemory)) (ran.Lost 7 ∷ []) 0) ≡ codes "job 3: broken, no memory, granted 0\n"
+pub no_memory : job_text 3 (ended (Some (Broken NoMemory)) (ran.Lost 7 ∷ []) 0)
+    ≡ codes "job 3: broken, no memory, granted 0\n"
 unfolding digits
 no_memory = refl
 
-pub journal_full : job_text 0 (ended (Some (Broken JournalFull)) (ran.Lost 7 ∷ []) 65536) ≡ codes "job 0: broken, journal full, granted 65536\n"
+pub journal_full : job_text 0 (ended (Some (Broken JournalFull)) (ran.Lost 7 ∷ []) 65536)
+    ≡ codes "job 0: broken, journal full, granted 65536\n"
 unfolding digits
 journal_full = refl
 
-pub clock_went_back : job_text 0 (ended (Some (Broken Backwards)) (ran.Lost 7 ∷ []) 0) ≡ codes "job 0: broken, clock went back, granted 0\n"
+pub clock_went_back : job_text 0 (ended (Some (Broken Backwards)) (ran.Lost 7 ∷ []) 0)
+    ≡ codes "job 0: broken, clock went back, granted 0\n"
 unfolding digits
 clock_went_back = refl
 
@@ -58,7 +63,9 @@ pub no_job : pool_text [] 0 100 ≡ codes "granted 0 of 100\n"
 unfolding digits
 no_job = refl
 
-pub two_jobs : pool_text (ended (Some Won) (ran.Won 5 ∷ []) 0 ∷ ended (Some ScheduleDone) (ran.Lost 7 ∷ ran.Lost 8 ∷ []) 1 ∷ []) 1 4294967296 ≡
+pub two_jobs : pool_text
+    (ended (Some Won) (ran.Won 5 ∷ []) 0 ∷ ended (Some ScheduleDone) (ran.Lost 7 ∷ ran.Lost 8 ∷ []) 1 ∷ []) 1 4294967296
+    ≡
     codes "job 0: won 5, granted 0\njob 1: schedule done, failure 8, granted 1\ngranted 1 of 4294967296\n"
 unfolding digits
 two_jobs = refl
@@ -67,6 +74,7 @@ pub no_job_on_a_quota : quota_text [] 0 0 ≡ codes "granted 0 in 0 windows\n"
 unfolding digits
 no_job_on_a_quota = refl
 
-pub one_job_on_a_quota : quota_text (ended (Some BudgetRefused) (ran.Lost 7 ∷ []) 12 ∷ []) 12 3 ≡ codes "job 0: budget refused, failure 7, granted 12\ngranted 12 in 3 windows\n"
+pub one_job_on_a_quota : quota_text (ended (Some BudgetRefused) (ran.Lost 7 ∷ []) 12 ∷ []) 12 3
+    ≡ codes "job 0: budget refused, failure 7, granted 12\ngranted 12 in 3 windows\n"
 unfolding digits
 one_job_on_a_quota = refl

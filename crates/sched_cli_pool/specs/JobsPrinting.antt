@@ -14,7 +14,8 @@ use Rattle.sched_pool_json.specs.JobsOf.{jobs_of}
 use Rattle.sched_cli_plan.specs.Whole.{StopsReading, count_of_reads, count_of_writes}
 use Rattle.sched_cli_plan.specs.Printing.{Spells, SpellsNothing, IsInput, WritesText}
 use Rattle.sched_cli_plan.specs.declared.faults.PrintFault.{PrintFault}
-use Rattle.sched_cli_plan.specs.declared.faults.PrintFault.TheVariants.{ReadFailed, TooLong, NotJson, NotAPlan, OutOfRange}
+use Rattle.sched_cli_plan.specs.declared.faults.PrintFault.TheVariants.{ReadFailed, TooLong, NotJson, NotAPlan}
+use Rattle.sched_cli_plan.specs.declared.faults.PrintFault.TheVariants.{OutOfRange}
 use Rattle.sched_cli_plan.specs.declared.faults.PrintFault.TheVariants.{TooDeep, TooMany, NoMemory, WriteFailed}
 use Rattle.sched_cli_pool.specs.declared.faults.PoolFault.{PoolFault}
 use Rattle.sched_cli_pool.specs.declared.faults.PoolFault.TheVariants.{Print, NotStarted, Unfinished, Mixed}
@@ -87,7 +88,8 @@ module _ (Runs : List Job → List Past → List ℕ → Type 0) (may : Type 0) 
   IsRunInput left left' P =
       IsJobsInput left left' (λ jobs. (ends : List Past) × (text : List ℕ) × Runs jobs ends text × P ends text)
 
-  -- The printing of jobs: at Ok and at `Unfinished` the whole text was written of the jobs that were read, and run; at a
+  -- The printing of jobs: at Ok and at `Unfinished` the whole text was written of the jobs that were read, and run; at
+  -- a
   -- fault of reading nothing was written, and the input is at fault as the answer says; nothing was written where a
   -- worker was not started or the jobs were mixed up; at a failed write a front of the text was written; and so too
   -- where memory was refused, unless nothing was written.

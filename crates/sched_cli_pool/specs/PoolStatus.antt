@@ -1,3 +1,4 @@
+-- The exit status where printing a pool stopped.
 use Rattle.std.specs.Prelude.{ℕ, List, codes}
 use Rattle.sched_cli_plan.specs.PrintStatus.{print_line, print_status}
 use Rattle.sched_cli_pool.specs.declared.faults.PoolFault.{PoolFault}

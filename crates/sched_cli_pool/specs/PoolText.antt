@@ -4,7 +4,8 @@ use Rattle.std.specs.Prelude.{String, codes, decimal, string_bytes}
 use Rattle.sched_effect.specs.Runs.{code_of}
 use Rattle.sched_effect.specs.declared.ran.Ran.{Ran}
 use Rattle.sched_task.specs.declared.endings.How.{How}
-use Rattle.sched_task.specs.declared.endings.How.TheVariants.{Won, ScheduleDone, BudgetRefused, DeadlinePassed, Failed, Cancelled, Broken}
+use Rattle.sched_task.specs.declared.endings.How.TheVariants.{Won, ScheduleDone, BudgetRefused, DeadlinePassed, Failed}
+use Rattle.sched_task.specs.declared.endings.How.TheVariants.{Cancelled, Broken}
 use Rattle.sched_task.specs.declared.endings.RunFault.TheVariants.{NoMemory, JournalFull, Backwards}
 use Rattle.sched_task_law.specs.Past.{Past}
 

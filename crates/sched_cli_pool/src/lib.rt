@@ -1,5 +1,6 @@
-//! What the program prints of a pool: jobs are read as JSON from a stream, run on a budget or on a quota, and printed
-//! to another, a line for each job and one for the total.
+//! What the program prints of a pool: it reads jobs as JSON from a stream, runs them on a budget or on a quota, and
+//! prints a line for each job and one for the total. The lines are of the jobs that were read, in order. It stands on
+//! `sched_pool_scripted` and `sched_cli_plan`.
 #![tactic(auto)]
 
 mod ended;

@@ -19,10 +19,10 @@ use std::thread::Threads;
 /// Reads jobs as JSON from `reader`, runs them as the options say, all on one budget, and writes to `writer` a line for
 /// each job, in the order in which they were read, and one for the total.
 ///
-/// Refused as the `PrintFault`s `ReadFailed`, `TooLong`, `NotJson`, `NotAPlan`, `OutOfRange`, `TooDeep` and `TooMany`, and
-/// as `NotStarted` and `Mixed`, with nothing written; as the `PrintFault`s `NoMemory` and `WriteFailed` with a front of
-/// the text written; and as `Unfinished`, after the whole text, where a job did not end as won, schedule done or budget
-/// refused.
+/// Refused as the `PrintFault`s `ReadFailed`, `TooLong`, `NotJson`, `NotAPlan`, `OutOfRange`, `TooDeep` and `TooMany`,
+/// and as `NotStarted` and `Mixed`, with nothing written; as the `PrintFault`s `NoMemory` and `WriteFailed` with a
+/// front of the text written; and as `Unfinished`, after the whole text, where a job did not end as won, schedule done
+/// or budget refused.
 pub fn print_pool<R, S: Source, W: Sink>(
     rt: &R,
     alloc: Global,

@@ -1,1 +1,2 @@
+-- What the program prints of storms.
 pub mod StormPrinting

@@ -11,8 +11,8 @@ const SHARE: &str = "won %";
 // The columns between it and the bar.
 const NAMES: [&str; 5] = ["from ms", "requests", "retries", "failed", "waiting"];
 
-/// Adds a line with the names of the columns, a line for each window, and the scale of the bars. With lines of at least 72
-/// columns none is longer than that.
+/// Adds a line with the names of the columns, a line for each window, and the scale of the bars. With lines of at least
+/// 72 columns none is longer than that.
 pub(crate) fn push_bars(
     alloc: Global,
     text: &mut String,

@@ -1,5 +1,6 @@
-//! What the program prints of storms: plans are read as JSON, a storm is played under each, and its windows and totals are
-//! printed to a stream, as lines with bars, as comma-separated values or as JSON.
+//! What the program prints of storms: it reads plans as JSON, plays a storm under each, and prints its windows and
+//! totals as lines with bars, as comma-separated values or as JSON. Nothing is written where a text is no plan. It
+//! stands on `sched_storm`.
 #![tactic(auto)]
 
 mod bars;

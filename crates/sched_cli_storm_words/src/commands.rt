@@ -19,8 +19,8 @@ const STORIES: [Row; 2] = [
         name: "scenario",
         takes: Takes::Text("NAME"),
         excludes: &[],
-        help: "Start from this scenario and change it by the other options: outage (the defaults), herd (10,000 requests at \
-               once) or brown-out (half the capacity from 10 to 20 s)",
+        help: "Start from this scenario and change it by the other options: outage (the defaults), \
+               herd (10,000 requests at once) or brown-out (half the capacity from 10 to 20 s)",
     },
     Row {
         name: "compare",
@@ -96,8 +96,8 @@ const RETRIES: [Row; 3] = [
         name: "quota",
         takes: Takes::Text("RESERVE/SHARE%/PERIOD"),
         excludes: &["budget"],
-        help: "Instead of a budget: in each window of PERIOD at most RESERVE retries plus SHARE of the requests that arrive in \
-               it, such as 10/20%/60s (units: ms, s, m, h, d)",
+        help: "Instead of a budget: in each window of PERIOD at most RESERVE retries plus SHARE of the requests \
+               that arrive in it, such as 10/20%/60s (units: ms, s, m, h, d)",
     },
     Row {
         name: "words",
@@ -119,8 +119,8 @@ const REPORT: [Row; 7] = [
         name: "until",
         takes: Takes::Number("M", 0, MAX_UNTIL),
         excludes: &[],
-        help: "The moment at which the simulation stops, in milliseconds from 0 to 7200000 [default: a minute after the last \
-               request]",
+        help: "The moment at which the simulation stops, in milliseconds from 0 to 7200000 \
+               [default: a minute after the last request]",
     },
     Row {
         name: "calls",

@@ -1,4 +1,5 @@
-//! The command line of `zsched storm`: the command as `clap` takes it, and what its options ask for.
+//! The command line of `zsched storm`: the command as `clap` takes it, and what its options ask for. Each option is in
+//! its range, or there is a line that says why not. It stands on `sched_storm`.
 #![tactic(auto)]
 
 mod commands;

@@ -46,8 +46,8 @@ pub struct StormOptions {
     pub texts: Vec<Vec<u8>>,
 }
 
-/// What the options ask for, where retries draw on this quota, if any. `Bad`, with a line that says why, where a value is
-/// outside its range, is no span, or names no scenario.
+/// What the options ask for, where retries draw on this quota, if any. `Bad`, with a line that says why, where a value
+/// is outside its range, is no span, or names no scenario.
 pub fn storm_options(
     alloc: Global,
     options: &ArgMatches<'_>,

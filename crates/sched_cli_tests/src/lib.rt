@@ -1,4 +1,5 @@
-//! Tests of `sched_cli`, of its public calls alone: here they are proved without a second proof of that library.
+//! Tests of `sched_cli` by its public calls alone. They stand apart so that they are proved without a second proof of
+//! that library.
 #![tactic(auto)]
 
 #[cfg(test)]

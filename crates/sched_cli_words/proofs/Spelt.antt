@@ -1,5 +1,6 @@
 -- What the words of a quota spell, and that they spell nothing else.
-use Rattle.std.proofs.Common.{◌≡◌, ◌≢◌, inl, inr, ℕ, zero, suc, ◌+◌, ◌*◌, ◌<◌, ◌≤◌, ◌^◌, List, [], ◌∷◌, ◌++◌, length, Option, Some, None, Result, Ok, Err, MatchOption, refl, sym, ◌∙◌, ap, subst, arith}
+use Rattle.std.proofs.Common.{◌≡◌, ◌≢◌, inl, inr, ℕ, zero, suc, ◌+◌, ◌*◌, ◌<◌, ◌≤◌, ◌^◌, List, [], ◌∷◌, ◌++◌, length}
+use Rattle.std.proofs.Common.{Option, Some, None, Result, Ok, Err, MatchOption, refl, sym, ◌∙◌, ap, subst, arith}
 use Rattle.std.specs.Prelude.{codes}
 use Rattle.std.specs.Option.{SomeIff}
 use Rattle.std.specs.Result.{result_ok}
@@ -7,7 +8,9 @@ use Rattle.std.specs.Str.Parse.{ParsesUnsigned, digits_value, without_leading_pl
 use Rattle.sched_time.specs.declared.numbers.TheConstants.{FAR}
 use Rattle.sched_ticket_quota.specs.Held.{AreTerms}
 use Rattle.sched_ticket_quota.specs.declared.view.Terms.{Terms}
-use Rattle.sched_cli_words.specs.QuotaSpelling.{NoneBelow, NoShareAndPeriod, NoUnit, NoTerms, IsNumber, IsTenths, whole, decimal, units, EndsInUnit, IsPeriod, AreShareAndPeriod, Spells, Has, Lacks, front, rest, until, EndsIn}
+use Rattle.sched_cli_words.specs.QuotaSpelling.{NoneBelow, NoShareAndPeriod, NoUnit, NoTerms, IsNumber, IsTenths, whole}
+use Rattle.sched_cli_words.specs.QuotaSpelling.{decimal, units, EndsInUnit, IsPeriod, AreShareAndPeriod, Spells, Has}
+use Rattle.sched_cli_words.specs.QuotaSpelling.{Lacks, front, rest, until, EndsIn}
 
 -- ---- numbers
 
@@ -51,7 +54,8 @@ module _ (word : List ℕ) where
   tenths_long has long t (whole n lacks is value) small = absurd (omega arith)
   tenths_long has long t (decimal n d same short is tenth value) small = long short
 
-  pub tenths_past : (n d : ℕ) → Has 46 word → IsNumber (front 46 word) n → IsNumber (rest 46 word) d → 2 ^ 64 ≤ n * 10 + d →
+  pub tenths_past : (n d : ℕ) → Has 46 word → IsNumber (front 46 word) n → IsNumber (rest 46 word) d
+      → 2 ^ 64 ≤ n * 10 + d →
       NoneBelow (IsTenths word)
   tenths_past n d has number digit many t (whole k lacks is value) small = absurd (omega arith)
   tenths_past n d has number digit many t (decimal k c same short is tenth value) small =
@@ -78,7 +82,8 @@ module _ (word : List ℕ) where
   whole_tenths n (Some t) lacks number is = whole n lacks number is.1
 
   -- and with a decimal
-  pub decimal_tenths : (n d ten : ℕ) (r : Option ℕ) → Has 46 word → length (rest 46 word) ≡ 1 → IsNumber (front 46 word) n →
+  pub decimal_tenths : (n d ten : ℕ) (r : Option ℕ) → Has 46 word → length (rest 46 word) ≡ 1
+      → IsNumber (front 46 word) n →
       IsNumber (rest 46 word) d → ten ≡ n * 10 → SomeIff r (ten + d < 2 ^ 64) (ten + d) →
       MatchOption r (NoneBelow (IsTenths word)) (IsTenths word)
   decimal_tenths n d ten None has short number digit is past =
@@ -93,7 +98,8 @@ module _ (word : List ℕ) where
 pub not_ends : (end text : List ℕ) → ((before : List ℕ) → text ≢ before ++ end) → ¬ (EndsIn end text)
 not_ends end text other ends = other (until end text) ends
 
-one_unit : (word : List ℕ) (us : List (List ℕ × ℕ)) (c d : List ℕ) (e f : ℕ) → EndsInUnit word us c e → EndsInUnit word us d f →
+one_unit : (word : List ℕ) (us : List (List ℕ × ℕ)) (c d : List ℕ) (e f : ℕ) → EndsInUnit word us c e
+    → EndsInUnit word us d f →
     (c ≡ d) × (e ≡ f)
 one_unit word [] c d e f a b = absurd a
 one_unit word (u ∷ us) c d e f (inl a) (inl b) = (a.1 ∙ sym b.1, a.2 ∙ sym b.2)
@@ -119,15 +125,18 @@ module _ (word : List ℕ) where
     ends_in_s c ends is = inr (no_ms, inl (ends, is, refl))
 
     module _ (no_s : ¬ (EndsIn (codes "s") word)) where
-      pub ends_in_m : (c : List ℕ) → EndsIn (codes "m") word → c ≡ until (codes "m") word → EndsInUnit word units c 60000
+      pub ends_in_m : (c : List ℕ) → EndsIn (codes "m") word → c ≡ until (codes "m") word
+          → EndsInUnit word units c 60000
       ends_in_m c ends is = inr (no_ms, inr (no_s, inl (ends, is, refl)))
 
       module _ (no_m : ¬ (EndsIn (codes "m") word)) where
-        pub ends_in_h : (c : List ℕ) → EndsIn (codes "h") word → c ≡ until (codes "h") word → EndsInUnit word units c 3600000
+        pub ends_in_h : (c : List ℕ) → EndsIn (codes "h") word → c ≡ until (codes "h") word
+            → EndsInUnit word units c 3600000
         ends_in_h c ends is = inr (no_ms, inr (no_s, inr (no_m, inl (ends, is, refl))))
 
         module _ (no_h : ¬ (EndsIn (codes "h") word)) where
-          pub ends_in_d : (c : List ℕ) → EndsIn (codes "d") word → c ≡ until (codes "d") word → EndsInUnit word units c 86400000
+          pub ends_in_d : (c : List ℕ) → EndsIn (codes "d") word → c ≡ until (codes "d") word
+              → EndsInUnit word units c 86400000
           ends_in_d c ends is = inr (no_ms, inr (no_s, inr (no_m, inr (no_h, inl (ends, is, refl)))))
 
           pub ends_in_none : ¬ (EndsIn (codes "d") word) → NoUnit word
@@ -174,7 +183,8 @@ module _ (word : List ℕ) where
 -- ---- shares and periods
 
 module _ (share period : List ℕ) where
-  pub no_tenths : EndsIn (codes "%") share → NoneBelow (IsTenths (until (codes "%") share)) → NoShareAndPeriod share period
+  pub no_tenths : EndsIn (codes "%") share → NoneBelow (IsTenths (until (codes "%") share))
+      → NoShareAndPeriod share period
   no_tenths ends lack s p (inl is) small short = lack s is.1 small
   no_tenths ends lack s p (inr is) small short = is.0 ends
 
@@ -190,14 +200,18 @@ module _ (share period : List ℕ) where
   no_millis other lack s p (inl is) small short = other is.0
   no_millis other lack s p (inr is) small short = lack p is.2 short
 
-  pub percents : (s p : ℕ) → EndsIn (codes "%") share → IsTenths (until (codes "%") share) s → IsPeriod period p → AreShareAndPeriod share period s p
+  pub percents : (s p : ℕ) → EndsIn (codes "%") share → IsTenths (until (codes "%") share) s → IsPeriod period p
+      → AreShareAndPeriod share period s p
   percents s p ends tenths millis = inl (ends, tenths, millis)
 
-  pub thousandths : (s p : ℕ) → ¬ (EndsIn (codes "%") share) → IsNumber share s → IsNumber period p → AreShareAndPeriod share period s p
+  pub thousandths : (s p : ℕ) → ¬ (EndsIn (codes "%") share) → IsNumber share s → IsNumber period p
+      → AreShareAndPeriod share period s p
   thousandths s p other number millis = inr (other, number, millis)
 
-  one_share_and_period : (s t p q : ℕ) → AreShareAndPeriod share period s p → AreShareAndPeriod share period t q → (s ≡ t) × (p ≡ q)
-  one_share_and_period s t p q (inl a) (inl b) = (one_tenths (until (codes "%") share) s t a.1 b.1, one_period period p q a.2 b.2)
+  one_share_and_period : (s t p q : ℕ) → AreShareAndPeriod share period s p → AreShareAndPeriod share period t q
+      → (s ≡ t) × (p ≡ q)
+  one_share_and_period s t p q (inl a) (inl b) =
+      (one_tenths (until (codes "%") share) s t a.1 b.1, one_period period p q a.2 b.2)
   one_share_and_period s t p q (inl a) (inr b) = absurd (b.0 a.0)
   one_share_and_period s t p q (inr a) (inl b) = absurd (a.0 b.0)
   one_share_and_period s t p q (inr a) (inr b) = (same_number share s t a.1 b.1, same_number period p q a.2 b.2)
@@ -207,7 +221,8 @@ module _ (share period : List ℕ) where
 module _ (text : List ℕ) where
   -- what is true of the rest as it was read
   pub moved : (others : List ℕ) → others ≡ rest 47 text →
-      (Has 47 others → Has 47 (rest 47 text)) × (front 47 others ≡ front 47 (rest 47 text)) × (rest 47 others ≡ rest 47 (rest 47 text))
+      (Has 47 others → Has 47 (rest 47 text)) × (front 47 others ≡ front 47 (rest 47 text))
+      × (rest 47 others ≡ rest 47 (rest 47 text))
   moved others is = (subst (λ w. Has 47 w) is, ap (λ w. front 47 w) is, ap (λ w. rest 47 w) is)
 
   pub no_first : Lacks 47 text → NoTerms text
@@ -226,10 +241,12 @@ module _ (text : List ℕ) where
   module _ (r s p : ℕ) (reserve : IsNumber (front 47 text) r)
       (others : AreShareAndPeriod (front 47 (rest 47 text)) (rest 47 (rest 47 text)) s p) where
     -- terms that lie in their ranges have these numbers
-    only : (t : Terms) → Spells text t → AreTerms t → t.period ≤ FAR → (r ≤ 4294967296) × (s ≤ 1000000) × (100 ≤ p) × (p ≤ FAR)
+    only : (t : Terms) → Spells text t → AreTerms t → t.period ≤ FAR
+        → (r ≤ 4294967296) × (s ≤ 1000000) × (100 ≤ p) × (p ≤ FAR)
     only t is ranges far =
         let one = same_number (front 47 text) r t.reserve reserve is.reserve in
-        let same = one_share_and_period (front 47 (rest 47 text)) (rest 47 (rest 47 text)) s t.share p t.period others is.others in
+        let same = one_share_and_period (front 47 (rest 47 text))
+        (rest 47 (rest 47 text)) s t.share p t.period others is.others in
         (rw one ranges.reserve, rw same.0 ranges.share, rw same.1 ranges.period, rw same.1 far)
 
     pub reserve_past : 4294967296 < r → NoTerms text

@@ -1,3 +1,4 @@
+-- The ranges of what is asked for, and where its text comes from.
 use Rattle.std.specs.Prelude.{◌≡◌, ℕ, ◌≤◌, ◌<◌, ◌^◌, ◌⊎◌, List, [], ◌∷◌, All}
 use Rattle.sched_time.specs.declared.numbers.TheConstants.{FAR}
 use Rattle.sched_plan_course.specs.Course.{Course, course_of}

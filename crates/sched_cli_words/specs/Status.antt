@@ -1,3 +1,4 @@
+-- The exit status and the message where the command line was no task.
 use Rattle.std.specs.Prelude.{◌≡◌, ℕ, List, ◌++◌, codes, string_bytes}
 use Rattle.sched_cli_words.specs.declared.faults.WordsFault.{WordsFault}
 use Rattle.sched_cli_words.specs.declared.faults.WordsFault.TheVariants as words

@@ -96,9 +96,10 @@ const RETRIES: [Row; 2] = [
         name: "quota",
         takes: Takes::Text("RESERVE/SHARE%/PERIOD"),
         excludes: &["budget"],
-        help: "Instead of a budget: in each window of PERIOD at most RESERVE retries plus SHARE of the requests in it, where \
-               each job's first run is a request, such as 10/20%/60s (units: ms, s, m, h, d); without units, as in \
-               10/200/60000, SHARE is in thousandths and PERIOD in milliseconds; jobs on a quota run on one thread",
+        help: "Instead of a budget: in each window of PERIOD at most RESERVE retries plus SHARE of the requests \
+               in it, where each job's first run is a request, such as 10/20%/60s (units: ms, s, m, h, d); \
+               without units, as in 10/200/60000, SHARE is in thousandths and PERIOD in milliseconds; \
+               jobs on a quota run on one thread",
     },
 ];
 
@@ -167,7 +168,8 @@ fn check_command<'a>(alloc: Global) -> Result<Command<'a>, AllocError> {
     file_command(
         alloc,
         "check",
-        "Reads a plan or jobs as JSON and prints what it is, or its first error, with its place and what was expected there",
+        "Reads a plan or jobs as JSON and prints what it is, or its first error, \
+         with its place and what was expected there",
         CHECK_EXAMPLES,
         "The file of a plan or of jobs, or - for standard input",
     )

@@ -1,4 +1,5 @@
-//! The command line of `zsched`: what its words ask for, each option in its range, or why they ask for nothing.
+//! The command line of `zsched`: what its words ask for, or why they ask for nothing. Each option is in its range. It
+//! stands on `sched_cli_storm_words` and the kit's `clap`.
 #![tactic(auto)]
 
 mod commands;

@@ -2,7 +2,8 @@
 ghost use Rattle.std.specs.Prelude.{◌≡◌, ◌<◌, IfSome, MatchOption};
 ghost use Rattle.sched_ticket_quota.specs.Held.{AreTerms};
 ghost use Rattle.sched_cli_words.specs.QuotaSpelling.{Spells, NoTerms, AreShareAndPeriod, NoShareAndPeriod};
-ghost use Rattle.sched_cli_words.specs.QuotaSpelling.{IsTenths, IsPeriod, IsNumber, NoneBelow, EndsInUnit, NoUnit, units};
+ghost use Rattle.sched_cli_words.specs.QuotaSpelling.{IsTenths, IsPeriod, IsNumber, NoneBelow, EndsInUnit, NoUnit};
+ghost use Rattle.sched_cli_words.specs.QuotaSpelling.{units};
 ghost use Rattle.sched_cli_words.specs.QuotaSpelling.{Has, Lacks, front, rest, until, EndsIn};
 ghost use Rattle.sched_cli_words.specs.Quotas.{QuotaIsInRange};
 

@@ -23,9 +23,9 @@ const QUOTA_ON_THREADS: &str =
 
 /// Reads a command line, with the program's own name as its first word.
 ///
-/// Refused with `Bad`, and a line that says why, where the subcommand is missing or unknown, an option is unknown, comes
-/// twice, lacks its value or stands beside one that takes its place, or a value is no decimal number in its range; with
-/// `Help` and the text to show where help or the version was asked for; and with `NoMemory`.
+/// Refused with `Bad`, and a line that says why, where the subcommand is missing or unknown, an option is unknown,
+/// comes twice, lacks its value or stands beside one that takes its place, or a value is no decimal number in its
+/// range; with `Help` and the text to show where help or the version was asked for; and with `NoMemory`.
 pub fn read_words(alloc: Global, words: &[&str]) -> Result<Asked, WordsFault>
     ensures { IfOk result IsAskedInRange }
 {

@@ -1,4 +1,5 @@
-//! `zsched` prints what a recurrence schedule would do: it passes words, streams and statuses on, and nothing else.
+//! `zsched` prints what a recurrence schedule would do. The program passes words, streams and the exit status to
+//! `sched_cli`, and does nothing else.
 #![tactic(auto)]
 
 ghost use Rattle.std.specs.Prelude.{◌≡◌, MatchResult};

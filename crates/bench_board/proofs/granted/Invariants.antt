@@ -1,3 +1,4 @@
+-- The jobs draw on the budget of this call.
 use Rattle.bench_board.proofs.granted.Given as goal
 
 -- the budget of this call

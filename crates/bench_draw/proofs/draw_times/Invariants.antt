@@ -1,3 +1,4 @@
+-- The loop keeps a pass of the budget.
 use Rattle.sched_ticket.specs.Held.{IsOf}
 use Rattle.bench_draw.proofs.draw_times.Given as goal
 

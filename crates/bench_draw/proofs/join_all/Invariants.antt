@@ -1,3 +1,4 @@
+-- The loop keeps passes of the budget, and ends since each turn joins one.
 use Rattle.std.specs.Prelude.{All}
 use Rattle.std.proofs.Common.{vec_len}
 use Rattle.sched_ticket.specs.Held.{IsOf}

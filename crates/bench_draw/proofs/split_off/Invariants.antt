@@ -1,3 +1,4 @@
+-- The loop keeps passes of the budget.
 use Rattle.std.specs.Prelude.{All}
 use Rattle.sched_ticket.specs.Held.{IsOf}
 use Rattle.bench_draw.proofs.split_off.Given as goal

@@ -1,3 +1,4 @@
+-- The loop keeps a pass of the quota.
 use Rattle.sched_ticket_quota.specs.Held.{IsOf}
 use Rattle.bench_quota.proofs.deposit_times.Given as goal
 

@@ -1,3 +1,4 @@
+-- The loop keeps passes of the quota.
 use Rattle.std.specs.Prelude.{All}
 use Rattle.sched_ticket_quota.specs.Held.{IsOf}
 use Rattle.bench_quota.proofs.split_off.Given as goal

@@ -1,3 +1,4 @@
+-- The state fits the plan from the start on that was planned last.
 use Rattle.std.proofs.Common.{ℕ, ◌≤◌, IsTrue}
 use Rattle.sched_step.specs.Progress.{fits}
 use Rattle.bench_steps.proofs.run_of.Given as goal

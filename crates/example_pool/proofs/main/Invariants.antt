@@ -1,3 +1,4 @@
+-- The calls draw on the budget of this call.
 use Rattle.example_pool.proofs.main.Given as goal
 
 -- the budget of this call

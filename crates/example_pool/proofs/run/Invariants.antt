@@ -1,3 +1,4 @@
+-- The loop keeps a pass of the budget.
 use Rattle.sched_pool.specs.Held.{IsOf}
 use Rattle.example_pool.proofs.run.Given as goal
 

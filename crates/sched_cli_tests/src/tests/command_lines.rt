@@ -108,7 +108,8 @@ const BAD_POOLS: &str =
 const BAD_QUOTAS: &str =
     "zsched pool --quota 1/2|zsched pool --quota 1/2/300/4|zsched pool --quota 1//300|zsched pool --quota a/2/300|\
      zsched pool --quota 4294967297/2/300|zsched pool --quota 1/1000001/300|zsched pool --quota 1/2/99|\
-     zsched pool --quota 1/2%/300|zsched pool --quota 1/2/3s|zsched pool --quota 1/0.55%/3s|zsched pool --quota 1/2%/99ms|\
+     zsched pool --quota 1/2%/300|zsched pool --quota 1/2/3s|zsched pool --quota 1/0.55%/3s|\
+     zsched pool --quota 1/2%/99ms|\
      zsched pool --quota 1/2/4611686018427387904|zsched pool --quota 1/2/300 --budget 100|\
      zsched pool --quota 1/2/300 --workers 2|zsched plan --quota 1/2/300";
 
@@ -163,8 +164,8 @@ const REASONS: [(&str, &str); 6] = [
     ),
     (
         "zsched pool --quota 1/2\n",
-        "invalid value '1/2' for '--quota <RESERVE/SHARE%/PERIOD>': expected a quota such as 10/20%/60s (units: ms, s, m, h, d), \
-         or 10/200/60000 without units; RESERVE is at most 4294967296, SHARE at most 100000%, and PERIOD from 100ms \
+        "invalid value '1/2' for '--quota <RESERVE/SHARE%/PERIOD>': expected a quota such as 10/20%/60s \
+         (units: ms, s, m, h, d), or 10/200/60000 without units; RESERVE is at most 4294967296, SHARE at most 100000%, and PERIOD from 100ms \
          to 4611686018427387903ms",
     ),
 ];

@@ -1,3 +1,4 @@
+-- `check_text` writes what checking the whole text writes.
 use Rattle.std.proofs.Common.{Ok, Err, Some}
 use Rattle.sched_cli_plan.specs.Again.{rest_of}
 use Rattle.sched_cli.proofs.Again.{check_again}
@@ -5,10 +6,14 @@ use Rattle.sched_cli.proofs.texts.check_text.Goals as goal
 
 pub returns-in-Ok-clause-text : goal.returns-in-Ok-clause-text
 returns-in-Ok-clause-text g c =
-    check_again c.args.bytes.now (rest_of c.new-reader.result) (Some (rest_of c.print_check.new.reader)) c.new-reader.ensures
-    (g.W.Sink.taken c.args.writer.now) (g.W.Sink.taken c.print_check.new.writer) (Ok tt) c.in-Ok.ensures.text c.in-Ok.ensures.reads
+    check_again c.args.bytes.now (rest_of c.new-reader.result)
+    (Some (rest_of c.print_check.new.reader)) c.new-reader.ensures
+    (g.W.Sink.taken c.args.writer.now) (g.W.Sink.taken c.print_check.new.writer)
+    (Ok tt) c.in-Ok.ensures.text c.in-Ok.ensures.reads
 
 pub returns-in-Err-clause-text : goal.returns-in-Err-clause-text
 returns-in-Err-clause-text g c =
-    check_again c.args.bytes.now (rest_of c.new-reader.result) (Some (rest_of c.print_check.new.reader)) c.new-reader.ensures
-    (g.W.Sink.taken c.args.writer.now) (g.W.Sink.taken c.print_check.new.writer) (Err c.in-Err.fault) c.in-Err.ensures.text c.in-Err.ensures.reads
+    check_again c.args.bytes.now (rest_of c.new-reader.result)
+    (Some (rest_of c.print_check.new.reader)) c.new-reader.ensures
+    (g.W.Sink.taken c.args.writer.now) (g.W.Sink.taken c.print_check.new.writer)
+    (Err c.in-Err.fault) c.in-Err.ensures.text c.in-Err.ensures.reads

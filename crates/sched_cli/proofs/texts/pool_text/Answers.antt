@@ -1,3 +1,4 @@
+-- `pool_text` writes how the text's jobs end on a budget.
 use Rattle.sched_cli_pool.specs.PoolPrinting.{RunsOnBudget}
 use Rattle.sched_cli.proofs.Again.{jobs_again}
 use Rattle.sched_cli.proofs.texts.pool_text.Goals as goal

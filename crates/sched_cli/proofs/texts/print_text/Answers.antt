@@ -1,3 +1,4 @@
+-- Each command writes what its own function writes.
 use Rattle.sched_cli.proofs.texts.print_text.Goals as goal
 
 pub returns-in-Plan-clause-text : goal.returns-in-Plan-clause-text

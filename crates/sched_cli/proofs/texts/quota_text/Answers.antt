@@ -1,3 +1,4 @@
+-- `quota_text` writes how the text's jobs end on a quota.
 use Rattle.sched_cli_pool.specs.QuotaPrinting.{RunsOnQuota}
 use Rattle.sched_cli.proofs.Again.{jobs_again}
 use Rattle.sched_cli.proofs.texts.quota_text.Goals as goal

@@ -5,7 +5,8 @@ use Rattle.sched_cli_plan.proofs.whole.put_all.Given as goal
 
 abbrev pub invariant-loop-rest : goal.invariant-loop-rest
 invariant-loop-rest g l = record {
-  written : (front : List ℕ) × (l.initial.rest ≡ front ++ l.rest) × Appends (g.W.Sink.taken l.initial.writer) (g.W.Sink.taken l.writer) front;
+  written : (front : List ℕ) × (l.initial.rest ≡ front ++ l.rest)
+      × Appends (g.W.Sink.taken l.initial.writer) (g.W.Sink.taken l.writer) front;
   counts : g.W.Sink.failures l.writer ≡ g.W.Sink.failures l.initial.writer;
 }
 

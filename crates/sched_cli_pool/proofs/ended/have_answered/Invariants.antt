@@ -1,3 +1,4 @@
+-- All jobs have answered if the rest have.
 use Rattle.std.proofs.Common.{◌≡◌, drop}
 use Rattle.sched_cli_pool.specs.JobsPrinting.{all_answered}
 use Rattle.sched_cli_pool.proofs.ended.have_answered.Given as goal

@@ -1,3 +1,4 @@
+-- What was written when `write_lines` stops is a front of the pool's lines.
 use Rattle.std.proofs.Common.{◌≡◌, ◌∷◌, ◌+◌, ◌++◌, ap, sym, drop, ◌∙◌, string_bytes, arith}
 use Rattle.std.proofs.lemmas.List.{drop_more, drop_all}
 use Rattle.std.proofs.lemmas.Result.{err_from_is_err_and}
@@ -20,7 +21,8 @@ returns-in_err-put_long-clause-text g c =
     let n = c.loop-number.number in
     let line : line_text n c.how.result c.runs.result.now c.granted.result ≡ job_text n v =
     (λ i. line_text n (c.how.ensures.how i) ((c.runs.ensures ∙ c.effect.ensures) i) (c.granted.ensures.granted i)) in
-    let at : drop n c.args.ends.now ≡ v ∷ drop (n + 1) c.args.ends.now = drop_more c.args.ends.now n v (omega arith) ∙ ap (λ (x : Past). x ∷ drop (n + 1) c.args.ends.now) (sym c.index-ends-number.is) in
+    let at : drop n c.args.ends.now ≡ v ∷ drop (n + 1) c.args.ends.now = drop_more c.args.ends.now n v (omega arith)
+    ∙ ap (λ (x : Past). x ∷ drop (n + 1) c.args.ends.now) (sym c.index-ends-number.is) in
     rw (p.1, p.2)
     (pool_stopped_in_line c.args.ends.now c.args.last.now n _ _ _ c.loop-number.invariant.printed v at _
     (c.in_ok-push_line.ensures ∙ ap (λ l. string_bytes c.loop-number.lines ++ l) line)
@@ -32,7 +34,8 @@ loop-number-preserved g c =
     let n = c.loop-number.number in
     let line : line_text n c.how.result c.runs.result.now c.granted.result ≡ job_text n v =
     (λ i. line_text n (c.how.ensures.how i) ((c.runs.ensures ∙ c.effect.ensures) i) (c.granted.ensures.granted i)) in
-    let at : drop n c.args.ends.now ≡ v ∷ drop (n + 1) c.args.ends.now = drop_more c.args.ends.now n v (omega arith) ∙ ap (λ (x : Past). x ∷ drop (n + 1) c.args.ends.now) (sym c.index-ends-number.is) in
+    let at : drop n c.args.ends.now ≡ v ∷ drop (n + 1) c.args.ends.now = drop_more c.args.ends.now n v (omega arith)
+    ∙ ap (λ (x : Past). x ∷ drop (n + 1) c.args.ends.now) (sym c.index-ends-number.is) in
     record {
       printed =
           pool_goes_on c.args.ends.now c.args.last.now n _ _ _ c.loop-number.invariant.printed v at _

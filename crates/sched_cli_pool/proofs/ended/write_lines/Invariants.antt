@@ -1,3 +1,4 @@
+-- The lines so far are printed or kept, and no failure of the writer is lost.
 use Rattle.std.proofs.Common.{◌≡◌, string_bytes}
 use Rattle.sched_cli_pool.proofs.PoolLines.{IsPrintedTo}
 use Rattle.sched_cli_pool.proofs.ended.write_lines.Given as goal

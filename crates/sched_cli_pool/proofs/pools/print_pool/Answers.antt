@@ -1,3 +1,4 @@
+-- `print_pool` writes a line for each job that was read and run on the budget, and the total.
 use Rattle.std.proofs.Common.{◌++◌, ℕ, List, string_bytes, subst}
 use Rattle.sched_pool_json.specs.Job.{Job}
 use Rattle.sched_cli_pool.specs.PoolText.{lines_from}
@@ -12,6 +13,9 @@ returns-clause-text g c =
     let ended = c.in_ok-ended.ended in
     let text = lines_from 0 ended.ends.items ++ string_bytes ended.total in
     let spelt = subst (λ (bytes : List ℕ). SpellsJobs bytes jobs) c.deref.ensures.value c.in_ok-jobs.ensures.jobs in
-    let run = subst (λ (read : List Job). RunsOnBudget c.args.options.now read ended.ends.items text) c.deref-2.ensures.value c.in_ok-ended.ensures.ok in
-    jobs_written (RunsOnBudget c.args.options.now) _ _ _ _ c.in_ok-bytes.bytes.items c.in_ok-bytes.ensures.bytes jobs spelt
+    let run =
+    subst (λ (read : List Job). RunsOnBudget c.args.options.now read ended.ends.items text) c.deref-2.ensures.value
+    c.in_ok-ended.ensures.ok in
+    jobs_written
+    (RunsOnBudget c.args.options.now) _ _ _ _ c.in_ok-bytes.bytes.items c.in_ok-bytes.ensures.bytes jobs spelt
     _ ended.ends.items text run c.write_ended.result c.write_ended.ensures.text

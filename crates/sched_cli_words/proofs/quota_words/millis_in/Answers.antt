@@ -1,3 +1,4 @@
+-- A word that is no count with a unit spells no period.
 use Rattle.std.proofs.Common.{◌≡◌, None, arith}
 use Rattle.sched_cli_words.proofs.Spelt.{period_no_unit}
 use Rattle.sched_cli_words.proofs.quota_words.millis_in.Goals as goal

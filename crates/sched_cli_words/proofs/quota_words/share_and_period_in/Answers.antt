@@ -1,3 +1,4 @@
+-- A share and a period are read from their words, or there are none.
 use Rattle.std.proofs.Common.{◌≡◌, ℕ, List, None, subst, arith}
 use Rattle.sched_cli_words.specs.QuotaSpelling.{NoneBelow, IsTenths}
 use Rattle.sched_cli_words.proofs.Spelt.{no_tenths, no_period, percents}

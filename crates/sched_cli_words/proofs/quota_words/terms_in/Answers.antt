@@ -1,3 +1,4 @@
+-- The terms of a quota are read from the text, or the text spells none.
 use Rattle.std.proofs.Common.{◌≡◌, ◌<◌, ℕ, List, None, subst, sym, ◌∙◌, arith}
 use Rattle.sched_time.specs.declared.numbers.TheConstants.{FAR}
 use Rattle.sched_cli_words.specs.QuotaSpelling.{NoShareAndPeriod, AreShareAndPeriod, IsNumber, front, rest}
@@ -24,7 +25,8 @@ returns-in_err-period-clause-spelt c =
     let text = c.args.text.now in
     let number : IsNumber (front 47 text) c.in_ok-reserve-2.reserve =
     subst (λ (w : List ℕ). IsNumber w c.in_ok-reserve-2.reserve) first.1 c.in_ok-reserve-2.ensures in
-    let both : AreShareAndPeriod (front 47 (rest 47 text)) (rest 47 (rest 47 text)) c.in_ok-share-2.share c.in_ok-share-2.period =
+    let both : AreShareAndPeriod (front 47 (rest 47 text))
+    (rest 47 (rest 47 text)) c.in_ok-share-2.share c.in_ok-share-2.period =
     subst (λ (w : List ℕ × List ℕ). AreShareAndPeriod w.0 w.1 c.in_ok-share-2.share c.in_ok-share-2.period)
     (λ i. ((second.1 ∙ others.1) i, (second.2 ∙ others.2) i)) c.in_ok-share-2.ensures in
     let past : FAR < c.in_ok-share-2.period = grind arith in
@@ -41,7 +43,8 @@ returns-clause-spelt c =
       second = others.0 second.0;
       reserve = subst (λ (w : List ℕ). IsNumber w c.in_ok-reserve-2.reserve) first.1 c.in_ok-reserve-2.ensures;
       others =
-          subst (λ (p : ℕ). AreShareAndPeriod (front 47 (rest 47 text)) (rest 47 (rest 47 text)) c.in_ok-share-2.share p)
+          subst (λ (p : ℕ).
+          AreShareAndPeriod (front 47 (rest 47 text)) (rest 47 (rest 47 text)) c.in_ok-share-2.share p)
           (sym c.in_ok-period.ensures.value)
           (subst (λ (w : List ℕ × List ℕ). AreShareAndPeriod w.0 w.1 c.in_ok-share-2.share c.in_ok-share-2.period)
           (λ i. ((second.1 ∙ others.1) i, (second.2 ∙ others.2) i)) c.in_ok-share-2.ensures);

@@ -1,3 +1,4 @@
+-- The inputs so far are in range.
 use Rattle.sched_cli_words.specs.Options.{AreInputs}
 use Rattle.sched_cli_words.proofs.words.inputs.Given as goal
 
