@@ -165,8 +165,8 @@ const REASONS: [(&str, &str); 6] = [
     (
         "zsched pool --quota 1/2\n",
         "invalid value '1/2' for '--quota <RESERVE/SHARE%/PERIOD>': expected a quota such as 10/20%/60s \
-         (units: ms, s, m, h, d), or 10/200/60000 without units; RESERVE is at most 4294967296, SHARE at most 100000%, and PERIOD from 100ms \
-         to 4611686018427387903ms",
+         (units: ms, s, m, h, d), or 10/200/60000 without units; \
+         RESERVE is at most 4294967296, SHARE at most 100000%, and PERIOD from 100ms to 4611686018427387903ms",
     ),
 ];
 
