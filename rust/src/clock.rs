@@ -17,6 +17,8 @@ pub(crate) fn now() -> Instant {
 
 /// Whole milliseconds of a moment, rounded down; past the engine's last moment it is that.
 pub(crate) fn whole_millis(moment: Duration) -> u64 {
-    let millis = moment.as_secs().saturating_mul(1000).saturating_add(u64::from(moment.subsec_millis()));
-    millis.min(MAX_NUMBER)
+    match moment.as_secs() {
+        seconds if seconds > MAX_NUMBER / 1000 => MAX_NUMBER,
+        seconds => (seconds * 1000 + u64::from(moment.subsec_millis())).min(MAX_NUMBER),
+    }
 }

@@ -1,15 +1,21 @@
 //! Random words of a thread.
 
-use crate::system::generation;
+use crate::system::{generation, is_generation};
 use std::cell::Cell;
 use std::collections::hash_map::RandomState;
 use std::hash::{BuildHasher, Hasher};
 use std::time::SystemTime;
 
+/// A generator `SplitMix64`, and the process that began it.
+#[derive(Clone, Copy)]
+struct Stream {
+    state: u64,
+    generation: u64,
+}
+
 thread_local! {
-    static STATE: Cell<u64> = Cell::new(seed());
-    /// The process that the state was made in.
-    static GENERATION: Cell<u64> = Cell::new(generation());
+    /// The thread's own, which no process has begun yet.
+    static STREAM: Cell<Stream> = const { Cell::new(Stream { state: 0, generation: u64::MAX }) };
 }
 
 /// A state from the system's random bytes. In a forked child these are the parent's, so the process and the time count too.
@@ -21,34 +27,53 @@ fn seed() -> u64 {
     hasher.finish()
 }
 
-/// The next four, by the generator `SplitMix64` from the seed on.
+/// The next four of this thread.
 pub(crate) fn next() -> [u32; 4] {
-    let generation = generation();
-    if GENERATION.with(|own| own.replace(generation)) != generation {
-        STATE.with(|state| state.set(seed()));
-    }
-    let (first, second) = STATE.with(|state| (next_half(state), next_half(state)));
-    [first as u32, (first >> 32) as u32, second as u32, (second >> 32) as u32]
+    STREAM.with(|own| {
+        let stream = own.get();
+        if is_generation(stream.generation) {
+            stream.words(own)
+        } else {
+            Stream::begin(own)
+        }
+    })
 }
 
-fn next_half(state: &Cell<u64>) -> u64 {
-    state.set(state.get().wrapping_add(0x9E37_79B9_7F4A_7C15));
-    let mut word = state.get();
-    word = (word ^ (word >> 30)).wrapping_mul(0xBF58_476D_1CE4_E5B9);
-    word = (word ^ (word >> 27)).wrapping_mul(0x94D0_49BB_1331_11EB);
-    word ^ (word >> 31)
+impl Stream {
+    /// The first four of this process.
+    #[cold]
+    fn begin(own: &Cell<Self>) -> [u32; 4] {
+        Self { state: seed(), generation: generation() }.words(own)
+    }
+
+    /// The next four, after which it is kept there.
+    #[inline]
+    fn words(mut self, own: &Cell<Self>) -> [u32; 4] {
+        let (first, second) = (self.next_half(), self.next_half());
+        own.set(self);
+        [first as u32, (first >> 32) as u32, second as u32, (second >> 32) as u32]
+    }
+
+    /// The next two words.
+    #[inline]
+    fn next_half(&mut self) -> u64 {
+        self.state = self.state.wrapping_add(0x9E37_79B9_7F4A_7C15);
+        let mut word = self.state;
+        word = (word ^ (word >> 30)).wrapping_mul(0xBF58_476D_1CE4_E5B9);
+        word = (word ^ (word >> 27)).wrapping_mul(0x94D0_49BB_1331_11EB);
+        word ^ (word >> 31)
+    }
 }
 
 #[cfg(test)]
 mod tests {
-    use super::next_half;
-    use std::cell::Cell;
+    use super::Stream;
 
     #[test]
     fn halves_are_those_of_splitmix64() {
         // the first three of the generator's own test, from 1234567 on
-        let state = Cell::new(1_234_567);
-        let halves = [next_half(&state), next_half(&state), next_half(&state)];
+        let mut stream = Stream { state: 1_234_567, generation: 0 };
+        let halves = [stream.next_half(), stream.next_half(), stream.next_half()];
         assert_eq!(halves, [6_457_827_717_110_365_317, 3_203_168_211_198_807_973, 9_817_491_932_198_370_423]);
     }
 

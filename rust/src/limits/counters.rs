@@ -1,9 +1,9 @@
-//! Passes of a quota that count requests, each for some of the threads: so that no two threads wait for one lock.
+//! Passes of a quota that count requests, each for some of the threads: so that none waits for another.
 
 use crate::engine::{Handle, PassKind};
+use crate::system::TryLock;
 use std::cell::Cell;
 use std::sync::atomic::{AtomicUsize, Ordering};
-use std::sync::{Mutex, MutexGuard, PoisonError};
 use std::time::Instant;
 
 /// How many there are, which threads take in turn.
@@ -15,7 +15,7 @@ pub(crate) struct Counters([Slot; SLOTS]);
 /// One, on cache lines of its own; it has a pass once a request was counted here.
 #[derive(Default)]
 #[repr(align(128))]
-struct Slot(Mutex<Option<Counter>>);
+struct Slot(TryLock<Option<Counter>>);
 
 /// A pass, and the window of the request that it counted last, by the system's clock: so a request is counted without
 /// reckoning its moment. One before the window is counted in the quota's latest, as one in it is.
@@ -50,25 +50,26 @@ impl Counter {
 }
 
 impl Counters {
-    /// The one of this thread.
+    /// What the call gives, which has the one of this thread; `None` where another thread uses that.
     #[inline]
-    pub(crate) fn own(&self) -> MutexGuard<'_, Option<Counter>> {
+    pub(crate) fn own<R>(&self, call: impl FnOnce(&mut Option<Counter>) -> R) -> Option<R> {
         let Slot(counter) = self.0.get(SLOT.with(Cell::get)).unwrap_or_else(|| &self.0[next_slot()]);
-        counter.lock().unwrap_or_else(PoisonError::into_inner)
+        counter.try_with(call)
     }
 
     /// Counts a request at this instant, where this thread's counter can, and says whether it did.
     #[inline]
     pub(crate) fn count_one(&self, now: Instant) -> bool {
-        match &mut *self.own() {
+        let count = |counter: &mut Option<Counter>| match counter {
             Some(counter) => counter.count(now, 1),
             None => false,
-        }
+        };
+        self.own(count) == Some(true)
     }
 
     /// All passes.
     pub(crate) fn into_passes(self) -> impl Iterator<Item = Handle<PassKind>> {
         let counters = self.0.into_iter().map(|Slot(counter)| counter.into_inner());
-        counters.filter_map(|counter| Some(counter.unwrap_or_else(PoisonError::into_inner)?.pass))
+        counters.filter_map(|counter| Some(counter?.pass))
     }
 }

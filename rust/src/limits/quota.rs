@@ -336,19 +336,21 @@ impl Quota {
     }
 
     /// Counts requests at this instant, by this thread's counter, which comes to the instant's window; or by the quota's
-    /// first pass, where they are more than the counter's counts at once.
+    /// first pass, where another thread uses the counter, or they are more than it counts at once.
     #[cold]
     fn count(&self, now: Instant, requests: u32) {
         let Made { began, period, .. } = self.shared.made;
         let first = self.millis_at(now) / period * period;
-        let counter = &mut *self.passes().counters.own();
-        if let Some(ends) = began.checked_add(Duration::from_millis(first.saturating_add(period))) {
-            *counter = match counter.take() {
-                Some(counter) => Some(Counter { first, ends, ..counter }),
-                None => self.lock().split().ok().map(|pass| Counter { pass, first, ends }),
-            };
-        }
-        if !counter.as_mut().map_or(false, |counter| counter.count(now, requests)) {
+        let counted = self.passes().counters.own(|counter| {
+            if let Some(ends) = began.checked_add(Duration::from_millis(first.saturating_add(period))) {
+                *counter = match counter.take() {
+                    Some(counter) => Some(Counter { first, ends, ..counter }),
+                    None => self.lock().split().ok().map(|pass| Counter { pass, first, ends }),
+                };
+            }
+            counter.as_mut().map_or(false, |counter| counter.count(now, requests))
+        });
+        if counted != Some(true) {
             self.deposit_of_at(self.moment(now), requests);
         }
     }

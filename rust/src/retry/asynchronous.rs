@@ -2,6 +2,7 @@
 
 #[cfg(feature = "tokio")]
 use crate::limits::grants::Grants;
+use crate::limits::grants::Unlimited;
 use crate::policy::Policy;
 use crate::retry::attempts::{Attempt, Then};
 use crate::retry::error::RetryError;
@@ -149,7 +150,7 @@ macro_rules! retryable {
         {
             /// The call, to be retried by the policy; on no budget, unless [`Retrying::budget`] gives one.
             fn retry(self, policy: &Policy) -> Retrying<'_, E, Async<Self>> {
-                Retrying::of(policy, Async(self))
+                Retrying::of(policy, &Unlimited, Async(self))
             }
         }
 

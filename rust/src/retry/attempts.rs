@@ -72,7 +72,7 @@ impl<E, H: Hooked<E>, K: Fn() -> Instant, S, R: Random> Retrying<'_, E, (), H, H
         }
         let (retry_after, code) = (self.hooks.retry_after(&error), self.hooks.code(&error));
         let lost = Lost { now, code, words: self.host.words.draw(), retry_after };
-        let wait = match progress.lost(self.rules(), lost) {
+        let wait = match progress.lost(&self.rules(), &lost) {
             Ok(wait) => wait,
             Err(ended) => return Then::End(Err(progress.error(ended, error))),
         };

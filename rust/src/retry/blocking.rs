@@ -1,6 +1,6 @@
 //! Retries of calls that block their thread.
 
-use crate::limits::grants::Grants;
+use crate::limits::grants::{Grants, Unlimited};
 use crate::policy::Policy;
 use crate::retry::attempts::{Attempt, Then};
 use crate::retry::error::RetryError;
@@ -62,7 +62,7 @@ pub fn retry<T, E>(
 pub trait BlockingRetryable<T, E>: FnMut() -> Result<T, E> + Sized {
     /// The call, to be retried by the policy; on no budget, unless [`Retrying::budget`] gives one.
     fn retry(self, policy: &Policy) -> Retrying<'_, E, Blocking<Self>> {
-        Retrying::of(policy, Blocking(self))
+        Retrying::of(policy, &Unlimited, Blocking(self))
     }
 }
 

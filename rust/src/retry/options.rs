@@ -11,8 +11,24 @@ pub(crate) struct Options {
     pub(crate) max_retry_after: Duration,
 }
 
+impl Options {
+    /// The wait that is granted to an error that asks for this one so long after the first run began; `None` where the next
+    /// run would begin past the deadline then.
+    #[cold]
+    pub(crate) fn granted(&self, retry_after: Duration, passed: Duration) -> Option<Duration> {
+        let wait = retry_after.min(self.max_retry_after);
+        let is_late = |deadline| !wait.is_zero() && passed.saturating_add(wait) > deadline;
+        if self.deadline.map_or(false, is_late) {
+            None
+        } else {
+            Some(wait)
+        }
+    }
+}
+
 impl Default for Options {
     /// No deadline, and waits of six hours at most.
+    #[inline]
     fn default() -> Self {
         Self { deadline: None, max_retry_after: Duration::from_secs(6 * 3600) }
     }

@@ -15,7 +15,7 @@ use std::time::{Duration, Instant};
 pub(crate) struct Rules<'a> {
     pub(crate) policy: &'a Policy,
     pub(crate) limit: &'a dyn Limit,
-    pub(crate) options: Options,
+    pub(crate) options: &'a Options,
 }
 
 /// A run that failed.
@@ -68,13 +68,12 @@ impl Progress {
 
     /// The run under way failed: how long it is to be waited from then on, or how the retry ended. The wait is the
     /// planned one in full, whatever part of a millisecond the run ended at, or what the error asks for.
-    pub(crate) fn lost(&mut self, rules: Rules<'_>, lost: Lost) -> Result<Duration, Ending> {
+    pub(crate) fn lost(&mut self, rules: &Rules<'_>, lost: &Lost) -> Result<Duration, Ending> {
         let passed = self.passed(lost.now);
-        let Options { deadline, max_retry_after } = rules.options;
-        let asked = lost.retry_after.unwrap_or(Duration::ZERO).min(max_retry_after);
-        if !asked.is_zero() && deadline.map_or(false, |deadline| passed.saturating_add(asked) > deadline) {
-            return Err(Ending::Deadline);
-        }
+        let asked = match lost.retry_after {
+            Some(asked) => rules.options.granted(asked, passed).ok_or(Ending::Deadline)?,
+            None => Duration::ZERO,
+        };
         let begun = match &mut self.begun {
             Some(begun) => begun,
             None => self.begun.insert(Begun::new(rules, self.began)?),
@@ -129,7 +128,7 @@ impl Progress {
 
 impl Begun {
     /// A retry whose first run began then.
-    fn new(rules: Rules<'_>, began: Instant) -> Result<Self, Ending> {
+    fn new(rules: &Rules<'_>, began: Instant) -> Result<Self, Ending> {
         let origin = rules.limit.origin(began);
         let deadline = rules.options.deadline.map(|deadline| Duration::from_millis(whole_millis(deadline)));
         let until =
@@ -168,7 +167,7 @@ impl Begun {
             Some(_) => passed.saturating_add(Duration::from_nanos(999_999)),
             None => passed,
         };
-        let now = self.origin.saturating_add(whole_millis(passed)).min(MAX_NUMBER);
+        let now = (self.origin + whole_millis(passed)).min(MAX_NUMBER);
         self.latest = self.latest.max(now);
         self.machine.step_at(self.latest, report, words)
     }

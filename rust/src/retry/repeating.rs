@@ -291,7 +291,7 @@ impl<T, C: Fn(&T) -> u64, K: Fn() -> Instant, S, R: Random> Repeating<'_, T, C, 
         let now = (self.host.clock)();
         let lost =
             Lost { now, code: (self.code)(value).min(MAX_NUMBER), words: self.host.words.draw(), retry_after: None };
-        progress.lost(Rules { policy: &self.policy, limit: &Unlimited, options: self.options }, lost)
+        progress.lost(&Rules { policy: &self.policy, limit: &Unlimited, options: &self.options }, &lost)
     }
 }
 

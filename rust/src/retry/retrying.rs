@@ -1,6 +1,6 @@
 //! Retries of calls: their settings.
 
-use crate::limits::grants::{Grants, Limit, Source, Unlimited};
+use crate::limits::grants::{Grants, Limit, Source};
 use crate::policy::Policy;
 use crate::retry::hooks::{Hooked, Hooks, PlainHooks, SharedHooks};
 use crate::retry::host::{Host, SystemHost};
@@ -93,15 +93,16 @@ impl CowLimit<'_> {
 impl<'a, E> Retrying<'a, E> {
     /// Retries every error, by the code 0.
     pub fn new(policy: &'a Policy, budget: &'a impl Grants) -> Self {
-        Self::of(policy, ()).budget(budget)
+        Self::of(policy, budget, ())
     }
 }
 
 impl<'a, E, F> Retrying<'a, E, F> {
-    pub(super) fn of(policy: &'a Policy, call: F) -> Self {
+    #[inline]
+    pub(super) fn of(policy: &'a Policy, budget: &'a impl Grants, call: F) -> Self {
         Self {
             policy: Cow::Borrowed(policy),
-            budget: CowLimit::Borrowed(&Unlimited),
+            budget: CowLimit::Borrowed(budget),
             options: Options::default(),
             call,
             hooks: Hooks::plain(),
@@ -213,7 +214,7 @@ impl<'a, E, F, H, M> Retrying<'a, E, F, H, M> {
     }
 
     pub(super) fn rules(&self) -> Rules<'_> {
-        Rules { policy: &self.policy, limit: self.budget.get(), options: self.options }
+        Rules { policy: &self.policy, limit: self.budget.get(), options: &self.options }
     }
 }
 

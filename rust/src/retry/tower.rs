@@ -6,11 +6,12 @@ use crate::policy::Policy;
 use crate::random;
 use crate::retry::options::Options;
 use crate::retry::progress::{Lost, Progress, Rules};
+use crate::system::ToTake;
 use ::tokio::time::{sleep, Sleep};
 use std::fmt;
 use std::future::Future;
 use std::pin::Pin;
-use std::sync::{Arc, Mutex, MutexGuard, PoisonError};
+use std::sync::Arc;
 use std::task::{Context, Poll};
 use std::time::{Duration, Instant};
 
@@ -43,7 +44,7 @@ use std::time::{Duration, Instant};
 pub struct RetryPolicy<Request, Response, E, B = Whenever> {
     settings: Arc<Settings<Request, Response, E>>,
     /// The retry under way, of a run after the first.
-    progress: Option<Arc<Mutex<Progress>>>,
+    progress: ToTake<Progress>,
     began: B,
 }
 
@@ -141,7 +142,7 @@ impl<Request, Response, E> RetryPolicy<Request, Response, E> {
             response_code: None,
             retry_after: None,
         };
-        Self { settings: Arc::new(settings), progress: None, began: Whenever }
+        Self { settings: Arc::new(settings), progress: ToTake::none(), began: Whenever }
     }
 }
 
@@ -192,7 +193,7 @@ impl<Request, Response, E, B: Noted> RetryPolicy<Request, Response, E, B> {
     /// of `tower::timeout` ends a run that is under way.
     pub fn deadline(mut self, deadline: Duration) -> RetryPolicy<Request, Response, E, Since> {
         self.set().options.deadline = Some(deadline);
-        RetryPolicy { settings: self.settings, progress: None, began: Since(now()) }
+        RetryPolicy { settings: self.settings, progress: ToTake::none(), began: Since(now()) }
     }
 
     /// The settings, which other copies of the policy keep as they are.
@@ -204,14 +205,14 @@ impl<Request, Response, E, B: Noted> RetryPolicy<Request, Response, E, B> {
     #[inline(never)]
     fn again(&self, code: u64, result: Result<&Response, &E>) -> Option<RetryWait<Request, Response, E, B>> {
         let (settings, now) = (&*self.settings, now());
-        let progress = match &self.progress {
-            Some(progress) => progress.clone(),
-            None => Arc::new(Mutex::new(Progress::new(self.began.began(now)))),
+        let mut progress = match self.progress.take() {
+            Some(progress) => progress,
+            None => Box::new(Progress::new(self.began.began(now))),
         };
         let retry_after = settings.retry_after.as_ref().and_then(|retry_after| retry_after(result));
-        let wait =
-            lock(&progress).lost(settings.rules(), Lost { now, code, words: random::next(), retry_after }).ok()?;
-        let next = Self { settings: self.settings.clone(), progress: Some(progress), began: self.began };
+        let lost = Lost { now, code, words: random::next(), retry_after };
+        let wait = progress.lost(&settings.rules(), &lost).ok()?;
+        let next = Self { settings: self.settings.clone(), progress: ToTake::new(progress), began: self.began };
         Some(RetryWait { next: Some(next), sleep: if wait.is_zero() { None } else { Some(sleeping(wait)) } })
     }
 }
@@ -220,7 +221,7 @@ impl<Request, Response, E, B> RetryPolicy<Request, Response, E, B> {
     /// The request was answered as it should be.
     #[inline(never)]
     fn succeeded(&self) {
-        let last = self.progress.as_ref().and_then(|progress| lock(progress).won());
+        let last = self.progress.take().and_then(|mut progress| progress.won());
         self.settings.source.count_success_now(last);
     }
 }
@@ -229,14 +230,9 @@ fn sleeping(wait: Duration) -> Pin<Box<Sleep>> {
     Box::pin(sleep(wait))
 }
 
-#[inline]
-fn lock(progress: &Mutex<Progress>) -> MutexGuard<'_, Progress> {
-    progress.lock().unwrap_or_else(PoisonError::into_inner)
-}
-
 impl<Request, Response, E> Settings<Request, Response, E> {
     fn rules(&self) -> Rules<'_> {
-        Rules { policy: &self.policy, limit: &self.source, options: self.options }
+        Rules { policy: &self.policy, limit: &self.source, options: &self.options }
     }
 
     /// The number by which the schedule knows what is a failure.
@@ -273,10 +269,10 @@ impl<Request, Response, E, B: Noted> Future for RetryWait<Request, Response, E, 
                 return Poll::Pending;
             }
         }
-        let next = this.next.take().expect("it is not polled after its end");
-        if let (Some(_), Some(progress)) = (&this.sleep, &next.progress) {
+        let mut next = this.next.take().expect("it is not polled after its end");
+        if this.sleep.is_some() {
             // Where the engine refuses it, the run that tower makes all the same is the last one.
-            let _ = lock(progress).resume(now);
+            let _ = next.progress.get_mut().map(|progress| progress.resume(now));
         }
         Poll::Ready(next)
     }
@@ -318,7 +314,7 @@ where
 impl<Request, Response, E, B: Noted> Clone for RetryPolicy<Request, Response, E, B> {
     #[inline]
     fn clone(&self) -> Self {
-        Self { settings: self.settings.clone(), progress: None, began: B::begins() }
+        Self { settings: self.settings.clone(), progress: ToTake::none(), began: B::begins() }
     }
 }
 

@@ -1,9 +1,18 @@
-//! Calls of the system that the standard library doesn't have, as safe ones.
+//! Calls of the system that the standard library doesn't have, as safe ones, and values that threads and forks share.
 #![allow(unsafe_code)]
 
 #[cfg(feature = "leased")]
-use std::sync::atomic::AtomicI32;
+mod files;
+#[cfg(feature = "tower")]
+mod to_take;
+mod try_lock;
+
+#[cfg(feature = "leased")]
+pub(crate) use files::{boottime, try_lock, unlock};
 use std::sync::atomic::{AtomicBool, AtomicPtr, AtomicU64, Ordering};
+#[cfg(feature = "tower")]
+pub(crate) use to_take::ToTake;
+pub(crate) use try_lock::TryLock;
 
 extern "C" {
     fn pthread_atfork(
@@ -21,7 +30,7 @@ static IS_REGISTERED: AtomicBool = AtomicBool::new(false);
 unsafe extern "C" fn count_fork() {
     GENERATION.fetch_add(1, Ordering::Relaxed);
     #[cfg(feature = "leased")]
-    close_inherited();
+    files::close_inherited();
 }
 
 /// A number that is another one in a forked child than in its parent. It costs two loads, and no call of the system.
@@ -31,6 +40,12 @@ pub(crate) fn generation() -> u64 {
         register();
     }
     GENERATION.load(Ordering::Relaxed)
+}
+
+/// Whether this process is the one in which [`generation`] gave this number.
+#[inline]
+pub(crate) fn is_generation(number: u64) -> bool {
+    GENERATION.load(Ordering::Relaxed) == number
 }
 
 #[cold]
@@ -73,8 +88,7 @@ impl<T> PerProcess<T> {
     pub(crate) fn get(&self, make: impl FnOnce() -> T) -> &T {
         // SAFETY: the pointer is always to a value that is freed when this is dropped, or never.
         let made = unsafe { &*self.present.load(Ordering::Acquire) };
-        // (forks are counted since this was made)
-        if made.generation == GENERATION.load(Ordering::Relaxed) {
+        if is_generation(made.generation) {
             &made.value
         } else {
             self.make_anew(made, make)
@@ -127,80 +141,4 @@ impl<T> Drop for PerProcess<T> {
             leaked(made);
         }
     }
-}
-
-/// The descriptors of files whose locks this process may have, and -1s.
-#[cfg(feature = "leased")]
-static LOCKED: [AtomicI32; 32] = {
-    #[allow(clippy::declare_interior_mutable_const)]
-    const NONE: AtomicI32 = AtomicI32::new(-1);
-    [NONE; 32]
-};
-
-/// Closes the files of the parent's locks in a child: they would stay locked as long as it lives, where the parent died.
-#[cfg(feature = "leased")]
-fn close_inherited() {
-    for locked in &LOCKED {
-        let descriptor = locked.swap(-1, Ordering::Relaxed);
-        if descriptor >= 0 {
-            // SAFETY: the descriptor is that of a file which a thread of the parent had open, and no thread of the child.
-            unsafe { libc::close(descriptor) };
-        }
-    }
-}
-
-/// Takes the file's lock, where nobody else has it. (Of more than 32 files at once a child may keep some.)
-#[cfg(feature = "leased")]
-pub(crate) fn try_lock(file: &std::fs::File) -> std::io::Result<()> {
-    use std::os::unix::io::AsRawFd;
-    let _ = LOCKED.iter().any(|locked| change(locked, -1, file.as_raw_fd()));
-    let locked = flock(file, libc::LOCK_EX | libc::LOCK_NB);
-    if locked.is_err() {
-        forget(file);
-    }
-    locked
-}
-
-/// Gives the file's lock up, also where a forked child has inherited the open file.
-#[cfg(feature = "leased")]
-pub(crate) fn unlock(file: &std::fs::File) {
-    // (an open file's lock can always be given up)
-    let _ = flock(file, libc::LOCK_UN);
-    forget(file);
-}
-
-#[cfg(feature = "leased")]
-fn forget(file: &std::fs::File) {
-    use std::os::unix::io::AsRawFd;
-    let _ = LOCKED.iter().any(|locked| change(locked, file.as_raw_fd(), -1));
-}
-
-#[cfg(feature = "leased")]
-fn change(locked: &AtomicI32, from: i32, to: i32) -> bool {
-    locked.compare_exchange(from, to, Ordering::Relaxed, Ordering::Relaxed).is_ok()
-}
-
-#[cfg(feature = "leased")]
-fn flock(file: &std::fs::File, operation: i32) -> std::io::Result<()> {
-    use std::os::unix::io::AsRawFd;
-    // SAFETY: the descriptor is that of an open file.
-    match unsafe { libc::flock(file.as_raw_fd(), operation) } {
-        0 => Ok(()),
-        _ => Err(std::io::Error::last_os_error()),
-    }
-}
-
-/// How long ago the machine started, also while it slept, as this process's time namespace has it. Nobody can set this
-/// clock.
-#[cfg(feature = "leased")]
-pub(crate) fn boottime() -> std::io::Result<std::time::Duration> {
-    let mut time = std::mem::MaybeUninit::<libc::timespec>::uninit();
-    // SAFETY: the call writes the time to the place that it is handed, and it is read only where it answers 0.
-    let time = unsafe {
-        if libc::clock_gettime(libc::CLOCK_BOOTTIME, time.as_mut_ptr()) != 0 {
-            return Err(std::io::Error::last_os_error());
-        }
-        time.assume_init()
-    };
-    Ok(std::time::Duration::new(u64::try_from(time.tv_sec).unwrap_or(0), u32::try_from(time.tv_nsec).unwrap_or(0)))
 }
