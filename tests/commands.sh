@@ -66,13 +66,13 @@ bindings() {
   sed -i 's/hikebox_pass_raise(hikebox_pass \*pass, uint64_t to,/hikebox_pass_raise(hikebox_pass *pass, uint32_t to,/' "$changed/include/hikebox.h"
   sed -i 's/there is no ticket/no ticket is left/' "$changed"/crates/*/src/status.rt
   wants 1 '' 'bin/bindings: rust/src/engine/sys.rs is not what the header says: run bin/bindings
-bin/bindings: python/src/hikebox/_engine.py is not what the header says: run bin/bindings
+bin/bindings: python/src/hikebox/_engine/calls.py is not what the header says: run bin/bindings
 bin/bindings: c/texts.c is not what the header says: run bin/bindings' "$changed/bin/bindings" --check
   "$changed/bin/bindings" >/dev/null
   wants 0 "bin/bindings: $(grep -c "^HIKEBOX_CHECKED hikebox_status \|^hikebox_status hikebox_" include/hikebox.h) calls of the header" '' "$changed/bin/bindings" --check
   wants 0 '    pub(super) fn hikebox_pass_raise(pass: *mut Raw, to: u32, limit: *mut u64) -> u32;' '' \
     grep 'fn hikebox_pass_raise' "$changed/rust/src/engine/sys.rs"
-  wants 0 '    "hikebox_pass_raise": (_HANDLE, c_uint32, _NUMBER),' '' grep '"hikebox_pass_raise":' "$changed/python/src/hikebox/_engine.py"
+  wants 0 '    "hikebox_pass_raise": (_HANDLE, c_uint32, _NUMBER),' '' grep '"hikebox_pass_raise":' "$changed/python/src/hikebox/_engine/calls.py"
   rm -rf "$changed"
 }
 

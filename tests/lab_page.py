@@ -521,7 +521,7 @@ def test_pictures_have_their_colours_outside_of_browsers(window: Browser, tmp_pa
 def test_the_file_that_a_browser_is_given_leads_to_the_page(window: Browser, lab: Lab, tmp_path: Path) -> None:
     window.open("about:blank")
     sys.path.insert(0, str(TOP / "python" / "src"))
-    from hikebox._lab import _door
+    from hikebox.lab.server import _door
 
     window.open(_door(tmp_path, f"{lab.address}#story=jitter&b=recurs%281%29").as_uri())
     window.wait(f"return location.origin !== 'null' && (() => {{ {PLAYED} }})()")

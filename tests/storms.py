@@ -22,7 +22,7 @@ sys.path.insert(0, str(TOP / "python" / "tests"))
 
 import reference  # noqa: E402
 
-seeded = runpy.run_path(str(TOP / "python" / "src" / "hikebox" / "_seeded.py"))["seeded"]
+seeded = runpy.run_path(str(TOP / "python" / "src" / "hikebox" / "cli" / "seeded.py"))["seeded"]
 
 #: The units of work of a call.
 CALL = 100_000

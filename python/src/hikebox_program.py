@@ -11,6 +11,6 @@ def main() -> int:
     if signal.getsignal(signal.SIGINT) is signal.default_int_handler:
         signal.signal(signal.SIGINT, signal.SIG_DFL)
     signal.signal(signal.SIGPIPE, signal.SIG_DFL)
-    from hikebox._cli import main as program
+    from hikebox.cli.main import main as program
 
     return program()

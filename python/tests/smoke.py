@@ -19,10 +19,10 @@ from typing import Any, List
 
 def main() -> None:
     import hikebox
-    from hikebox import _engine
+    from hikebox._engine.calls import library_path
 
     folder = os.path.realpath(sys.argv[1])
-    for path in (hikebox.__file__, _engine.library_path()):
+    for path in (hikebox.__file__, library_path()):
         assert os.path.realpath(path).startswith(folder + os.sep), path
     failed = tried = 0
     names = ["hikebox", *(module.name for module in pkgutil.walk_packages(hikebox.__path__, "hikebox."))]

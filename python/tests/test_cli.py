@@ -19,7 +19,7 @@ import reference
 from conftest import TOP, heed_signals, python_environment
 from test_policy import spoilt
 
-from hikebox._words import statuses
+from hikebox.cli.values import statuses
 
 
 def hikebox(*words: str, text: Optional[str] = None, **how: Any) -> Tuple[int, str, str]:

@@ -11,7 +11,7 @@ from typing import Any, Dict, List
 import pytest
 from conftest import TOP
 
-from hikebox._cli import _parser
+from hikebox.cli.main import _parser
 
 SHARE = TOP / "python" / "share"
 SCENARIOS = ["outage", "herd", "brown-out"]

@@ -13,9 +13,9 @@ from typing import Any, Dict, List, Tuple
 import pytest
 from conftest import TOP, python_environment
 
-from hikebox import _engine, _leasing, _structs
-from hikebox._engine import Handle, Pass, PolicyHandle
-from hikebox._machine import Machine
+from hikebox._engine import calls, leasing, structs
+from hikebox._engine.handles import Handle, Pass, PolicyHandle
+from hikebox._engine.machine import Machine
 from hikebox.errors import EngineError
 
 HEADER = TOP / "include" / "hikebox.h"
@@ -31,27 +31,27 @@ TYPES: Dict[str, Any] = {
     "const uint32_t [4]": (ctypes.POINTER(ctypes.c_uint32),),
     "bool": (ctypes.c_bool,),
     "const uint64_t *": (ctypes.POINTER(c_uint64),),
-    "hikebox_place *": (ctypes.POINTER(_structs.Place),),
-    "const hikebox_course *": (ctypes.POINTER(_structs.Course),),
-    "const hikebox_event *": (ctypes.POINTER(_structs.Event),),
-    "hikebox_line *": (ctypes.POINTER(_structs.Line),),
-    "hikebox_next *": (ctypes.POINTER(_structs.Next),),
-    "hikebox_usage *": (ctypes.POINTER(_structs.Usage),),
-    "const hikebox_storm *": (ctypes.POINTER(_structs.Storm),),
-    "hikebox_window *": (ctypes.POINTER(_structs.Window),),
-    "hikebox_totals *": (ctypes.POINTER(_structs.Totals),),
-    "hikebox_stored *": (ctypes.POINTER(_structs.Stored),),
-    "const hikebox_asking *": (ctypes.POINTER(_structs.Asking),),
-    "hikebox_range *": (ctypes.POINTER(_structs.Range),),
-    **{f"{const}hikebox_ticket *": (ctypes.POINTER(_structs.LeasedTicket),) for const in ("", "const ")},
-    "const hikebox_grant *": (ctypes.POINTER(_structs.Grant),),
+    "hikebox_place *": (ctypes.POINTER(structs.Place),),
+    "const hikebox_course *": (ctypes.POINTER(structs.Course),),
+    "const hikebox_event *": (ctypes.POINTER(structs.Event),),
+    "hikebox_line *": (ctypes.POINTER(structs.Line),),
+    "hikebox_next *": (ctypes.POINTER(structs.Next),),
+    "hikebox_usage *": (ctypes.POINTER(structs.Usage),),
+    "const hikebox_storm *": (ctypes.POINTER(structs.Storm),),
+    "hikebox_window *": (ctypes.POINTER(structs.Window),),
+    "hikebox_totals *": (ctypes.POINTER(structs.Totals),),
+    "hikebox_stored *": (ctypes.POINTER(structs.Stored),),
+    "const hikebox_asking *": (ctypes.POINTER(structs.Asking),),
+    "hikebox_range *": (ctypes.POINTER(structs.Range),),
+    **{f"{const}hikebox_ticket *": (ctypes.POINTER(structs.LeasedTicket),) for const in ("", "const ")},
+    "const hikebox_grant *": (ctypes.POINTER(structs.Grant),),
     **{f"hikebox_{kind} *": (ctypes.POINTER(Handle),) for kind in ("policy", "pass", "leased", "retry")},
 }
 
 CTYPES: Dict[str, Any] = {
     "uint64_t": c_uint64,
     "uint32_t": ctypes.c_uint32,
-    "uint32_t[4]": _structs.Words,
+    "uint32_t[4]": structs.Words,
     "bool": ctypes.c_bool,
 }
 
@@ -64,7 +64,7 @@ def header() -> str:
 
 def test_the_signatures_are_those_of_the_header() -> None:
     declared: Dict[str, Tuple[Any, ...]] = {}
-    signatures = {**_engine.SIGNATURES, **_leasing.SIGNATURES}
+    signatures = {**calls.SIGNATURES, **leasing.SIGNATURES}
     for name, parameters in re.findall(r"hikebox_status (hikebox_\w+)\((.*?)\);", header(), flags=re.S):
         if name not in signatures:
             continue
@@ -90,12 +90,12 @@ def test_the_structures_are_those_of_the_header() -> None:
         (name, fields(body))
         for body, name in re.findall(r"typedef struct \{(.*?)\} (hikebox_\w+);", header(), flags=re.S)
     )
-    kinds: Dict[str, Any] = {"place": _structs.Place, "course": _structs.Course}
-    kinds.update({"event": _structs.Event, "line": _structs.Line})
-    kinds.update({"next": _structs.Next, "usage": _structs.Usage, "storm": _structs.Storm})
-    kinds.update({"window": _structs.Window, "totals": _structs.Totals})
-    kinds.update({"stored": _structs.Stored, "asking": _structs.Asking, "range": _structs.Range})
-    kinds.update({"ticket": _structs.LeasedTicket, "grant": _structs.Grant})
+    kinds: Dict[str, Any] = {"place": structs.Place, "course": structs.Course}
+    kinds.update({"event": structs.Event, "line": structs.Line})
+    kinds.update({"next": structs.Next, "usage": structs.Usage, "storm": structs.Storm})
+    kinds.update({"window": structs.Window, "totals": structs.Totals})
+    kinds.update({"stored": structs.Stored, "asking": structs.Asking, "range": structs.Range})
+    kinds.update({"ticket": structs.LeasedTicket, "grant": structs.Grant})
     for name, kind in kinds.items():
         assert [(field, CTYPES[word]) for word, field in found[f"hikebox_{name}"]] == list(kind._fields_)
 
@@ -104,18 +104,18 @@ def test_the_numbers_are_those_of_the_header() -> None:
     text = header()
     numbers = dict(re.findall(r"HIKEBOX_(\w+) = (\d+)", text))
     most = dict(re.findall(r"#define HIKEBOX_MAX_(\w+) (?:UINT64_C\()?(\d+)", text))
-    known = (_engine.MAX_TICKETS, _engine.MAX_SHARE, _engine.MAX_STEPS)
+    known = (calls.MAX_TICKETS, calls.MAX_SHARE, calls.MAX_STEPS)
     assert (int(most["TICKETS"]), int(most["SHARE"]), int(most["STEPS"])) == known
     for name in ("NO_DEADLINE", "NO_BOUND"):
-        assert f"#define HIKEBOX_{name} UINT64_MAX" in text and getattr(_engine, name) == 2**64 - 1
+        assert f"#define HIKEBOX_{name} UINT64_MAX" in text and getattr(calls, name) == 2**64 - 1
     for name in (
         ["OK", "NO_MEMORY", "TOO_LARGE", "NO_ROOM", "NOT_JSON", "NOT_A_POLICY", "OUT_OF_RANGE", "TOO_DEEP", "TOO_MANY"]
         + ["BACKWARDS", "LIMIT_TOO_LARGE", "FIXED", "NO_TICKET", "TOO_MANY_PASSES", "PASSES_OUT", "RACES_LOST"]
         + ["NOTHING_TO_HAND_BACK", "LEASE_WANTED", "NOT_OUT", "HELD_ALREADY"]
         + ["NO_REPORT", "WON", "LOST", "POLL", "RUN", "WAIT", "OVER", "ON_NOTHING", "ON_BUDGET", "ON_QUOTA"]
     ):
-        assert int(numbers[name]) == getattr(_engine, name), name
-    from hikebox.state import ENDINGS, Ending
+        assert int(numbers[name]) == getattr(calls, name), name
+    from hikebox.retry.state import ENDINGS, Ending
 
     endings = {name: int(number) for name, number in numbers.items() if name.startswith("ENDED_")}
     assert {number: ENDINGS[number] for number in endings.values()} == {
@@ -223,7 +223,7 @@ def test_a_course_has_a_line_for_each_event() -> None:
     assert policy.course(0, 50, 0, [middle]) == []
     with pytest.raises(EngineError) as caught:
         policy.course(1, 2**62, 0, [middle])
-    assert caught.value.status == _engine.OUT_OF_RANGE
+    assert caught.value.status == calls.OUT_OF_RANGE
 
 
 def test_a_course_with_long_outputs() -> None:
@@ -231,7 +231,7 @@ def test_a_course_with_long_outputs() -> None:
     told = listed.course(1000, 0, 0, [(0, 0, 0, 0, 0)])
     assert len(told) == 1000 and told[-1].start == 1000
     assert [each.output for each in told] == [str(list(range(length))) for length in range(1000)]
-    assert len(read(b'{"spaced":1}').course(_engine.MAX_STEPS, 0, 0, [(0, 0, 0, 0, 0)])) == 4096
+    assert len(read(b'{"spaced":1}').course(calls.MAX_STEPS, 0, 0, [(0, 0, 0, 0, 0)])) == 4096
 
 
 def test_threads_share_a_policy() -> None:
@@ -243,7 +243,7 @@ def test_threads_share_a_policy() -> None:
         for _ in range(300):
             above = node(b"cap", 5, first=policy)
             assert machine.begin(policy, drawn)
-            polled = machine.poll(0, _engine.NO_REPORT, 0), machine.poll(0, _engine.LOST, 0)
+            polled = machine.poll(0, calls.NO_REPORT, 0), machine.poll(0, calls.LOST, 0)
             machine.end(drawn)
             seen.append(
                 (above.size(), policy.json(), policy.course(2, 0, 0, [(0, 0, 0, 0, 0)])[1].start, polled[1][:2])
@@ -256,21 +256,21 @@ def test_threads_share_a_policy() -> None:
     for thread in threads:
         thread.join()
     text = '{"meet":[{"recurs":3},{"spaced":10}]}'
-    assert seen == [((4, 3, 3), text, 20, (_engine.WAIT, 10))] * 1800
+    assert seen == [((4, 3, 3), text, 20, (calls.WAIT, 10))] * 1800
 
 
 def test_wrong_handles_are_refused_and_nothing_is_lost() -> None:
     policy = read(b'{"recurs":2}')
     drawn = Pass.of_budget(3, False)
-    library = _engine.library
+    library = calls.library
     empty = Handle()
-    number, words = c_uint64(), _structs.Words()
+    number, words = c_uint64(), structs.Words()
     assert library.hikebox_pass_draw(byref(empty), 0, byref(number)) == 1
     assert library.hikebox_pass_draw(policy.at, 0, byref(number)) == 2
     assert library.hikebox_policy_free(byref(empty)) == 1
     assert library.hikebox_policy_free(drawn.at) == 2
     assert library.hikebox_budget_fixed(1, drawn.at) == 3
-    assert library.hikebox_retry_poll(policy.at, 0, words, 0, 0, byref(_structs.Next())) == 2
+    assert library.hikebox_retry_poll(policy.at, 0, words, 0, 0, byref(structs.Next())) == 2
     assert policy.size() == (1, 1, 2) and drawn.draw() == 0
     machine = Machine()
     assert machine.begin(policy, drawn)
@@ -284,14 +284,14 @@ def test_wrong_handles_are_refused_and_nothing_is_lost() -> None:
 def test_a_retry_as_a_machine() -> None:
     machine, policy, drawn = Machine(), read(b'{"meet":[{"recurs":5},{"spaced":100}]}'), Pass.of_budget(100, False)
     assert machine.begin(policy, drawn)
-    assert machine.poll(0, _engine.NO_REPORT, 0)[0] == _engine.RUN
-    assert machine.poll(10, _engine.LOST, 7) == (_engine.WAIT, 110, 1)
-    assert machine.poll(109, _engine.NO_REPORT, 0) == (_engine.WAIT, 110, 0)
+    assert machine.poll(0, calls.NO_REPORT, 0)[0] == calls.RUN
+    assert machine.poll(10, calls.LOST, 7) == (calls.WAIT, 110, 1)
+    assert machine.poll(109, calls.NO_REPORT, 0) == (calls.WAIT, 110, 0)
     with pytest.raises(EngineError) as caught:
-        machine.poll(109, _engine.LOST, 7)
+        machine.poll(109, calls.LOST, 7)
     assert caught.value.status == 41
-    assert machine.poll(110, _engine.NO_REPORT, 0)[0] == _engine.RUN
-    assert machine.poll(120, _engine.WON, 1) == (_engine.OVER, 1, 1)
+    assert machine.poll(110, calls.NO_REPORT, 0)[0] == calls.RUN
+    assert machine.poll(120, calls.WON, 1) == (calls.OVER, 1, 1)
     assert drawn.close() is None
     machine.end(drawn)
     assert drawn.close() == 1
@@ -302,10 +302,10 @@ def test_a_retry_on_a_quota_as_a_machine() -> None:
     drawn.deposit(5_010)
     assert drawn.seen(5_010) == (5, 1, 0, 1, 6_000)
     assert machine.begin(policy, drawn)
-    assert machine.poll(5_010, _engine.NO_REPORT, 0)[0] == _engine.RUN
-    assert machine.poll(5_020, _engine.LOST, 7) == (_engine.WAIT, 5_120, 1)
-    assert machine.poll(5_120, _engine.NO_REPORT, 0)[0] == _engine.RUN
-    assert machine.poll(5_999, _engine.LOST, 7) == (_engine.OVER, 3, 1)
+    assert machine.poll(5_010, calls.NO_REPORT, 0)[0] == calls.RUN
+    assert machine.poll(5_020, calls.LOST, 7) == (calls.WAIT, 5_120, 1)
+    assert machine.poll(5_120, calls.NO_REPORT, 0)[0] == calls.RUN
+    assert machine.poll(5_999, calls.LOST, 7) == (calls.OVER, 3, 1)
     assert drawn.close() is None
     machine.end(drawn)
     assert drawn.draw(5_999) is None and drawn.draw(6_000) == 6 * 2**32
@@ -365,10 +365,10 @@ def test_a_retry_with_a_deadline_as_a_machine() -> None:
             assert machine.begin(policy, drawn, 1000)
         for retries in (1, 2):
             start = 450 * (retries - 1)
-            assert machine.poll(start, _engine.NO_REPORT, 0)[0] == _engine.RUN
-            assert machine.poll(start, _engine.LOST, 7) == (_engine.WAIT, start + 450, retries)
-        assert machine.poll(900, _engine.NO_REPORT, 0)[0] == _engine.RUN
-        assert machine.poll(900, _engine.LOST, 7) == (_engine.OVER, 8, 2)
+            assert machine.poll(start, calls.NO_REPORT, 0)[0] == calls.RUN
+            assert machine.poll(start, calls.LOST, 7) == (calls.WAIT, start + 450, retries)
+        assert machine.poll(900, calls.NO_REPORT, 0)[0] == calls.RUN
+        assert machine.poll(900, calls.LOST, 7) == (calls.OVER, 8, 2)
         if drawn is None:
             machine.free()
         else:
@@ -379,9 +379,9 @@ def test_a_retry_with_a_deadline_as_a_machine() -> None:
 def test_a_retry_on_nothing_as_a_machine() -> None:
     machine, policy = Machine(), read(b'"forever"')
     machine.begin_unlimited(policy)
-    assert machine.poll(0, _engine.NO_REPORT, 0)[0] == _engine.RUN
+    assert machine.poll(0, calls.NO_REPORT, 0)[0] == calls.RUN
     for retries in range(1, 1000):
-        assert machine.poll(retries, _engine.LOST, 0) == (_engine.RUN, 0, retries)
+        assert machine.poll(retries, calls.LOST, 0) == (calls.RUN, 0, retries)
     with pytest.raises(EngineError) as caught:
         machine.end(Pass.of_budget(1, False))
     assert caught.value.status == 42
@@ -406,7 +406,7 @@ def test_a_retry_ends_on_what_it_draws_on_alone() -> None:
     assert caught.value.status == 42
     machine.end(budget)
     assert (quota.close(), budget.close()) == (0, 0)
-    library = _engine.library
+    library = calls.library
     assert library.hikebox_pass_draw(policy.at, 0, byref(c_uint64())) == 2
     assert library.hikebox_pass_draw(quota.at, 0, byref(c_uint64())) == 1
     assert library.hikebox_pass_deposit(quota.at, 2**62, 1) == 5
@@ -439,4 +439,4 @@ def test_a_status_without_a_name_is_an_error() -> None:
         PolicyHandle().size()
     error: Any = EngineError("hikebox_pass_draw", 1)
     assert "status 1" in str(error)
-    assert isinstance(_engine.refused("a call", _engine.NO_MEMORY), MemoryError)
+    assert isinstance(calls.refused("a call", calls.NO_MEMORY), MemoryError)

@@ -8,7 +8,7 @@ import pytest
 import reference
 
 from hikebox import Policy
-from hikebox._faults import Marked, policy_in
+from hikebox.lab.faults import Marked, policy_in
 
 MARKS = [
     # the text, with the mark in brackets; what is said, and the hint

@@ -67,7 +67,7 @@ def test_the_slot_of_a_budget(tmp_path: Path) -> None:
 
 
 def test_fnv_1a_of_known_texts(tmp_path: Path) -> None:
-    from hikebox._slots import slot_path
+    from hikebox.leased.slots import slot_path
 
     # test vectors of the hash's authors
 
@@ -631,7 +631,7 @@ def test_windows_that_are_over_are_deleted(tmp_path: Path) -> None:
     locked = deleted.pop()
     import fcntl
 
-    from hikebox._file_store import _prune
+    from hikebox.leased.file_store import _prune
 
     with open(locked, "rb") as file:
         fcntl.flock(file, fcntl.LOCK_EX)

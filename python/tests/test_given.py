@@ -43,7 +43,7 @@ from hikebox import (
     spaced,
     state_of,
 )
-from hikebox._settings import DEFAULTS, MAX_RETRY_AFTER
+from hikebox.retry.settings import DEFAULTS, MAX_RETRY_AFTER
 from hikebox.retrying import BaseRetrying
 from hikebox.testing import VirtualClock, no_waits
 
@@ -1044,7 +1044,7 @@ def test_a_switch_leaves_all_waits_out() -> None:
 
 
 def test_the_machines_of_many_retries_at_once_are_given_up() -> None:
-    from hikebox import _machine
+    from hikebox._engine import machine as machines
 
     async def main() -> int:
         gate = asyncio.Event()
@@ -1066,7 +1066,7 @@ def test_the_machines_of_many_retries_at_once_are_given_up() -> None:
         return runs
 
     assert asyncio.run(main()) == 4000
-    assert len(_machine._machines) <= 64
+    assert len(machines._machines) <= 64
 
 
 HEAP_OF_MANY = """

@@ -13,8 +13,10 @@ from typing import Any, Callable, Dict, Iterator, List, Set, Tuple
 import pytest
 
 import hikebox
-from hikebox import AsyncRetrying, Budget, Quota, Retrying, _course, _machine, recurs, spaced, state
+from hikebox import AsyncRetrying, Budget, Quota, Retrying, recurs, spaced
+from hikebox._engine import machine as machines
 from hikebox.leased import FileStore, Leased, LeasedQuota
+from hikebox.retry import course, state
 
 
 @pytest.fixture(autouse=True)
@@ -177,7 +179,7 @@ def interrupted_at(step: int, run: Callable[[], Any]) -> bool:
 
 
 def test_a_machine_serves_one_retry_at_a_time_whatever_step_is_interrupted(monkeypatch: Any) -> None:
-    monkeypatch.setattr(_course, "is_crowded", lambda: True)
+    monkeypatch.setattr(course, "is_crowded", lambda: True)
     retrying = AsyncRetrying(recurs(2) & spaced(0.001), sleep=lambda seconds: Waits())
 
     def run() -> None:
@@ -191,7 +193,7 @@ def test_a_machine_serves_one_retry_at_a_time_whatever_step_is_interrupted(monke
     for step in range(1, 10_000):
         reached = interrupted_at(step, run)
         gc.collect()
-        pool = _machine._machines
+        pool = machines._machines
         assert len({id(machine) for machine in pool}) == len(pool), step
         assert not any(machine.handle.held for machine in pool), step
         if not reached:
@@ -203,7 +205,7 @@ def test_a_machine_serves_one_retry_at_a_time_whatever_step_is_interrupted(monke
 def test_the_engines_retry_of_a_machine_that_is_lost_is_freed() -> None:
     freed: List[Any] = []
 
-    class Watched(_machine.Machine):
+    class Watched(machines.Machine):
         def __del__(self, *how: Any) -> None:
             super().__del__(*how)
             freed.append(self.handle.held)

@@ -23,11 +23,11 @@ import pytest
 from conftest import TOP, heed_signals, python_environment
 
 from hikebox import Policy, Quota, recurs, storm
-from hikebox._lab import Lab
-from hikebox._lab_cookbook import COOKBOOK
-from hikebox._lab_players import BrokenOff, Players
-from hikebox._storm_code import in_command, in_python, in_scenario
-from hikebox._storm_terms import SCENARIOS, Parameters, Slow, Span
+from hikebox.lab.server import Lab
+from hikebox.lab.cookbook import COOKBOOK
+from hikebox.lab.players import BrokenOff, Players
+from hikebox.storms.code import in_command, in_python, in_scenario
+from hikebox.storms.parameters import SCENARIOS, Parameters, Slow, Span
 from hikebox.quota import Terms
 
 #: How long is waited for what has to happen, in seconds: on a machine with much else to do it takes long.
@@ -134,7 +134,7 @@ def test_its_own_host_and_origin_are_answered(lab: Lab) -> None:
 
 
 def test_other_names_and_methods_are_none(lab: Lab) -> None:
-    for name in ("x", "page.html", "../_lab.py", "%2e%2e/_lab.py", "lab.js/", "start"):
+    for name in ("x", "page.html", "server.py", "../_svg.py", "%2e%2e/_svg.py", "lab.js/", "start"):
         assert ask(lab, "GET", f"/{lab.token}/{name}").status == 404
     assert post(lab, "x", {}).status == 404
     assert ask(lab, "PUT", f"/{lab.token}/start", b"{}").status == 501
@@ -301,7 +301,7 @@ def test_the_program_in_python_plays_the_storm_of_the_page(spelt: str, parameter
 def test_the_command_and_the_scenario_play_the_storm_of_the_page(
     spelt: str, parameters: Parameters, tmp_path: Path, capsys: pytest.CaptureFixture[str]
 ) -> None:
-    from hikebox._cli import main
+    from hikebox.cli.main import main
     from hikebox.storm import play
 
     played = play(Policy.parse(spelt), parameters)

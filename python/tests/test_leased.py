@@ -113,7 +113,7 @@ def test_parameters() -> None:
 
 def test_windows_of_a_file(tmp_path: Path, monkeypatch: Any) -> None:
     now = [0.0]
-    monkeypatch.setattr("hikebox._file_store.shared_uptime", lambda: round(now[0] * 10**9))
+    monkeypatch.setattr("hikebox.leased.file_store.shared_uptime", lambda: round(now[0] * 10**9))
     store = FileStore(tmp_path / "counts")
     first, second = (Leased(store, "a", limit=3, per=0.2, clock=lambda: now[0]) for _ in range(2))
     for window in (35, 36, 37, 39, 50):

@@ -19,8 +19,8 @@ from conftest import HERE, python_environment
 
 from draws import drawn_by, number, repeated
 from hikebox import AsyncRetrying, Ending, Retrying, StoreError, TermsError, Usage, recurs, spaced, state_of
-from hikebox._engine import MAX_TICKETS
-from hikebox._leasing import Stored, lease_of_quota
+from hikebox._engine.calls import MAX_TICKETS
+from hikebox._engine.leasing import Stored, lease_of_quota
 from hikebox.leased import FileStore, Leased, LeasedQuota, QuotaRange, RedisStore
 from hikebox.quota import Terms
 
@@ -353,7 +353,7 @@ def test_a_forked_child_has_leases_and_requests_of_its_own(tmp_path: Path) -> No
 
 def test_windows_of_a_file(tmp_path: Path, monkeypatch: Any) -> None:
     now = [0.0]
-    monkeypatch.setattr("hikebox._file_store.shared_uptime", lambda: round(now[0] * 10**9))
+    monkeypatch.setattr("hikebox.leased.file_store.shared_uptime", lambda: round(now[0] * 10**9))
     store = FileStore(tmp_path / "counts")
     quota = LeasedQuota(store, "a", 2, 0.5, 0.4, lease=1, again_after=0.01, clock=lambda: now[0])
     for window in (35, 36, 37, 39, 50):
@@ -521,7 +521,7 @@ def test_a_quota_in_redis(redis_server: Any) -> None:
 
 
 def test_the_script_rounds_as_a_quota_does(redis_server: Any) -> None:
-    from hikebox import _redis_store
+    from hikebox.leased import redis_store
 
     client = redis_server().client()
     for reserve, share, asked, allowed in [
@@ -536,16 +536,16 @@ def test_the_script_rounds_as_a_quota_does(redis_server: Any) -> None:
         (5, 0, 2**40, 5),
     ]:
         client.delete("k")
-        given = client.eval(_redis_store.GRANT, 1, "k", asked, 2**40, reserve, share, 2**32, 1000)
+        given = client.eval(redis_store.GRANT, 1, "k", asked, 2**40, reserve, share, 2**32, 1000)
         assert given == [0, allowed, asked]
         assert Terms(reserve, share, 1).allowed(asked) == allowed
-        assert client.eval(_redis_store.GRANT, 1, "k", 0, 5, reserve, share, 2**32, 1000) == [allowed, 0, asked]
+        assert client.eval(redis_store.GRANT, 1, "k", 0, 5, reserve, share, 2**32, 1000) == [allowed, 0, asked]
 
 
 def test_the_script_grants_what_the_step_of_a_lease_does(redis_server: Any) -> None:
     """Leases of a window, one after another, by the script and by the engine: random ones, with numbers of each
     size."""
-    from hikebox import _redis_store
+    from hikebox.leased import redis_store
 
     client = redis_server().client()
     chance = random.Random(11)
@@ -563,7 +563,7 @@ def test_the_script_grants_what_the_step_of_a_lease_does(redis_server: Any) -> N
         for _ in range(8):
             told, wanted = number(2**40), number(2**32)
             found = client.eval(
-                _redis_store.GRANT, 1, "k", told, wanted, terms.reserve, terms.share, MAX_TICKETS, 60_000
+                redis_store.GRANT, 1, "k", told, wanted, terms.reserve, terms.share, MAX_TICKETS, 60_000
             )
             granted = lease_of_quota(terms, 0, told, wanted, stored)
             assert granted is not None

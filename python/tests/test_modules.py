@@ -3,13 +3,16 @@
 from __future__ import annotations
 
 import ast
+import re
 from pathlib import Path
-from typing import Iterator, Set
+from typing import Iterator, List, Set
 
 import pytest
 from conftest import TOP
 
-MODULES = sorted((TOP / "python" / "src").rglob("*.py"))
+SOURCES = TOP / "python" / "src"
+MODULES = sorted(SOURCES.rglob("*.py"))
+NAMES = [path.relative_to(SOURCES).as_posix() for path in MODULES]
 
 
 def is_private(name: str) -> bool:
@@ -34,7 +37,7 @@ THEIRS = {"_replace", "_exit", "_asdict", "_fields"}
 THEIRS |= {"_actions", "_body_position"}
 
 
-@pytest.mark.parametrize("path", MODULES, ids=[path.stem for path in MODULES])
+@pytest.mark.parametrize("path", MODULES, ids=NAMES)
 def test_no_module_reads_anothers_underscored_members(path: Path) -> None:
     tree = ast.parse(path.read_text())
     own: Set[str] = set(declared(tree))
@@ -46,6 +49,18 @@ def test_no_module_reads_anothers_underscored_members(path: Path) -> None:
     assert {name for name in taken if is_private(name)} == set()
 
 
-@pytest.mark.parametrize("path", MODULES, ids=[path.stem for path in MODULES])
+def users_of(module: Path) -> List[Path]:
+    """The modules that import from this one."""
+    taken = re.compile(rf"^ *from \.[\w.]*\b{module.stem} import |^ *from \.+[\w.]* import .*\b{module.stem}\b", re.M)
+    return [path for path in MODULES if path != module and taken.search(path.read_text())]
+
+
+def test_a_module_with_one_user_has_30_lines() -> None:
+    small = [path for path in MODULES if len(path.read_text().splitlines()) < 30 and not path.stem.startswith("__")]
+    outside = {"hikebox_program"}  # which the entry point of the wheel names
+    assert [path.stem for path in small if path.stem not in outside and len(users_of(path)) < 2] == []
+
+
+@pytest.mark.parametrize("path", MODULES, ids=NAMES)
 def test_a_module_is_under_500_lines(path: Path) -> None:
     assert len(path.read_text().splitlines()) < 500

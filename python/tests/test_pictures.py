@@ -16,12 +16,12 @@ import pytest
 from conftest import TOP, python_environment
 
 from hikebox import Quota, Storm, StormError, decorrelated, exponential, fixed, recurs, spaced, storm, windowed
-from hikebox._cli import _parser, _policy, main
-from hikebox._plan_picture import plan_picture
-from hikebox._storm_command import wanted_of
-from hikebox._storm_cores import play_all
-from hikebox._storm_picture import storm_picture
-from hikebox._storm_terms import RANGES
+from hikebox.cli.main import _parser, _policy, main
+from hikebox.policy.picture import plan_picture
+from hikebox.cli.storm_command import wanted_of
+from hikebox.storms.cores import play_all
+from hikebox.storms.picture import storm_picture
+from hikebox.storms.parameters import RANGES
 from hikebox.quota import Terms
 
 SVG = "{http://www.w3.org/2000/svg}"
@@ -239,7 +239,7 @@ def test_titles_say_what_differs() -> None:
         ([storm(BACK), storm(recurs(1), budget=5)], [f"{BACK!r}, no limit", "recurs(1), budget of 5"]),
         ([storm(BACK)], ["no limit"]),
     ]:
-        from hikebox._storm_heads import names_of
+        from hikebox.storms.heads import names_of
 
         assert [name.replace("\u00a0", " ") for name in names_of(others)] == wanted
     titled = texts(parsed(storm(BACK).svg(quota, title="Eight retries")))
@@ -247,7 +247,7 @@ def test_titles_say_what_differs() -> None:
 
 
 def test_shares_are_whole_only_where_all_or_none_succeeded() -> None:
-    from hikebox._storm_words import share_text
+    from hikebox.storms.texts import share_text
 
     def share(won: int, requests: int) -> str:
         return share_text(replace(storm(recurs(0), seconds=1).totals, won=won, requests=requests))

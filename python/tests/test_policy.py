@@ -43,7 +43,7 @@ from hikebox import (
     unfold,
     windowed,
 )
-from hikebox._nodes import FORMS, NAMES
+from hikebox.policy.nodes import FORMS, NAMES
 
 NAMESPACE = {name: getattr(hikebox, name) for name in hikebox.__all__}
 
@@ -139,7 +139,7 @@ def test_a_builder_builds_the_node_of_its_name(policy: Policy, text: str, writte
 
 
 def test_every_node_has_a_builder() -> None:
-    built = {name for _, text, _ in BUILT for name, _ in hikebox._nodes.walk(json.loads(text))}
+    built = {name for _, text, _ in BUILT for name, _ in hikebox.policy.nodes.walk(json.loads(text))}
     assert built == {*FORMS, *NAMES}
 
 
@@ -153,7 +153,7 @@ def test_random_policies_are_written_and_read_as_they_are() -> None:
         built = Policy.parse(repr(policy))
         assert built == policy and (built.nodes, built.depth) == (policy.nodes, policy.depth)
         assert pickle.loads(pickle.dumps(policy)) == policy
-        nodes = list(hikebox._nodes.walk(tree))
+        nodes = list(hikebox.policy.nodes.walk(tree))
         picks = {own[0] for name, own in nodes if name in ("jitter", "decorrelated")}
         codes = any(name == "identity" or (name == "gate" and own[0] == "input") for name, own in nodes)
         assert policy.reads == built.reads == (frozenset(picks), codes)

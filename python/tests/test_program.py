@@ -21,8 +21,8 @@ from conftest import TOP, heed_signals, python_environment
 from test_cli import hikebox
 
 from hikebox import BudgetError
-from hikebox._seeded import seeded
-from hikebox._words import quota, terms
+from hikebox.cli.seeded import seeded
+from hikebox.cli.values import quota, terms
 
 PROGRAM = [sys.executable, "-m", "hikebox"]
 
@@ -75,10 +75,10 @@ def test_inputs_in_turn_and_words_by_a_seed() -> None:
 
 def test_the_words_of_a_seed() -> None:
     # of the authors' own program, xoshiro128plusplus.c, with the state 1, 2, 3, 4
-    from hikebox import _seeded
+    from hikebox.cli import seeded as seeds
 
     state = [1 | 2 << 32, 3 | 4 << 32]
-    original, _seeded._split_mix = _seeded._split_mix, lambda seed: iter(state)
+    original, seeds._split_mix = seeds._split_mix, lambda seed: iter(state)
     try:
         words = seeded(0)
         assert [next(words) for _ in range(10)] == [
@@ -94,9 +94,9 @@ def test_the_words_of_a_seed() -> None:
             621204420,
         ]
     finally:
-        _seeded._split_mix = original
+        seeds._split_mix = original
     # of SplitMix64, seeded with 1234567
-    numbers = _seeded._split_mix(1234567)
+    numbers = seeds._split_mix(1234567)
     assert [next(numbers) for _ in range(3)] == [6457827717110365317, 3203168211198807973, 9817491932198370423]
 
 
@@ -185,7 +185,7 @@ hikebox_program.main()
 
 def test_only_the_program_has_its_signals() -> None:
     program = (
-        "import signal; before = signal.getsignal(13), signal.getsignal(2); import hikebox_program, hikebox._cli; "
+        "import signal; before = signal.getsignal(13), signal.getsignal(2); import hikebox_program, hikebox.cli.main; "
     )
     program += "print(before == (signal.getsignal(13), signal.getsignal(2)))"
     done = subprocess.run([sys.executable, "-c", program], env=python_environment(), capture_output=True, timeout=60)

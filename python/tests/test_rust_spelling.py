@@ -17,10 +17,10 @@ if __name__ == "__main__":
 import reference
 
 from hikebox import Policy
-from hikebox._lab_cookbook import COOKBOOK
-from hikebox._rust_spelling import spelt_in_rust
-from hikebox._storm_code import in_rust
-from hikebox._storm_terms import SCENARIOS, Parameters, Slow, Span
+from hikebox.lab.cookbook import COOKBOOK
+from hikebox.policy.rust_spelling import spelt_in_rust
+from hikebox.storms.code import in_rust
+from hikebox.storms.parameters import SCENARIOS, Parameters, Slow, Span
 from hikebox.quota import Terms
 
 FILE = TOP / "rust" / "tests" / "spellings.rs"

@@ -20,8 +20,8 @@ import pytest
 from conftest import TOP, heed_signals, python_environment
 
 from hikebox import Budget, Policy, Quota, Storm, StormError, exponential, milliseconds, recurs, spaced, storm
-from hikebox._storm_options import limits_of, parameters_of, tickets_of
-from hikebox._storm_terms import SCENARIOS, Parameters, Slow, Span
+from hikebox.cli.storm_options import limits_of, parameters_of, tickets_of
+from hikebox.storms.parameters import SCENARIOS, Parameters, Slow, Span
 from hikebox.errors import BudgetError
 from hikebox.quota import Terms
 from hikebox.storm import play
@@ -418,10 +418,10 @@ def test_a_terminal_has_colours_where_they_are_wanted() -> None:
 
 
 def test_want_of_memory_is_told(monkeypatch: pytest.MonkeyPatch, capsys: pytest.CaptureFixture[str]) -> None:
-    from hikebox import _engine
-    from hikebox._cli import main
+    from hikebox._engine import calls, handles
+    from hikebox.cli.main import main
 
-    monkeypatch.setattr(_engine, "_storm_play", lambda *_: _engine.NO_MEMORY)
+    monkeypatch.setattr(handles, "_storm_play", lambda *_: calls.NO_MEMORY)
     with pytest.raises(MemoryError):
         storm(recurs(1))
     assert main(["storm", "recurs(1)"]) == 5
@@ -497,7 +497,7 @@ def test_a_scenario_that_is_none_is_told() -> None:
 def test_the_options_begin_with_the_story() -> None:
     import argparse
 
-    from hikebox._storm_options import add_storm_options
+    from hikebox.cli.storm_options import add_storm_options
 
     parser = argparse.ArgumentParser()
     add_storm_options(parser)

@@ -15,10 +15,10 @@ from conftest import TOP, python_environment
 from test_pictures import FULL, SVG, looks_at_texts, parsed, texts
 
 from hikebox import Quota, StormError, recurs, storm
-from hikebox._cli import main
-from hikebox._scenario import scenario_of
-from hikebox._storm_axes import AXES, values_of
-from hikebox._storm_terms import Parameters, Slow, Span
+from hikebox.cli.main import main
+from hikebox.cli.scenario import scenario_of
+from hikebox.storms.axes import AXES, values_of
+from hikebox.storms.parameters import Parameters, Slow, Span
 from hikebox.quota import Terms
 from hikebox.sweeps import Sweep, find, sweep
 
@@ -231,7 +231,7 @@ def test_names_that_have_no_room_stand_above_the_table() -> None:
 
 
 def test_equal_storms_of_a_sweep_are_played_once(monkeypatch: pytest.MonkeyPatch) -> None:
-    from hikebox import _storm_cores
+    from hikebox.storms import cores
     from hikebox.storm import play
 
     calls: List[Any] = []
@@ -240,7 +240,7 @@ def test_equal_storms_of_a_sweep_are_played_once(monkeypatch: pytest.MonkeyPatch
         calls.append(how)
         return play(*how)
 
-    monkeypatch.setattr(_storm_cores, "play", counted)
+    monkeypatch.setattr(cores, "play", counted)
     sweep(two(), share=[0.1, 0.2, 0.3])
     assert len(calls) == 4
 

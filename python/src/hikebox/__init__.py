@@ -11,29 +11,9 @@ What a policy answers, that a retry follows its policy and its budget, and that 
 engine in `libhikebox.so`, which this package calls.
 """
 
-from ._deadline import seconds_left
-from ._tickets import Refusal, RefusalReason, Ticket
 from ._time import MAX_NUMBER, Duration, Milliseconds, milliseconds
 from .budget import Budget
-from .builders import (
-    decorrelated,
-    elapsed,
-    exponential,
-    exponential_milli,
-    fibonacci,
-    fixed,
-    forever,
-    from_duration,
-    identity,
-    linear,
-    lone,
-    once,
-    recurs,
-    spaced,
-    stop,
-    unfold,
-    windowed,
-)
+from .budgets.tickets import Refusal, RefusalReason, Ticket
 from .errors import (
     BudgetClosed,
     BudgetError,
@@ -52,10 +32,30 @@ from .errors import (
 )
 from .log import after_log, before_log, before_sleep_log
 from .policy import Policy, Step
+from .policy.builders import (
+    decorrelated,
+    elapsed,
+    exponential,
+    exponential_milli,
+    fibonacci,
+    fixed,
+    forever,
+    from_duration,
+    identity,
+    linear,
+    lone,
+    once,
+    recurs,
+    spaced,
+    stop,
+    unfold,
+    windowed,
+)
 from .quota import Quota, Usage
-from .repeating import AsyncRepeating, Repeating, poll_until, repeat
+from .retry.deadline import seconds_left
+from .retry.repeating import AsyncRepeating, Repeating, poll_until, repeat
+from .retry.state import Ending, Outcome, RetryState, Statistics, code_of, state_of
 from .retrying import AsyncRetrying, Attempt, Retrying, Tickets, retry
-from .state import Ending, Outcome, RetryState, Statistics, code_of, state_of
 from .storm import Storm, StormRow, StormTotals, storm
 from .version import VERSION
 

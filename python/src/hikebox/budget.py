@@ -4,10 +4,11 @@ from __future__ import annotations
 
 from functools import partial
 
-from ._engine import MAX_TICKETS, Pass
-from ._granting import Granting
-from ._passes import Passes
-from ._tickets import Drawn, Refusal, RefusalReason, Ticket
+from ._engine.handles import Pass
+from ._engine.calls import MAX_TICKETS
+from .budgets.granting import Granting
+from .budgets.passes import Passes
+from .budgets.tickets import Drawn, Refusal, RefusalReason, Ticket
 from .errors import BudgetError, EngineError, TermsError, TicketError
 
 __all__ = ["Budget"]

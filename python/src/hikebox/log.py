@@ -5,7 +5,7 @@ from __future__ import annotations
 import logging
 from typing import Any, Callable, Dict
 
-from .state import RetryState
+from .retry.state import RetryState
 
 __all__ = ["after_log", "before_log", "before_sleep_log"]
 

@@ -9,13 +9,14 @@ from dataclasses import dataclass, field
 from functools import partial
 from typing import Callable, NamedTuple, Optional
 
-from ._drawing import ByPass, Drawing
-from ._engine import MAX_SHARE, MAX_TICKETS, MIN_PERIOD, Pass
-from ._granting import Granting
-from ._leasing import quota_allows
-from ._passes import Passes
-from ._tickets import Drawn, Refusal, RefusalReason, Ticket, checked_ticket
+from ._engine.handles import Pass
+from ._engine.leasing import quota_allows
+from ._engine.calls import MIN_PERIOD, MAX_SHARE, MAX_TICKETS
 from ._time import MAX_NUMBER, Duration, moment, seconds, seconds_text
+from .budgets.drawing import ByPass, Drawing
+from .budgets.granting import Granting
+from .budgets.passes import Passes
+from .budgets.tickets import Drawn, Refusal, RefusalReason, Ticket, checked_ticket
 from .errors import EngineError, PolicyError, TermsError
 
 __all__ = ["Quota", "Terms", "Usage", "requests_of", "terms_of"]

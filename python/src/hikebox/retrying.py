@@ -28,16 +28,16 @@ from typing import (
     overload,
 )
 
-from ._attempts import AsyncAttempts, Attempt, Attempts
-from ._drivers import run, run_async
-from ._kinds import is_async, is_generator
-from ._retried import Decorator, Retried
-from ._settings import DEFAULTS, MAX_RETRY_AFTER, Hook, Hooks, On, Settings, Stop, Tickets
 from ._time import Duration
 from .budget import Budget
 from .policy import Policy
 from .quota import Quota
-from .state import Counts, Statistics
+from .retry.attempts import AsyncAttempts, Attempt, Attempts
+from .retry.drivers import run, run_async
+from .retry.kinds import is_async, is_generator
+from .retry.retried import Decorator, Retried
+from .retry.settings import DEFAULTS, MAX_RETRY_AFTER, Hook, Hooks, On, Settings, Stop, Tickets
+from .retry.state import Counts, Statistics
 
 __all__ = ["AsyncRetrying", "Attempt", "BaseRetrying", "Retried", "Retrying", "Tickets", "retry"]
 
@@ -77,7 +77,7 @@ def look_at_names(called: str, given: Iterable[str], known: Iterable[str]) -> No
 if TYPE_CHECKING:
     from typing_extensions import Concatenate, ParamSpec
 
-    from ._retried import RetriedFunction, TakesAny
+    from .retry.retried import RetriedFunction, TakesAny
 
     Parameters = ParamSpec("Parameters")
 

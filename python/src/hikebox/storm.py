@@ -6,13 +6,14 @@ import json
 from dataclasses import dataclass
 from typing import Any, Dict, List, NamedTuple, Optional, Tuple, Union
 
-from . import _engine
-from ._storm_terms import MAX_SEED, Parameters, Slow, Span
+from ._engine.handles import Totals, play_storm
+from ._engine.calls import MAX_TICKETS
 from ._time import Duration, seconds as in_milliseconds
 from .budget import Budget
 from .errors import PolicyError, StormError
 from .policy import Policy
 from .quota import Quota, Terms
+from .storms.parameters import MAX_SEED, Parameters, Slow, Span
 
 __all__ = ["Storm", "StormRow", "StormTotals", "storm"]
 
@@ -105,7 +106,7 @@ class Storm:
     def svg(self, *others: Storm, width: int = 760, detail: bool = False, title: Optional[str] = None) -> str:
         """The picture as SVG so many units wide, with other storms beside it on the same scales. `detail` tells apart
         why calls failed, and `title` stands in the place of the policy that the storms share."""
-        from ._storm_picture import storm_picture
+        from .storms.picture import storm_picture
 
         return storm_picture([self, *others], width=width, detail=detail, title=title)
 
@@ -115,12 +116,12 @@ class Storm:
     def plot(self, ax: Any = None) -> Any:
         """Draws the calls by time with matplotlib (the extra `plot` of the package) on these axes, or on those of a
         new figure with a legend, and gives the axes."""
-        from ._storm_plot import plot
+        from .storms.plot import plot
 
         return plot(self, ax)
 
     def __str__(self) -> str:
-        from ._storm_words import table
+        from .storms.texts import table
 
         return table(self)
 
@@ -206,11 +207,11 @@ def storm(
 def play(policy: Policy, parameters: Parameters) -> Storm:
     """Plays a storm whose parameters were checked."""
     # (with a handle of its own, since other threads go on meanwhile)
-    windows, totals = _engine.play_storm(policy.plan.share(), parameters.for_engine())
+    windows, totals = play_storm(policy.plan.share(), parameters.for_engine())
     return Storm(policy, parameters, tuple(StormRow(*window) for window in windows), _totals(totals))
 
 
-def _totals(found: _engine.Totals) -> StormTotals:
+def _totals(found: Totals) -> StormTotals:
     has_won = bool(found.won)
     return StormTotals(
         requests=found.requests,
@@ -272,4 +273,4 @@ def _tickets(budget: Any) -> Union[None, int, Terms]:
         return budget.limit
     if budget is None:
         return None
-    return _whole("budget", budget, _engine.MAX_TICKETS)
+    return _whole("budget", budget, MAX_TICKETS)

@@ -8,18 +8,18 @@ import json
 from dataclasses import dataclass
 from typing import Any, Callable, Dict, Iterable, List, Optional, Sequence, Tuple, Union
 
-from ._checks import whole
-from ._storm_axes import AXES, MAX_VALUES, MEASURES, NEVER
-from ._storm_cores import Told, play_all, silent
-from ._storm_heads import names_of
-from ._storm_terms import Parameters, limit_text
-from ._storm_words import columns, recovery_mark, share_text
 from ._time import seconds as in_milliseconds
-from .builders import recurs
 from .errors import StormError
 from .policy import Policy
+from .policy.builders import recurs
+from .policy.checks import whole
 from .quota import Terms
 from .storm import Storm, play
+from .storms.axes import AXES, MAX_VALUES, MEASURES, NEVER
+from .storms.cores import Told, play_all, silent
+from .storms.heads import names_of
+from .storms.parameters import Parameters, limit_text
+from .storms.texts import columns, recovery_mark, share_text
 
 __all__ = ["Found", "Sweep", "find", "sweep"]
 
@@ -51,7 +51,7 @@ class Sweep:
     def svg(self, *measures: str, width: int = 760, title: Optional[str] = None) -> str:
         """The picture as SVG so many units wide, with a panel for each measure; the shares that succeeded where none is
         named."""
-        from ._sweep_picture import sweep_picture
+        from .storms.sweep_picture import sweep_picture
 
         return sweep_picture(self, measures or ("succeeded",), width=width, title=title)
 

@@ -7,14 +7,14 @@ import weakref
 from functools import partial
 from typing import Any, ClassVar, Collection, Dict, Generator, Optional, Type, Union
 
-from .._course import Ask, Course, Steps
-from .._deadline import enter, leave
-from .._drivers import answer_of, not_awaitable
 from ..errors import ResultRefused
 from ..http import is_bad, retry_after, retry_after_of
 from ..policy import Policy
+from ..retry.course import Ask, Course, Steps
+from ..retry.deadline import enter, leave
+from ..retry.drivers import answer_of, not_awaitable
+from ..retry.state import Ending, Outcome, RetryState, Statistics
 from ..retrying import BaseRetrying, look_at_names
-from ..state import Ending, Outcome, RetryState, Statistics
 
 __all__ = ["DRAIN_BYTES", "DRAIN_SECONDS", "Call", "PolicyClient", "drive", "drive_async"]
 

@@ -17,9 +17,9 @@ from typing import Any, Collection, Dict, Generator, List, Optional, Union
 import aiohttp
 from aiohttp.base_protocol import BaseProtocol
 
-from .._deadline import seconds_left
 from ..http import METHODS, STATUSES
 from ..policy import Policy
+from ..retry.deadline import seconds_left
 from ..retrying import AsyncRetrying
 from ._http import DRAIN_BYTES, DRAIN_SECONDS, Call, PolicyClient, drive_async
 

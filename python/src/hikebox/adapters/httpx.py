@@ -14,9 +14,9 @@ from typing import Any, Collection, Dict, List, Optional, Union
 
 import httpx
 
-from .._deadline import seconds_left
 from ..http import METHODS, STATUSES
 from ..policy import Policy
+from ..retry.deadline import seconds_left
 from ..retrying import AsyncRetrying, Retrying
 from ._http import DRAIN_BYTES, DRAIN_SECONDS, Call, PolicyClient, drive, drive_async
 

@@ -20,9 +20,9 @@ from urllib3.exceptions import ConnectTimeoutError, HTTPError, MaxRetryError, Pr
 from urllib3.response import HTTPResponse
 from urllib3.util.timeout import Timeout
 
-from .._deadline import seconds_left
 from ..http import METHODS, STATUSES
 from ..policy import Policy
+from ..retry.deadline import seconds_left
 from ..retrying import Retrying
 from ._http import DRAIN_BYTES, DRAIN_SECONDS, Call, PolicyClient, drive
 

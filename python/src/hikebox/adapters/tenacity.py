@@ -21,13 +21,13 @@ from typing import Any, Callable, Dict, Tuple, Union
 from tenacity.stop import stop_base
 from tenacity.wait import wait_base
 
-from .._course import Course
-from .._drivers import settle
 from ..leased import LeasedQuota
 from ..policy import Policy
 from ..quota import Quota
+from ..retry.course import Course
+from ..retry.drivers import settle
+from ..retry.state import Outcome
 from ..retrying import Retrying
-from ..state import Outcome
 
 __all__ = ["before_deposit", "stop_and_wait"]
 

@@ -13,14 +13,14 @@ from typing import Any, Collection, Dict, Optional, Union
 from urllib3.exceptions import MaxRetryError, ResponseError
 from urllib3.util.retry import Retry
 
-from .._course import Course
-from .._drivers import settle
 from ..budget import Budget
 from ..http import METHODS, STATUSES, is_bad, parse_retry_after
 from ..policy import Policy
 from ..quota import Quota
+from ..retry.course import Course
+from ..retry.drivers import settle
+from ..retry.state import Ending, Outcome, Statistics
 from ..retrying import Retrying, Tickets, look_at_names
-from ..state import Ending, Outcome, Statistics
 
 __all__ = ["PolicyRetry"]
 

@@ -1,0 +1,74 @@
+"""What draws for one retry where the engine's does not: on a quota of another clock, on leases, on what users have."""
+
+from __future__ import annotations
+
+from typing import Any, Awaitable, Callable, Optional, Protocol
+
+from .passes import Keep, Passes
+from .tickets import Refusal, RefusalReason
+
+__all__ = ["ByCall", "ByPass", "Drawing"]
+
+
+class Drawing(Protocol):
+    """What draws for one retry."""
+
+    def draw(self) -> Any:
+        """Draws a ticket: None, or why there is none, a `Refusal`; or what gives that where it is awaited."""
+
+    def end(self, hands_back: bool) -> None:
+        """The retry is over: its latest ticket comes back, where that is so and what granted it takes it."""
+
+
+class ByCall:
+    """Draws by a function."""
+
+    __slots__ = ("_draw",)
+
+    def __init__(self, draw: Callable[[], Any]) -> None:
+        self._draw = draw
+
+    def draw(self) -> Any:
+        """Draws a ticket: why there is none."""
+        drawn = self._draw()
+        return _awaited(drawn) if hasattr(drawn, "__await__") else _refusal(drawn)
+
+    def end(self, hands_back: bool) -> None:
+        """Nothing comes back."""
+
+
+async def _awaited(drawn: Awaitable[Any]) -> Optional[Refusal]:
+    return _refusal(await drawn)
+
+
+def _refusal(drawn: Any) -> Optional[Refusal]:
+    """Why there is no ticket, which any other answer is, such as the number 0."""
+    if drawn is None or drawn is False:
+        return Refusal(RefusalReason.USED_UP)
+    return drawn if isinstance(drawn, Refusal) else None
+
+
+class ByPass:
+    """Draws by a pass that is the retry's own until it is over."""
+
+    __slots__ = ("_passes", "_now", "_kept", "_generation", "__weakref__")
+
+    def __init__(self, passes: Passes, now: Callable[[], int]) -> None:
+        self._passes = passes
+        self._now = now
+        self._kept: Optional[Keep] = None
+        self._generation = passes.generation
+
+    def draw(self) -> Optional[Refusal]:
+        """Draws a ticket: why there is none."""
+        passes = self._passes
+        if self._kept is None or self._generation != passes.generation:  # (in a forked child it has a new one)
+            self._kept, self._generation = passes.keep(passes.lend(), self, is_of_retry=True), passes.generation
+        drawn = self._kept.part.draw(self._now())
+        return Refusal(RefusalReason.USED_UP) if drawn is None else None
+
+    def end(self, hands_back: bool) -> None:
+        """Takes the pass back, where it is not of a process that was forked."""
+        kept, self._kept = self._kept, None
+        if kept is not None and self._generation == self._passes.generation:
+            self._passes.drop(kept, hands_back)

@@ -1,0 +1,1 @@
+"""The program `hikebox`: its commands and its options."""

@@ -1,0 +1,375 @@
+"""The program `hikebox`: `run`, `plan`, `check`, `storm` and `lab`."""
+
+from __future__ import annotations
+
+import argparse
+import logging
+import os
+import sys
+from itertools import repeat
+from typing import Any, Callable, Iterator, List, NoReturn, Optional, Set, Union
+
+from .._svg import MIN_WIDTH, MAX_WIDTH
+from .._time import MAX_NUMBER, milliseconds
+from ..errors import BudgetError, Fault, PolicyError, StoreError, StormError
+from ..policy import Policy
+from ..policy.picture import plan_picture
+from ..storms.axes import axes_text
+from ..version import VERSION
+from . import values
+from .arguments import Parser
+from .run import MAX_OUTPUT, RunOptions, run_command
+from .seeded import seeded
+from .storm_command import result_of
+from .storm_options import add_storm_options
+from .streams import settle
+
+__all__ = ["main"]
+
+#: What `run` does where no policy is named.
+DEFAULT = "recurs(4) & exponential(1, 2).cap(30).jittered()"
+
+BAD_COMMAND_LINE, BAD_INPUT, BAD_STREAM, NO_MEMORY, NOT_FINISHED = 2, 3, 4, 5, 6
+MAX_BYTES = 1 << 20
+
+_RUN = f"""\
+Runs the command until it succeeds or no retry is left, and exits with the status of its last attempt. The status is 127
+or 126 if the command can't be run, 124 after a timeout, and 128 + N after death by signal N.
+
+Each attempt is a process group of its own. When an attempt fails or takes too long, the whole group is ended before the
+next one begins: by SIGTERM, and after --kill-after by SIGKILL. SIGINT, SIGTERM, SIGHUP and SIGQUIT go to the whole
+group, and no further attempt is made; between two attempts they end hikebox. On a terminal the command is in the
+foreground.
+
+The command has HIKEBOX_ATTEMPT, the number of the attempt from 1, and with a deadline HIKEBOX_SECONDS_LEFT. A deadline
+does not end an attempt that is under way.
+
+A policy is the name of a JSON file, JSON, or an expression. By default it is
+  {DEFAULT}
+
+examples:
+  hikebox run -- curl --fail https://example.org
+  hikebox run --policy 'recurs(9) & spaced(2)' --on 1-3 --timeout 30 -- ./job
+  hikebox run --budget 100@/run/lock/nightly -- ./job   # at most 100 retries over all runs that name the folder
+  hikebox run --quota 10/20%/1h@/run/lock/jobs -- ./job   # each hour 10 over all runs, and one for every five runs
+"""
+
+_STORM = f"""\
+Plays a storm: requests come to a peer that fails for a while, and each retries by your policy. It makes no call and
+takes no time. All times are in milliseconds.
+
+Each line of the report is a window of time, named by its first moment. A request or a retry counts in the window in
+which it begins. A call counts in the window in which it ends: it succeeded, was refused in the outage, was shed because
+the queue was full, or was late because its client had given up. The status is 6 if a storm was cut by --calls.
+
+--sweep plays the storms for each value of a parameter, as NAME=FROM..TO/COUNT or NAME=A,B,C:
+{axes_text()}
+
+examples:
+  hikebox storm 'recurs(8) & exponential(0.1, 2).cap(10).jittered(0, 1)'
+  hikebox storm --quota 10/10%/1s --without --svg storm.svg plans/back-off.json
+  hikebox storm --scenario herd plans/back-off.json plans/jittered-back-off.json
+  hikebox storm --quota 10/10%/1s --without --sweep rate=200..1600/8 --svg load.svg plans/back-off.json
+  hikebox storm --scenario brown-out --find quota 'recurs(3)'
+"""
+
+
+def main(words: Optional[List[str]] = None) -> int:
+    """The program: its exit status."""
+    settle()
+    try:
+        return _does(words)
+    finally:
+        _drops_unwritten()
+
+
+def _does(words: Optional[List[str]]) -> int:
+    """Does what the command line says: its exit status."""
+    try:
+        given = _parser().read(words)
+        return int(given.does(given))
+    except PolicyError as error:
+        return _fails(str(error), BAD_INPUT)
+    except (BudgetError, StoreError, StormError) as error:
+        is_file = isinstance(error, StormError) and error.name == "scenario"
+        return _fails(str(error), BAD_INPUT if is_file else BAD_COMMAND_LINE)
+    except MemoryError:
+        return _fails("no memory", NO_MEMORY)
+    except KeyboardInterrupt:
+        return 130
+
+
+def _fails(line: str, status: int) -> int:
+    print(f"hikebox: {line}", file=sys.stderr)
+    return status
+
+
+#: How the width of a picture is given.
+_WIDE: Any = {"metavar": "N", "type": values.number(MAX_WIDTH, MIN_WIDTH), "default": 760}
+
+
+def _parser() -> Parser:
+    parser = Parser(prog="hikebox", description="Retries commands by policies, within limits.")
+    parser.set_defaults(parser=parser)
+    parser.add_argument("--version", action="version", version=f"hikebox {VERSION}")
+    commands = parser.add_subparsers(metavar="COMMAND")
+    for adds in (_add_run, _add_plan, _add_check, _add_storm, _add_lab):
+        adds(commands)
+    return parser
+
+
+def _add_run(commands: Any) -> None:
+    run = commands.add_parser(
+        "run",
+        help="run a command until it succeeds",
+        usage="hikebox run [OPTION..] -- COMMAND [WORD..]",
+        epilog=_RUN,
+        formatter_class=argparse.RawDescriptionHelpFormatter,
+    )
+    run.add_argument("--policy", metavar="POLICY", default=DEFAULT, help="when to run it again")
+    bounds = run.add_mutually_exclusive_group()
+    bounds.add_argument(
+        "--budget", metavar="N[@FOLDER]", help="at most N retries; with FOLDER, over all runs that name it"
+    )
+    quota = "RESERVE retries in each PERIOD (60s, 1h) over all runs that name FOLDER, and a SHARE of the runs"
+    bounds.add_argument("--quota", metavar="RESERVE/SHARE%/PERIOD@FOLDER", help=quota.replace("%", "%%"))
+    run.add_argument("--on", metavar="CODES", type=values.statuses, help="retry only these statuses, such as 1,3-5")
+    run.add_argument("--timeout", metavar="SECONDS", type=values.duration, help="how long an attempt may take")
+    grace = "how long after SIGTERM a SIGKILL follows (5)"
+    run.add_argument("--kill-after", metavar="SECONDS", type=values.duration, default=5.0, help=grace)
+    within = "begin no attempt later than this after the first one"
+    run.add_argument("--deadline", metavar="SECONDS", type=values.duration, help=within)
+    run.add_argument("--replay-input", action="store_true", help="give each attempt the whole standard input")
+    run.add_argument("--last-output", action="store_true", help="print the standard output of the last attempt only")
+    limit = "with --last-output, fail where an attempt has more output, in bytes or as 10K, 10M, 10G (1G)"
+    run.add_argument("--output-limit", metavar="SIZE", type=values.size, default=MAX_OUTPUT, help=limit)
+    tells = run.add_mutually_exclusive_group()
+    tells.add_argument("--verbose", "-v", action="store_true", help="tell on standard error what happens")
+    tells.add_argument("--quiet", "-q", action="store_true", help="on a terminal, show no line while it waits")
+    run.add_argument("command", nargs=argparse.REMAINDER, metavar="COMMAND")
+    run.set_defaults(does=_run, parser=run)
+
+
+def _add_plan(commands: Any) -> None:
+    plan = commands.add_parser("plan", help="play a policy and print what it does, in milliseconds")
+    several = "as for run; - or nothing: standard input; several stand in one picture, or one below the other"
+    plan.add_argument("file", nargs="*", metavar="POLICY", help=several)
+    plan.add_argument("--steps", type=values.number(4096), default=10, metavar="N", help="how many events at most (10)")
+    plan.add_argument(
+        "--from", type=values.number(MAX_NUMBER), default=0, metavar="M", dest="start", help="the first moment (0)"
+    )
+    plan.add_argument(
+        "--took", type=values.number(MAX_NUMBER), default=0, metavar="M", help="how long each further call takes (0)"
+    )
+    codes = plan.add_mutually_exclusive_group()
+    codes.add_argument(
+        "--input", type=values.number(MAX_NUMBER), default=0, metavar="N", help="the code of each failure (0)"
+    )
+    in_turn = "the codes of the failures, in turn; the last one repeats"
+    codes.add_argument("--inputs", type=values.inputs(MAX_NUMBER), metavar="A,B,..", help=in_turn)
+    words = plan.add_mutually_exclusive_group()
+    words.add_argument(
+        "--word", type=values.number(2**32 - 1), default=2**31, metavar="W", help="each random word (middle)"
+    )
+    words.add_argument("--words", type=values.number(2**64 - 1), metavar="SEED", help="other random words, by a seed")
+    plan.add_argument("--svg", metavar="FILE", help="write the picture into this file; - is standard output")
+    plan.add_argument("--width", help="how wide the picture is, from 280 to 4000 (760)", **_WIDE)
+    plan.set_defaults(does=_plan, parser=plan)
+
+
+def _add_check(commands: Any) -> None:
+    check = commands.add_parser("check", help="say what a policy is, or where it is wrong")
+    check.add_argument("file", nargs="?", default="-", metavar="POLICY", help="as for plan")
+    check.set_defaults(does=_check, parser=check)
+
+
+def _add_storm(commands: Any) -> None:
+    storm = commands.add_parser(
+        "storm",
+        help="show what a policy does to a peer that fails for a while",
+        usage="hikebox storm [OPTION..] [POLICY..]",
+        epilog=_STORM,
+        formatter_class=argparse.RawDescriptionHelpFormatter,
+    )
+    add_storm_options(storm)
+    compare = "play this policy too; you can give it again"
+    storm.add_argument("--compare", metavar="POLICY", action="append", default=[], help=compare)
+    forms = storm.add_mutually_exclusive_group()
+    forms.add_argument("--csv", action="store_true", help="print the windows of one storm, or a sweep, as CSV")
+    forms.add_argument(
+        "--json", action="store_true", help="print the windows and totals of one storm, or a sweep, as JSON"
+    )
+    forms.add_argument("--svg", metavar="FILE", help="write a picture to this file; - is standard output")
+    shown = "print each window with a bar of its calls, in colour on a terminal unless NO_COLOR is set"
+    forms.add_argument("--bars", action="store_true", help=shown)
+    columns = "the width of the picture, from 280 to 4000 (760), or of the lines of --bars, from 72 to 1000 (80)"
+    storm.add_argument("--width", metavar="N", type=values.number(MAX_WIDTH, 72), help=columns)
+    storm.add_argument("--detail", action="store_true", help="show in the picture why calls failed")
+    storm.add_argument("--title", metavar="TEXT", help="the title of the picture, in place of the policy")
+    name = "the name of a storm in a picture or a table; give one for each storm"
+    storm.add_argument("--name", metavar="TEXT", action="append", help=name)
+    storm.add_argument(
+        "file", nargs="*", metavar="POLICY", help="as for plan; with several, the totals are printed side by side"
+    )
+    storm.set_defaults(does=_storm, parser=storm)
+
+
+def _add_lab(commands: Any) -> None:
+    lab = commands.add_parser(
+        "lab", help="serve a page on which you try policies and storms, on this machine, until Ctrl-C"
+    )
+    lab.add_argument(
+        "link", nargs="?", default="", metavar="LINK", help="a link of the page, of any run: open what it carries"
+    )
+    lab.add_argument(
+        "--port", type=values.number(65535), default=0, metavar="N", help="the port on 127.0.0.1 (a free one)"
+    )
+    lab.add_argument("--no-browser", action="store_true", help="print the address, and open no browser")
+    lab.set_defaults(does=_lab, parser=lab)
+
+
+class _Told(logging.Handler):
+    """Tells what the package warns of on standard error, each thing once; how the retry ends the run says itself."""
+
+    def __init__(self) -> None:
+        super().__init__(logging.WARNING)
+        self.told: Set[str] = set()
+
+    def emit(self, record: logging.LogRecord) -> None:
+        line = record.getMessage()
+        if line not in self.told and not hasattr(record, "hikebox_ending"):
+            self.told.add(line)
+            print(f"hikebox: {line}", file=sys.stderr, flush=True)
+
+
+def _run(given: Any) -> int:
+    command = given.command[1:] if given.command[:1] == ["--"] else given.command
+    if not command:
+        return _fails("run: expected a command, got none", BAD_COMMAND_LINE)
+    options = RunOptions(
+        policy=_policy(given.policy),
+        budget=values.budget(given.budget) if given.quota is None else values.quota(given.quota),
+        on=given.on,
+        timeout=given.timeout,
+        grace=given.kill_after,
+        deadline=given.deadline,
+        verbose=given.verbose,
+        quiet=given.quiet,
+        replay_input=given.replay_input,
+        last_output=given.last_output,
+        max_output=given.output_limit,
+    )
+    logging.getLogger("hikebox").addHandler(_Told())
+    try:
+        return run_command(command, options)
+    except OSError as error:
+        return _fails(str(error.strerror), BAD_STREAM)
+
+
+def _plan(given: Any) -> int:
+    policies = [_policy(word) for word in given.file or ["-"]]
+    how: Any = {
+        "start": milliseconds(given.start),
+        "took": milliseconds(given.took),
+        "input": given.input if given.inputs is None else given.inputs,
+    }
+
+    def random() -> Callable[[], float]:
+        words: Iterator[int] = repeat(given.word) if given.words is None else seeded(given.words)
+        return lambda: next(words) / 2**32
+
+    if given.svg is not None:
+        return _writes(given.svg, plan_picture(*policies, steps=given.steps, random=random, width=given.width, **how))
+    told = ""
+    for policy in policies:
+        told += f"{policy!r}\n" if len(policies) > 1 else ""
+        told += "".join(f"{step}\n" for step in policy.preview(given.steps, random=random(), **how))
+    return _prints(told)
+
+
+def _storm(given: Any) -> int:
+    result = result_of(given, _policy)
+    status = _prints(result.text) if given.svg is None else _writes(given.svg, result.text)
+    return _fails("not finished", NOT_FINISHED) if result.is_cut and status == 0 else status
+
+
+def _lab(given: Any) -> int:
+    from ..lab.server import run_lab
+
+    try:
+        return run_lab(given.port, given.link, not given.no_browser)
+    except OSError as error:
+        about = f"port {given.port}: " if given.port else ""
+        return _fails(f"lab: {about}{error.strerror}", BAD_STREAM)
+
+
+def _writes(name: str, text: str) -> int:
+    """Writes a picture into a file, or onto standard output."""
+    if name == "-":
+        return _prints(text)
+    try:
+        with open(name, "w", encoding="utf-8") as file:
+            file.write(text)
+        return 0
+    except OSError as error:
+        return _fails(f"write failed: {name}: {error.strerror}", BAD_STREAM)
+
+
+def _check(given: Any) -> int:
+    try:
+        policy = _policy(given.file)
+    except PolicyError as error:
+        _prints(f"{error}\n" if error.fault is Fault.NOT_JSON else f"{error.place or 'top'}: {error.hint}\n")
+        return _fails(error.fault.value, BAD_INPUT)
+    nodes = "1 node" if policy.nodes == 1 else f"{policy.nodes} nodes"
+    most = policy.most_retries
+    bound = "" if most is None else f", goes on at most {most} {'time' if most == 1 else 'times'}"
+    return _prints(f"plan: {nodes}, depth {policy.depth}{bound}\n")
+
+
+def _prints(text: str) -> int:
+    try:
+        sys.stdout.write(text)
+        sys.stdout.flush()
+        return 0
+    except OSError as error:
+        _drops_unwritten()
+        return _fails(f"write failed: standard output: {error.strerror}", BAD_STREAM)
+
+
+def _drops_unwritten() -> None:
+    """Drops what could not be written, which Python would try again at its end."""
+    try:
+        sys.stdout.flush()
+    except OSError:
+        os.dup2(os.open(os.devnull, os.O_WRONLY), sys.stdout.fileno())
+
+
+Parser.prints = staticmethod(_prints)
+
+
+def _policy(word: str) -> Policy:
+    """The policy that a word of the command line names: standard input, JSON, an expression or a file."""
+    if word == "-":
+        return Policy.from_json(_read(0))
+    if word.lstrip()[:1] in ("{", '"'):
+        return Policy.from_json(word)
+    if "(" in word and not os.path.exists(word):
+        return Policy.parse(word)
+    return Policy.from_json(_read(word))
+
+
+def _read(source: Union[int, str]) -> bytes:
+    """The bytes of a file, or of standard input."""
+    try:
+        with open(source, "rb", closefd=source != 0) as file:
+            text = file.read(MAX_BYTES + 1)
+    except OSError as error:
+        _stop(f"read failed: {source if source else 'standard input'}: {error.strerror}", BAD_STREAM)
+    if len(text) > MAX_BYTES:
+        _stop("input too long", BAD_INPUT)
+    return text
+
+
+def _stop(line: str, status: int) -> NoReturn:
+    raise SystemExit(_fails(line, status))

@@ -1,0 +1,152 @@
+"""What `hikebox storm` does: it plays storms, along a parameter or to a border, and tells or draws them."""
+
+from __future__ import annotations
+
+import sys
+import time
+from typing import Any, Callable, List, NamedTuple, Sequence, Tuple
+
+from ..errors import StormError
+from ..policy import Policy
+from ..storm import Storm
+from ..storms.axes import values_of
+from ..storms.bars import bars, has_colour
+from ..storms.cores import Told, play_all
+from ..storms.parameters import Parameters, limit_text
+from ..storms.picture import storm_picture
+from ..storms.texts import beside, sentences
+from ..sweeps import Sweep, find_from, swept
+from .scenario import Scenario, scenario_of
+from .status_line import StatusLine
+from .storm_options import limits_of, parameters_of
+
+__all__ = ["Result", "result_of", "wanted_of"]
+
+#: How wide a picture is where nothing is said.
+_WIDTH = 760
+
+PolicyOf = Callable[[str], Policy]
+
+
+class Result(NamedTuple):
+    """What is printed or written, and whether a storm of it was cut."""
+
+    text: str
+    is_cut: bool
+
+
+class Wanted(NamedTuple):
+    """The storms that are wanted, and what the picture calls them."""
+
+    storms: List[Tuple[Policy, Parameters]]
+    names: Sequence[str]
+    title: str
+
+
+def wanted_of(given: Any, policy_of: PolicyOf) -> Wanted:
+    """The storms that the options ask for. The options are judged before a policy is read."""
+    scenario = scenario_of(given.scenario)
+    parameters = parameters_of(given, scenario.parameters)
+    words = _words(given, scenario)
+    limits = limits_of(given)
+    has_limits = bool(given.limits or given.without)
+    _look_at(given, len(words) * len(limits) if words else len(scenario.lines) * (len(limits) if has_limits else 1))
+    title = given.title or scenario.title or ""
+    if words:
+        policies = [policy_of(word) for word in words]
+        storms = [(policy, parameters._replace(tickets=tickets)) for policy in policies for tickets in limits]
+        return Wanted(storms, given.name or (), title)
+    storms = [
+        (line.policy, parameters._replace(tickets=tickets))
+        for line in scenario.lines
+        for tickets in (limits if has_limits else [line.tickets])
+    ]
+    names = [line.name or "" for line in scenario.lines]
+    return Wanted(storms, given.name or (names if all(names) and not has_limits else ()), title)
+
+
+def _words(given: Any, scenario: Scenario) -> List[str]:
+    """The words that name policies: standard input, where neither words nor the scenario name some."""
+    words = [*given.file, *given.compare] if given.file or scenario.lines else ["-", *given.compare]
+    return [str(word) for word in words]
+
+
+def _look_at(given: Any, count: int) -> None:
+    """Refuses options that do not go together, where so many storms are wanted."""
+    if (given.csv or given.json) and count > 1 and not given.sweep and not given.find:
+        raise StormError("storm", "--csv and --json are of one storm, or of a sweep")
+    if given.find and (given.csv or given.svg is not None or given.sweep):
+        raise StormError("storm", "--find prints text or --json")
+    if given.find and count > 1:
+        raise StormError("storm", f"--find is of one storm, not {count}")
+    if given.width is not None and given.svg is None and not given.bars:
+        raise StormError("width", "it is of --bars, or of a picture")
+    if given.measure and not given.sweep:
+        raise StormError("measure", "it is of a sweep")
+    if given.bars and (given.sweep or given.find):
+        raise StormError("storm", "--bars is of storms, not of a sweep or a border")
+    if given.detail and (given.svg is None or given.sweep):
+        raise StormError("detail", "it is of a picture of storms")
+    if given.name and len(given.name) != count:
+        raise StormError("name", f"expected as many names as storms, {count}, got {len(given.name)}")
+    if given.sweep:
+        values_of(given.sweep)
+
+
+def result_of(given: Any, policy_of: PolicyOf) -> Result:
+    """Plays the storms that the options ask for, and tells them."""
+    wanted = wanted_of(given, policy_of)
+    line = StatusLine(sys.stderr, True)
+    begun = time.monotonic()
+
+    def told(done: int, all: int) -> None:
+        line.show(f"{done} of {all} storms played, {time.monotonic() - begun:.0f} s")
+
+    try:
+        if given.find:
+            return _found(given, wanted, told)
+        return _swept(given, wanted, told) if given.sweep else _played(given, wanted, told)
+    finally:
+        line.clear()
+
+
+def _found(given: Any, wanted: Wanted, told: Told) -> Result:
+    found = find_from(*wanted.storms[0], given.find, told)
+    return Result(f"{found.to_json() if given.json else found}\n", False)
+
+
+def _swept(given: Any, wanted: Wanted, told: Told) -> Result:
+    name, values = values_of(given.sweep)
+    sweep = swept(wanted.storms, name, values, wanted.names, told)
+    is_cut = any(storm.totals.cut for line in sweep.lines for storm in line)
+    return Result(_sweep_text(given, sweep, wanted), is_cut)
+
+
+def _sweep_text(given: Any, sweep: Sweep, wanted: Wanted) -> str:
+    if given.svg is not None:
+        return sweep.svg(*given.measure, width=given.width or _WIDTH, title=wanted.title or None)
+    if given.csv:
+        return sweep.to_csv()
+    return (sweep.to_json() if given.json else sweep.table(*given.measure)) + "\n"
+
+
+def _played(given: Any, wanted: Wanted, told: Told) -> Result:
+    storms = play_all(wanted.storms, told)
+    return Result(_storm_text(given, storms, wanted), any(storm.totals.cut for storm in storms))
+
+
+def _storm_text(given: Any, storms: List[Storm], wanted: Wanted) -> str:
+    if given.svg is not None:
+        how: Any = {"width": given.width or _WIDTH, "detail": given.detail, "title": wanted.title or None}
+        return storm_picture(storms, names=wanted.names, **how)
+    if given.csv:
+        return storms[0].to_csv()
+    if given.json:
+        return storms[0].to_json() + "\n"
+    names = list(wanted.names) or [f"{storm.policy!r}, {limit_text(storm.parameters.tickets)}" for storm in storms]
+    if given.bars:
+        told = bars(storms, names, given.width or 80, has_colour())
+        return (
+            told + "\n".join(sentences(storms[0])) + "\n" if len(storms) == 1 else f"{told}\n{beside(storms, names)}\n"
+        )
+    return f"{storms[0]}\n" if len(storms) == 1 else beside(storms, names) + "\n"

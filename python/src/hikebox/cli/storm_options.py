@@ -1,0 +1,128 @@
+"""The options of `hikebox storm`: the parameters of a storm as words of the command line."""
+
+from __future__ import annotations
+
+import argparse
+import re
+from typing import Any, List, Optional, Tuple, Union
+
+from .._engine.calls import MAX_TICKETS
+from .._svg import fitted
+from ..errors import BudgetError
+from ..quota import Terms, terms_of
+from ..storms.axes import MEASURES
+from ..storms.parameters import RANGES, Parameters, Slow, Span
+from . import values
+
+__all__ = ["add_storm_options", "limits_of", "parameters_of", "tickets_of"]
+
+#: So long is the longest text of a budget or a quota.
+_MAX_TEXT = 100
+
+_HELP = {
+    "rate": "requests a second (800)",
+    "together": "requests that come at one moment (1)",
+    "seconds": "how long requests come, in seconds (60)",
+    "capacity": "calls a second that the peer can do (1000)",
+    "patience": "how long a client waits for a call, in milliseconds (500)",
+    "queue": "calls that the peer queues at most (5000)",
+    "window": "the length of a window of the report, in milliseconds (1000)",
+    "until": "when the storm ends, in milliseconds (a minute after the last request)",
+    "calls": "cut the storm after this many calls (16777216)",
+    "words": "the seed of the random words (0)",
+}
+
+
+class _Once(argparse.Action):
+    """Keeps an option's word, which is given once."""
+
+    def __call__(self, parser: Any, namespace: Any, values: Any, option_string: Any = None) -> None:
+        if getattr(namespace, self.dest) is not None:
+            raise argparse.ArgumentError(self, f"expected it once, got {values!r} too")
+        setattr(namespace, self.dest, values)
+
+
+def add_storm_options(storm: argparse.ArgumentParser) -> None:
+    """Adds the options that say how a storm is played."""
+    story = "start from the parameters of outage (the default), herd or brown-out, or from a JSON file"
+    storm.add_argument("--scenario", metavar="NAME|FILE", default="outage", help=story)
+    for name, help in _HELP.items():
+        metavar = "SEED" if name == "words" else "M" if name in ("patience", "window", "until") else "N"
+        storm.add_argument(
+            f"--{name}", type=values.number(RANGES[name][1], RANGES[name][0]), metavar=metavar, help=help
+        )
+    outage = "when the peer refuses all calls, in milliseconds (10000..20000)"
+    storm.add_argument("--outage", type=_span, metavar="FROM..TO", help=outage)
+    slow = "when the peer works at PERCENT of its capacity, in milliseconds (never)"
+    storm.add_argument("--slow", type=_slow, metavar="FROM..TO@PERCENT", help=slow)
+    limits: Any = {"dest": "limits", "action": "append", "default": []}
+    budget = "limit all retries to N; each --budget and --quota is a storm of its own"
+    storm.add_argument("--budget", type=values.number(MAX_TICKETS), metavar="N", help=budget, **limits)
+    quota = "limit the retries in each PERIOD to RESERVE and a SHARE of its requests, as 10/10%/1s"
+    shown = quota.replace("%", "%%")
+    storm.add_argument("--quota", type=_quota, metavar="RESERVE/SHARE%/PERIOD", help=shown, **limits)
+    storm.add_argument("--without", action="store_true", help="also play each policy without a limit")
+    along = "play the storms for each value of a parameter, as rate=200..1600/8 (see below)"
+    storm.add_argument("--sweep", action=_Once, metavar="NAME=VALUES", help=along)
+    drawn = "what a sweep shows (succeeded); you can give it again"
+    storm.add_argument("--measure", choices=list(MEASURES), action="append", default=[], help=drawn)
+    border = "find the greatest share of a quota, the most retries or the least patience with which the peer recovers"
+    storm.add_argument("--find", choices=["quota", "retries", "patience"], help=border)
+
+
+def limits_of(given: Any) -> List[Union[None, int, Terms]]:
+    """What retries draw on, in a storm each."""
+    limits: List[Union[None, int, Terms]] = list(given.limits)
+    return [None, *limits] if given.without or not limits else limits
+
+
+def parameters_of(given: Any, base: Parameters) -> Parameters:
+    """The parameters that were given over those of a scenario, or a `StormError`."""
+    told = {name: getattr(given, name) for name in (*RANGES, "outage", "slow")}
+    changed = {name: value for name, value in told.items() if value is not None}
+    return base._replace(**changed).checked()
+
+
+def tickets_of(text: str) -> Union[None, int, Terms]:
+    """A budget as `N`, a quota as `RESERVE/SHARE%/PERIOD`, or none where the text is empty.
+
+    >>> tickets_of("100"), tickets_of("10/10%/1s"), tickets_of(" ")
+    (100, Terms(reserve=10, share=100, period=1000), None)
+    """
+    spelt = text.strip()
+    if not spelt:
+        return None
+    if spelt.isascii() and spelt.isdigit() and len(spelt) <= _MAX_TEXT:
+        if int(spelt) > MAX_TICKETS:
+            raise BudgetError(f"a budget is from 0 to {MAX_TICKETS}, not {spelt}")
+        return int(spelt)
+    if "/" not in spelt or len(spelt) > _MAX_TEXT:
+        raise BudgetError(f"{fitted(spelt, 300)!r} is neither N nor RESERVE/SHARE%/PERIOD, as 10/10%/1s")
+    return terms_of(*values.terms(spelt))
+
+
+def _ends(text: str) -> Optional[Tuple[int, int]]:
+    found = re.fullmatch(r"([0-9]+)\.\.([0-9]+)", text)
+    return (int(found[1]), int(found[2])) if found else None
+
+
+def _span(text: str) -> Span:
+    ends = _ends(text)
+    if ends is None:
+        raise argparse.ArgumentTypeError(f"{text!r} is not FROM..TO in milliseconds, as 10000..20000")
+    return Span(*ends)
+
+
+def _slow(text: str) -> Slow:
+    span, _, percent = text.partition("@")
+    ends = _ends(span)
+    if ends is None or not (percent.isascii() and percent.isdigit()):
+        raise argparse.ArgumentTypeError(f"{text!r} is not FROM..TO@PERCENT, as 10000..20000@50")
+    return Slow(*ends, int(percent))
+
+
+def _quota(text: str) -> Terms:
+    try:
+        return terms_of(*values.terms(text))
+    except BudgetError as error:
+        raise argparse.ArgumentTypeError(str(error)) from None

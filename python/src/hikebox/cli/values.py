@@ -1,0 +1,146 @@
+"""Words of the command line: numbers, durations, exit statuses, budgets and quotas."""
+
+from __future__ import annotations
+
+import argparse
+import re
+from typing import Callable, FrozenSet, List, Optional, Tuple, Union
+
+from ..budget import Budget
+from ..errors import BudgetError
+from ..leased import FileStore, Leased, LeasedQuota
+
+__all__ = ["budget", "duration", "inputs", "number", "quota", "size", "size_text", "statuses", "terms"]
+
+
+def number(most: int, least: int = 0) -> Callable[[str], int]:
+    """A reader of whole numbers in this range."""
+
+    def read(text: str) -> int:
+        if not (text.isascii() and text.isdigit()) or not least <= int(text) <= most:
+            raise argparse.ArgumentTypeError(f"{text!r} is not a number from {least} to {most}")
+        return int(text)
+
+    return read
+
+
+def inputs(most: int) -> Callable[[str], List[int]]:
+    """A reader of such numbers with commas between them."""
+    read = number(most)
+    return lambda text: [read(word) for word in text.split(",")]
+
+
+def duration(text: str) -> float:
+    """Seconds, more than 0."""
+    try:
+        count = float(text)
+    except ValueError:
+        count = -1.0
+    if 0 < count < 1e9:
+        return count
+    raise argparse.ArgumentTypeError(f"{text!r} is no number of seconds")
+
+
+_SIZES = {"K": 1 << 10, "M": 1 << 20, "G": 1 << 30}
+_SIZE = re.compile(r"([1-9][0-9]{0,14})([KMG]?)", re.ASCII)
+
+
+def size(text: str) -> int:
+    """A number of bytes, also as `10K`, `10M` or `10G`, by units of 1,024.
+
+    >>> size("10M"), size("7")
+    (10485760, 7)
+    """
+    found = _SIZE.fullmatch(text)
+    if not found:
+        raise argparse.ArgumentTypeError(f"expected a number of bytes, as 500, 10K, 10M or 10G, got {text!r}")
+    return int(found[1]) * _SIZES.get(found[2], 1)
+
+
+def size_text(size: int) -> str:
+    """The shortest spelling of a number of bytes.
+
+    >>> size_text(3 << 20), size_text(1025)
+    ('3M', '1025')
+    """
+    for unit, bytes_of in reversed(list(_SIZES.items())):
+        if size % bytes_of == 0:
+            return f"{size // bytes_of}{unit}"
+    return str(size)
+
+
+def statuses(text: str) -> FrozenSet[int]:
+    """Exit statuses, as numbers and ranges: `1,3-5`.
+
+    >>> sorted(statuses("1,3-5"))
+    [1, 3, 4, 5]
+    """
+    found: List[int] = []
+    for part in text.split(","):
+        least, dash, most = part.strip().partition("-")
+        if not least.isdigit() or (dash and not most.isdigit()):
+            raise argparse.ArgumentTypeError(f"{part!r} is no exit status")
+        first, last = int(least), int(most if dash else least)
+        if not 1 <= first <= last <= 255:
+            raise argparse.ArgumentTypeError(f"{part!r} is not within 1 to 255")
+        found.extend(range(first, last + 1))
+    return frozenset(found)
+
+
+def budget(text: Optional[str]) -> Union[Budget, Leased, None]:
+    """A budget of this run, `N`, or one that all runs with the same folder share, `N@FOLDER`."""
+    if text is None:
+        return None
+    tickets, at, path = text.partition("@")
+    if not (tickets.isascii() and tickets.isdigit()):
+        raise BudgetError(f"{text!r} is not N or N@FOLDER")
+    return Leased(FileStore(path), "run", int(tickets), lease=1) if at else Budget(int(tickets))
+
+
+def quota(text: str) -> LeasedQuota:
+    """A quota that all runs with the same folder share: `10/20%/60s@FOLDER`."""
+    spelt, at, path = text.partition("@")
+    if not (at and path):
+        raise BudgetError(f"{text!r} is not RESERVE/SHARE%/PERIOD@FOLDER, as 10/20%/60s@FOLDER")
+    reserve, share, per = terms(spelt)
+    return LeasedQuota(FileStore(path), "run", reserve, share, per, lease=1)
+
+
+_UNITS = {"ms": 0.001, "s": 1.0, "m": 60.0, "h": 3600.0, "d": 86400.0}
+_SPELT = re.compile(r"(\d+)/(\d+(?:\.\d+)?)%/(\d+(?:\.\d+)?)(ms|s|m|h|d)")
+_BARE = re.compile(r"(\d+)/(\d+(?:\.\d+)?)/(\d+(?:\.\d+)?)")
+
+
+def terms(text: str) -> Tuple[int, float, float]:
+    """The reserve, the share of a request and the seconds of a window, which are spelt with their units.
+
+    >>> terms("10/20%/60s"), terms("1/0.5%/100ms")
+    ((10, 0.2, 60.0), (1, 0.005, 0.1))
+    >>> terms("1/500/100")
+    Traceback (most recent call last):
+    ...
+    hikebox.errors.BudgetError: '1/500/100' has no units: as retries a request and seconds it is 1/50000%/100s, as \
+thousandths and milliseconds, which zsched reads, 1/50%/100ms
+    """
+    found = _SPELT.fullmatch(text)
+    if found:
+        reserve, share, count, unit = found.groups()
+        return int(reserve), _exact(float(share) / 100), _exact(float(count) * _UNITS[unit])
+    bare = _BARE.fullmatch(text)
+    if bare:
+        reserve, share, count = bare.groups()
+        ours = f"{reserve}/{_plain(float(share) * 100)}%/{count}s"
+        theirs = f"{reserve}/{_plain(float(share) / 10)}%/{count}ms"
+        raise BudgetError(
+            f"{text!r} has no units: as retries a request and seconds it is {ours}, as thousandths and milliseconds, "
+            f"which zsched reads, {theirs}"
+        )
+    raise BudgetError(f"{text!r} is not RESERVE/SHARE%/PERIOD, as 10/20%/60s; units are ms, s, m, h and d")
+
+
+def _exact(value: float) -> float:
+    return round(value, 9)
+
+
+def _plain(value: float) -> str:
+    return f"{round(value, 6):.6f}".rstrip("0").rstrip(".")

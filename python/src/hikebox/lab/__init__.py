@@ -1,0 +1,1 @@
+"""`hikebox lab`: a page on this machine on which you try policies and storms."""

@@ -1,0 +1,211 @@
+"""What the page of `hikebox lab` is answered: a policy and its plan, and the storms of policies."""
+
+from __future__ import annotations
+
+from typing import Any, Dict, List, Optional, Sequence, Tuple, Union
+
+from .._svg import MIN_WIDTH, MAX_WIDTH
+from ..cli.storm_options import tickets_of
+from ..errors import BudgetError, StormError
+from ..policy import Policy
+from ..policy.picture import plan_picture
+from ..quota import Terms
+from ..storm import Storm, play
+from ..storms.axes import AXES
+from ..storms.code import in_command, in_python, in_rust, in_scenario
+from ..storms.heads import names_of
+from ..storms.parameters import RANGES, Parameters, Slow, Span
+from ..storms.picture import storm_picture
+from ..storms.sweep_picture import sweep_picture
+from ..storms.texts import recovery_mark, sentences, share_text
+from ..sweeps import swept
+from .cookbook import COOKBOOK
+from .faults import Marked, policy_in
+from .stories import STORIES
+
+__all__ = ["BadRequest", "plan_answer", "start_answer", "storm_answer", "sweep_answer"]
+
+_MAX_SIDES = 4
+#: The values of a sweep, as parts of the number that the page has, and for a share in thousandths.
+_PARTS = (0.25, 0.5, 0.75, 1.0, 1.25, 1.5, 1.75, 2.0)
+_SHARES = (0, 25, 50, 100, 150, 200, 300, 400)
+#: The parameters along which the page plays storms.
+_ALONG = ("rate", "capacity", "outage", "patience", "queue", "share")
+
+Json = Dict[str, Any]
+Tickets = Union[None, int, Terms]
+
+
+class BadRequest(Exception):
+    """What was asked has not the form that the page gives it."""
+
+
+def start_answer() -> Json:
+    """What the page begins with."""
+    stories = {
+        name: {
+            "title": story.title,
+            "storm": _told_parameters(story.parameters),
+            "sides": [{"text": text, "limit": limit} for text, limit in story.sides],
+        }
+        for name, story in STORIES.items()
+    }
+    return {
+        "cookbook": [list(entry) for entry in COOKBOOK],
+        "stories": stories,
+        "ranges": {name: list(RANGES[name]) for name in RANGES},
+        "along": {name: AXES[name].title for name in _ALONG},
+    }
+
+
+def _told_parameters(parameters: Parameters) -> Json:
+    told = parameters._asdict()
+    del told["until"], told["tickets"]
+    return told
+
+
+def plan_answer(asked: Json) -> Json:
+    """The policy of a text with the picture of its plan, or the fault, and what is wrong with its limit."""
+    found = policy_in(_text(asked, "text"))
+    answer: Json = {"limit_fault": None}
+    try:
+        tickets_of(_text(asked, "limit"))
+    except BudgetError as error:
+        answer["limit_fault"] = str(error)
+    if isinstance(found, Marked):
+        answer["fault"] = found._asdict()
+    else:
+        answer["picture"] = plan_picture(found, width=_width(asked), styled=False)
+    return answer
+
+
+def storm_answer(asked: Json) -> Json:
+    """The storms of policies in one picture, each with its totals in words and its programs; None for what is none."""
+    sides = _sides(asked)
+    try:
+        parameters = _parameters(asked.get("storm"))
+    except StormError as error:
+        return _fault(error)
+    storms = [None if side is None else play(side[0], parameters._replace(tickets=side[1])) for side in sides]
+    played = [storm for storm in storms if storm is not None]
+    if not played:
+        return {"sides": [None for _ in storms], "picture": "", "scenario": ""}
+    names = [f"{letter}: {name}" for letter, name in zip(_letters(storms), names_of(played))]
+    how: Any = {"width": _width(asked), "styled": False, "is_brief": asked.get("is_brief") is True}
+    return {
+        "sides": [None if storm is None else _shown(storm) for storm in storms],
+        "picture": storm_picture(played, names=names, title="", **how),
+        "scenario": in_scenario(played),
+    }
+
+
+def sweep_answer(asked: Json) -> Json:
+    """The shares that succeed along a parameter, as a picture; or why there are none."""
+    name = _text(asked, "along")
+    if name not in _ALONG:
+        raise BadRequest(f"along: expected one of {', '.join(_ALONG)}, got {name!r}")
+    sides = _sides(asked)
+    try:
+        parameters = _parameters(asked.get("storm"))
+        storms = [(side[0], parameters._replace(tickets=side[1])) for side in sides if side is not None]
+        values = _values(name, parameters)
+        if not storms or len(values) < 2:
+            return {"picture": "", "said": f"There is nothing to play along {AXES[name].title}."}
+        played = swept(storms, name, values, _letters(sides))
+    except StormError as error:
+        return _fault(error)
+    return {"picture": sweep_picture(played, ("succeeded",), width=_width(asked), title="", styled=False), "said": ""}
+
+
+def _values(name: str, parameters: Parameters) -> List[int]:
+    """About the number that the page has, or the shares of a quota; none where it has no such number."""
+    if name == "share":
+        return list(_SHARES)
+    outage = parameters.outage
+    now = outage.ends - outage.begins if name == "outage" else int(getattr(parameters, name))
+    return [value for value in sorted({round(part * now) for part in _PARTS}) if _is_right(name, parameters, value)]
+
+
+def _is_right(name: str, parameters: Parameters, value: int) -> bool:
+    """Whether there is a storm with this value."""
+    try:
+        return bool(value and AXES[name].put(parameters, value).checked())
+    except StormError:
+        return False
+
+
+def _letters(sides: Sequence[Optional[Any]]) -> List[str]:
+    """The letters of the sides that have something."""
+    return [chr(ord("A") + index) for index, side in enumerate(sides) if side is not None]
+
+
+def _fault(error: StormError) -> Json:
+    return {"fault": {"name": error.name, "said": error.hint}}
+
+
+def _sides(asked: Json) -> List[Optional[Tuple[Policy, Tickets]]]:
+    sides = asked.get("sides")
+    if not isinstance(sides, list) or len(sides) > _MAX_SIDES or not all(map(_is_object, sides)):
+        raise BadRequest("sides: expected a list of objects")
+    return [_side(side) for side in sides]
+
+
+def _is_object(value: Any) -> bool:
+    return isinstance(value, dict)
+
+
+def _side(side: Json) -> Optional[Tuple[Policy, Tickets]]:
+    found = policy_in(_text(side, "text"))
+    try:
+        tickets = tickets_of(_text(side, "limit"))
+    except BudgetError:
+        return None
+    return None if isinstance(found, Marked) else (found, tickets)
+
+
+def _shown(storm: Storm) -> Json:
+    totals = storm.totals
+    back = recovery_mark(storm)[1]
+    brief = f"{share_text(totals)} of {totals.requests:,} requests succeeded{back and ', ' + back}"
+    return {
+        "brief": f"{brief}; {totals.calls_per_request:.2f} calls for each",
+        "lines": sentences(storm),
+        "json": storm.policy.to_json(),
+        "command": in_command(storm.policy, storm.parameters),
+        "python": in_python(storm.policy, storm.parameters),
+        "rust": in_rust(storm.policy, storm.parameters),
+    }
+
+
+def _parameters(asked: Any) -> Parameters:
+    if not isinstance(asked, dict):
+        raise BadRequest("storm: expected an object")
+    told: Json = {name: _whole(name, asked[name]) for name in RANGES if asked.get(name) is not None}
+    if asked.get("outage") is not None:
+        told["outage"] = Span(*_wholes("outage", asked["outage"], 2))
+    if asked.get("slow") is not None:
+        told["slow"] = Slow(*_wholes("slow", asked["slow"], 3))
+    return Parameters(**told).checked()
+
+
+def _whole(name: str, value: Any) -> int:
+    if isinstance(value, bool) or not isinstance(value, int):
+        raise BadRequest(f"{name}: expected a whole number")
+    return value
+
+
+def _wholes(name: str, value: Any, count: int) -> List[int]:
+    if not isinstance(value, list) or len(value) != count:
+        raise BadRequest(f"{name}: expected {count} whole numbers")
+    return [_whole(name, each) for each in value]
+
+
+def _text(asked: Json, name: str) -> str:
+    value = asked.get(name, "")
+    if not isinstance(value, str):
+        raise BadRequest(f"{name}: expected a text")
+    return value
+
+
+def _width(asked: Json) -> int:
+    return min(MAX_WIDTH, max(MIN_WIDTH, _whole("width", asked.get("width", 560))))

@@ -1,0 +1,135 @@
+"""The processes that play the storms of `hikebox lab`, of which each storm is broken off by ending its process."""
+
+from __future__ import annotations
+
+import json
+import os
+import select
+import subprocess
+import sys
+import threading
+import time
+from pathlib import Path
+from typing import Any, Callable, Dict, List
+
+__all__ = ["BrokenOff", "Players", "is_readable"]
+
+#: What such a process runs, with the folder that the package is in, should it not find that by itself.
+_PROGRAM = "import sys; sys.path.append(sys.argv[1]); from hikebox.lab.player import main; main()"
+#: How often is looked whether a storm is still wanted, in seconds.
+_TICK = 0.05
+
+
+def is_readable(descriptor: int, seconds: float) -> bool:
+    """Whether there is something to read, or an end, within so many seconds."""
+    poll = select.poll()
+    poll.register(descriptor, select.POLLIN)
+    return bool(poll.poll(seconds * 1000))
+
+
+class BrokenOff(Exception):
+    """Nobody wants the storm any more, or its process ended."""
+
+
+class _Player:
+    """A process, which plays one storm at a time."""
+
+    def __init__(self) -> None:
+        self.process = subprocess.Popen(
+            [sys.executable, "-c", _PROGRAM, str(Path(__file__).resolve().parents[2])],
+            stdin=subprocess.PIPE,
+            stdout=subprocess.PIPE,
+            cwd="/",
+            start_new_session=True,
+        )
+
+    def ask(self, asked: Dict[str, Any], is_wanted: Callable[[], bool]) -> Dict[str, Any]:
+        """The answer, as long as it is wanted."""
+        stdin, stdout = self.process.stdin, self.process.stdout
+        assert stdin is not None and stdout is not None
+        try:
+            stdin.write(json.dumps(asked).encode() + b"\n")
+            stdin.flush()
+        except OSError:
+            raise BrokenOff from None
+        said = b""
+        while not said.endswith(b"\n"):
+            if is_readable(stdout.fileno(), _TICK):
+                more = os.read(stdout.fileno(), 1 << 16)
+                if not more:
+                    raise BrokenOff
+                said += more
+            elif not is_wanted():
+                raise BrokenOff
+        answer: Dict[str, Any] = json.loads(said)
+        return answer
+
+    def end(self) -> None:
+        self.process.kill()
+        self.process.communicate()
+
+
+class Players:
+    """So many processes at most, which are begun when they are wanted."""
+
+    def __init__(self, most: int) -> None:
+        self._lock = threading.Lock()
+        self._places = threading.BoundedSemaphore(most)
+        self._idle: List[_Player] = []
+        self._busy: List[_Player] = []
+        self._closed = False
+
+    def play(self, asked: Dict[str, Any], is_wanted: Callable[[], bool]) -> Dict[str, Any]:
+        """The answer to a storm, or a `BrokenOff` once it is not wanted any more."""
+        while not self._places.acquire(timeout=_TICK):
+            if not is_wanted():
+                raise BrokenOff
+        try:
+            return self._play(asked, is_wanted)
+        finally:
+            self._places.release()
+
+    def _play(self, asked: Dict[str, Any], is_wanted: Callable[[], bool]) -> Dict[str, Any]:
+        player = self._lend()
+        done = False
+        try:
+            answer = player.ask(asked, is_wanted)
+            done = True
+            return answer
+        finally:
+            self._take_back(player, done)
+
+    def _lend(self) -> _Player:
+        with self._lock:
+            if self._closed:
+                raise BrokenOff
+            while self._idle:
+                player = self._idle.pop()
+                if player.process.poll() is None:
+                    break
+                player.end()
+            else:
+                player = _Player()
+            self._busy.append(player)
+            return player
+
+    def _take_back(self, player: _Player, is_well: bool) -> None:
+        with self._lock:
+            self._busy.remove(player)
+            if is_well and not self._closed:
+                self._idle.append(player)
+                return
+        player.end()
+
+    def close(self) -> None:
+        """Ends them all."""
+        with self._lock:
+            self._closed = True
+            idle, self._idle = self._idle, []
+            for player in self._busy:
+                player.process.kill()
+        for player in idle:
+            player.end()
+        begun = time.monotonic()
+        while self._busy and time.monotonic() < begun + 2:
+            time.sleep(0.01)

@@ -1,0 +1,212 @@
+"""A store of leases in a folder."""
+
+from __future__ import annotations
+
+import contextlib
+import os
+import re
+import secrets
+import time
+from typing import Callable, Iterator, Optional, Union
+
+from ..errors import StoreError
+from ..quota import Terms
+from .._engine.leasing import Stored, lease_of_budget, lease_of_quota
+from .slots import NO_BOOT, Copy, Slot, make_slot, slot_path, sync_folder, unpack
+from .stores import Present, QuotaRange, Range, checked_name, present_window
+
+__all__ = ["FileStore", "shared_uptime"]
+
+#: How often in a row a slot may be deleted while it is opened.
+_TRIES = 100
+
+
+class FileStore:
+    """Counts in a folder, for the processes of one machine.
+
+    Each budget, and each quota, has a file of its own in the folder, which is made where it is missing. A lease is one
+    change of that file under its lock (`flock`). That of a budget without windows is on the disk before the lease is
+    granted. Windows are counted by the machine's uptime, so a clock that is set, or off, changes nothing, and neither
+    does the time namespace of a container. The folder has to be on a local disk. If you delete it, all its budgets and
+    quotas begin anew. A damaged file grants nothing (`StoreLost`).
+
+    `patience` is how many seconds a lease waits for the lock.
+    """
+
+    def __init__(self, path: Union[str, os.PathLike[str]], *, patience: float = 5.0) -> None:
+        self.path = os.fsdecode(path)
+        self.patience = patience
+        self._look_at_path()
+
+    def __repr__(self) -> str:
+        return f"FileStore({self.path!r})"
+
+    def take(self, name: str, count: int, limit: int, period: Optional[int], clock: Callable[[], float]) -> Range:
+        """A range of this name's tickets, or of its present window's."""
+        checked_name(name)
+        if period is None:
+            return self._take_of_all(name, count, limit)
+        with self._locked(f"windows of {period} ms of {name}") as slot:
+            present, boot = _present(period, clock), this_boot()
+            stored = slot.read().stored(boot)
+            granted = lease_of_budget(limit, present.number, count, stored)
+            if granted is None:
+                return Range(0, 0, present.until, present.number, lost=True)
+            if granted.tickets:
+                slot.write(boot, stored)
+            return Range(granted.first, granted.tickets, present.until, present.number)
+
+    def take_of_quota(
+        self, name: str, terms: Terms, count: int, asked: Callable[[float], int], clock: Callable[[], float]
+    ) -> QuotaRange:
+        """Adds requests to the present window of this name's quota, and takes a range of its tickets."""
+        checked_name(name)
+        with self._locked(f"quota of {terms.period} ms of {name}") as slot:
+            present, boot = _present(terms.period, clock), this_boot()
+            number, stored = present.number, slot.read().stored(boot)
+            # comes to the window before any request is told, as none is where the file has a later one
+            if lease_of_quota(terms, number, 0, 0, stored) is None:
+                return QuotaRange(0, 0, present.until, number, 0, lost=True)
+            told = asked(present.began_by)
+            granted = lease_of_quota(terms, number, told, count, stored)
+            assert granted is not None
+            if told or granted.tickets:
+                slot.write(boot, stored)
+            return QuotaRange(granted.first, granted.tickets, present.until, number, stored.asked)
+
+    def _take_of_all(self, name: str, count: int, limit: int) -> Range:
+        """A range of a budget without windows."""
+        with self._locked(f"budget {name}", to_disk=True) as slot:
+            stored = Stored(given=slot.read().given)
+            granted = lease_of_budget(limit, 0, count, stored)
+            assert granted is not None
+            if granted.tickets:
+                slot.write(NO_BOOT, stored)
+            return Range(granted.first, granted.tickets, None)
+
+    @contextlib.contextmanager
+    def _locked(self, key: str, to_disk: bool = False) -> Iterator[Slot]:
+        """The slot of this key, open and locked. It is made where it is missing."""
+        spelt = key.encode()
+        path = slot_path(self.path, spelt)
+        try:
+            slot = self._open(path, spelt, to_disk)
+            try:
+                yield slot
+            finally:
+                slot.close()
+        except OSError as error:
+            self._look_at_path()
+            raise StoreError(f"{path}: {error.strerror}") from error
+
+    def _open(self, path: str, key: bytes, to_disk: bool) -> Slot:
+        for _ in range(_TRIES):
+            try:
+                slot = Slot(path, key, to_disk)
+            except FileNotFoundError:
+                self._make(path, key, to_disk)
+                continue
+            try:
+                if slot.lock(self.patience):
+                    return slot
+            except BaseException:
+                slot.close()
+                raise
+            # it was deleted, or its folder was, while this process waited for the lock
+            slot.close()
+        raise StoreError(f"{path}: it was deleted again and again")
+
+    def _make(self, path: str, key: bytes, to_disk: bool) -> None:
+        folder = os.path.dirname(path)
+        os.makedirs(folder, exist_ok=True)
+        with contextlib.suppress(FileNotFoundError):  # the folder was deleted just now
+            make_slot(path, _nothing_counted(key), to_disk)
+            if to_disk:
+                sync_folder(self.path)
+            _prune(folder, os.path.basename(path))
+
+    def _look_at_path(self) -> None:
+        if os.path.isfile(self.path):
+            raise StoreError(
+                f"{self.path}: expected a folder, got a file. Counts are kept in a folder now; name another path, or "
+                "delete the file to begin all its budgets and quotas anew."
+            )
+
+
+def _present(period: int, clock: Callable[[], float]) -> Present:
+    return present_window(period, clock(), shared_uptime(), clock())
+
+
+#: How the key of counts by windows begins, with their milliseconds.
+_WINDOWS = re.compile(rb"(?:windows|quota) of (\d+) ms of ")
+
+
+def _nothing_counted(key: bytes) -> Copy:
+    """The first counts of this key: of the present window, where it has windows."""
+    found = _WINDOWS.match(key)
+    if found is None:
+        return Copy(key, 0, 0, 0, 0, NO_BOOT)
+    return Copy(key, 0, shared_uptime() // (int(found[1]) * 10**6), 0, 0, this_boot())
+
+
+def shared_uptime() -> int:
+    """Nanoseconds since the machine started, by the clock that all its processes share. That of a process in a time
+    namespace is shifted."""
+    return time.clock_gettime_ns(time.CLOCK_BOOTTIME) - _shift()
+
+
+def _shift() -> int:
+    """By how many nanoseconds this process's clock is ahead of the machine's."""
+    try:
+        with open("/proc/self/timens_offsets", encoding="ascii") as file:
+            for line in file:
+                clock, seconds, nanos = line.split()
+                if clock == "boottime":
+                    return int(seconds) * 10**9 + int(nanos)
+    except FileNotFoundError:  # a kernel without time namespaces
+        pass
+    return 0
+
+
+def this_boot() -> bytes:
+    """A name of this start of the machine."""
+    with open("/proc/sys/kernel/random/boot_id", "rb") as file:
+        return file.read(36)
+
+
+#: At how many other files a lease looks that makes a new one.
+_LOOKS = 16
+#: How many seconds a file beside its name is left alone, which a process that was killed left behind.
+_LEFT_ALONE = 60.0
+
+
+def _prune(folder: str, own: str) -> None:
+    """Deletes some files of this folder that no lease needs any more."""
+    names = os.listdir(folder)
+    begin = secrets.randbelow(len(names) or 1)
+    for name in (names[begin:] + names[:begin])[:_LOOKS]:
+        if name != own:
+            # one that another process has locked, or has deleted, or that is no file, is left alone
+            with contextlib.suppress(OSError, StoreError):
+                _delete_if_over(os.path.join(folder, name))
+
+
+def _delete_if_over(path: str) -> None:
+    slot = Slot(path)
+    try:
+        if slot.lock(patience=0) and _is_over(slot):
+            os.unlink(path)
+    finally:
+        slot.close()
+
+
+def _is_over(slot: Slot) -> bool:
+    """Whether no lease needs this file: its window is over for good, or it is a leftover."""
+    if os.path.basename(slot.path).startswith(".new-"):
+        return slot.age() > _LEFT_ALONE
+    copy = unpack(slot.content())
+    found = None if copy is None else _WINDOWS.match(copy.key)
+    if copy is None or found is None:
+        return False
+    period = int(found[1])
+    return copy.boot != this_boot() or (copy.window + 2) * period * 10**6 <= shared_uptime()

@@ -1,0 +1,201 @@
+"""Budgets and quotas that draw of leases from a store."""
+
+from __future__ import annotations
+
+import threading
+from typing import Callable, Optional
+
+from .._time import Duration, seconds, seconds_text
+from ..errors import TermsError
+from ..quota import Terms, Usage, requests_of, terms_of
+from .leases import Leases
+from .._engine.leasing import Grant
+from .stores import QuotaRange, QuotaStore, Range, Store, uptime
+
+__all__ = ["Leased", "LeasedQuota"]
+
+
+class Leased(Leases):
+    """A budget that all processes with the same store and name share. Threads may share it too.
+
+    `limit`
+        The most tickets over all processes: in all, or with `per` in each window.
+    `per`
+        How long a window is: seconds, or a `timedelta`.
+    `lease`
+        How many tickets are leased at a time. A process that ends loses at most so many; a store is asked once for so
+        many draws. A sixty-fourth of the limit where it is None, from 1 to 1000.
+    `spare`
+        How many tickets this process may draw while the store can't be reached, beyond the limit: in all, or with
+        `per` in each window.
+    `again_after`
+        How many seconds a store that could not be reached is left alone.
+    """
+
+    def __init__(
+        self,
+        store: Store,
+        name: str,
+        limit: int,
+        *,
+        per: Optional[Duration] = None,
+        lease: Optional[int] = None,
+        spare: int = 0,
+        again_after: float = 1.0,
+        clock: Callable[[], float] = uptime,
+    ) -> None:
+        if isinstance(limit, bool) or not isinstance(limit, int) or not 0 <= limit < 2**52:
+            raise TermsError(f"a limit is a whole number from 0 to 2**52 - 1, not {limit!r}")
+        millis = None if per is None else seconds(per, "per")
+        if millis == 0:
+            raise TermsError(f"a window is at least a millisecond long, not {per!r}")
+        self.store = store
+        self.limit = limit
+        self.lease = _checked_lease(lease) or max(1, min(1000, limit // 64))
+        super().__init__(name, millis, spare, again_after, clock)
+
+    def _take(self) -> Range:
+        return self.store.take(self.name, self.lease, self.limit, self.millis, self.clock)
+
+    def __repr__(self) -> str:
+        per = "" if self.millis is None else f", per={seconds_text(self.millis)}"
+        return f"Leased({self.store!r}, {self.name!r}, limit={self.limit}{per}, lease={self.lease})"
+
+
+class LeasedQuota(Leases):
+    """A quota that all processes with the same store and name share. Threads may share it too.
+
+    `reserve`, `share`, `per`
+        As of a `Quota`, over all processes: in each window of the store's clock they draw no more tickets than the
+        reserve, and the share of the requests that they told the store in it.
+    `lease`
+        How many tickets are leased at a time, at most. A process that ends loses at most so many; a store is asked once
+        for so many draws. A sixty-fourth of what the window allows where it is None, from 1 to 1000.
+    `counts_successes`, `returns_tickets`
+        As of a `Quota`. A ticket that comes back, so or of a retry that ends while it waits, is drawn again in this
+        process while its window lasts; the store is not told.
+    `spare`
+        How many tickets this process may draw in each window while the store can't be reached, beyond the quota.
+    `again_after`
+        How many seconds a store that could not be reached is left alone, and one that had no ticket left, where the
+        requests since then are not worth a lease.
+
+    Requests are counted in the process, and told to the store when a lease is asked for, or by `seen`; those of the
+    present window alone count. So a process whose calls all succeed never asks the store.
+    """
+
+    def __init__(
+        self,
+        store: QuotaStore,
+        name: str,
+        reserve: int,
+        share: float,
+        per: Duration,
+        *,
+        lease: Optional[int] = None,
+        spare: int = 0,
+        again_after: float = 1.0,
+        counts_successes: bool = False,
+        returns_tickets: bool = False,
+        clock: Callable[[], float] = uptime,
+    ) -> None:
+        self.terms: Terms = terms_of(reserve, share, per)
+        self.store = store
+        self.lease = _checked_lease(lease)
+        self._counts_successes = counts_successes
+        self._returns_tickets = returns_tickets
+        super().__init__(name, self.terms.period, spare, again_after, clock)
+
+    TAKES_BACK = True
+
+    def begin_anew(self) -> None:
+        super().begin_anew()
+        self._terms_lock = threading.Lock()
+        #: How many tickets are leased next.
+        self._next = self._lease_of(self.terms.reserve)
+        #: Whether the store had no ticket left when it was asked last, and by which terms it was asked.
+        self._spent = False
+        self._asked_by = self.terms
+
+    @property
+    def counts_successes(self) -> bool:
+        """Whether a call counts as a request where it succeeds, and not at its first attempt."""
+        return self._counts_successes
+
+    @property
+    def returns_tickets(self) -> bool:
+        """Whether a call that succeeds after retries hands the ticket of the last one back."""
+        return self._returns_tickets
+
+    def set_terms(self, reserve: Optional[int] = None, share: Optional[float] = None) -> None:
+        """Sets the reserve and the share that this process names to the store, from its next lease on. Each process
+        sets its own. A window gives no more than the most generous that were named in it allow."""
+        with self._terms_lock:
+            self.terms = self.terms.changed(reserve, share)
+        self._may_ask_again()
+
+    def deposit(self, requests: int = 1) -> None:
+        """Counts a request, or so many at once. Calls that are retried under the quota count themselves. The store is
+        not asked."""
+        self.leased.deposit(self.moments.now(), requests_of(requests))
+
+    def seen(self) -> Usage:
+        """Tells the store the requests that were counted since it was asked last, and answers what it has of its
+        present window. It is a `StoreError` where the store can't be reached. `lost` says that the store may have lost
+        what it counted of the window, and grants nothing until the next one.
+
+        A process whose calls hardly ever fail may call it now and then, so that others draw on the share of its
+        requests.
+        """
+        with self.lock:
+            found = self._asked(self.terms, 0)
+            # (requests are counted apart before and after the end of the window)
+            self.leased.granted(Grant(found.window, 0, 0, self.moments.of(found.until)))
+        self._may_ask_again()
+        given = found.first + found.tickets
+        left = 0 if found.lost else max(0, self.terms.allowed(found.asked) - given)
+        return Usage(found.window, found.asked, given, left, found.lost, found.until)
+
+    def _may_ask_again(self) -> None:
+        self._spent = False
+        self.leased.leave_alone(0)
+
+    def _take(self) -> Range:
+        self._spent, terms = False, self.terms
+        found = self._asked(terms, self._next)
+        self._next = self._lease_of(terms.allowed(found.asked))
+        self._asked_by = terms
+        return Range(found.first, found.tickets, found.until, found.window, found.lost)
+
+    def _granted_none(self, found: Range) -> None:
+        if self._asked_by is not self.terms:  # they were set meanwhile
+            self._may_ask_again()
+            return
+        self._spent = True
+        if self.terms.share:  # others may tell their requests
+            self.leave_alone(found.until)
+
+    def _asked(self, terms: Terms, count: int) -> QuotaRange:
+        return self.store.take_of_quota(self.name, terms, count, self._told, self.clock)
+
+    def _told(self, began: float) -> int:
+        """The requests that were counted since the window began."""
+        return self.leased.tell(self.moments.after(began))
+
+    def _is_worth_asking(self) -> bool:
+        return self._spent and self.leased.seen().untold * self.terms.share >= self._next * 1000
+
+    def _lease_of(self, allowed: int) -> int:
+        return self.lease or max(1, min(1000, allowed // 64))
+
+    def __repr__(self) -> str:
+        lease = "" if self.lease is None else f", lease={self.lease}"
+        options = "".join(f", {name}=True" for name in ("counts_successes", "returns_tickets") if getattr(self, name))
+        return f"LeasedQuota({self.store!r}, {self.name!r}, {self.terms}{lease}{options})"
+
+
+def _checked_lease(lease: Optional[int]) -> Optional[int]:
+    """How many tickets are leased at a time, where that is said: or a `TermsError`."""
+    if lease is not None and not 1 <= lease <= 2**32:
+        raise TermsError(f"a lease is from 1 to 2**32 tickets, not {lease!r}")
+    return lease

@@ -1,0 +1,278 @@
+"""Tickets that a process leases from a store, and draws."""
+
+from __future__ import annotations
+
+import logging
+import math
+import threading
+from typing import Any, Awaitable, Callable, ClassVar, List, Optional, Union
+
+from .._forks import begins_anew_in_a_child
+from .._time import MAX_NUMBER, FLOAT_ERROR
+from ..budgets.drawing import Drawing
+from ..budgets.tickets import Drawn, Refusal, RefusalReason, Ticket, checked_ticket
+from ..errors import StoreError, StoreLost, TicketError
+from .._engine.leasing import Grant, LeasedPass, LeasedTicket
+from .stores import Range, checked_name
+
+__all__ = ["Leases", "Moments"]
+
+logger = logging.getLogger("hikebox")
+
+#: How many leases in a row may be over before a ticket is drawn of them.
+_TRIES = 3
+
+#: The engine's moment at which a process begins. Its clock may go back by as many milliseconds.
+_BEGINS = 2**40
+
+
+class Moments:
+    """The engine's moments beside the seconds of a clock."""
+
+    __slots__ = ("_clock", "_origin")
+
+    def __init__(self, clock: Callable[[], float]) -> None:
+        self._clock = clock
+        self._origin = clock()
+
+    def now(self) -> int:
+        """The last whole millisecond that has begun."""
+        return self.of(self._clock())
+
+    def of(self, seconds: Optional[float]) -> int:
+        """The millisecond that these seconds of the clock are in; the last one for None."""
+        if seconds is None:
+            return MAX_NUMBER
+        return max(0, min(MAX_NUMBER, math.floor((seconds - self._origin) * 1000 + FLOAT_ERROR) + _BEGINS))
+
+    def after(self, seconds: Optional[float]) -> int:
+        """The first whole millisecond that does not begin before these seconds; the last one for None."""
+        if seconds is None:
+            return MAX_NUMBER
+        return max(0, min(MAX_NUMBER, math.ceil((seconds - self._origin) * 1000 - FLOAT_ERROR) + _BEGINS))
+
+    def seconds(self, moment: int) -> Optional[float]:
+        """The seconds of the clock at which a moment begins, or None for the last one."""
+        return None if moment >= MAX_NUMBER else (moment - _BEGINS) / 1000 + self._origin
+
+
+class Leases:
+    """Tickets that all processes with the same store and name share. Threads may share it too."""
+
+    #: Whether a ticket that was not used comes back.
+    TAKES_BACK: ClassVar[bool] = False
+
+    def __init__(
+        self, name: str, period: Optional[int], spare: int, again_after: float, clock: Callable[[], float]
+    ) -> None:
+        self.name = checked_name(name)
+        #: How many tickets this process may draw while the store can't be reached, in all or in each window.
+        self.spare = spare
+        self.again_after = again_after
+        self.clock = clock
+        #: The length of a window in milliseconds, or None.
+        self.millis = period
+        #: How often it began anew.
+        self.generation = -1
+        self.begin_anew()
+        begins_anew_in_a_child(self)
+
+    @property
+    def per(self) -> Optional[float]:
+        """How many seconds a window is long, or None where there are none."""
+        return None if self.millis is None else self.millis / 1000
+
+    def begin_anew(self) -> None:
+        """Begins with no lease, as in a forked child."""
+        self.generation += 1
+        #: Who has it asks the store.
+        self.lock = threading.Lock()
+        self.moments = Moments(self.clock)
+        #: What was leased, and what is drawn while the store can't be reached, in windows of the process's own.
+        self.leased = LeasedPass(self.millis or 0)
+        self._spared = LeasedPass(self.millis or 0)
+        self._spares = 0
+        #: What was leased before the store began anew.
+        self._past: List[LeasedPass] = []
+        #: Why the store grants nothing, where that is not since all is used up; and what it raised.
+        self._reason = RefusalReason.USED_UP
+        self._error: Optional[StoreError] = None
+
+    def _take(self) -> Range:
+        """A range from the store."""
+        raise NotImplementedError
+
+    def _granted_none(self, found: Range) -> None:
+        """The store has no ticket left. It is left alone until the window ends, where this does nothing else."""
+
+    def _is_worth_asking(self) -> bool:
+        """Whether the store is asked though it was to be left alone."""
+        return False
+
+    # Draws
+
+    def draw(self) -> Drawn:
+        """A `Ticket` of what was leased, or of a new lease where that is used up: or a `Refusal`, which is false and
+        says why there is none. It waits for the store where that is asked.
+
+        The numbers begin at 0, in each window anew; those that are drawn while the store can't be reached are -1, -2
+        and so on, and are of no window.
+        """
+        found = self._at_hand()
+        if isinstance(found, Ticket):
+            return found
+        with self.lock:
+            return self._drawn_anew()
+
+    async def draw_async(self) -> Drawn:
+        """The same for a coroutine: it waits for the store on another thread."""
+        found = self._at_hand()
+        if isinstance(found, Ticket):
+            return found
+        if not self.lock.locked() and not self._may_ask(found):
+            return self.draw()
+        import asyncio
+
+        try:
+            loop = asyncio.get_running_loop()
+        except RuntimeError:  # a coroutine of another library
+            return self.draw()
+        return await loop.run_in_executor(None, self.draw)
+
+    def hand_back(self, ticket: Ticket) -> None:
+        """Hands a ticket back that was drawn by hand, and not used: this process may draw it again while its window
+        lasts, and `granted` is one less then. That can be done once, else it is a `TicketError`. `ticket.hand_back()`
+        does the same."""
+        if not self.TAKES_BACK:
+            raise TicketError(f"expected a ticket of a quota, got {ticket!r} of a budget, which does not come back")
+        generation, drawn_of, drawn = checked_ticket(ticket).comes_back(self)
+        if generation != self.generation:
+            raise TicketError("expected a ticket of this process, got one of the quota before the fork")
+        drawn_of.hand_back(drawn)
+
+    def retry_drawing(self, awaits: bool) -> Drawing:
+        """What draws for a retry."""
+        return ByLease(self, awaits)
+
+    @property
+    def granted(self) -> int:
+        """How many tickets this process drew, and not handed back."""
+        return sum(each.seen().drawn for each in (*self._past, self.leased, self._spared))
+
+    def __reduce__(self) -> Any:
+        raise TypeError(f"each process makes its own {type(self).__name__}, of the same store and name")
+
+    def _at_hand(self) -> Union[Ticket, int]:
+        """A ticket of what was leased, or the moment from which on the store may be asked."""
+        leased = self.leased
+        return self._ticket(leased, leased.draw(self.moments.now()))
+
+    def _ticket(self, drawn_of: LeasedPass, found: Union[LeasedTicket, int]) -> Union[Ticket, int]:
+        if isinstance(found, int):
+            return found
+        if drawn_of is self._spared:
+            ticket = Ticket(-1 - found.number, None, self)
+        else:
+            ticket = Ticket(found.number, None if self.millis is None else found.window, self)
+        ticket.may_come_back_to((self.generation, drawn_of, found))
+        return ticket
+
+    def _may_ask(self, moment: int) -> bool:
+        """Whether the store may be asked now, which is to be left alone until this moment."""
+        return moment <= self.moments.now() or self._is_worth_asking()
+
+    def _drawn_anew(self) -> Drawn:
+        """A ticket: what another thread leased meanwhile, or of a new lease, or one without the store."""
+        for _ in range(_TRIES):
+            found = self._at_hand()
+            if isinstance(found, Ticket):
+                return found
+            if not self._may_ask(found) or not self._lease():
+                break
+        else:
+            self.leave_alone()
+        found = self._at_hand()
+        if isinstance(found, Ticket):
+            return found
+        return self._spare_one() or Refusal(self._reason, self.moments.seconds(found), self._error)
+
+    def leave_alone(self, until: Optional[float] = None) -> None:
+        """The store is not asked for `again_after` seconds, or until this moment where that is before."""
+        again = self.moments.of(self.clock() + self.again_after)
+        self.leased.leave_alone(min(again, self.moments.after(until)))
+
+    def _lease(self) -> bool:
+        """Asks the store for a range: whether it granted one. Where not it is left alone for a while."""
+        try:
+            found = self._take()
+        except StoreError as error:
+            if self._error is None:
+                logger.warning("%s: %s; it grants nothing until it can be reached", self.name, error)
+            self._reason = RefusalReason.LOST if isinstance(error, StoreLost) else RefusalReason.UNREACHABLE
+            self._error = error.with_traceback(None)
+            self.leave_alone()
+            return False
+        if found.lost and self._reason is not RefusalReason.LOST:
+            logger.warning("%s: the store may have lost its count of this window, and grants nothing of it", self.name)
+        self._reason = RefusalReason.LOST if found.lost else RefusalReason.USED_UP
+        self._error = None
+        grant = Grant(found.window, found.first, found.tickets, self.moments.of(found.until))
+        if not self.leased.granted(grant):
+            self._begin_leases_anew(grant)
+        if not found.tickets:
+            # (tickets end with the millisecond before the window's end, and others may be had in the one after)
+            self.leased.leave_alone(self.moments.after(found.until))
+            self._granted_none(found)
+        return found.tickets > 0
+
+    def _begin_leases_anew(self, grant: Grant) -> None:
+        """The store granted what it had granted before, so it began anew, as where its folder was deleted."""
+        logger.warning("%s: the store began anew", self.name)
+        self._past.append(self.leased)
+        self.leased = LeasedPass(self.millis or 0)
+        self.leased.granted(grant)
+
+    def _spare_one(self) -> Optional[Ticket]:
+        """A ticket of those that are drawn while the store can't be reached."""
+        if self.spare == 0 or self._error is None:
+            return None
+        found = self._spared.draw(self.moments.now())
+        if isinstance(found, int) and found <= self.moments.now():
+            until = self.moments.of(None if self.millis is None else self.clock() + self.millis / 1000)
+            self._spared.granted(Grant(self._spares, 0, self.spare, until))
+            self._spared.leave_alone(until)
+            self._spares += 1
+            found = self._spared.draw(self.moments.now())
+        drawn = self._ticket(self._spared, found)
+        return drawn if isinstance(drawn, Ticket) else None
+
+
+class ByLease:
+    """Draws of leases for one retry, which keeps its latest ticket."""
+
+    __slots__ = ("_leases", "_awaits", "_latest", "_generation")
+
+    def __init__(self, leases: Leases, awaits: bool) -> None:
+        self._leases = leases
+        self._awaits = awaits
+        self._latest: Optional[Ticket] = None
+        self._generation = leases.generation
+
+    def draw(self) -> Union[Optional[Refusal], Awaitable[Optional[Refusal]]]:
+        """Draws a ticket: why there is none."""
+        return self._draw_async() if self._awaits else self._drawn(self._leases.draw())
+
+    async def _draw_async(self) -> Optional[Refusal]:
+        return self._drawn(await self._leases.draw_async())
+
+    def _drawn(self, drawn: Drawn) -> Optional[Refusal]:
+        if isinstance(drawn, Refusal):
+            return drawn
+        self._latest, self._generation = drawn, self._leases.generation
+        return None
+
+    def end(self, hands_back: bool) -> None:
+        """The latest ticket comes back, where that is so. (In a forked child it is the parent's.)"""
+        leases, ticket = self._leases, self._latest
+        if hands_back and ticket is not None and leases.TAKES_BACK and self._generation == leases.generation:
+            ticket.hand_back()

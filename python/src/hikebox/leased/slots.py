@@ -1,0 +1,210 @@
+"""A slot: the file of one count, which survives a kill, a full disk and the loss of either half.
+
+A slot is 1024 bytes, two copies of 512. A copy has a turn, the counts, the key that they are of, and a checksum. A
+write raises the turn and overwrites the first copy and then the second, in place, so a full disk can't stop or damage
+it. A read takes the valid copy of the greater turn.
+"""
+
+from __future__ import annotations
+
+import contextlib
+import errno
+import fcntl
+import io
+import os
+import secrets
+import struct
+import time
+import zlib
+from typing import NamedTuple, Optional
+
+from .._forks import begins_anew_in_a_child, no_fork
+from ..errors import StoreError, StoreLost
+from .._engine.leasing import Stored
+
+__all__ = ["NO_BOOT", "SIZE", "Copy", "Slot", "make_slot", "slot_path", "unpack"]
+
+_MAGIC = b"hikebox slot 1\n\0"
+_COPY = 512
+SIZE = 2 * _COPY
+#: A copy up to its checksum: the magic, the turn, the window, the tickets given, the requests asked, the boot, the
+#: length of the key, and the key.
+_BODY = struct.Struct("<16s4Q36sH2x416s4x")
+_CHECK = struct.Struct("<I")
+#: The boot of a count that goes on after the machine is started anew.
+NO_BOOT = bytes(36)
+
+#: The turn after which there is none: it is only ever met in a file that something else wrote.
+_LAST_TURN = 2**64 - 1
+
+#: How many seconds pass between two tries to lock a file.
+_PAUSE = 0.001
+
+
+class Copy(NamedTuple):
+    """What one copy of a slot says."""
+
+    key: bytes
+    turn: int
+    window: int
+    given: int
+    asked: int
+    boot: bytes
+
+    def pack(self) -> bytes:
+        """Its 512 bytes."""
+        body = _BODY.pack(_MAGIC, *self[1:], len(self.key), self.key)
+        return body + _CHECK.pack(zlib.crc32(body))
+
+    def stored(self, boot: bytes) -> Stored:
+        """The counts of this start of the machine: nothing where they are of another."""
+        return Stored(self.window, self.given, self.asked) if self.boot == boot else Stored()
+
+
+def _unpack_copy(data: bytes) -> Optional[Copy]:
+    body = data[: _BODY.size]
+    if _CHECK.unpack(data[_BODY.size :]) != (zlib.crc32(body),):
+        return None
+    magic, turn, window, given, asked, boot, length, key = _BODY.unpack(body)
+    return Copy(key[:length], turn, window, given, asked, boot) if magic == _MAGIC else None
+
+
+def unpack(data: bytes, key: Optional[bytes] = None) -> Optional[Copy]:
+    """The valid copy of the greater turn, of this key or of any: None where no copy is valid."""
+    if len(data) != SIZE:
+        return None
+    found: Optional[Copy] = None
+    for copy in (_unpack_copy(data[:_COPY]), _unpack_copy(data[_COPY:])):
+        if copy is not None and key in (None, copy.key) and (found is None or copy.turn > found.turn):
+            found = copy
+    return found
+
+
+class _File(io.FileIO):
+    """An open file of this process: a forked child closes it, since its lock is the parent's."""
+
+    @classmethod
+    def opened(cls, path: str, mode: str) -> _File:
+        """The file at this path, open."""
+        # a child has to know of each file that is open
+        with no_fork:
+            file = cls(path, mode)
+            begins_anew_in_a_child(file)
+            return file
+
+    def begin_anew(self) -> None:
+        """In a forked child: closes the file."""
+        self.close()
+
+
+def slot_path(folder: str, key: bytes) -> str:
+    """Where the slot of a key is: the key's FNV-1a hash, in a subfolder of its first two digits."""
+    number = 0xCBF29CE484222325
+    for byte in key:
+        number = (number ^ byte) * 0x100000001B3 & 0xFFFFFFFFFFFFFFFF
+    digits = f"{number:016x}"
+    return os.path.join(folder, digits[:2], digits[2:])
+
+
+def make_slot(path: str, first: Copy, to_disk: bool) -> None:
+    """Makes a slot, whole beside its name and then linked to that, unless another process was first."""
+    folder = os.path.dirname(path)
+    beside = os.path.join(folder, f".new-{os.getpid()}-{secrets.token_hex(8)}")
+    with _File.opened(beside, "x+") as file:
+        try:
+            _write_at(file.fileno(), first.pack() * 2, 0)
+            if to_disk:
+                os.fsync(file.fileno())
+            with contextlib.suppress(FileExistsError):
+                os.link(beside, path)
+        finally:
+            with contextlib.suppress(FileNotFoundError):
+                os.unlink(beside)
+    if to_disk:
+        sync_folder(folder)
+
+
+def sync_folder(path: str) -> None:
+    """Writes the names in a folder to the disk."""
+    folder = os.open(path, os.O_RDONLY | os.O_DIRECTORY | os.O_CLOEXEC)
+    try:
+        os.fsync(folder)
+    finally:
+        os.close(folder)
+
+
+class Slot:
+    """The file of a key, or of any, for one user at a time: open, and locked by `lock`."""
+
+    __slots__ = ("path", "_key", "_to_disk", "_turn", "_file")
+
+    def __init__(self, path: str, key: bytes = b"", to_disk: bool = False) -> None:
+        self.path = path
+        self._key = key
+        self._to_disk = to_disk
+        self._turn = 0
+        self._file = _File.opened(path, "r+")
+
+    def lock(self, patience: float) -> bool:
+        """Locks the file, within so many seconds: False where its name is another file's by then, or nobody's."""
+        given_up_at = time.monotonic() + patience
+        while True:
+            try:
+                fcntl.flock(self._number(), fcntl.LOCK_EX | fcntl.LOCK_NB)
+                return self._is_named()
+            except BlockingIOError:
+                if time.monotonic() >= given_up_at:
+                    raise StoreError(f"{self.path}: could not acquire its lock in {patience:g} s") from None
+                time.sleep(_PAUSE)
+
+    def read(self) -> Copy:
+        """Its counts, where it is the slot of its key."""
+        data = self.content()
+        copy = unpack(data, self._key)
+        if copy is None:
+            other = unpack(data)
+            found = "something else" if other is None else f"the slot of {other.key.decode(errors='replace')!r}"
+            raise StoreLost(f"{self.path}: expected the slot of {self._key.decode()!r}, got {found}")
+        if copy.turn == _LAST_TURN:
+            raise StoreLost(f"{self.path}: expected a turn before the last one, got {copy.turn}")
+        self._turn = copy.turn
+        return copy
+
+    def write(self, boot: bytes, stored: Stored) -> None:
+        """Writes these counts in the place of those that were read."""
+        self._turn += 1
+        copy = Copy(self._key, self._turn, stored.window, stored.given, stored.asked, boot).pack()
+        _write_at(self._number(), copy, 0)
+        _write_at(self._number(), copy, _COPY)
+        if self._to_disk:
+            os.fsync(self._number())
+
+    def content(self) -> bytes:
+        """What the file has, up to one byte more than a slot."""
+        return os.pread(self._number(), SIZE + 1, 0)
+
+    def age(self) -> float:
+        """How many seconds ago the file was changed."""
+        return time.time() - os.fstat(self._number()).st_mtime
+
+    def close(self) -> None:
+        """Unlocks and closes the file. (To close it is not enough, where a child was forked that has it open too.)"""
+        if not self._file.closed:
+            fcntl.flock(self._file, fcntl.LOCK_UN)
+            self._file.close()
+
+    def _number(self) -> int:
+        if self._file.closed:
+            raise StoreError(f"{self.path}: the process was forked in the middle of a lease")
+        return self._file.fileno()
+
+    def _is_named(self) -> bool:
+        try:
+            return os.path.samestat(os.fstat(self._number()), os.stat(self.path))
+        except FileNotFoundError:
+            return False
+
+
+def _write_at(file: int, data: bytes, place: int) -> None:
+    if os.pwrite(file, data, place) != len(data):
+        raise OSError(errno.ENOSPC, os.strerror(errno.ENOSPC))

@@ -1,0 +1,93 @@
+"""What stores of leases answer, and which window is the present one."""
+
+from __future__ import annotations
+
+import time
+from typing import Callable, NamedTuple, Optional, Protocol
+
+from ..errors import TermsError
+from ..quota import Terms
+
+__all__ = ["Present", "QuotaRange", "QuotaStore", "Range", "Store", "checked_name", "present_window", "uptime"]
+
+
+def uptime() -> float:
+    """Seconds since the machine started, also those for which it slept. Nobody can set this clock."""
+    return time.clock_gettime(time.CLOCK_BOOTTIME)
+
+
+class Range(NamedTuple):
+    """A range of tickets that a store granted: so many `tickets` from `first` on, or none."""
+
+    first: int
+    tickets: int
+    #: The moment, by the clock that was handed in, at which the window ends, or None where there are no windows.
+    until: Optional[float]
+    #: Which window it is.
+    window: int = 0
+    #: Whether the store may have lost what it counted of the present window, and so grants nothing of it.
+    lost: bool = False
+
+
+class QuotaRange(NamedTuple):
+    """A range of the tickets of a quota's window that a store granted: so many `tickets` from `first` on, or none."""
+
+    first: int
+    tickets: int
+    #: The moment, by the clock that was handed in, at which the window ends.
+    until: float
+    #: Which window it is, and the requests that were counted in it.
+    window: int
+    asked: int
+    #: Whether the store may have lost what it counted of the window, and so grants nothing of it.
+    lost: bool = False
+
+
+class Store(Protocol):
+    """Where leases come from."""
+
+    def take(self, name: str, count: int, limit: int, period: Optional[int], clock: Callable[[], float]) -> Range:
+        """Adds `count` to the count of this name, or of its present window of `period` milliseconds, and gives those
+        of the numbers added that are below the limit. A `StoreError` where the store can't be reached, or has lost
+        its count."""
+
+
+class QuotaStore(Protocol):
+    """Where leases of a quota come from."""
+
+    def take_of_quota(
+        self, name: str, terms: Terms, count: int, asked: Callable[[float], int], clock: Callable[[], float]
+    ) -> QuotaRange:
+        """Adds requests to the count of this name's present window, and grants `count` tickets of it, or as many as
+        its requests allow. The requests are those that `asked` gives; it is handed the moment, by the clock, at which
+        the window began, and called at most once. A `StoreError` where the store can't be reached."""
+
+
+class Present(NamedTuple):
+    """The present window of a store's clock, by the clock of the process: which it is, not before when it began, and
+    not after when it ends."""
+
+    number: int
+    began_by: float
+    until: float
+
+
+def present_window(period: int, before: float, moment: int, after: float) -> Present:
+    """The window of so many milliseconds that a moment of the store's clock is in, a number of nanoseconds, which was
+    told between these two of the process's."""
+    number, nanos = divmod(moment, period * 10**6)
+    passed = nanos / 1e9
+    return Present(number, after - passed, before + period / 1000 - passed)
+
+
+def checked_name(name: str) -> str:
+    """The name of a budget or a quota of a store, or a `TermsError`."""
+    if not isinstance(name, str):
+        raise TypeError(f"expected a name, got {name!r}")
+    try:
+        length = len(name.encode())
+    except UnicodeEncodeError:
+        raise TermsError(f"expected a name in UTF-8, got {name!r}") from None
+    if not 1 <= length <= 255:
+        raise TermsError(f"expected a name of 1 to 255 bytes, got {length}")
+    return name

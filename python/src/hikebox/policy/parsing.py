@@ -1,0 +1,158 @@
+"""Reads a policy as it is written in Python, without running Python."""
+
+from __future__ import annotations
+
+import ast
+import difflib
+from typing import Any, Dict, Iterable, List, NamedTuple, Union
+
+from .._time import milliseconds
+from ..errors import Fault, PolicyError
+from . import builders
+from .policy import Policy
+
+__all__ = ["Refused", "parse", "read"]
+
+_BUILDERS = {name: getattr(builders, name) for name in builders.__all__}
+_METHODS = (
+    "add_delay",
+    "add_output",
+    "cap",
+    "ends_by",
+    "first",
+    "gather",
+    "jittered",
+    "nothing",
+    "renew",
+    "renew_idle",
+    "second",
+    "set_delay",
+    "then",
+    "until_input",
+    "until_output",
+    "up_to",
+    "while_input",
+    "while_output",
+)
+
+
+class Refused(NamedTuple):
+    """What is no policy: why, and from where to where in the text."""
+
+    error: PolicyError
+    begins: int
+    ends: int
+
+
+class _Misplaced(Exception):
+    """What a part of an expression is refused for."""
+
+    def __init__(self, node: ast.expr, error: Exception) -> None:
+        super().__init__(error)
+        self.node = node
+        self.error = error
+
+
+def parse(text: str) -> Policy:
+    """The policy that an expression of builders, methods and operators builds."""
+    found = read(text)
+    if isinstance(found, Refused):
+        raise found.error
+    return found
+
+
+def read(text: str) -> Union[Policy, Refused]:
+    """The same, or why there is none, and where. It may have several lines."""
+    flat = "".join(" " if sign.isspace() else sign for sign in text)
+    begins = len(flat) - len(flat.lstrip())
+    spelt = flat.strip()
+    try:
+        tree = ast.parse(spelt, mode="eval")
+        built = _value(tree.body)
+    except SyntaxError as error:
+        # (the place of an expression that ends too soon is 0, of Python 3.9 its last sign)
+        is_short = not error.offset or "EOF" in error.msg
+        offset = (len(spelt) if is_short else int(error.offset or 1)) - 1
+        ends = max(offset + 1, (getattr(error, "end_offset", None) or 0) - 1)
+        said = "the expression ends too soon" if is_short else error.msg
+        refused = PolicyError(Fault.NOT_A_PLAN, hint=f"{said} in {text.strip()!r}")
+        return Refused(refused, begins + min(offset, len(spelt)), begins + min(ends, len(spelt)))
+    except (RecursionError, MemoryError):
+        return Refused(PolicyError(Fault.TOO_DEEP), begins, begins + len(spelt))
+    except ValueError as error:
+        return Refused(PolicyError(Fault.NOT_A_PLAN, hint=str(error)), begins, begins + len(spelt))
+    except _Misplaced as found:
+        why = found.error
+        refused = why if isinstance(why, PolicyError) else PolicyError(Fault.NOT_A_PLAN, hint=str(why))
+        first, last = (_signs(spelt, at or 0) for at in (found.node.col_offset, found.node.end_col_offset))
+        return Refused(refused, begins + first, begins + last)
+    if not isinstance(built, Policy):
+        refused = PolicyError(Fault.NOT_A_PLAN, hint=f"{text.strip()!r} is no policy")
+        return Refused(refused, begins, begins + len(spelt))
+    return built
+
+
+def _signs(line: str, count: int) -> int:
+    """How many characters so many bytes of a line are."""
+    return len(line.encode("utf-8", "surrogatepass")[:count].decode("utf-8", "ignore"))
+
+
+def _value(node: ast.expr) -> Any:
+    """The value of a part of an expression."""
+    try:
+        return _evaluated(node)
+    except (PolicyError, TypeError) as error:
+        raise _Misplaced(node, error) from None
+
+
+def _evaluated(node: ast.expr) -> Any:
+    if isinstance(node, ast.Constant) and type(node.value) in (int, float, str):
+        return node.value
+    if isinstance(node, ast.UnaryOp) and isinstance(node.op, ast.USub):
+        inner = _value(node.operand)
+        return -inner if isinstance(inner, (int, float)) else _refuse(node)
+    if isinstance(node, ast.BinOp):
+        left, right = _value(node.left), _value(node.right)
+        if isinstance(left, Policy) and isinstance(right, Policy):
+            if isinstance(node.op, ast.BitAnd):
+                return left & right
+            if isinstance(node.op, ast.BitOr):
+                return left | right
+            if isinstance(node.op, ast.RShift):
+                return left >> right
+    if isinstance(node, ast.Call):
+        return _called(node)
+    return _refuse(node)
+
+
+def _called(node: ast.Call) -> Any:
+    arguments: List[Any] = [_value(argument) for argument in node.args]
+    named: Dict[str, Any] = {}
+    for keyword in node.keywords:
+        if keyword.arg is None:
+            return _refuse(node)
+        named[keyword.arg] = _value(keyword.value)
+    called = node.func
+    if isinstance(called, ast.Name):
+        if called.id == "milliseconds":
+            return milliseconds(*arguments, **named)
+        if called.id in _BUILDERS:
+            return _BUILDERS[called.id](*arguments, **named)
+        raise _unknown("builder", called.id, _BUILDERS)
+    if isinstance(called, ast.Attribute):
+        under = _value(called.value)
+        if isinstance(under, Policy):
+            if called.attr not in _METHODS:
+                raise _unknown("method", called.attr, _METHODS)
+            return getattr(under, called.attr)(*arguments, **named)
+    return _refuse(node)
+
+
+def _unknown(kind: str, name: str, known: Iterable[str]) -> PolicyError:
+    close = difflib.get_close_matches(name, known, 1)
+    hint = f"; did you mean {close[0]!r}?" if close else ""
+    return PolicyError(Fault.NOT_A_PLAN, hint=f"no {kind} is called {name!r}{hint}")
+
+
+def _refuse(node: ast.expr) -> Any:
+    raise PolicyError(Fault.NOT_A_PLAN, hint=f"{ast.unparse(node)!r} is no policy")

@@ -1,0 +1,388 @@
+"""`Policy`: when to call again, as plain data that the engine reads."""
+
+from __future__ import annotations
+
+import json
+import os
+from typing import Any, Callable, Dict, FrozenSet, Iterable, List, Optional, Tuple, Union
+
+from .._time import Duration, seconds
+from ..errors import Fault, PolicyError
+from .checks import interval, ratio, whole
+from .nodes import FOLDS, MAX_DEPTH, MAX_NODES, reads_of, reads_of_node
+from .plan import Plan
+from .preview import Step, played
+from .spelling import spelt
+
+__all__ = ["Policy", "Step"]
+
+
+class Policy:
+    """A retry policy: at each failure it says when to call again, or that it is done.
+
+    It is made by the builders of this module, by `from_json`, `from_dict` or `from_file`. It never changes, two equal
+    ones are `==`, and its `repr` is the expression that builds it. What the engine refuses is a `PolicyError`.
+
+    >>> from hikebox import exponential, recurs
+    >>> policy = recurs(5) & exponential(0.1, 2).cap(1)
+    >>> policy.to_json()
+    '{"meet":[{"recurs":5},{"cap":[1000,{"exponential":[100,2]}]}]}'
+    >>> Policy.from_json(policy.to_json())
+    recurs(5) & exponential(0.1, 2).cap(1)
+    """
+
+    __slots__ = ("_plan", "_node", "_nodes", "_depth", "_reads", "__weakref__")
+
+    #: What the engine has of it, once that is needed.
+    _plan: Optional[Plan]
+    #: Its topmost node, where a builder made it: the name, the parameters, and the policies under it.
+    _node: Optional[Tuple[str, Tuple[Any, ...], Optional[Policy], Optional[Policy]]]
+    _nodes: int
+    _depth: int
+    _reads: Optional[Tuple[FrozenSet[int], bool]]
+
+    def __init__(self, *_: Any, **__: Any) -> None:
+        raise TypeError("a policy is made by a builder, as recurs(5), or by Policy.from_json, from_dict or from_file")
+
+    @classmethod
+    def _of_plan(cls, plan: Plan) -> Policy:
+        policy = object.__new__(cls)
+        policy._plan, policy._node, policy._reads = plan, None, None
+        policy._nodes, policy._depth, _ = plan.size()
+        return policy
+
+    @staticmethod
+    def of_node(
+        name: str, own: Tuple[Any, ...], first: Optional[Policy] = None, second: Optional[Policy] = None
+    ) -> Policy:
+        """The policy of a node, with parameters that were looked at, over other policies: for builders."""
+        policy = object.__new__(Policy)
+        policy._plan = policy._reads = None
+        policy._node = (name, own, first, second)
+        nodes = depth = 1
+        if first is not None:
+            nodes, depth = first._nodes + 1, first._depth + 1
+        if second is not None:
+            nodes, depth = nodes + second._nodes, max(depth, second._depth + 1)
+        policy._nodes, policy._depth = nodes, depth
+        if nodes > MAX_NODES or depth > MAX_DEPTH:
+            policy.plan  # (the engine says what is wrong)
+        return policy
+
+    @classmethod
+    def from_json(cls, text: Union[str, bytes]) -> Policy:
+        """The policy that a JSON text spells, as `zsched plan` reads it.
+
+        >>> Policy.from_json('{"recurs":3}')
+        recurs(3)
+        >>> Policy.from_json('{"fixed":0}')
+        Traceback (most recent call last):
+        ...
+        hikebox.errors.PolicyError: number out of range: expected {"fixed":D}, D from 1 to \
+4611686018427387903, got {"fixed":0}
+        """
+        encoded = text.encode("utf-8", "surrogatepass") if isinstance(text, str) else bytes(text)
+        return cls._of_plan(Plan.of_text(encoded))
+
+    @classmethod
+    def from_dict(cls, value: Any) -> Policy:
+        """The policy that a value of `json.loads` spells: a dict, or a string for a node without parameters.
+
+        >>> Policy.from_dict({"cap": [1000, {"exponential": [100, 2]}]})
+        exponential(0.1, 2).cap(1)
+        """
+        try:
+            text = json.dumps(value, allow_nan=False)
+        except (ValueError, RecursionError) as error:
+            raise PolicyError(Fault.NOT_JSON, hint=str(error)) from None
+        return cls._of_plan(Plan.of_text(text.encode()))
+
+    @classmethod
+    def from_file(cls, path: Union[str, os.PathLike[str]]) -> Policy:
+        """The policy that a file spells in JSON."""
+        with open(path, "rb") as file:
+            return cls.from_json(file.read())
+
+    @classmethod
+    def parse(cls, text: str) -> Policy:
+        """The policy that an expression builds, as `repr` writes it; nothing but builders and numbers is run.
+
+        >>> Policy.parse("recurs(5) & exponential(0.1, 2).cap(1)").nodes
+        4
+        """
+        from .parsing import parse
+
+        return parse(text)
+
+    @classmethod
+    def of(cls, value: Union[Policy, str, bytes, Dict[str, Any]]) -> Policy:
+        """A policy as it is, or the one that a JSON text or a dict spells."""
+        if isinstance(value, Policy):
+            return value
+        if isinstance(value, (str, bytes)):
+            try:
+                return cls.from_json(value)
+            except PolicyError as error:
+                if error.fault is Fault.NOT_JSON and isinstance(value, str) and "(" in value:
+                    hint = f"{value!r} is an expression, which Policy.parse reads"
+                    raise PolicyError(Fault.NOT_JSON, error.place, hint) from None
+                raise
+        if isinstance(value, dict):
+            return cls.from_dict(value)
+        raise TypeError(f"expected a policy, its JSON text or a dict, got {value!r}")
+
+    # What it is
+
+    def to_json(self) -> str:
+        """The policy as JSON, which `from_json` and `zsched plan` read."""
+        return self.plan.text
+
+    def to_dict(self) -> Any:
+        """The policy as a value of its own that `from_dict` reads."""
+        return json.loads(self.plan.text)
+
+    @property
+    def nodes(self) -> int:
+        """How many nodes it has, at most 256."""
+        return self.plan.size()[0]
+
+    @property
+    def depth(self) -> int:
+        """How deep it is, at most 32; a leaf is 1 deep.
+
+        >>> from hikebox import recurs, spaced
+        >>> (recurs(5) & spaced(1).cap(2)).depth
+        3
+        """
+        return self.plan.size()[1]
+
+    @property
+    def most_retries(self) -> Optional[int]:
+        """At how many events it goes on at most, or None where its nodes alone don't bound that.
+
+        >>> from hikebox import recurs, spaced
+        >>> (recurs(5) & spaced(1)).most_retries, spaced(1).up_to(60).most_retries
+        (5, None)
+        """
+        return self.plan.size()[2]
+
+    def __repr__(self) -> str:
+        return spelt(self.plan.tree)
+
+    def __eq__(self, other: object) -> bool:
+        if not isinstance(other, Policy):
+            return NotImplemented
+        return self.plan.text == other.plan.text
+
+    def __hash__(self) -> int:
+        return hash(self.plan.text)
+
+    def __bool__(self) -> bool:
+        raise TypeError("policies are joined by & and |: `and`, `or` and `not` would drop one of them")
+
+    def __reduce__(self) -> Any:
+        return (Policy.from_json, (self.plan.text,))
+
+    def __copy__(self) -> Policy:
+        return self
+
+    def __deepcopy__(self, _: Any) -> Policy:
+        return self
+
+    @property
+    def plan(self) -> Plan:
+        """What the retries of this package give the engine, which has it from the first time that it is needed."""
+        plan = self._plan
+        if plan is None:
+            assert self._node is not None
+            name, own, first, second = self._node
+            plan = self._plan = Plan.of_node(
+                name, own, None if first is None else first.plan, None if second is None else second.plan
+            )
+        return plan
+
+    @property
+    def reads(self) -> Tuple[FrozenSet[int], bool]:
+        """The lanes by which its nodes pick at random, and whether one of them reads the code of a failure."""
+        if self._reads is None:
+            if self._node is None:
+                self._reads = reads_of(self.plan.tree)
+            else:
+                name, own, first, second = self._node
+                lanes, codes = reads_of_node(name, own)
+                for policy in (first, second):
+                    if policy is not None:
+                        lanes, codes = lanes | policy.reads[0], codes or policy.reads[1]
+                self._reads = lanes, codes
+        return self._reads
+
+    def preview(
+        self,
+        steps: int = 10,
+        *,
+        start: Duration = 0,
+        took: Duration = 0,
+        input: Union[int, Iterable[int]] = 0,
+        random: Optional[Callable[[], float]] = None,
+    ) -> List[Step]:
+        """What it does at its first events, on a clock of its own: up to the one at which it is done, at most `steps`.
+
+        The first event is at `start`, and each further one `took` after its planned start. `input` is the code of
+        every failure, or the codes one after another, the last one repeated. `random` gives numbers from 0 up to 1, by
+        which jitter is picked; the middle where it is None.
+
+        >>> from hikebox import exponential, recurs, spaced
+        >>> for step in (recurs(2) & exponential(0.1, 2)).preview():
+        ...     print(step)
+        0: (0, 100) next 100
+        100: (1, 200) next 300
+        300: (2, 400) done
+        >>> [step.next_ms for step in spaced(1).while_input(equal=202).preview(input=[202, 202, 200])]
+        [1000, 2000, None]
+        """
+        codes = [input] if isinstance(input, int) else list(input)
+        return played(self.plan, steps, seconds(start), seconds(took), codes, random)
+
+    # Two policies
+
+    def __and__(self, other: Policy) -> Policy:
+        """Goes on while both do, at the later start; gives the pair. ZIO's `&&`, JSON's `meet`."""
+        return self._with("meet", other)
+
+    def __or__(self, other: Policy) -> Policy:
+        """Goes on while one does, at the earlier start; gives the pair. ZIO's `||`, JSON's `join`."""
+        return self._with("join", other)
+
+    def __rshift__(self, other: Policy) -> Policy:
+        """The other one, whose inputs are this one's outputs; goes on while both do. ZIO's `>>>`, JSON's `feed`."""
+        return self._with("feed", other)
+
+    def then(self, other: Policy) -> Policy:
+        """This one until it is done; that event and all later ones go to the other. ZIO's `andThen`, JSON's `follow`.
+
+        >>> from hikebox import recurs, spaced
+        >>> [step.next_ms for step in recurs(2).then(spaced(0.05)).preview(steps=4)]
+        [0, 0, 50, 100]
+        """
+        made = self._with("follow", other)
+        if made is NotImplemented:
+            raise TypeError(f"expected a policy, got {other!r}")
+        return made
+
+    def _with(self, name: str, other: object) -> Policy:
+        if not isinstance(other, Policy):
+            return NotImplemented
+        return Policy.of_node(name, (), self, other)
+
+    # One policy
+
+    def cap(self, longest: Duration) -> Policy:
+        """With no delay longer than this."""
+        return Policy.of_node("cap", (seconds(longest, "cap"),), self)
+
+    def add_delay(self, more: Duration) -> Policy:
+        """With each delay longer by this. JSON's `add`."""
+        return Policy.of_node("add", (seconds(more, "add_delay"),), self)
+
+    def set_delay(self, delay: Duration) -> Policy:
+        """With this in the place of each delay. JSON's `set`."""
+        return Policy.of_node("set", (seconds(delay, "set_delay"),), self)
+
+    def add_output(self) -> Policy:
+        """With each delay longer by the output, in milliseconds, where that is a number. JSON's `add_out`."""
+        return Policy.of_node("add_out", (), self)
+
+    def jittered(self, least: float = 0.8, most: float = 1.2, *, lane: int = 0) -> Policy:
+        """With each delay times a ratio from `least` up to `most`, which a random number picks. JSON's `jitter`.
+
+        So `jittered()` is 20 % less to 20 % more, `jittered(0, 1)` is full jitter, and `jittered(0.2)` is a ratio from
+        0.2 up to 1.2. The ratios are rounded to thousandths. Jitters of one `lane`, from 0 to 3, pick by the same
+        number.
+
+        >>> from hikebox import spaced
+        >>> spaced(1).jittered(0.5, 1.5).preview(1, random=lambda: 0.0)[0].delay
+        0.5
+        """
+        ratios = [ratio(least, "jittered"), ratio(most, "jittered")]
+        if ratios[0] > ratios[1]:
+            raise PolicyError(Fault.OUT_OF_RANGE, hint=f"jittered({least}, {most}): the range is empty")
+        if ratios[0] == ratios[1] and least != most:
+            hint = f"jittered({least}, {most}): the range is less than a thousandth"
+            raise PolicyError(Fault.OUT_OF_RANGE, hint=hint)
+        return Policy.of_node("jitter", (whole(lane, "jittered: a lane", 0, 3), *ratios), self)
+
+    def up_to(self, duration: Duration) -> Policy:
+        """But done once this much time has passed since the first event. ZIO's `upTo`, JSON's `within`."""
+        return Policy.of_node("within", (seconds(duration, "up_to"),), self)
+
+    def ends_by(self, duration: Duration) -> Policy:
+        """But done where the next call would start later than this after the first event, so that none does.
+
+        >>> from hikebox import spaced
+        >>> [step.next_ms for step in spaced(0.45).ends_by(1).preview()]
+        [450, 900, None]
+        """
+        return Policy.of_node("ends_by", (seconds(duration, "ends_by"),), self)
+
+    def renew(self, duration: Duration) -> Policy:
+        """Begun anew at the first event at which this much time has passed since it last began."""
+        return Policy.of_node("renew", (interval(duration, "renew"),), self)
+
+    def renew_idle(self, duration: Duration) -> Policy:
+        """Begun anew at each event that comes this long or longer after the one before."""
+        return Policy.of_node("renew_idle", (interval(duration, "renew_idle"),), self)
+
+    def gather(self, fold: str) -> Policy:
+        """With the "sum", "count", "max" or "list" of the outputs at the earlier events as output."""
+        if fold not in FOLDS:
+            raise PolicyError(Fault.NOT_A_PLAN, hint=f"gather: expected one of {', '.join(FOLDS)}, got {fold!r}")
+        return Policy.of_node("gather", (fold,), self)
+
+    def first(self) -> Policy:
+        """With the first part of the output, where that is a pair."""
+        return Policy.of_node("first", (), self)
+
+    def second(self) -> Policy:
+        """With the second part of the output, where that is a pair."""
+        return Policy.of_node("second", (), self)
+
+    def nothing(self) -> Policy:
+        """With nothing as output."""
+        return Policy.of_node("nothing", (), self)
+
+    def while_input(
+        self, *, below: Optional[int] = None, at_least: Optional[int] = None, equal: Optional[int] = None
+    ) -> Policy:
+        """But done where the code of the failure is not so.
+
+        >>> from hikebox import spaced
+        >>> [step.next_ms for step in spaced(1).while_input(equal=503).preview(input=404)]
+        [None]
+        """
+        return self._gate("input", True, below=below, at_least=at_least, equal=equal)
+
+    def until_input(
+        self, *, below: Optional[int] = None, at_least: Optional[int] = None, equal: Optional[int] = None
+    ) -> Policy:
+        """But done where the code of the failure is so."""
+        return self._gate("input", False, below=below, at_least=at_least, equal=equal)
+
+    def while_output(
+        self, *, below: Optional[int] = None, at_least: Optional[int] = None, equal: Optional[int] = None
+    ) -> Policy:
+        """But done where its output is not so."""
+        return self._gate("output", True, below=below, at_least=at_least, equal=equal)
+
+    def until_output(
+        self, *, below: Optional[int] = None, at_least: Optional[int] = None, equal: Optional[int] = None
+    ) -> Policy:
+        """But done where its output is so."""
+        return self._gate("output", False, below=below, at_least=at_least, equal=equal)
+
+    def _gate(self, side: str, want: bool, **tests: Optional[int]) -> Policy:
+        given = [(test, number) for test, number in tests.items() if number is not None]
+        if len(given) != 1:
+            raise TypeError("expected one of below, at_least and equal")
+        ((test, number),) = given
+        bound = whole(number, f"{'while' if want else 'until'}_{side}")
+        return Policy.of_node("gate", (side, want, test, bound), self)

@@ -1,0 +1,343 @@
+"""What a retry is at, how it ended, and counts over many of them."""
+
+from __future__ import annotations
+
+import enum
+import itertools
+import threading
+from dataclasses import asdict, dataclass
+from typing import TYPE_CHECKING, Any, Callable, Dict, Mapping, NamedTuple, Optional, Tuple
+
+from .._forks import begins_anew_in_a_child
+from .._time import MAX_NUMBER
+from ..budgets.tickets import Refusal
+from .deadline import Limit
+
+if TYPE_CHECKING:
+    from ..retrying import BaseRetrying
+
+__all__ = ["Ending", "NextAction", "Outcome", "RetryState", "Statistics", "code_of", "state_of"]
+
+
+class Ending(enum.Enum):
+    """How a retry ended."""
+
+    #: The last call succeeded.
+    WON = "won"
+    #: The last call failed, and the policy did not go on. Of a repetition: the policy did not go on.
+    SCHEDULE_DONE = "the policy was done"
+    #: The last call failed, or of a repetition succeeded, and the next one would have begun past the deadline.
+    DEADLINE = "the deadline left no time for another attempt"
+    #: The last call failed, the policy went on, and the budget had no ticket.
+    BUDGET_REFUSED = "the budget had no ticket"
+    #: The last call failed in a way that `on` does not name.
+    NOT_RETRIED = "the error is not one that is retried"
+    #: What was given as `stop` said so.
+    STOPPED = "it was stopped"
+    #: It was left before it was over: a coroutine was cancelled, or a loop was left.
+    CANCELLED = "it was cancelled"
+    #: The engine found no memory.
+    NO_MEMORY = "the engine found no memory"
+    #: The clock went back. The clocks here are kept from it, so it does not come.
+    CLOCK_WENT_BACK = "the clock went back"
+
+
+#: The endings by their numbers in the engine's header, which has none for 0 and 6.
+ENDINGS: Tuple[Optional[Ending], ...] = (
+    None,
+    Ending.WON,
+    Ending.SCHEDULE_DONE,
+    Ending.BUDGET_REFUSED,
+    Ending.CANCELLED,
+    Ending.NO_MEMORY,
+    None,
+    Ending.CLOCK_WENT_BACK,
+    Ending.DEADLINE,
+)
+
+
+class Outcome:
+    """How a call went: its result, or the exception that it raised."""
+
+    __slots__ = ("attempt_number", "_result", "_error")
+
+    def __init__(self, result: Any = None, error: Optional[BaseException] = None, attempt_number: int = 1) -> None:
+        #: Of which attempt it is.
+        self.attempt_number = attempt_number
+        self._result = result
+        self._error = error
+
+    @property
+    def failed(self) -> bool:
+        """Whether it raised."""
+        return self._error is not None
+
+    def done(self) -> bool:
+        """True, as of a future that has its result."""
+        return True
+
+    def exception(self) -> Optional[BaseException]:
+        """The exception, or None where it gave a result."""
+        return self._error
+
+    def told(self) -> Any:
+        """The exception, or the result where there is none."""
+        return self._result if self._error is None else self._error
+
+    def result(self) -> Any:
+        """The result; raises the exception where there is one."""
+        if self._error is None:
+            return self._result
+        try:
+            raise self._error
+        finally:
+            del self  # which the exception's traceback would keep, and it the exception
+
+    def __repr__(self) -> str:
+        return f"raised {self._error!r}" if self._error is not None else f"returned {self._result!r}"
+
+
+class NextAction(NamedTuple):
+    """What a retry does next, while it waits."""
+
+    #: How many seconds are waited before the next attempt.
+    sleep: float
+
+
+class RetryState:
+    """What a retry is at. Hooks get it, and the exception that a retry raises in the end has it as `retry_state`.
+
+    The names are those of tenacity's `RetryCallState`.
+    """
+
+    __slots__ = (
+        "retry_object",
+        "fn",
+        "args",
+        "kwargs",
+        "start_time",
+        "attempt_number",
+        "outcome",
+        "seconds_since_start",
+        "idle_for",
+        "upcoming_sleep",
+        "granted",
+        "refusal",
+        "ending",
+        "limit",
+    )
+
+    def __init__(
+        self,
+        retry_object: Optional[BaseRetrying],
+        fn: Optional[Callable[..., Any]],
+        args: Tuple[Any, ...],
+        kwargs: Mapping[str, Any],
+        start_time: float = 0.0,
+    ) -> None:
+        #: The `Retrying` that made it; None of a state that was pickled, as is what was called.
+        self.retry_object = retry_object
+        #: What is called, and with what; None where the attempts are made in a loop.
+        self.fn = fn
+        self.args = args
+        self.kwargs = kwargs
+        #: When the first attempt began, by the retry's clock.
+        self.start_time = start_time
+        #: The number of the present attempt, from 1.
+        self.attempt_number = 1
+        #: How the present attempt went, where it is over. None again once the last exception was raised.
+        self.outcome: Optional[Outcome] = None
+        #: From the start of the first attempt to the end of the last one that is over.
+        self.seconds_since_start: Optional[float] = None
+        #: How many seconds were waited between attempts, with the wait that is to come.
+        self.idle_for = 0.0
+        #: How many seconds are waited before the next attempt, where one follows.
+        self.upcoming_sleep = 0.0
+        #: How many retries were granted: tickets drawn.
+        self.granted = 0
+        #: Why there was no ticket, where what it draws on says so, as leases do.
+        self.refusal: Optional[Refusal] = None
+        #: How it ended, or None where it is not over.
+        self.ending: Optional[Ending] = None
+        #: Its deadline, where it has one.
+        self.limit: Optional[Limit] = None
+
+    @property
+    def next_action(self) -> Optional[NextAction]:
+        """What comes next where one more attempt does: a wait."""
+        outcome = self.outcome
+        return None if outcome is None or self.ending is not None else NextAction(self.upcoming_sleep)
+
+    @property
+    def seconds_left(self) -> Optional[float]:
+        """How many seconds it is until the deadline of the retry, or None where it has none."""
+        return None if self.limit is None else self.limit.left()
+
+    @property
+    def outcome_timestamp(self) -> Optional[float]:
+        """When the last attempt that is over ended, by the retry's clock."""
+        return None if self.seconds_since_start is None else self.start_time + self.seconds_since_start
+
+    @property
+    def code(self) -> int:
+        """The code of the present outcome, which the policy is given."""
+        if self.retry_object is None or self.outcome is None:
+            return 0
+        return self.retry_object.settings.code_for(self.outcome.told())
+
+    @property
+    def name(self) -> str:
+        """What is called, in texts."""
+        fn = self.fn
+        return getattr(fn, "__qualname__", None) or ("a block" if fn is None else repr(fn))
+
+    def set_result(self, value: Any) -> None:
+        """Says, in a loop of attempts, what this one gave: for `on_result` and `on_success`."""
+        self.outcome = Outcome(value, attempt_number=self.attempt_number)
+
+    def __reduce__(self) -> Any:
+        kept = (self.attempt_number, self.seconds_since_start, self.idle_for, self.granted, self.ending)
+        return (_unpickled, kept)
+
+    def __repr__(self) -> str:
+        ending = f"; {self.ending.value}" if self.ending is not None else ""
+        return (
+            f"<RetryState: attempt {self.attempt_number}; waited {self.idle_for:.3f} s; granted {self.granted}; "
+            f"last: {self.outcome}{ending}>"
+        )
+
+
+def _unpickled(
+    attempt_number: int, seconds: Optional[float], idle_for: float, granted: int, ending: Optional[Ending]
+) -> RetryState:
+    state = RetryState(None, None, (), {})
+    state.attempt_number = attempt_number
+    state.seconds_since_start = seconds
+    state.idle_for = idle_for
+    state.granted = granted
+    state.ending = ending
+    return state
+
+
+def state_of(error: BaseException) -> Optional[RetryState]:
+    """The state of the retry that raised this exception in the end, or None where none did."""
+    state = getattr(error, "retry_state", None)
+    return state if isinstance(state, RetryState) else None
+
+
+_CODES = ("status", "status_code", "code", "errno", "returncode")
+
+
+def code_of(failure: object) -> int:
+    """The number by which a policy knows an exception, or a result that was not accepted, where no `code` says
+    otherwise.
+
+    It is the first that is a whole number of its attributes `status`, `status_code`, `code`, `errno` and
+    `returncode`, and of its response's `status_code`; a result that is a whole number is its own; and 0 where there is
+    none.
+
+    >>> code_of(ConnectionRefusedError(111, "refused")), code_of(ValueError()), code_of(202)
+    (111, 0, 202)
+    """
+    if type(failure) is int:
+        return failure if 0 <= failure <= MAX_NUMBER else 0
+    for name in _CODES:
+        value = getattr(failure, name, None)
+        if isinstance(value, int) and not isinstance(value, bool) and 0 <= value <= MAX_NUMBER:
+            return int(value)
+    value = getattr(getattr(failure, "response", None), "status_code", None)
+    return int(value) if isinstance(value, int) and not isinstance(value, bool) and 0 <= value <= MAX_NUMBER else 0
+
+
+@dataclass(frozen=True)
+class Statistics:
+    """Counts over all calls of one `Retrying`, from all threads, as of the moment at which they were asked for."""
+
+    #: Calls that are over, each with all its attempts.
+    calls: int = 0
+    #: Attempts made by them.
+    attempts: int = 0
+    #: Seconds that they waited between attempts.
+    idle_for: float = 0.0
+    #: Calls that ended so.
+    won: int = 0
+    schedule_done: int = 0
+    deadline: int = 0
+    budget_refused: int = 0
+    not_retried: int = 0
+    cancelled: int = 0
+    broken: int = 0
+    stopped: int = 0
+
+    @property
+    def retries(self) -> int:
+        """Attempts but the first of each call."""
+        return self.attempts - self.calls
+
+    @property
+    def by_ending(self) -> Dict[str, int]:
+        """The calls that are over by how they ended: for a counter with a label.
+
+        >>> Statistics(calls=3, attempts=5, won=2, stopped=1).by_ending["stopped"]
+        1
+        """
+        counts = asdict(self)
+        return {name: counts[name] for name in (*_NAMED, "broken")}
+
+
+_BROKEN = (Ending.NO_MEMORY, Ending.CLOCK_WENT_BACK)
+_NAMED = tuple(ending.name.lower() for ending in Ending if ending not in _BROKEN)
+
+
+class _Lock:
+    """The lock of all counts, which is held for a few additions; a forked child has another one.
+
+    The same thread takes it again where a retry that nobody holds any more is counted meanwhile.
+    """
+
+    def __init__(self) -> None:
+        self.begin_anew()
+        begins_anew_in_a_child(self)
+
+    def begin_anew(self) -> None:
+        self.held = threading.RLock()
+
+
+_lock = _Lock()
+
+
+class Counts:
+    """The counts behind `Statistics`, shared by threads."""
+
+    __slots__ = ("add_success", "_looks", "_calls", "_attempts", "_idle_for", "_endings")
+
+    def __init__(self) -> None:
+        #: Counts a call that succeeded at its first attempt: in one step, without a lock.
+        self.add_success = itertools.count().__next__
+        #: How often that was called to look at the count alone.
+        self._looks = 0
+        #: All other calls, and how they ended.
+        self._calls = 0
+        self._attempts = 0
+        self._idle_for = 0.0
+        self._endings: Dict[Ending, int] = {}
+
+    def add(self, attempts: int, idle_for: float, ending: Ending) -> None:
+        """Counts a call that is over."""
+        with _lock.held:
+            self._calls += 1
+            self._attempts += attempts
+            self._idle_for += idle_for
+            self._endings[ending] = self._endings.get(ending, 0) + 1
+
+    def seen(self) -> Statistics:
+        """The counts as of now."""
+        with _lock.held:
+            counts = self._endings
+            named = {ending.name.lower(): counts.get(ending, 0) for ending in Ending if ending not in _BROKEN}
+            at_once = self.add_success() - self._looks
+            self._looks += 1
+            named["won"] += at_once
+            broken = sum(counts.get(ending, 0) for ending in _BROKEN)
+            calls, attempts = self._calls + at_once, self._attempts + at_once
+            return Statistics(calls, attempts, self._idle_for, broken=broken, **named)

@@ -1,0 +1,1 @@
+"""Storms: their parameters, their texts and their pictures."""

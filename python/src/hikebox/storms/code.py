@@ -1,0 +1,128 @@
+"""The storm of a policy as a program: as a command, in Python and in Rust; and storms as a scenario."""
+
+from __future__ import annotations
+
+import json
+import re
+import shlex
+from typing import TYPE_CHECKING, Any, Dict, List, Sequence, Tuple
+
+from .._time import seconds_text
+from ..policy import Policy
+from ..policy.rust_spelling import duration, spelt_in_rust
+from ..quota import Terms
+from ..policy import builders
+from .parameters import Parameters, Span
+
+if TYPE_CHECKING:
+    from ..storm import Storm
+
+__all__ = ["in_command", "in_python", "in_rust", "in_scenario"]
+
+_COUNTS = ("rate", "together", "seconds", "capacity", "queue", "calls")
+_TIMES = ("patience", "window", "until")
+_PLAIN = Parameters()
+
+
+def in_command(policy: Policy, parameters: Parameters) -> str:
+    """The command that plays the storm and prints it."""
+    words = ["hikebox", "storm"]
+    for name, value in _changed(parameters).items():
+        if isinstance(value, Terms):
+            words += ["--quota", _limit(value)]
+        elif name == "tickets":
+            words += ["--budget", str(value)]
+        elif isinstance(value, tuple):
+            words += [f"--{name}", f"{value[0]}..{value[1]}" + "".join(f"@{percent}" for percent in value[2:])]
+        else:
+            words += [f"--{name}", str(value)]
+    return f"{shlex.join([*words, repr(policy)])}\n"
+
+
+def in_scenario(storms: Sequence[Storm]) -> str:
+    """Storms of the same parameters as the file of a scenario."""
+    parameters = storms[0].parameters._replace(tickets=None)
+    told = {name: list(value) if isinstance(value, tuple) else value for name, value in _changed(parameters).items()}
+    told.setdefault("outage", list(parameters.outage))
+    lines = [{"policy": storm.policy.to_dict(), "limit": _limit(storm.parameters.tickets)} for storm in storms]
+    return json.dumps({"storm": told, "lines": lines}, indent=2) + "\n"
+
+
+def _changed(parameters: Parameters) -> Dict[str, Any]:
+    """The parameters that are not the defaults."""
+    return {name: value for name, value in parameters._asdict().items() if value != getattr(_PLAIN, name)}
+
+
+def _limit(tickets: Any) -> Any:
+    """A limit as the command line and a scenario spell it."""
+    if isinstance(tickets, Terms):
+        return f"{tickets.reserve}/{tickets.share / 10:.12g}%/{tickets.period}ms"
+    return tickets
+
+
+def in_python(policy: Policy, parameters: Parameters) -> str:
+    """A program that plays the storm and prints it."""
+    spelt = repr(policy)
+    known = {*builders.__all__, "milliseconds"}
+    names = {name for name in re.findall(r"(?<![\w.])([a-z_]+)\(", spelt) if name in known} | {"storm"}
+    arguments = ["policy", *(f"{name}={value}" for name, value in _python_arguments(parameters))]
+    if isinstance(parameters.tickets, Terms):
+        names.add("Quota")
+    imported = ", ".join(sorted(names, key=lambda name: (name[0].islower(), name)))
+    return f"from hikebox import {imported}\n\npolicy = {spelt}\nprint(storm({', '.join(arguments)}))\n"
+
+
+def _python_arguments(parameters: Parameters) -> List[Tuple[str, str]]:
+    changed = _changed(parameters)
+    found = [(name, str(changed[name])) for name in _COUNTS if name in changed]
+    found += [(name, seconds_text(changed[name])) for name in _TIMES if changed.get(name) is not None]
+    if "outage" in changed:
+        outage = parameters.outage
+        found.append(("outage", "None" if outage == Span(0, 0) else f"({', '.join(map(seconds_text, outage))})"))
+    if parameters.slow is not None:
+        begins, ends, percent = parameters.slow
+        found.append(("slow", f"({seconds_text(begins)}, {seconds_text(ends)}, {percent / 100!r})"))
+    if "words" in changed:
+        found.append(("seed", str(parameters.words)))
+    if parameters.tickets is not None:
+        tickets = parameters.tickets
+        found.append(("budget", f"Quota({tickets})" if isinstance(tickets, Terms) else str(tickets)))
+    return found
+
+
+def in_rust(policy: Policy, parameters: Parameters) -> str:
+    """The same in Rust."""
+    schedule = spelt_in_rust(policy.to_dict())
+    calls = [f".{call}" for call in _rust_calls(parameters)]
+    played = "".join(f"\n        {call}" for call in [*calls, ".play()?;"])
+    used = [name for name in ("Fold", "Test") if f"{name}::" in schedule]
+    names = ", ".join(sorted(["Policy", "Schedule", "Storm", *used]))
+    timed = "use std::time::Duration;\n" if "Duration::" in schedule + played else ""
+    return (
+        f"use hikebox::{{{names}}};\n{timed}\n"
+        "fn main() -> Result<(), Box<dyn std::error::Error>> {\n"
+        f"    let schedule = {schedule};\n"
+        "    let policy = Policy::new(&schedule)?;\n"
+        f"    let report = Storm::new(&policy){played}\n"
+        '    println!("{report}");\n    Ok(())\n}\n'
+    )
+
+
+def _rust_calls(parameters: Parameters) -> List[str]:
+    changed = _changed(parameters)
+    found: List[Any] = [f"{name}({changed[name]})" for name in _COUNTS if name in changed]
+    found += [f"{name}({duration(changed[name])})" for name in _TIMES if changed.get(name) is not None]
+    if "outage" in changed:
+        begins, ends = parameters.outage
+        found.append("no_outage()" if begins == ends == 0 else f"outage({duration(begins)}..{duration(ends)})")
+    if parameters.slow is not None:
+        begins, ends, percent = parameters.slow
+        found.append(f"slow({duration(begins)}..{duration(ends)}, {percent})")
+    if "words" in changed:
+        found.append(f"seed({parameters.words})")
+    tickets = parameters.tickets
+    if isinstance(tickets, Terms):
+        found.append(f"quota({tickets.reserve}, {tickets.share / 1000!r}, {duration(tickets.period)})")
+    elif tickets is not None:
+        found.append(f"budget({tickets})")
+    return found

@@ -1,0 +1,165 @@
+"""What a storm is played with, in the engine's units: whole numbers and milliseconds."""
+
+from __future__ import annotations
+
+from typing import Any, Dict, List, NamedTuple, Optional, Tuple, Union
+
+from ..errors import StormError
+from ..quota import Terms
+from .._engine.calls import ON_BUDGET, ON_QUOTA
+from .._engine.structs import Storm
+
+__all__ = ["MAX_SEED", "RANGES", "SCENARIOS", "Parameters", "Slow", "Span", "limit_text", "tickets_text"]
+
+#: The most requests of a storm, and the most windows after the first.
+MAX_REQUESTS, MAX_WINDOWS = 1_048_576, 65_536
+MAX_SEED = 2**64 - 1
+_HOUR = 3_600_000
+
+#: From where to where each number is.
+RANGES: Dict[str, Tuple[int, int]] = {
+    "rate": (1, 1_000_000),
+    "together": (1, 1_000_000),
+    "seconds": (1, 3600),
+    "capacity": (1, 1_000_000),
+    "patience": (1, _HOUR),
+    "queue": (0, 1_048_576),
+    "window": (1, _HOUR),
+    "until": (0, 2 * _HOUR),
+    "calls": (1, 2**32),
+    "words": (0, MAX_SEED),
+}
+#: Those that are milliseconds.
+_TIMES = ("patience", "window", "until", "outage", "slow")
+
+
+class Span(NamedTuple):
+    """From a moment to before another, in milliseconds."""
+
+    begins: int
+    ends: int
+
+
+class Slow(NamedTuple):
+    """A brown-out: when, and at how many hundredths of its capacity the peer works then."""
+
+    begins: int
+    ends: int
+    percent: int
+
+
+class Parameters(NamedTuple):
+    """The parameters of a storm, as `zsched storm` has them."""
+
+    rate: int = 800
+    together: int = 1
+    seconds: int = 60
+    capacity: int = 1000
+    patience: int = 500
+    queue: int = 5000
+    outage: Span = Span(10_000, 20_000)
+    slow: Optional[Slow] = None
+    window: int = 1000
+    until: Optional[int] = None
+    calls: int = 16_777_216
+    words: int = 0
+    #: None, the limit of a budget, or the terms of a quota.
+    tickets: Union[None, int, Terms] = None
+
+    @property
+    def last(self) -> int:
+        """The moment after which nothing is played."""
+        return self.seconds * 1000 + 60_000 if self.until is None else self.until
+
+    @property
+    def over(self) -> int:
+        """The moment from which on the peer is well again."""
+        return max(self.outage.ends, self.slow.ends if self.slow else 0)
+
+    def capacity_at(self, moment: int) -> float:
+        """The calls a second that the peer can do at a moment."""
+        slow = self.slow
+        return self.capacity * slow.percent / 100 if slow and slow.begins <= moment < slow.ends else self.capacity
+
+    def weather(self) -> List[Tuple[int, int, str, str]]:
+        """The brown-out and the outage, where there are such: from when to when, in words, and their paint."""
+        spans = [(self.outage.begins, self.outage.ends, "peer away", "away")]
+        if self.slow is not None:
+            spans.insert(0, (self.slow.begins, self.slow.ends, f"peer at {self.slow.percent} %", "shade"))
+        return [span for span in spans if span[0] < span[1]]
+
+    def checked(self) -> Parameters:
+        """The same, where all are within their ranges; otherwise a `StormError` names the first that is not."""
+        for name in RANGES:
+            number = getattr(self, name)
+            if name != "until" or number is not None:
+                _look_at(name, number, *RANGES[name])
+        if self.rate * self.seconds > MAX_REQUESTS:
+            asked = f"{self.rate} a second for {self.seconds} s are {self.rate * self.seconds} requests"
+            raise StormError("rate", f"{asked}, and a storm has at most {MAX_REQUESTS}")
+        for name, span in (("outage", self.outage), ("slow", self.slow or Span(0, 0))):
+            for end in span[:2]:
+                _look_at(name, end, 0, _HOUR)
+            if span[0] > span[1]:
+                raise StormError(name, f"it ends at {span[1]} ms, before it begins at {span[0]} ms")
+        if self.slow is not None and not 1 <= self.slow.percent <= 100:
+            raise StormError("slow", f"{self.slow.percent} is not from 1 to 100 % of the capacity")
+        if self.last // self.window > MAX_WINDOWS:
+            asked = f"{self.last} ms by windows of {self.window} ms are {self.last // self.window + 1} lines"
+            raise StormError("window", f"{asked}, and a report has at most {MAX_WINDOWS + 1}")
+        return self
+
+    def for_engine(self) -> Storm:
+        """The same as the engine takes them."""
+        numbers: Dict[str, Any] = {name: getattr(self, name) for name in RANGES if name != "until"}
+        made = Storm(until=self.last, period=1, **numbers)
+        made.outage_from, made.outage_to = self.outage
+        if self.slow is not None:
+            made.slow_from, made.slow_to, made.slow_percent = self.slow
+        if isinstance(self.tickets, Terms):
+            made.draws_on = ON_QUOTA
+            made.reserve, made.share, made.period = self.tickets
+        elif self.tickets is not None:
+            made.draws_on, made.limit = ON_BUDGET, self.tickets
+        return made
+
+
+#: What the three stories change.
+SCENARIOS: Dict[str, Parameters] = {
+    "outage": Parameters(),
+    "herd": Parameters(10_000, 10_000, 1, 1000, 1000, 500, Span(0, 0)),
+    "brown-out": Parameters(outage=Span(0, 0), slow=Slow(10_000, 20_000, 50)),
+}
+
+
+def tickets_text(tickets: Union[None, int, Terms]) -> str:
+    """What the retries of a storm draw on, in words.
+
+    >>> tickets_text(None), tickets_text(100), tickets_text(Terms(10, 100, 1000))
+    ('no limit', 'a budget of 100', 'a quota: 10 and 10 % of the requests in each 1 s')
+    """
+    if tickets is None:
+        return "no limit"
+    if isinstance(tickets, Terms):
+        period = f"{tickets.period / 1000:.12g} s"
+        return f"a quota: {tickets.reserve:,} and {tickets.share / 10:.12g} % of the requests in each {period}"
+    return f"a budget of {tickets:,}"
+
+
+def limit_text(tickets: Union[None, int, Terms]) -> str:
+    """The same as a title has it.
+
+    >>> limit_text(None), limit_text(5000), limit_text(Terms(10, 100, 1000))
+    ('no limit', 'budget of 5,000', 'quota 10/10%/1s')
+    """
+    if tickets is None:
+        return "no limit"
+    if isinstance(tickets, Terms):
+        return f"quota {tickets.reserve}/{tickets.share / 10:.12g}%/{tickets.period / 1000:.12g}s"
+    return f"budget of {tickets:,}"
+
+
+def _look_at(name: str, number: int, least: int, most: int) -> None:
+    if not least <= number <= most:
+        unit = " ms" if name in _TIMES else ""
+        raise StormError(name, f"{number} is not from {least} to {most}{unit}")
