@@ -2,7 +2,6 @@
 
 from __future__ import annotations
 
-import ast
 import asyncio
 import copy
 import functools
@@ -11,7 +10,6 @@ import inspect
 import logging
 import multiprocessing
 import pickle
-import random
 import subprocess
 import sys
 import threading
@@ -43,8 +41,7 @@ from hikebox import (
     spaced,
     state_of,
 )
-from hikebox.retry.settings import DEFAULTS, MAX_RETRY_AFTER
-from hikebox.retrying import BaseRetrying
+from hikebox.retry.options import DEFAULTS
 from hikebox.testing import VirtualClock, no_waits
 
 
@@ -425,17 +422,14 @@ def test_help_explains_each_parameter() -> None:
 # Hooks, waits, stops
 
 
-def test_the_parameters_that_a_type_checker_reads_are_those_that_there_are() -> None:
-    (init,) = [
-        node
-        for node in ast.walk(ast.parse(inspect.getsource(BaseRetrying)))
-        if isinstance(node, ast.FunctionDef) and node.name == "__init__" and node.args.kwonlyargs
-    ]
-    names = [argument.arg for argument in init.args.kwonlyargs]
-    defaults = [ast.unparse(plain) for plain in init.args.kw_defaults if plain is not None]
-    assert names == list(DEFAULTS) and names == list(inspect.signature(Retrying).parameters)[1:]
-    known = {"time": time, "_random": random, "MAX_RETRY_AFTER": MAX_RETRY_AFTER}
-    assert [eval(plain, known) for plain in defaults] == list(DEFAULTS.values())
+def test_the_signature_has_each_option_with_its_default() -> None:
+    for what in (Retrying, AsyncRetrying, retry):
+        found = list(inspect.signature(what).parameters.values())
+        assert [each.name for each in found] == ["policy", *DEFAULTS]
+        assert [each.default for each in found[1:]] == list(DEFAULTS.values())
+        assert {each.kind for each in found[1:]} == {inspect.Parameter.KEYWORD_ONLY}
+    retrying = Retrying(recurs(1))
+    assert {name: getattr(retrying, name) for name in DEFAULTS} == DEFAULTS
 
 
 def test_hooks_may_be_lists(clock: VirtualClock) -> None:

@@ -11,6 +11,8 @@ from typing import List, Tuple
 
 import pytest
 
+from hikebox.retry.options import DEFAULTS
+
 HERE = Path(__file__).parent
 
 RIGHT = """
@@ -162,7 +164,7 @@ async def use_later(client: Client) -> None:
 """
 
 WRONG = """
-from hikebox import recurs, retry
+from hikebox import Retrying, recurs, retry
 
 
 @retry(recurs(3))
@@ -189,6 +191,12 @@ async def use(client: Client) -> None:
     number: str = client.ask("a")  # assignment
     later: int = client.ask_later("a")  # assignment
     fetch.retries  # attr-defined
+    Retrying(recurs(1), None)  # misc
+    Retrying(recurs(1), budgt=3)  # call-arg
+    Retrying(recurs(1), deadline="a minute")  # arg-type
+    retry(recurs(1), max_retry_after="a minute")  # arg-type
+    fetch.retry.deadline = 3  # misc
+    fetch.retry.policy = recurs(1)  # misc
 """
 
 
@@ -212,6 +220,14 @@ def test_every_use_of_a_retried_function_has_its_type(tmp_path: Path) -> None:
     assert complaints(tmp_path, RIGHT) == []
 
 
+def test_each_option_is_an_attribute_of_the_type_that_it_takes(tmp_path: Path) -> None:
+    options = "".join(f"    {name}=shared.{name},\n" for name in DEFAULTS)
+    program = (
+        f"from hikebox import Retrying, recurs\n\nshared = Retrying(recurs(3))\nRetrying(shared.policy,\n{options})\n"
+    )
+    assert complaints(tmp_path, program) == []
+
+
 def test_a_wrong_use_is_found(tmp_path: Path) -> None:
     expected = [(number, line.partition("# ")[2]) for number, line in enumerate(WRONG.splitlines(), 1) if "# " in line]
-    assert len(expected) == 8 and complaints(tmp_path, WRONG) == expected
+    assert len(expected) == 14 and sorted(set(complaints(tmp_path, WRONG))) == expected

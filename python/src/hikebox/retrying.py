@@ -4,8 +4,6 @@ from __future__ import annotations
 
 import functools
 import inspect
-import random as _random
-import time
 from types import FunctionType
 from typing import (
     TYPE_CHECKING,
@@ -16,32 +14,25 @@ from typing import (
     ClassVar,
     Coroutine,
     Dict,
-    Generic,
     Iterable,
     Iterator,
-    NoReturn,
-    Optional,
     Type,
     TypeVar,
-    Union,
     cast,
     overload,
 )
 
-from ._time import Duration
-from .budget import Budget
 from .policy import Policy
-from .quota import Quota
 from .retry.attempts import AsyncAttempts, Attempt, Attempts
 from .retry.drivers import run, run_async
 from .retry.kinds import is_async, is_generator
+from .retry.options import ABOUT, DEFAULTS, Options, PolicyLike, Tickets
 from .retry.retried import Decorator, Retried
-from .retry.settings import DEFAULTS, MAX_RETRY_AFTER, Hook, Hooks, On, Settings, Stop, Tickets
+from .retry.settings import Settings
 from .retry.state import Counts, Statistics
 
 __all__ = ["AsyncRetrying", "Attempt", "BaseRetrying", "Retried", "Retrying", "Tickets", "retry"]
 
-Value = TypeVar("Value")
 Result = TypeVar("Result")
 First = TypeVar("First")
 Self = TypeVar("Self", bound="BaseRetrying")
@@ -82,73 +73,8 @@ if TYPE_CHECKING:
     Parameters = ParamSpec("Parameters")
 
 
-class Setting(Generic[Value]):
-    """A parameter of a `Retrying`, which is read and never set."""
-
-    name: str
-
-    def __set_name__(self, owner: Any, name: str) -> None:
-        self.name = name
-
-    @overload
-    def __get__(self, retrying: None, owner: Any = None) -> Setting[Value]:
-        ...
-
-    @overload
-    def __get__(self, retrying: BaseRetrying, owner: Any = None) -> Value:
-        ...
-
-    def __get__(self, retrying: Any, owner: Any = None) -> Any:
-        return self if retrying is None else getattr(retrying.settings, self.name)
-
-    def __set__(self, retrying: BaseRetrying, value: Value) -> NoReturn:
-        name = self.name
-        raise AttributeError(
-            f"a {type(retrying).__name__} does not change: make another one by retrying.copy({name}=..), "
-            f"or a function by fn.retry_with({name}=..)"
-        )
-
-
-class BaseRetrying:
-    """What `Retrying` and `AsyncRetrying` have in common: how to retry. Threads may share it.
-
-    `policy`
-        When to call again: a `Policy`, or its JSON as text or a dict.
-    `budget`
-        A `Budget` or a `Quota` that all calls share, or other `Tickets`; None for none. Each call is a request of a
-        quota.
-    `on`
-        Which exceptions are retried: a type, a function of the exception, or a tuple of such; `Exception` by default.
-        All others are raised at once. Functions are asked about each `Exception`, and never about a
-        `KeyboardInterrupt`, a `SystemExit` or a task's cancellation: a type may name these.
-    `on_result`
-        A function of the result that says whether the call is to be retried.
-    `code`
-        A function that gives the number by which the policy knows a failure: an exception, or a result that
-        `on_result` refused. `code_of` where it is None.
-    `retry_after`, `wait`
-        Functions of the exception, and of the `RetryState`, that give the seconds that are waited at least, or None:
-        as `Retry-After`. The policy's wait is the least.
-    `max_retry_after`
-        How many seconds these two may ask for, at most; None for any number.
-    `deadline`
-        No attempt but the first begins later than this after the first one began: seconds, or a `timedelta`. Where the
-        policy, `retry_after` or `wait` would have it so, the retry ends at once and draws no ticket; where it wakes too
-        late, it ends and its ticket comes back. `seconds_left()` tells the call how long it has.
-    `stop`
-        What ends a retry, though its policy goes on: an event of threading or multiprocessing (in coroutines also of
-        asyncio or trio) that is set, which ends its wait too, or a function of the `RetryState`, asked after each
-        attempt that failed and each wait.
-    `before`, `after`, `before_sleep`, `on_success`
-        Functions of the `RetryState`, or lists of them, called before each attempt, after each that failed, before each
-        wait, and where a call succeeded in the end.
-    `fallback`
-        A function of the `RetryState` whose result is given in the end, in the place of the last exception.
-    `sleep`, `clock`, `random`
-        What waits so many seconds, tells the seconds, and gives numbers from 0 up to 1: to be replaced in tests.
-        Where `sleep` comes back too early by `clock`, the retry goes on as if it had not. Beside an event, a `sleep`
-        of your own that blocks is called for at most 0.05 s at a time.
-    """
+class BaseRetrying(Options):
+    """What `Retrying` and `AsyncRetrying` have in common: how to retry. Threads may share it."""
 
     __slots__ = ("settings", "counts", "__weakref__")
 
@@ -156,50 +82,11 @@ class BaseRetrying:
     _AWAITS: ClassVar[bool] = False
     _REPEATS: ClassVar[bool] = False
 
-    policy = Setting[Policy]()
-    budget = Setting[Union[Budget, Quota, Tickets, None]]()
-    on = Setting[On]()
-    on_result = Setting[Optional[Callable[[Any], Any]]]()
-    code = Setting[Optional[Callable[[Any], int]]]()
-    retry_after = Setting[Optional[Callable[[Any], Optional[float]]]]()
-    wait = Setting[Any]()
-    max_retry_after = Setting[Optional[float]]()
-    deadline = Setting[Optional[Duration]]()
-    stop = Setting[Any]()
-    before = Setting[Hooks]()
-    after = Setting[Hooks]()
-    before_sleep = Setting[Hooks]()
-    on_success = Setting[Hooks]()
-    fallback = Setting[Optional[Hook]]()
-    sleep = Setting[Optional[Callable[[float], Any]]]()
-    clock = Setting[Callable[[], float]]()
-    random = Setting[Callable[[], float]]()
-
     if TYPE_CHECKING:
 
-        def __init__(
-            self,
-            policy: Union[Policy, str, bytes, Dict[str, Any]],
-            *,
-            budget: Union[Budget, Quota, Tickets, None] = None,
-            on: On = Exception,
-            on_result: Optional[Callable[[Any], Any]] = None,
-            code: Optional[Callable[[Any], int]] = None,
-            retry_after: Optional[Callable[[Any], Optional[float]]] = None,
-            wait: Optional[Callable[[Any], Optional[float]]] = None,
-            max_retry_after: Optional[float] = MAX_RETRY_AFTER,
-            deadline: Optional[Duration] = None,
-            stop: Optional[Stop] = None,
-            before: Hooks = None,
-            after: Hooks = None,
-            before_sleep: Hooks = None,
-            on_success: Hooks = None,
-            fallback: Optional[Hook] = None,
-            sleep: Optional[Callable[[float], Any]] = None,
-            clock: Callable[[], float] = time.monotonic,
-            random: Callable[[], float] = _random.random,
-        ) -> None:
-            ...
+        @property
+        def policy(self) -> Policy:
+            """When to call again."""
 
     else:
 
@@ -212,6 +99,7 @@ class BaseRetrying:
         own = inspect.Parameter("self", inspect.Parameter.POSITIONAL_OR_KEYWORD)
         __init__.__signature__ = inspect.Signature([own, *_PARAMETERS])
         del own
+        __doc__ = f"{__doc__ or str()}\n\n    {ABOUT}"
 
     #: What it was made with, and what follows from it.
     settings: Settings
@@ -225,7 +113,7 @@ class BaseRetrying:
 
     @property
     def given(self) -> Dict[str, Any]:
-        """The policy, and the parameters that are not their defaults."""
+        """The policy, and the options that are not their defaults."""
         return {"policy": self.settings.policy, **self.settings.given}
 
     def copy(self: Self, **changes: Any) -> Self:
@@ -390,15 +278,14 @@ def _takes_what(
 
     def give(fn: Any) -> Any:
         fn.__signature__ = inspect.signature(fn).replace(parameters=_PARAMETERS)
-        parameters = (BaseRetrying.__doc__ or "").partition("\n\n")[2]
-        fn.__doc__ = f"{(fn.__doc__ or '').rstrip()}\n\n{parameters}"
+        fn.__doc__ = f"{(fn.__doc__ or str()).rstrip()}\n\n    {ABOUT}"
         return fn
 
     return give
 
 
 @_takes_what(BaseRetrying.__init__)
-def retry(policy: Union[Policy, str, bytes, Dict[str, Any]], **how: Any) -> Decorator:
+def retry(policy: PolicyLike, **how: Any) -> Decorator:
     """Retries each call of a function or a coroutine function by a policy. It takes what `Retrying` takes.
 
     >>> from hikebox import exponential, recurs

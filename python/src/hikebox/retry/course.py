@@ -304,7 +304,7 @@ class Course:
             asked.append(float(settings.retry_after(error) or 0.0))
         if settings.wait is not None:
             asked.append(float(settings.wait(self.state) or 0.0))
-        return min(settings.max_retry_after, max(asked))
+        return min(settings.most_wait, max(asked))
 
     def waited(self) -> bool:
         """The wait is over: whether the next attempt begins now. Past the deadline it does not, and its ticket is not

@@ -2,14 +2,13 @@
 
 from __future__ import annotations
 
-from typing import Any, Callable, Dict, Union, cast
+from typing import Any, Callable, Dict, cast
 
-from ..policy import Policy
 from ..retrying import AsyncRetrying, BaseRetrying, Retrying, decorator, look_at_names
 from .drivers import not_awaitable
 from .kinds import is_async, look_at_function
 from .retried import Decorator
-from .settings import DEFAULTS
+from .options import DEFAULTS, PolicyLike
 
 __all__ = ["AsyncRepeating", "Repeating", "poll_until", "repeat"]
 
@@ -30,7 +29,7 @@ class Repeating(Retrying):
 
     _REPEATS = True
 
-    def __init__(self, policy: Union[Policy, str, bytes, Dict[str, Any]], **how: Any) -> None:
+    def __init__(self, policy: PolicyLike, **how: Any) -> None:
         super().__init__(policy, **_without_on(type(self).__name__, how))
 
 
@@ -41,7 +40,7 @@ class AsyncRepeating(AsyncRetrying):
 
     _REPEATS = True
 
-    def __init__(self, policy: Union[Policy, str, bytes, Dict[str, Any]], **how: Any) -> None:
+    def __init__(self, policy: PolicyLike, **how: Any) -> None:
         super().__init__(policy, **_without_on(type(self).__name__, how))
 
 
@@ -52,7 +51,7 @@ def _without_on(called: str, how: Dict[str, Any]) -> Dict[str, Any]:
     return {**how, "on": ()}
 
 
-def repeat(policy: Union[Policy, str, bytes, Dict[str, Any]], **how: Any) -> Decorator:
+def repeat(policy: PolicyLike, **how: Any) -> Decorator:
     """Repeats each call of a function or a coroutine function as long as a policy goes on, as `Repeating` does.
 
     >>> from hikebox import recurs
@@ -67,9 +66,7 @@ def repeat(policy: Union[Policy, str, bytes, Dict[str, Any]], **how: Any) -> Dec
     return decorator(Repeating, AsyncRepeating, "repeat", policy, how)
 
 
-def poll_until(
-    policy: Union[Policy, str, bytes, Dict[str, Any]], accepts: Callable[[Any], Any], **how: Any
-) -> Decorator:
+def poll_until(policy: PolicyLike, accepts: Callable[[Any], Any], **how: Any) -> Decorator:
     """Calls a function or a coroutine function again until `accepts` is true of its result, and gives that.
 
     Where the policy is done before, it is a `ResultRefused` with the last result, or what `fallback` gives. An

@@ -1,0 +1,337 @@
+"""The options of a `Retrying`: each declared once, with its type, its default, its text and what follows from it."""
+
+from __future__ import annotations
+
+import math
+import random as _random
+import time
+from functools import partial
+from typing import (
+    TYPE_CHECKING,
+    Any,
+    Callable,
+    Dict,
+    NoReturn,
+    Optional,
+    Protocol,
+    Sequence,
+    Tuple,
+    Type,
+    TypeVar,
+    Union,
+)
+
+from .._time import Duration, seconds
+from ..budget import Budget
+from ..budgets.drawing import ByCall, Drawing
+from ..budgets.passes import NO_BUDGET, DrawnOn
+from ..errors import BudgetClosed, TryAgain
+from ..policy import Policy
+from ..quota import Quota
+from .kinds import hooks_of, look_at_function, parts_of_on, stop_of
+from .state import RetryState
+from .waits import pause_of, sleep_of
+
+if TYPE_CHECKING:
+    from dataclasses import InitVar, dataclass, field
+
+    from .settings import Settings
+else:
+    # (a type checker reads these; nothing is made of them)
+    def dataclass(**_):
+        return lambda kind: kind
+
+    def field(*, kw_only, metadata):
+        return Option(None, metadata["about"], None, ())
+
+
+__all__ = [
+    "ABOUT",
+    "DEFAULTS",
+    "Hook",
+    "Hooks",
+    "MAX_RETRY_AFTER",
+    "On",
+    "OPTIONS",
+    "Options",
+    "PolicyLike",
+    "Stop",
+    "Tickets",
+]
+
+Value = TypeVar("Value")
+
+#: How many seconds `retry_after` and `wait` may ask for by default: six hours.
+MAX_RETRY_AFTER = 21600.0
+
+#: A policy, its JSON as text, or its JSON as a dict.
+PolicyLike = Union[Policy, str, bytes, Dict[str, Any]]
+#: The exceptions to retry: a type, a function of the exception, or a tuple of these.
+On = Union[Type[BaseException], Callable[[Any], Any], Tuple[Union[Type[BaseException], Callable[[Any], Any]], ...]]
+Hook = Callable[[RetryState], Any]
+#: A hook, or several, which are called in turn.
+Hooks = Union[Hook, Sequence[Hook], None]
+
+
+class Tickets(Protocol):
+    """What a retry can draw on beside a `Budget` or a `Quota`, such as the leased ones of `hikebox.leased`.
+
+    If it has a `draw_async()`, coroutines await that instead of `draw()`. If it has a `deposit()`, each call calls it
+    once: at its first attempt, or if `counts_successes` is true at its success.
+    """
+
+    def draw(self) -> Any:
+        """Returns a ticket, which may be any object, the number 0 too; or None, False or a `Refusal` for none."""
+
+
+class Event(Protocol):
+    """An event of threading, multiprocessing, asyncio or trio."""
+
+    def is_set(self) -> bool:
+        """Whether it was set."""
+
+
+#: What stops a retry: an event that is set, or a function that returns true.
+Stop = Union[Event, Callable[[RetryState], bool]]
+
+
+# What follows from options
+
+
+def _on_follows(settings: Settings) -> None:
+    types, settings.tests = parts_of_on(settings.on, settings.awaits)
+    settings.types = (*types, TryAgain)
+
+
+def _hooks_follow(settings: Settings) -> None:
+    awaits = settings.awaits
+    settings.hooks_before = hooks_of("before", settings.before, awaits)
+    settings.hooks_after = hooks_of("after", settings.after, awaits)
+    settings.hooks_before_sleep = hooks_of("before_sleep", settings.before_sleep, awaits)
+    settings.hooks_on_success = hooks_of("on_success", settings.on_success, awaits)
+
+
+def _most_wait_follows(settings: Settings) -> None:
+    most = settings.max_retry_after
+    if most is None:
+        settings.most_wait = math.inf
+    elif isinstance(most, bool) or not isinstance(most, (int, float)) or not most >= 0:
+        raise TypeError(f"max_retry_after: expected a number of seconds, or None, got {most!r}")
+    else:
+        settings.most_wait = float(most)
+
+
+def _deadline_follows(settings: Settings) -> None:
+    settings.deadline_millis = None if settings.deadline is None else seconds(settings.deadline, "deadline")
+
+
+def _waits_follow(settings: Settings) -> None:
+    settings.is_stopped = stop_of(settings.stop, settings.awaits)
+    settings.sleeps = sleep_of(settings.sleep, settings.stop, settings.clock, settings.awaits)
+    settings.pause = pause_of(settings.sleep, settings.awaits)
+
+
+def _drawing_follows(settings: Settings) -> None:
+    budget = settings.budget
+    settings.drawn_on, settings.drawing = _drawn_on(budget, settings.clock, settings.awaits)
+    settings.deposit, settings.deposit_won = _deposits(budget)
+    settings.returns_tickets = bool(getattr(budget, "returns_tickets", False))
+
+
+def _drawn_on(budget: Any, clock: Any, awaits: bool) -> Tuple[DrawnOn, Optional[Callable[[], Drawing]]]:
+    """What the engine's retry draws on, and what makes the drawing of one that does not."""
+    if budget is None:
+        return NO_BUDGET, None
+    draw = getattr(budget, "draw", None)
+    if not callable(draw):
+        raise TypeError(f"budget: expected a Budget, a Quota, or something with draw(), got {budget!r}")
+    if isinstance(budget, Budget) or (isinstance(budget, Quota) and budget.clock == clock):
+        return budget, None
+    if hasattr(budget, "retry_drawing"):
+        return NO_BUDGET, partial(budget.retry_drawing, awaits)
+    return NO_BUDGET, partial(ByCall, getattr(budget, "draw_async", draw) if awaits else draw)
+
+
+def _deposits(budget: Any) -> Tuple[Optional[Callable[[], Any]], Optional[Callable[[], Any]]]:
+    """What counts a request at its first attempt, and what counts it at its success."""
+    deposit = getattr(budget, "deposit", None)
+    if deposit is None or not getattr(budget, "counts_successes", False):
+        return deposit, None
+    return None, partial(_deposit_won, deposit)
+
+
+def _deposit_won(deposit: Callable[[], Any]) -> None:
+    """Counts a request that succeeded. Its result is returned even if the quota was closed meanwhile."""
+    try:
+        deposit()
+    except BudgetClosed:
+        pass
+
+
+class Option:
+    """An option of a `Retrying`, which you can read and not set."""
+
+    __slots__ = ("name", "default", "about", "looks", "follows")
+
+    name: str
+
+    def __init__(
+        self,
+        default: Any,
+        about: str,
+        looks: Optional[Callable[[str, Any, bool], None]],
+        follows: Tuple[Callable[[Settings], None], ...],
+    ) -> None:
+        self.default = default
+        self.about = about
+        self.looks = looks
+        self.follows = follows
+
+    def __set_name__(self, owner: Any, name: str) -> None:
+        self.name = name
+
+    def __get__(self, retrying: Any, owner: Any = None) -> Any:
+        return self if retrying is None else getattr(retrying.settings, self.name)
+
+    def __set__(self, retrying: Any, value: Any) -> NoReturn:
+        raise AttributeError(
+            f"a {type(retrying).__name__} does not change: make another one by retrying.copy({self.name}=..), "
+            f"or a function by fn.retry_with({self.name}=..)"
+        )
+
+
+def option(
+    default: Value,
+    about: str,
+    *follows: Callable[[Settings], None],
+    looks: Optional[Callable[[str, Any, bool], None]] = None,
+) -> Value:
+    """Declares an option: its default, its text for `help()`, what works out what follows from it, and what checks its
+    value by the option's name, the value, and whether coroutine functions are awaited."""
+    declared: Any = Option(default, about, looks, follows)
+    return declared  # type: ignore[no-any-return]
+
+
+def _plain(name: str, value: Any, awaits: bool) -> None:
+    """Refuses what is no function, or a coroutine function, which is not awaited there."""
+    look_at_function(name, value, awaits=False)
+
+
+@dataclass(frozen=True, kw_only=True)
+class Options:
+    """The options, as attributes of a `Retrying` and as keyword arguments of all that take them. A type checker reads
+    the arguments off this class; the text of `help()` is made of it."""
+
+    __slots__ = ()
+
+    policy: InitVar[PolicyLike] = field(
+        kw_only=False, metadata={"about": """When to call again: a `Policy`, or its JSON as text or a dict."""}
+    )
+
+    budget: Union[Budget, Quota, Tickets, None] = option(
+        None,
+        """A `Budget` or a `Quota` that limits all calls together, or other `Tickets`; None for no limit. A quota counts
+        each call as a request.""",
+        _drawing_follows,
+    )
+    on: On = option(
+        Exception,
+        """The exceptions to retry: a type, a function of the exception, or a tuple of these; `Exception` by default.
+        Any other exception is raised at once. A function is called for an `Exception`, and never for
+        `KeyboardInterrupt`, `SystemExit` or the cancellation of a task: name their types to retry these.""",
+        _on_follows,
+    )
+    on_result: Optional[Callable[[Any], Any]] = option(
+        None,
+        """A function of the result that returns true if the call is to be retried.""",
+        looks=look_at_function,
+    )
+    code: Optional[Callable[[Any], int]] = option(
+        None,
+        """A function that returns the number by which the policy knows a failure: an exception, or a result that
+        `on_result` refused. None stands for `code_of`.""",
+        looks=_plain,
+    )
+    retry_after: Optional[Callable[[Any], Optional[float]]] = option(
+        None,
+        """A function of the exception that returns the least seconds to wait, or None, as
+        `hikebox.http.retry_after` does. The wait is the longest of this, of `wait` and of the policy's.""",
+        looks=_plain,
+    )
+    wait: Optional[Callable[[Any], Optional[float]]] = option(
+        None,
+        """The same as a function of the `RetryState`.""",
+        looks=_plain,
+    )
+    max_retry_after: Optional[float] = option(
+        MAX_RETRY_AFTER,
+        """The most seconds that `retry_after` and `wait` may ask for; None for any number.""",
+        _most_wait_follows,
+    )
+    deadline: Optional[Duration] = option(
+        None,
+        """How long after the start of the first attempt another one may still begin: seconds, or a `timedelta`. If the
+        next attempt would begin later, the retry ends at once and draws no ticket. If a wait ends too late, the retry
+        ends and its ticket comes back. `seconds_left()` tells the call how long it has.""",
+        _deadline_follows,
+    )
+    stop: Optional[Stop] = option(
+        None,
+        """What ends a retry although its policy goes on: an event of threading or multiprocessing, in coroutines also
+        of asyncio or trio, which ends a wait too when it is set; or a function of the `RetryState` that returns true,
+        called after each failed attempt and each wait.""",
+        _waits_follow,
+    )
+    before: Hooks = option(
+        None,
+        """A function of the `RetryState`, or a list of functions, called before each attempt.""",
+        _hooks_follow,
+    )
+    after: Hooks = option(
+        None,
+        """The same, called after each attempt that failed.""",
+        _hooks_follow,
+    )
+    before_sleep: Hooks = option(
+        None,
+        """The same, called before each wait.""",
+        _hooks_follow,
+    )
+    on_success: Hooks = option(
+        None,
+        """The same, called when a call has succeeded.""",
+        _hooks_follow,
+    )
+    fallback: Optional[Hook] = option(
+        None,
+        """A function of the `RetryState` that returns the result when the retry gives up. None raises the last
+        exception.""",
+        looks=look_at_function,
+    )
+    sleep: Optional[Callable[[float], Any]] = option(
+        None,
+        """What waits a number of seconds, to be replaced in tests. If it returns too early by `clock`, the retry goes
+        on as if it had not. If `stop` is an event, a `sleep` of your own that blocks is called for at most 0.05 s at a
+        time.""",
+        _waits_follow,
+    )
+    clock: Callable[[], float] = option(
+        time.monotonic,
+        """What returns the time in seconds, to be replaced in tests.""",
+        _waits_follow,
+        _drawing_follows,
+        looks=_plain,
+    )
+    random: Callable[[], float] = option(
+        _random.random,
+        """What returns numbers from 0 up to 1, to be replaced in tests.""",
+        looks=_plain,
+    )
+
+
+_DECLARED = {name: each for name, each in vars(Options).items() if isinstance(each, Option)}
+#: What `help()` says of each.
+ABOUT = "".join(f"`{name}`\n        {each.about}\n    " for name, each in _DECLARED.items())
+#: The options beside the policy, by their names in order, and their defaults.
+OPTIONS: Dict[str, Option] = {name: each for name, each in _DECLARED.items() if name != "policy"}
+DEFAULTS: Dict[str, Any] = {name: each.default for name, each in OPTIONS.items()}
