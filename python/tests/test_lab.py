@@ -248,11 +248,14 @@ def test_storms_are_shown_side_by_side(lab: Lab) -> None:
 
 
 def test_a_sweep_is_of_the_sides_that_are_there(lab: Lab) -> None:
-    asked = storm_of(("recurs(", ""), ("recurs(1)", "5"), seconds=1, rate=100, capacity=50)
+    brief = {"seconds": 1, "rate": 100, "capacity": 50}
+    asked = storm_of(("recurs(", ""), ("recurs(1)", "5/10%/1s"), **brief)
     for name, ends in [("rate", (">50<", ">200<")), ("capacity", (">20<", ">100<")), ("share", (">0<", ">40<"))]:
         told = post(lab, "sweep", {**asked, "along": name}).json()
         assert told["said"] == "" and ">B<" in told["picture"] and ">A<" not in told["picture"]
         assert all(end in told["picture"] for end in ends), name
+    told = post(lab, "sweep", {**storm_of(("recurs(1)", "5"), **brief), "along": "share"}).json()
+    assert told == {"fault": {"name": "sweep", "said": "share: expected a storm with a limit that has it, got none"}}
     told = post(lab, "sweep", {**storm_of(("recurs(1)", ""), seconds=1, outage=[5, 5]), "along": "outage"}).json()
     assert told == {"picture": "", "said": "There is nothing to play along length of the outage, in seconds."}
     # 1,048,576 requests are the most of a storm, so no rate is played above 17,476.
