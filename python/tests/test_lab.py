@@ -248,7 +248,7 @@ def test_storms_are_shown_side_by_side(lab: Lab) -> None:
 
 
 def test_a_sweep_is_of_the_sides_that_are_there(lab: Lab) -> None:
-    brief = {"seconds": 1, "rate": 100, "capacity": 50}
+    brief: Any = {"seconds": 1, "rate": 100, "capacity": 50}
     asked = storm_of(("recurs(", ""), ("recurs(1)", "5/10%/1s"), **brief)
     for name, ends in [("rate", (">50<", ">200<")), ("capacity", (">20<", ">100<")), ("share", (">0<", ">40<"))]:
         told = post(lab, "sweep", {**asked, "along": name}).json()
