@@ -122,7 +122,7 @@ def types(browser: Browser, identity: str, text: str) -> None:
 
 NEVER = "A: 18.4 % of 48,000 requests succeeded, not back by the end; 7.62 calls for each"
 ENDS = "B: 83.3 % of 48,000 requests succeeded, back at 20 s; 1.02 calls for each"
-STALE = "This picture is of the last numbers and policies that were right. What is wrong is marked."
+STALE = "This picture shows the last valid input. What is wrong is marked."
 
 
 def test_the_page_begins_with_the_storm_that_never_ends_and_the_one_that_a_quota_ends(
@@ -447,9 +447,9 @@ def test_each_control_has_a_name_of_its_own(browser: Browser) -> None:
         "The storm",
         "Policy A",
         "Policy B",
-        "The storm's numbers",
+        "Parameters of the storm",
         "Copy as",
-        "What it comes to",
+        "Totals",
         "Along a parameter",
     ]
     assert browser.run(

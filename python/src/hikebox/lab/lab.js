@@ -8,19 +8,19 @@ let known = { stories: {}, ranges: {}, cookbook: [], along: {} };
 // Name, label, and the least and the most of the slider; a time is in milliseconds. `part` is one of an outage or a brown-out.
 const CONTROLS = [
   { name: "rate", label: "Requests per second", least: 1, most: 20000 },
-  { name: "capacity", label: "Calls that the peer can do per second", least: 1, most: 20000 },
-  { name: "outage", part: 0, label: "The peer is away from, ms", step: 500, most: 120000 },
-  { name: "outage", part: 1, label: "The peer is away to, ms", step: 500, most: 120000 },
-  { name: "slow", part: 0, label: "The peer is slow from, ms", step: 500, most: 120000 },
-  { name: "slow", part: 1, label: "The peer is slow to, ms", step: 500, most: 120000 },
-  { name: "slow", part: 2, label: "It works then at, % of its capacity", least: 1, step: 1, most: 100 },
-  { name: "patience", label: "A client gives a call up after, ms", least: 1, most: 60000 },
-  { name: "queue", label: "Calls that may stand at the peer", least: 0, most: 100000 },
-  { name: "together", label: "Requests that come at one moment", least: 1, most: 20000 },
-  { name: "seconds", label: "For how many seconds requests come", least: 1, most: 600 },
-  { name: "window", label: "A step of the picture, ms", least: 1, most: 60000 },
-  { name: "until", label: "Nothing is played after, ms", least: 0, step: 1000, most: 600000 },
-  { name: "calls", label: "Cut after so many calls", least: 1, most: 16777216 },
+  { name: "capacity", label: "Capacity of the peer, calls per second", least: 1, most: 20000 },
+  { name: "outage", part: 0, label: "Outage from, ms", step: 500, most: 120000 },
+  { name: "outage", part: 1, label: "Outage to, ms", step: 500, most: 120000 },
+  { name: "slow", part: 0, label: "Brown-out from, ms", step: 500, most: 120000 },
+  { name: "slow", part: 1, label: "Brown-out to, ms", step: 500, most: 120000 },
+  { name: "slow", part: 2, label: "Capacity in the brown-out, %", least: 1, step: 1, most: 100 },
+  { name: "patience", label: "Patience of the clients, ms", least: 1, most: 60000 },
+  { name: "queue", label: "Queue of the peer, calls", least: 0, most: 100000 },
+  { name: "together", label: "Requests at one moment", least: 1, most: 20000 },
+  { name: "seconds", label: "Requests come for, s", least: 1, most: 600 },
+  { name: "window", label: "Window of the picture, ms", least: 1, most: 60000 },
+  { name: "until", label: "End of the storm, ms", least: 0, step: 1000, most: 600000 },
+  { name: "calls", label: "Cut after this many calls", least: 1, most: 16777216 },
   { name: "words", label: "Seed of the random words", least: 0, step: 1, most: 100 },
 ];
 const PARTS = { outage: 2, slow: 3 };
@@ -48,7 +48,7 @@ function later(milliseconds, run) {
   return () => { clearTimeout(timer); timer = setTimeout(run, milliseconds); };
 }
 
-// ---- The storm's numbers
+// ---- Parameters of the storm
 
 const story = () => known.stories[state.story];
 
@@ -333,8 +333,8 @@ function showSide(side, index) {
 // Says that the picture is not of what stands in the boxes, where one of these is faulty.
 function showStale() {
   const isFaulty = document.querySelector(".controls [aria-invalid=true]") !== null;
-  say(byId("stale"), isFaulty ? "This picture is of the last numbers and policies that were right. What is wrong is marked." : "");
-  byId("played").classList.toggle("stale", isFaulty);
+  say(byId("stale"), isFaulty ? "This picture shows the last valid input. What is wrong is marked." : "");
+  for (const name of ["played", "swept"]) byId(name).classList.toggle("stale", isFaulty);
 }
 
 // ---- Along a parameter

@@ -143,6 +143,8 @@ def values_of(text: str) -> Tuple[str, List[int]]:
 
     >>> values_of("rate=200..1600/8")
     ('rate', [200, 400, 600, 800, 1000, 1200, 1400, 1600])
+    >>> values_of("rate=90..101/3")
+    ('rate', [90, 96, 101])
     >>> values_of("clients at once=10,100")
     ('clients', [10, 100])
     >>> values_of("share=0,2.5,10")
@@ -164,7 +166,8 @@ def values_of(text: str) -> Tuple[str, List[int]]:
     if not 1 <= steps < MAX_VALUES or begins >= ends:
         expected = f"expected FROM below TO and a COUNT from 2 to {MAX_VALUES}"
         raise StormError("sweep", f"{expected}, as {name}={AXES[name].example}, got {spelt!r}")
-    return name, _checked(name, [round(begins + (ends - begins) * index / steps) for index in range(steps + 1)])
+    twice = [2 * (ends - begins) * index + steps for index in range(steps + 1)]  # (to the nearest, halves up)
+    return name, _checked(name, [begins + each // (2 * steps) for each in twice])
 
 
 def _name_of(spelt: str) -> str:
