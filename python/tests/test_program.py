@@ -211,6 +211,28 @@ def test_the_nearest_word_is_named() -> None:
         assert (status, output) == (2, "") and errors.endswith(f"hikebox{command}: error: {said}\n"), (words, errors)
 
 
+def test_a_builder_without_its_call_is_told_with_its_form() -> None:
+    for word, said in (
+        ("recurs", "expected recurs(..), got 'recurs'"),
+        ("recurs(3) & spaced", "expected spaced(..), got 'spaced'"),
+        ("recurs(3) + 1", "expected a policy, got 'recurs(3) + 1'"),
+    ):
+        assert hikebox("plan", word) == (3, "", f"hikebox: not a plan: {said}\n")
+
+
+def test_a_policy_that_is_read_from_a_terminal_is_asked_for() -> None:
+    ours, theirs = os.openpty()
+    try:
+        os.write(ours, b'{"recurs":1}\n\x04')
+        command = [sys.executable, "-m", "hikebox", "plan", "--steps", "1"]
+        done = subprocess.run(command, stdin=theirs, capture_output=True, env=python_environment(), timeout=60)
+    finally:
+        os.close(ours)
+        os.close(theirs)
+    asked = b"hikebox: reading a policy as JSON from the terminal; Ctrl-D ends it\n"
+    assert (done.returncode, done.stdout, done.stderr) == (0, b"0: 0 next 0\n", asked)
+
+
 def test_options_are_not_abbreviated(tmp_path: Path) -> None:
     for words in (["run", "--poli", "recurs(1)", "--"], ["run", "--verb", "--"], ["run", "--time=3", "--"]):
         status, _, errors = hikebox(*words, "touch", str(tmp_path / "ran"))

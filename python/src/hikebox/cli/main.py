@@ -12,7 +12,7 @@ from typing import Any, Callable, Iterator, List, NoReturn, Optional, Set, Union
 from .._svg import MIN_WIDTH, MAX_WIDTH
 from .._time import MAX_NUMBER, milliseconds
 from ..errors import BudgetError, Fault, PolicyError, StoreError, StormError
-from ..policy import Policy
+from ..policy import Policy, builders
 from ..policy.picture import plan_picture
 from ..storms.axes import axes_text
 from ..version import VERSION
@@ -354,13 +354,15 @@ def _policy(word: str) -> Policy:
         return Policy.from_json(_read(0))
     if word.lstrip()[:1] in ("{", '"'):
         return Policy.from_json(word)
-    if "(" in word and not os.path.exists(word):
+    if ("(" in word or word in builders.__all__) and not os.path.exists(word):
         return Policy.parse(word)
     return Policy.from_json(_read(word))
 
 
 def _read(source: Union[int, str]) -> bytes:
     """The bytes of a file, or of standard input."""
+    if source == 0 and os.isatty(0):
+        print("hikebox: reading a policy as JSON from the terminal; Ctrl-D ends it", file=sys.stderr, flush=True)
     try:
         with open(source, "rb", closefd=source != 0) as file:
             text = file.read(MAX_BYTES + 1)

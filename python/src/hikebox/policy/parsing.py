@@ -87,7 +87,7 @@ def read(text: str) -> Union[Policy, Refused]:
         first, last = (_signs(spelt, at or 0) for at in (found.node.col_offset, found.node.end_col_offset))
         return Refused(refused, begins + first, begins + last)
     if not isinstance(built, Policy):
-        refused = PolicyError(Fault.NOT_A_PLAN, hint=f"{text.strip()!r} is no policy")
+        refused = PolicyError(Fault.NOT_A_PLAN, hint=f"expected a policy, got {text.strip()!r}")
         return Refused(refused, begins, begins + len(spelt))
     return built
 
@@ -155,4 +155,6 @@ def _unknown(kind: str, name: str, known: Iterable[str]) -> PolicyError:
 
 
 def _refuse(node: ast.expr) -> Any:
-    raise PolicyError(Fault.NOT_A_PLAN, hint=f"{ast.unparse(node)!r} is no policy")
+    text = ast.unparse(node)
+    expected = f"{text}(..)" if text in _BUILDERS else "a policy"
+    raise PolicyError(Fault.NOT_A_PLAN, hint=f"expected {expected}, got {text!r}")
