@@ -225,7 +225,7 @@ def test_a_plan_is_shown_or_its_fault_marked(lab: Lab) -> None:
         "said": "not a plan",
         "hint": "no builder is called 'spced'; did you mean 'spaced'?",
     }
-    assert told["limit_fault"] == "'x' is neither N nor RESERVE/SHARE%/PERIOD, as 10/10%/1s"
+    assert told["limit_fault"] == "expected N or RESERVE/SHARE%/PERIOD, as 10/10%/1s, got 'x'"
 
 
 def test_storms_are_shown_side_by_side(lab: Lab) -> None:
@@ -271,7 +271,7 @@ def test_a_sweep_is_of_the_sides_that_are_there(lab: Lab) -> None:
 
 def test_a_parameter_out_of_range_is_named(lab: Lab) -> None:
     told = post(lab, "storm", storm_of((FULL, ""), rate=0)).json()
-    assert told == {"fault": {"name": "rate", "said": "0 is not from 1 to 1000000"}}
+    assert told == {"fault": {"name": "rate", "said": "expected 1 to 1000000, got 0"}}
     told = post(lab, "storm", storm_of((FULL, ""), outage=[5, 3])).json()
     assert told["fault"] == {"name": "outage", "said": "it ends at 3 ms, before it begins at 5 ms"}
 
@@ -514,7 +514,7 @@ def test_a_port_that_is_taken_is_told() -> None:
     assert (process.returncode, *told) == (4, "", f"hikebox: lab: port {port}: Address already in use\n")
     process = start("--no-browser", "--port", "65536")
     assert process.communicate(timeout=_PATIENCE)[1].splitlines()[-1] == (
-        "hikebox lab: error: argument --port: '65536' is not a number from 0 to 65535"
+        "hikebox lab: error: argument --port: expected a number from 0 to 65535, got '65536'"
     )
     assert process.returncode == 2
 

@@ -328,14 +328,14 @@ def test_colours_stand_at_the_shapes() -> None:
 
 def test_a_width_out_of_range_is_refused(tmp_path: Path, capsys: pytest.CaptureFixture[str]) -> None:
     for width in (0, 279, 4001):
-        with pytest.raises(StormError, match=f"width: {width} is not from 280 to 4000"):
+        with pytest.raises(StormError, match=f"width: expected 280 to 4000, got {width}"):
             storm(recurs(0)).svg(width=width)
     with pytest.raises(SystemExit) as caught:
         main(["plan", "--width", "279", "--svg", str(tmp_path / "x.svg"), "recurs(0)"])
     assert caught.value.code == 2
-    assert capsys.readouterr().err.endswith("argument --width: '279' is not a number from 280 to 4000\n")
+    assert capsys.readouterr().err.endswith("argument --width: expected a number from 280 to 4000, got '279'\n")
     assert main(["storm", "--width", "279", "--svg", str(tmp_path / "x.svg"), "recurs(0)"]) == 2
-    assert capsys.readouterr().err == "hikebox: width: 279 is not from 280 to 4000\n"
+    assert capsys.readouterr().err == "hikebox: width: expected 280 to 4000, got 279\n"
 
 
 def test_a_notebook_shows_the_picture() -> None:

@@ -608,10 +608,10 @@ def test_what_is_below_the_grain_is_refused(build: Callable[[], Policy], hint: s
 SPOKEN: List[Tuple[Callable[[], Policy], str]] = [
     (lambda: fixed(0), "fixed: an interval is at least 0.001 s, not 0"),
     (lambda: spaced(1).renew(0), "renew: an interval is at least 0.001 s, not 0"),
-    (lambda: recurs(-1), f"recurs: -1 is not from 0 to {MAX_NUMBER}"),
-    (lambda: exponential(1, 1001), "exponential: a factor: 1001 is not from 1 to 1000"),
+    (lambda: recurs(-1), f"recurs: expected 0 to {MAX_NUMBER}, got -1"),
+    (lambda: exponential(1, 1001), "exponential: a factor: expected 1 to 1000, got 1001"),
     (lambda: spaced(1).jittered(1.2, 0.8), "jittered(1.2, 0.8): the range is empty"),
-    (lambda: spaced(1).jittered(lane=4), "jittered: a lane: 4 is not from 0 to 3"),
+    (lambda: spaced(1).jittered(lane=4), "jittered: a lane: expected 0 to 3, got 4"),
     (lambda: spaced(1).gather("sums"), "gather: expected one of sum, count, max, list, got 'sums'"),
 ]
 
@@ -646,7 +646,7 @@ def test_a_preview_takes_inputs_in_turn() -> None:
     assert [step.output for step in identity().preview(2, input=[1, 2, 3])] == [1, 2]
     assert [step.output for step in identity().preview(1, input=[])] == [0]
     for wrong in (-1, MAX_NUMBER + 1):
-        with pytest.raises(PolicyError, match=f"preview: input: {wrong} is not from 0 to {MAX_NUMBER}"):
+        with pytest.raises(PolicyError, match=f"preview: input: expected 0 to {MAX_NUMBER}, got {wrong}"):
             identity().preview(input=wrong)
     with pytest.raises(TypeError):
         spaced(1).while_input()
@@ -660,7 +660,7 @@ def test_a_preview_has_so_many_steps_at_most() -> None:
     assert forever().preview(0) == forever().preview(-1) == []
     steps = spaced(1).preview(4096)
     assert (len(steps), steps[-1].next_ms) == (4096, 4_096_000)
-    with pytest.raises(PolicyError, match="preview: steps: 4097 is not from 0 to 4096"):
+    with pytest.raises(PolicyError, match="preview: steps: expected 0 to 4096, got 4097"):
         forever().preview(4097)
     assert len(recurs(2).preview(4096)) == 3
     listed = forever().gather("list").preview(300)

@@ -162,7 +162,7 @@ BAD_TERMS: List[Any] = [
     ((0, 0, 0.099), "the window of a quota is at least 100 ms long, not 0.099"),
     ((0, 0, 0.0001), "the window of a quota: 0.0001 s is less than a millisecond"),
     ((0, 0, timedelta(0)), "the window of a quota is at least 100 ms long, not datetime.timedelta(0)"),
-    ((0, 0, -1), "the window of a quota: -1 is not from 0 to 4611686018427387903 milliseconds"),
+    ((0, 0, -1), "the window of a quota: expected 0 to 4611686018427387903 milliseconds, got -1"),
     ((0, 0, float("inf")), "the window of a quota: a duration of inf seconds"),
 ]
 

@@ -113,24 +113,24 @@ def test_a_seed_gives_the_same_storm_and_another_one_another() -> None:
 
 
 WRONG: List[Tuple[Dict[str, Any], str]] = [
-    ({"rate": 0}, "rate: 0 is not from 1 to 1000000"),
-    ({"together": 1_000_001}, "together: 1000001 is not from 1 to 1000000"),
-    ({"seconds": 3601}, "seconds: 3601 is not from 1 to 3600"),
+    ({"rate": 0}, "rate: expected 1 to 1000000, got 0"),
+    ({"together": 1_000_001}, "together: expected 1 to 1000000, got 1000001"),
+    ({"seconds": 3601}, "seconds: expected 1 to 3600, got 3601"),
     ({"rate": 20_000}, "rate: 20000 a second for 60 s are 1200000 requests, and a storm has at most 1048576"),
-    ({"capacity": 0}, "capacity: 0 is not from 1 to 1000000"),
-    ({"patience": 0}, "patience: 0 is not from 1 to 3600000 ms"),
-    ({"patience": -1}, "patience: -1 is not from 0 to 4611686018427387903 milliseconds"),
-    ({"queue": -1}, "queue: -1 is not from 0 to 1048576"),
+    ({"capacity": 0}, "capacity: expected 1 to 1000000, got 0"),
+    ({"patience": 0}, "patience: expected 1 to 3600000 ms, got 0"),
+    ({"patience": -1}, "patience: expected 0 to 4611686018427387903 milliseconds, got -1"),
+    ({"queue": -1}, "queue: expected 0 to 1048576, got -1"),
     ({"outage": (2, 1)}, "outage: it ends at 1000 ms, before it begins at 2000 ms"),
-    ({"outage": (0, 3601)}, "outage: 3601000 is not from 0 to 3600000 ms"),
+    ({"outage": (0, 3601)}, "outage: expected 0 to 3600000 ms, got 3601000"),
     ({"slow": (0, 1, 50)}, "slow: a share of the capacity is from 0.01 to 1, not 50"),
     ({"slow": (2, 1, 0.5)}, "slow: it ends at 1000 ms, before it begins at 2000 ms"),
-    ({"window": 0}, "window: 0 is not from 1 to 3600000 ms"),
+    ({"window": 0}, "window: expected 1 to 3600000 ms, got 0"),
     ({"window": 0.001}, "window: 120000 ms by windows of 1 ms are 120001 lines, and a report has at most 65537"),
-    ({"until": 7201}, "until: 7201000 is not from 0 to 7200000 ms"),
-    ({"calls": 0}, "calls: 0 is not from 1 to 4294967296"),
-    ({"seed": 2**64}, "seed: 18446744073709551616 is not from 0 to 18446744073709551615"),
-    ({"budget": 2**32 + 1}, "budget: 4294967297 is not from 0 to 4294967296"),
+    ({"until": 7201}, "until: expected 0 to 7200000 ms, got 7201000"),
+    ({"calls": 0}, "calls: expected 1 to 4294967296, got 0"),
+    ({"seed": 2**64}, "seed: expected 0 to 18446744073709551615, got 18446744073709551616"),
+    ({"budget": 2**32 + 1}, "budget: expected 0 to 4294967296, got 4294967297"),
 ]
 
 
@@ -275,31 +275,31 @@ NAMES = "rate, clients, together, seconds, capacity, queue, patience, outage, sh
 @pytest.mark.parametrize(
     "words, line",
     [
-        (["--rate", "0"], "argument --rate: '0' is not a number from 1 to 1000000"),
-        (["--together", "x"], "argument --together: 'x' is not a number from 1 to 1000000"),
-        (["--seconds", "3601"], "argument --seconds: '3601' is not a number from 1 to 3600"),
-        (["--capacity", "-1"], "argument --capacity: '-1' is not a number from 1 to 1000000"),
-        (["--patience", "0"], "argument --patience: '0' is not a number from 1 to 3600000"),
-        (["--queue", "1048577"], "argument --queue: '1048577' is not a number from 0 to 1048576"),
-        (["--window", "0"], "argument --window: '0' is not a number from 1 to 3600000"),
-        (["--until", "7200001"], "argument --until: '7200001' is not a number from 0 to 7200000"),
-        (["--calls", "0"], "argument --calls: '0' is not a number from 1 to 4294967296"),
-        (["--words", str(2**64)], f"argument --words: '{2**64}' is not a number from 0 to {2**64 - 1}"),
-        (["--outage", "5"], "argument --outage: '5' is not FROM..TO in milliseconds, as 10000..20000"),
+        (["--rate", "0"], "argument --rate: expected a number from 1 to 1000000, got '0'"),
+        (["--together", "x"], "argument --together: expected a number from 1 to 1000000, got 'x'"),
+        (["--seconds", "3601"], "argument --seconds: expected a number from 1 to 3600, got '3601'"),
+        (["--capacity", "-1"], "argument --capacity: expected a number from 1 to 1000000, got '-1'"),
+        (["--patience", "0"], "argument --patience: expected a number from 1 to 3600000, got '0'"),
+        (["--queue", "1048577"], "argument --queue: expected a number from 0 to 1048576, got '1048577'"),
+        (["--window", "0"], "argument --window: expected a number from 1 to 3600000, got '0'"),
+        (["--until", "7200001"], "argument --until: expected a number from 0 to 7200000, got '7200001'"),
+        (["--calls", "0"], "argument --calls: expected a number from 1 to 4294967296, got '0'"),
+        (["--words", str(2**64)], f"argument --words: expected a number from 0 to {2**64 - 1}, got '{2**64}'"),
+        (["--outage", "5"], "argument --outage: expected FROM..TO in milliseconds, as 10000..20000, got '5'"),
         (["--outage", "5..3"], "outage: it ends at 3 ms, before it begins at 5 ms"),
-        (["--outage", "0..3600001"], "outage: 3600001 is not from 0 to 3600000 ms"),
-        (["--slow", "1..2"], "argument --slow: '1..2' is not FROM..TO@PERCENT, as 10000..20000@50"),
-        (["--slow", "1..2@0"], "slow: 0 is not from 1 to 100 % of the capacity"),
-        (["--slow", "1..2@101"], "slow: 101 is not from 1 to 100 % of the capacity"),
+        (["--outage", "0..3600001"], "outage: expected 0 to 3600000 ms, got 3600001"),
+        (["--slow", "1..2"], "argument --slow: expected FROM..TO@PERCENT, as 10000..20000@50, got '1..2'"),
+        (["--slow", "1..2@0"], "slow: expected 1 to 100 % of the capacity, got 0"),
+        (["--slow", "1..2@101"], "slow: expected 1 to 100 % of the capacity, got 101"),
         (["--rate", "20000"], "rate: 20000 a second for 60 s are 1200000 requests, and a storm has at most 1048576"),
         (["--window", "1"], "window: 120000 ms by windows of 1 ms are 120001 lines, and a report has at most 65537"),
-        (["--budget", "4294967297"], "argument --budget: '4294967297' is not a number from 0 to 4294967296"),
+        (["--budget", "4294967297"], "argument --budget: expected a number from 0 to 4294967296, got '4294967297'"),
         (["--quota", "1/1%/0s"], "argument --quota: the window of a quota is at least 100 ms long, not 0.0"),
         (["--csv", "--budget", "1", "--quota", "1/1%/1s"], "storm: --csv and --json are of one storm, or of a sweep"),
         (["--csv", "--json"], "argument --json: not allowed with argument --csv"),
         (["--csv", "recurs(1)", "recurs(2)"], "storm: --csv and --json are of one storm, or of a sweep"),
         (["--json", "--compare", "recurs(2)"], "storm: --csv and --json are of one storm, or of a sweep"),
-        (["--width", "4001"], "argument --width: '4001' is not a number from 72 to 4000"),
+        (["--width", "4001"], "argument --width: expected a number from 72 to 4000, got '4001'"),
         (["--width", "100"], "width: it is of --bars, or of a picture"),
         (["--measure", "calls"], "measure: it is of a sweep"),
         (["--bars", "--sweep", "rate=1,2"], "storm: --bars is of storms, not of a sweep or a border"),
@@ -475,7 +475,7 @@ def test_a_bad_policy_is_told() -> None:
     assert hikebox("recurs(-1)") == (
         3,
         "",
-        "hikebox: number out of range: recurs: -1 is not from 0 to 4611686018427387903\n",
+        "hikebox: number out of range: recurs: expected 0 to 4611686018427387903, got -1\n",
     )
 
 
@@ -483,7 +483,7 @@ def test_a_quota_without_units_is_told_what_it_would_be() -> None:
     with pytest.raises(BudgetError, match="has no units"):
         tickets_of("10/100/1000")
     for text in ("ten", "9" * 9000, "9" * 9000 + "/1%/1s"):
-        with pytest.raises(BudgetError, match="is neither N nor RESERVE/SHARE%/PERIOD"):
+        with pytest.raises(BudgetError, match="expected N or RESERVE/SHARE%/PERIOD"):
             tickets_of(text)
     with pytest.raises(BudgetError, match="a budget is from 0 to 4294967296"):
         tickets_of("4294967297")

@@ -83,7 +83,7 @@ def test_what_is_no_sweep_is_refused() -> None:
     for given, said in wrong:
         with pytest.raises(TypeError, match=said):
             sweep(base, **given)
-    with pytest.raises(StormError, match="rate: 0 is not from 1 to 1000000"):
+    with pytest.raises(StormError, match="rate: expected 1 to 1000000, got 0"):
         sweep(base, rate=[0, 1])
     with pytest.raises(StormError, match="sweep: expected 1 to 64 values, got 65"):
         sweep(base, rate=range(1, 66))
@@ -298,14 +298,17 @@ BAD_SCENARIOS: List[Tuple[Any, str]] = [
     ),
     ({"storm": {"rate": float("inf")}}, "rate: expected a whole number, got Infinity"),
     ({"storm": {"rate": "5"}}, 'rate: expected a whole number, got "5"'),
-    ({"storm": {"rate": 0}}, "rate: 0 is not from 1 to 1000000"),
+    ({"storm": {"rate": 0}}, "rate: expected 1 to 1000000, got 0"),
     ({"storm": {"outage": [1]}}, "outage: expected a list of 2 numbers, got [1]"),
     ({"storm": {"outage": [2, 1]}}, "outage: it ends at 1 ms, before it begins at 2 ms"),
     ({"lines": {}}, "lines: expected a list of at most 64 lines, got {}"),
     ({"lines": [5]}, "lines[0]: expected an object, got 5"),
     ({"lines": [{"name": "x"}]}, "lines[0]: expected a policy, got none"),
     ({"lines": [{"policy": {"recurs": -1}}]}, 'not a plan: expected {"recurs":N}'),
-    ({"lines": [{"policy": "recurs(1)", "limit": "x"}]}, "'x' is not RESERVE/SHARE%/PERIOD"),
+    (
+        {"lines": [{"policy": "recurs(1)", "limit": "x"}]},
+        "expected RESERVE/SHARE%/PERIOD, as 10/20%/60s (units: ms, s, m, h, d), got 'x'",
+    ),
     ({"lines": [{"policy": "recurs(1)", "limit": -1}]}, "lines[0].limit: expected 0 to 4294967296, got -1"),
     ({"lines": [{"policy": "recurs(1)", "limit": 1.5}]}, "lines[0].limit: expected a whole number, got 1.5"),
 ]

@@ -76,7 +76,7 @@ def seconds(duration: Duration, what: str = "") -> int:
     else:
         count, is_less = -1 if duration < 0 else round(duration * 1000), 0 < duration < 0.001 - _GRAIN_OFF
     if not 0 <= count <= MAX_NUMBER:
-        raise PolicyError(Fault.OUT_OF_RANGE, hint=f"{place}{duration!r} is not from 0 to {MAX_NUMBER} milliseconds")
+        raise PolicyError(Fault.OUT_OF_RANGE, hint=f"{place}expected 0 to {MAX_NUMBER} milliseconds, got {duration!r}")
     if is_less:
         text = duration if isinstance(duration, timedelta) else f"{duration!r} s"
         raise PolicyError(Fault.OUT_OF_RANGE, hint=f"{place}{text} is less than a millisecond")

@@ -236,7 +236,7 @@ def _whole(name: str, number: Any, most: Optional[int] = None) -> int:
     if isinstance(number, bool) or not isinstance(number, int):
         raise TypeError(f"{name}: expected a whole number, got {number!r}")
     if most is not None and not 0 <= number <= most:
-        raise StormError(name, f"{number} is not from 0 to {most}")
+        raise StormError(name, f"expected 0 to {most}, got {number}")
     return number
 
 

@@ -97,7 +97,7 @@ def tickets_of(text: str) -> Union[None, int, Terms]:
             raise BudgetError(f"a budget is from 0 to {MAX_TICKETS}, not {spelt}")
         return int(spelt)
     if "/" not in spelt or len(spelt) > _MAX_TEXT:
-        raise BudgetError(f"{fitted(spelt, 300)!r} is neither N nor RESERVE/SHARE%/PERIOD, as 10/10%/1s")
+        raise BudgetError(f"expected N or RESERVE/SHARE%/PERIOD, as 10/10%/1s, got {fitted(spelt, 300)!r}")
     return terms_of(*values.terms(spelt))
 
 
@@ -109,7 +109,7 @@ def _ends(text: str) -> Optional[Tuple[int, int]]:
 def _span(text: str) -> Span:
     ends = _ends(text)
     if ends is None:
-        raise argparse.ArgumentTypeError(f"{text!r} is not FROM..TO in milliseconds, as 10000..20000")
+        raise argparse.ArgumentTypeError(f"expected FROM..TO in milliseconds, as 10000..20000, got {text!r}")
     return Span(*ends)
 
 
@@ -117,7 +117,7 @@ def _slow(text: str) -> Slow:
     span, _, percent = text.partition("@")
     ends = _ends(span)
     if ends is None or not (percent.isascii() and percent.isdigit()):
-        raise argparse.ArgumentTypeError(f"{text!r} is not FROM..TO@PERCENT, as 10000..20000@50")
+        raise argparse.ArgumentTypeError(f"expected FROM..TO@PERCENT, as 10000..20000@50, got {text!r}")
     return Slow(*ends, int(percent))
 
 

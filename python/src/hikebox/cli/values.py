@@ -18,7 +18,7 @@ def number(most: int, least: int = 0) -> Callable[[str], int]:
 
     def read(text: str) -> int:
         if not (text.isascii() and text.isdigit()) or not least <= int(text) <= most:
-            raise argparse.ArgumentTypeError(f"{text!r} is not a number from {least} to {most}")
+            raise argparse.ArgumentTypeError(f"expected a number from {least} to {most}, got {text!r}")
         return int(text)
 
     return read
@@ -38,7 +38,7 @@ def duration(text: str) -> float:
         count = -1.0
     if 0 < count < 1e9:
         return count
-    raise argparse.ArgumentTypeError(f"{text!r} is no number of seconds")
+    raise argparse.ArgumentTypeError(f"expected a number of seconds, got {text!r}")
 
 
 _SIZES = {"K": 1 << 10, "M": 1 << 20, "G": 1 << 30}
@@ -79,10 +79,10 @@ def statuses(text: str) -> FrozenSet[int]:
     for part in text.split(","):
         least, dash, most = part.strip().partition("-")
         if not least.isdigit() or (dash and not most.isdigit()):
-            raise argparse.ArgumentTypeError(f"{part!r} is no exit status")
+            raise argparse.ArgumentTypeError(f"expected an exit status, as 1 or 3-5, got {part!r}")
         first, last = int(least), int(most if dash else least)
         if not 1 <= first <= last <= 255:
-            raise argparse.ArgumentTypeError(f"{part!r} is not within 1 to 255")
+            raise argparse.ArgumentTypeError(f"expected exit statuses from 1 to 255, got {part!r}")
         found.extend(range(first, last + 1))
     return frozenset(found)
 
@@ -93,7 +93,7 @@ def budget(text: Optional[str]) -> Union[Budget, Leased, None]:
         return None
     tickets, at, path = text.partition("@")
     if not (tickets.isascii() and tickets.isdigit()):
-        raise BudgetError(f"{text!r} is not N or N@FOLDER")
+        raise BudgetError(f"expected N or N@FOLDER, got {text!r}")
     return Leased(FileStore(path), "run", int(tickets), lease=1) if at else Budget(int(tickets))
 
 
@@ -101,7 +101,7 @@ def quota(text: str) -> LeasedQuota:
     """A quota that all runs with the same folder share: `10/20%/60s@FOLDER`."""
     spelt, at, path = text.partition("@")
     if not (at and path):
-        raise BudgetError(f"{text!r} is not RESERVE/SHARE%/PERIOD@FOLDER, as 10/20%/60s@FOLDER")
+        raise BudgetError(f"expected RESERVE/SHARE%/PERIOD@FOLDER, as 10/20%/60s@FOLDER, got {text!r}")
     reserve, share, per = terms(spelt)
     return LeasedQuota(FileStore(path), "run", reserve, share, per, lease=1)
 
@@ -135,7 +135,7 @@ thousandths and milliseconds, which zsched reads, 1/50%/100ms
             f"{text!r} has no units: as retries a request and seconds it is {ours}, as thousandths and milliseconds, "
             f"which zsched reads, {theirs}"
         )
-    raise BudgetError(f"{text!r} is not RESERVE/SHARE%/PERIOD, as 10/20%/60s; units are ms, s, m, h and d")
+    raise BudgetError(f"expected RESERVE/SHARE%/PERIOD, as 10/20%/60s (units: ms, s, m, h, d), got {text!r}")
 
 
 def _exact(value: float) -> float:

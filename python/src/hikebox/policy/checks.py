@@ -17,7 +17,7 @@ def whole(number: Any, what: str, least: int = 0, most: int = MAX_NUMBER) -> int
     if isinstance(number, bool) or not isinstance(number, int):
         raise TypeError(f"{what}: expected a whole number, got {number!r}")
     if not least <= number <= most:
-        raise PolicyError(Fault.OUT_OF_RANGE, hint=f"{what}: {number} is not from {least} to {most}")
+        raise PolicyError(Fault.OUT_OF_RANGE, hint=f"{what}: expected {least} to {most}, got {number}")
     return int(number)
 
 
@@ -34,7 +34,7 @@ def thousandths(number: Any, what: str, least: float, most: float) -> int:
     if isinstance(number, bool) or not isinstance(number, (int, float)):
         raise TypeError(f"{what}: expected a number, got {number!r}")
     if not least <= number <= most:
-        raise PolicyError(Fault.OUT_OF_RANGE, hint=f"{what}: {number} is not from {least:g} to {most:g}")
+        raise PolicyError(Fault.OUT_OF_RANGE, hint=f"{what}: expected {least:g} to {most:g}, got {number}")
     return round(number * 1000)
 
 

@@ -29,7 +29,7 @@ def bars(storms: Sequence[Storm], names: Sequence[str], width: int = 80, colour:
     """The windows of storms, each with a bar of its calls, in lines of this width. All bars have one scale, which is
     written at the end."""
     if not _MIN_WIDTH <= width <= _MAX_WIDTH:
-        raise StormError("width", f"{width} is not from {_MIN_WIDTH} to {_MAX_WIDTH}")
+        raise StormError("width", f"expected {_MIN_WIDTH} to {_MAX_WIDTH}, got {width}")
     most = max(storm.totals.most_calls for storm in storms)
     cells = [_cells(row) for storm in storms for row in storm.rows]
     widths = [max(len(name), *(len(row[at]) for row in cells)) for at, name in enumerate(_NAMES)]

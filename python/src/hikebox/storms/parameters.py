@@ -103,7 +103,7 @@ class Parameters(NamedTuple):
             if span[0] > span[1]:
                 raise StormError(name, f"it ends at {span[1]} ms, before it begins at {span[0]} ms")
         if self.slow is not None and not 1 <= self.slow.percent <= 100:
-            raise StormError("slow", f"{self.slow.percent} is not from 1 to 100 % of the capacity")
+            raise StormError("slow", f"expected 1 to 100 % of the capacity, got {self.slow.percent}")
         if self.last // self.window > MAX_WINDOWS:
             asked = f"{self.last} ms by windows of {self.window} ms are {self.last // self.window + 1} lines"
             raise StormError("window", f"{asked}, and a report has at most {MAX_WINDOWS + 1}")
@@ -162,4 +162,4 @@ def limit_text(tickets: Union[None, int, Terms]) -> str:
 def _look_at(name: str, number: int, least: int, most: int) -> None:
     if not least <= number <= most:
         unit = " ms" if name in _TIMES else ""
-        raise StormError(name, f"{number} is not from {least} to {most}{unit}")
+        raise StormError(name, f"expected {least} to {most}{unit}, got {number}")

@@ -52,7 +52,7 @@ def storm_picture(
     in the place of the policy that the storms share, and `names` in the place of what differs.
     """
     if not MIN_WIDTH <= width <= MAX_WIDTH:
-        raise StormError("width", f"{width} is not from {MIN_WIDTH} to {MAX_WIDTH}")
+        raise StormError("width", f"expected {MIN_WIDTH} to {MAX_WIDTH}, got {width}")
     columns = min(len(storms), max(1, (width - 2 * _MARGIN + _GAP) // (_MIN_PANEL + _GAP)))
     wide = (width - 2 * _MARGIN + _GAP) / columns - _GAP
     heads = heads_of(storms, title, names, width - 2 * _MARGIN, wide)

@@ -57,7 +57,7 @@ def sweep_picture(
 ) -> str:
     """The measures of a sweep side by side where they have room, as SVG so many units wide."""
     if not MIN_WIDTH <= width <= MAX_WIDTH:
-        raise StormError("width", f"{width} is not from {MIN_WIDTH} to {MAX_WIDTH}")
+        raise StormError("width", f"expected {MIN_WIDTH} to {MAX_WIDTH}, got {width}")
     if len(swept.lines) > LINES:
         raise StormError("sweep", f"a picture has at most {LINES} lines, not {len(swept.lines)}")
     columns = min(len(measures), max(1, (width - 2 * _MARGIN + _GAP) // (_MIN_PANEL + _GAP)))
