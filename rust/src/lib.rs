@@ -28,7 +28,8 @@
 //!   of your own implements [`Tickets`].
 //! - With the feature `serde`, a policy and a quota are read as parts of a configuration.
 //! - [`Machine`] is a retry that a host with a clock of its own steps.
-//! - [`Storm`] shows what a policy does to a peer that fails for a while, when thousands of calls fail together.
+//! - [`Storm`] shows what a policy does to a peer that fails for a while, when thousands of calls fail together; a
+//!   [`Sweep`] plays storms along a parameter.
 //!
 //! What the engine does is proved; this crate, which calls it, is tested. `docs/RUST.md` of the repository is the
 //! guide.

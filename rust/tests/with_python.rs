@@ -3,35 +3,18 @@
 
 mod common;
 
-use common::{number, Scratch};
+use common::{number, printed, python, Scratch};
 use hikebox::{Leased, LeasedQuota};
+use std::fs;
 use std::path::{Path, PathBuf};
-use std::process::Command;
 use std::time::Duration;
-use std::{env, fs};
 
-/// The Python package beside this crate, and the engine's library; `None` in a copy of the crate alone.
-fn package() -> Option<(PathBuf, PathBuf)> {
-    let crate_folder = Path::new(env!("CARGO_MANIFEST_DIR"));
-    let top = crate_folder.ancestors().find(|folder| folder.join("python/src/hikebox").is_dir())?;
-    let library = env::var_os("HIKEBOX_LIB_DIR").map_or_else(|| top.join("dist"), PathBuf::from).join("libhikebox.so");
-    Some((top.join("python/src"), library))
-}
-
-/// What this program of Python prints, which has a store of this folder.
-fn python((package, library): &(PathBuf, PathBuf), folder: &Path, program: &str) -> Vec<String> {
+/// What this program of Python prints, which has a store of this folder; `None` where there is no Python package.
+fn said_by_python(folder: &Path, program: &str) -> Option<Vec<String>> {
     let begins =
         "import sys\nfrom hikebox.leased import FileStore, Leased, LeasedQuota\nstore = FileStore(sys.argv[1])\n\
                   def number(ticket):\n    return getattr(ticket, 'number', ticket)\n";
-    let output = Command::new("python3")
-        .args(["-c", &format!("{begins}{program}")])
-        .arg(folder)
-        .env("PYTHONPATH", package)
-        .env("HIKEBOX_LIBRARY", library)
-        .output()
-        .unwrap();
-    assert!(output.status.success(), "{}", String::from_utf8_lossy(&output.stderr));
-    String::from_utf8(output.stdout).unwrap().lines().map(str::to_owned).collect()
+    python(&format!("{begins}{program}")).map(|mut command| printed(command.arg(folder)))
 }
 
 /// The files of a folder: their paths in it, and what they have.
@@ -65,13 +48,12 @@ fn draws(folder: &Path) -> Vec<String> {
 
 #[test]
 fn both_write_the_same_bytes() {
-    let package = match package() {
-        Some(package) => package,
-        None => return eprintln!("skipped: no Python package beside the crate"),
-    };
     let (own, pythons) = (Scratch::new("own"), Scratch::new("pythons"));
+    match said_by_python(&pythons.0, DRAWS_OF_PYTHON) {
+        Some(said) => assert_eq!(said, ["0 0 0"]),
+        None => return eprintln!("skipped: no Python package beside the crate"),
+    }
     assert_eq!(draws(&own.0), ["0 0 0"]);
-    assert_eq!(python(&package, &pythons.0, DRAWS_OF_PYTHON), ["0 0 0"]);
     let (own, pythons) = (files(&own.0), files(&pythons.0));
     assert_eq!(own.len(), 3);
     assert_eq!(own, pythons);
@@ -79,15 +61,17 @@ fn both_write_the_same_bytes() {
 
 #[test]
 fn both_draw_in_turns_of_one_folder() {
-    let package = match package() {
-        Some(package) => package,
-        None => return eprintln!("skipped: no Python package beside the crate"),
-    };
+    if python("").is_none() {
+        return eprintln!("skipped: no Python package beside the crate");
+    }
     for begins in [true, false] {
         let folder = Scratch::new("both");
         for turn in 0..4 {
-            let drawn =
-                if (turn % 2 == 0) == begins { draws(&folder.0) } else { python(&package, &folder.0, DRAWS_OF_PYTHON) };
+            let drawn = if (turn % 2 == 0) == begins {
+                draws(&folder.0)
+            } else {
+                said_by_python(&folder.0, DRAWS_OF_PYTHON).unwrap()
+            };
             assert_eq!(drawn, [format!("{turn} {turn} {turn}")]);
         }
         // of the 24 requests that all told, and the reserve of 4

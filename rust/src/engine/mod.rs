@@ -18,11 +18,11 @@ pub(crate) use pass::PassKind;
 pub(crate) use policy::{fault, PolicyKind, Size};
 pub(crate) use retry::RetryKind;
 #[cfg(feature = "leased")]
-pub(crate) use sys::{Asking, Grant, Range, Stored, Ticket, MAX_TICKETS};
+pub(crate) use sys::{Asking, Grant, Range, Stored, Ticket};
 pub(crate) use sys::{Course, Event, Line, Next, Place, Storm, Totals, Used, Window};
 pub(crate) use sys::{ENDED_CANCELLED, ENDED_DEADLINE, ENDED_DONE, ENDED_NO_MEMORY, ENDED_REFUSED, ENDED_WON};
 pub(crate) use sys::{
-    LOST, MAX_NUMBER, MAX_STEPS, NO_DEADLINE, NO_REPORT, ON_BUDGET, ON_NOTHING, ON_QUOTA, OVER, WAIT, WON,
+    LOST, MAX_NUMBER, MAX_STEPS, MAX_TICKETS, NO_DEADLINE, NO_REPORT, ON_BUDGET, ON_NOTHING, ON_QUOTA, OVER, WAIT, WON,
 };
 
 // SAFETY of the calls in this folder: a pointer is to a handle of the kind that the call wants, or to an empty one that it

@@ -116,7 +116,7 @@ pub(crate) struct Grant {
 }
 
 #[repr(C)]
-#[derive(Clone, Copy, Debug)]
+#[derive(Clone, Copy, Debug, PartialEq, Eq, Hash)]
 pub(crate) struct Storm {
     pub(crate) rate: u64,
     pub(crate) together: u64,
@@ -230,7 +230,6 @@ pub(super) const NO_BOUND: u64 = u64::MAX;
 /// The most events of a course.
 pub(crate) const MAX_STEPS: u64 = 4096;
 /// The most tickets of a budget, and of a window of a quota.
-#[cfg(feature = "leased")]
 pub(crate) const MAX_TICKETS: u64 = 1 << 32;
 
 // (bin/bindings writes these from the header)

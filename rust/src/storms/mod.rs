@@ -1,5 +1,13 @@
-//! Storms.
+//! Storms: what a policy does to a peer that fails for a while, alone or along a parameter.
 
-pub(crate) mod storm;
+mod axis;
+mod border;
+mod report;
+mod storm;
+mod sweep;
 
-pub use storm::{Storm, StormError, StormReport, StormTotals, StormWindow};
+pub use axis::{Axis, Measure};
+pub use border::{Found, Goal};
+pub use report::{StormReport, StormTotals, StormWindow};
+pub use storm::{Storm, StormError};
+pub use sweep::{Sweep, SweepReport};

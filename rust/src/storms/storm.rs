@@ -5,8 +5,9 @@ use crate::engine::{self, Handle, PassKind, Status, ON_BUDGET, ON_NOTHING, ON_QU
 use crate::limits::budget::BudgetError;
 use crate::limits::quota::Terms;
 use crate::policy::Policy;
+use crate::storms::report::{StormReport, StormTotals, StormWindow};
 use std::error::Error;
-use std::fmt::{self, Write as _};
+use std::fmt;
 use std::ops::Range;
 use std::time::Duration;
 
@@ -38,82 +39,13 @@ const MAX_WINDOWS: u64 = 65_536;
 #[derive(Clone, Debug)]
 #[must_use]
 pub struct Storm {
-    policy: Policy,
-    storm: engine::Storm,
+    pub(super) policy: Policy,
+    pub(super) storm: engine::Storm,
     until: Option<u64>,
+    /// Whether there is a brown-out.
+    is_slow: bool,
     /// Why what the retries draw on is no budget, or no quota.
     fault: Option<BudgetError>,
-}
-
-/// What a storm was, window by window and in all.
-#[derive(Clone, Debug, PartialEq, Eq)]
-#[non_exhaustive]
-pub struct StormReport {
-    /// Each window, from the first moment to that of the last event.
-    pub windows: Vec<StormWindow>,
-    /// What it came to.
-    pub totals: StormTotals,
-}
-
-/// A window of a storm. Calls count in the window in which they begin, or end.
-#[derive(Clone, Copy, Debug, PartialEq, Eq, Hash)]
-#[non_exhaustive]
-pub struct StormWindow {
-    /// Its first moment, since the first request.
-    pub from: Duration,
-    /// The requests that began in it.
-    pub requests: u64,
-    /// How many of these were won in the end.
-    pub won: u64,
-    /// The retries that began in it.
-    pub retries: u64,
-    /// The calls that succeeded in it.
-    pub succeeded: u64,
-    /// Those that the peer refused, in its outage.
-    pub refused: u64,
-    /// Those that the peer shed, since its queue was full.
-    pub shed: u64,
-    /// Those that their clients gave up.
-    pub late: u64,
-    /// The calls of work that stand at the peer at its end.
-    pub waiting: u64,
-}
-
-/// What a storm comes to: `requests` is the sum of `won`, `lost`, `denied` and `open`.
-#[derive(Clone, Copy, Debug, PartialEq, Eq, Hash)]
-#[non_exhaustive]
-pub struct StormTotals {
-    /// The requests that began.
-    pub requests: u64,
-    /// Those whose last call succeeded.
-    pub won: u64,
-    /// Those whose last call failed, and whose policy was done.
-    pub lost: u64,
-    /// Those whose policy went on, and for which there was no ticket.
-    pub denied: u64,
-    /// Those that had not ended when the storm did.
-    pub open: u64,
-    /// The requests and retries that began.
-    pub calls: u64,
-    /// Calls for each request, in hundredths, to the nearest.
-    pub hundredths: u64,
-    /// The most calls that began in a window.
-    pub most_calls: u64,
-    /// The first moment of the first such window.
-    pub most_from: Duration,
-    /// The tickets that were given.
-    pub tickets: u64,
-    /// How long half of the requests that were won took at most; `None` where none was won.
-    pub p50: Option<Duration>,
-    /// How long 99 in 100 of them took at most.
-    pub p99: Option<Duration>,
-    /// How long the slowest of them took.
-    pub slowest: Option<Duration>,
-    /// The first moment of the first window after outage and brown-out from which on 99 in 100 of the requests of each
-    /// window were won, where there is one.
-    pub recovered: Option<Duration>,
-    /// Whether the storm was cut: one call more was to begin than [`Storm::calls`] allows.
-    pub cut: bool,
 }
 
 /// Why a storm is not played.
@@ -125,9 +57,11 @@ pub enum StormError {
         /// The builder that was called with it.
         parameter: &'static str,
         /// The least that it may be.
-        least: u64,
+        min: u64,
         /// The most that it may be.
-        most: u64,
+        max: u64,
+        /// What it is.
+        got: u64,
     },
     /// The rate times the seconds is above 1,048,576.
     TooManyRequests,
@@ -140,6 +74,17 @@ pub enum StormError {
     TooManyWindows,
     /// The limit of the budget, or a term of the quota, is out of range.
     Tickets(BudgetError),
+    /// A sweep has no line.
+    NoLine,
+    /// A sweep is along a limit that none of its storms has.
+    NoLimit {
+        /// The parameter of the sweep.
+        parameter: &'static str,
+    },
+    /// A border is looked for in a storm with no outage and no brown-out.
+    NothingToRecoverFrom,
+    /// The policy with a bound on its retries has more than 256 nodes, or is deeper than 32.
+    PolicyTooLarge,
     /// Memory is wanting.
     NoMemory,
 }
@@ -170,7 +115,7 @@ impl Storm {
             share: 0,
             period: 1,
         };
-        Self { policy: policy.clone(), storm, until: None, fault: None }
+        Self { policy: policy.clone(), storm, until: None, is_slow: false, fault: None }
     }
 
     /// A herd: 10,000 clients lose one connection at one moment, and the peer takes 500 at a time.
@@ -234,8 +179,7 @@ impl Storm {
     /// A brown-out: in this range, within the first hour, the peer works at `percent` of its capacity, 1 to 100.
     pub fn slow(mut self, when: Range<Duration>, percent: u64) -> Self {
         (self.storm.slow_from, self.storm.slow_to) = (whole_millis(when.start), whole_millis(when.end));
-        // (0 stands for no brown-out, and is refused as what is above 100)
-        self.storm.slow_percent = if percent == 0 { u64::MAX } else { percent };
+        (self.is_slow, self.storm.slow_percent) = (true, percent);
         self
     }
 
@@ -298,8 +242,18 @@ impl Storm {
         Ok(StormReport { windows, totals: StormTotals::of(&totals) })
     }
 
+    /// From when on the peer is well again, in milliseconds; `None` where there is no outage and no brown-out.
+    pub(super) fn well_from(&self) -> Option<u64> {
+        let engine::Storm { outage_from, outage_to, slow_from, slow_to, .. } = self.storm;
+        if outage_from < outage_to || slow_from < slow_to {
+            Some(outage_to.max(slow_to))
+        } else {
+            None
+        }
+    }
+
     /// The parameters, where all are within their ranges.
-    fn checked(&self) -> Result<engine::Storm, StormError> {
+    pub(super) fn checked(&self) -> Result<engine::Storm, StormError> {
         let until = self.until.unwrap_or_else(|| self.storm.seconds.saturating_mul(1000).saturating_add(60_000));
         let storm = engine::Storm { until, ..self.storm };
         within("rate", storm.rate, 1, 1_000_000)?;
@@ -316,8 +270,8 @@ impl Storm {
         }
         span("outage", storm.outage_from, storm.outage_to)?;
         span("slow", storm.slow_from, storm.slow_to)?;
-        if storm.slow_percent > 100 {
-            return Err(StormError::OutOfRange { parameter: "slow", least: 1, most: 100 });
+        if self.is_slow {
+            within("slow", storm.slow_percent, 1, 100)?;
         }
         if storm.until / storm.window > MAX_WINDOWS {
             return Err(StormError::TooManyWindows);
@@ -329,11 +283,11 @@ impl Storm {
     }
 }
 
-fn within(parameter: &'static str, number: u64, least: u64, most: u64) -> Result<(), StormError> {
-    if (least..=most).contains(&number) {
+pub(super) fn within(parameter: &'static str, got: u64, min: u64, max: u64) -> Result<(), StormError> {
+    if (min..=max).contains(&got) {
         Ok(())
     } else {
-        Err(StormError::OutOfRange { parameter, least, most })
+        Err(StormError::OutOfRange { parameter, min, max, got })
     }
 }
 
@@ -347,121 +301,8 @@ fn span(parameter: &'static str, from: u64, to: u64) -> Result<(), StormError> {
     }
 }
 
-impl StormWindow {
-    fn of(found: engine::Window) -> Self {
-        let engine::Window { from, requests, won, retries, succeeded, refused, shed, late, waiting } = found;
-        let from = Duration::from_millis(from);
-        Self { from, requests, won, retries, succeeded, refused, shed, late, waiting }
-    }
-
-    /// The numbers of a line of `zsched storm --csv`.
-    fn numbers(&self) -> [u64; 9] {
-        let Self { requests, won, retries, succeeded, refused, shed, late, waiting, .. } = *self;
-        [whole_millis(self.from), requests, won, retries, succeeded, refused, shed, late, waiting]
-    }
-}
-
-impl StormTotals {
-    fn of(found: &engine::Totals) -> Self {
-        let took = |millis| (found.won > 0).then_some(Duration::from_millis(millis));
-        Self {
-            requests: found.requests,
-            won: found.won,
-            lost: found.lost,
-            denied: found.denied,
-            open: found.open,
-            calls: found.calls,
-            hundredths: found.hundredths,
-            most_calls: found.most_calls,
-            most_from: Duration::from_millis(found.most_from),
-            tickets: found.tickets,
-            p50: took(found.p50),
-            p99: took(found.p99),
-            slowest: took(found.slowest),
-            recovered: found.recovers.then_some(Duration::from_millis(found.recovered)),
-            cut: found.cut,
-        }
-    }
-
-    /// Calls for each request, to the nearest hundredth.
-    #[must_use]
-    pub fn calls_per_request(&self) -> f64 {
-        self.hundredths as f64 / 100.0
-    }
-}
-
-impl StormReport {
-    /// The windows as CSV with a line of names, as `zsched storm --csv` prints them.
-    #[must_use]
-    pub fn to_csv(&self) -> String {
-        let mut text = "from,requests,won,retries,succeeded,refused,shed,late,waiting\n".to_owned();
-        for window in &self.windows {
-            text += &listed(&window.numbers());
-            text.push('\n');
-        }
-        text
-    }
-
-    /// The windows and the totals as JSON on one line, as `zsched storm --json` prints it.
-    #[must_use]
-    pub fn to_json(&self) -> String {
-        let totals = &self.totals;
-        let window = |window: &StormWindow| format!("[{}]", listed(&window.numbers()));
-        let windows: Vec<String> = self.windows.iter().map(window).collect();
-        let number = |time: Option<Duration>| match time {
-            Some(time) => whole_millis(time).to_string(),
-            None => "null".to_owned(),
-        };
-        let mut text = format!("{{\"windows\":[{}],\"totals\":{{", windows.join(","));
-        for (name, value) in [
-            ("requests", totals.requests),
-            ("won", totals.won),
-            ("lost", totals.lost),
-            ("denied", totals.denied),
-            ("open", totals.open),
-            ("calls", totals.calls),
-            ("hundredths", totals.hundredths),
-            ("most_calls", totals.most_calls),
-            ("most_from", whole_millis(totals.most_from)),
-            ("tickets", totals.tickets),
-        ] {
-            let _ = write!(text, "\"{name}\":{value},");
-        }
-        let (p50, p99, slowest) = (number(totals.p50), number(totals.p99), number(totals.slowest));
-        let recovered = number(totals.recovered);
-        let _ = write!(text, "\"p50\":{p50},\"p99\":{p99},\"slowest\":{slowest},\"recovered\":{recovered},");
-        let _ = write!(text, "\"cut\":{}}}}}", totals.cut);
-        text
-    }
-}
-
-fn listed(numbers: &[u64]) -> String {
-    let texts: Vec<String> = numbers.iter().map(ToString::to_string).collect();
-    texts.join(",")
-}
-
-/// What it comes to, in words.
-impl fmt::Display for StormReport {
-    fn fmt(&self, f: &mut fmt::Formatter<'_>) -> fmt::Result {
-        let StormTotals { requests, won, lost, denied, open, calls, .. } = self.totals;
-        writeln!(f, "{requests} requests: {won} won, {lost} lost, {denied} denied a retry, {open} left open")?;
-        let most = self.totals.most_from;
-        write!(f, "{calls} calls, {:.2} for each request; ", self.totals.calls_per_request())?;
-        writeln!(f, "the most in a window {}, from {most:?} on", self.totals.most_calls)?;
-        match self.totals.recovered {
-            Some(moment) => write!(f, "recovered from {moment:?} on")?,
-            None => f.write_str("never recovered")?,
-        }
-        if self.totals.cut {
-            f.write_str("\ncut before one call more")
-        } else {
-            Ok(())
-        }
-    }
-}
-
 impl StormError {
-    fn of(status: Status) -> Self {
+    pub(super) fn of(status: Status) -> Self {
         match status {
             Status::NoMemory => Self::NoMemory,
             status => unreachable!("the engine's status {status:?}"),
@@ -472,11 +313,23 @@ impl StormError {
 impl fmt::Display for StormError {
     fn fmt(&self, f: &mut fmt::Formatter<'_>) -> fmt::Result {
         match self {
-            Self::OutOfRange { parameter, least, most } => write!(f, "{parameter} is from {least} to {most}"),
-            Self::TooManyRequests => f.write_str("rate times seconds is at most 1048576"),
-            Self::EndsEarly { parameter } => write!(f, "{parameter} ends before it begins"),
-            Self::TooManyWindows => f.write_str("until divided by window is at most 65536"),
+            Self::OutOfRange { parameter, min, max, got } => {
+                write!(f, "{parameter}: expected {min} to {max}, got {got}")
+            }
+            Self::TooManyRequests => f.write_str("expected at most 1048576 requests, got more: rate times seconds"),
+            Self::EndsEarly { parameter } => {
+                write!(f, "{parameter}: expected an end after the beginning, got one before")
+            }
+            Self::TooManyWindows => f.write_str("expected at most 65537 windows, got more: until divided by window"),
             Self::Tickets(error) => error.fmt(f),
+            Self::NoLine => f.write_str("expected a line of the sweep, got none"),
+            Self::NoLimit { parameter } => {
+                write!(f, "{parameter}: expected a storm with a limit that has it, got none")
+            }
+            Self::NothingToRecoverFrom => f.write_str("expected a storm with an outage or a brown-out, got neither"),
+            Self::PolicyTooLarge => {
+                f.write_str("expected a policy of at most 254 nodes and depth at most 31, got more")
+            }
             Self::NoMemory => f.write_str("no memory"),
         }
     }

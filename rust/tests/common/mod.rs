@@ -2,7 +2,8 @@
 #![allow(dead_code, unused_macros)]
 
 use hikebox::{NoTicket, Ticket};
-use std::path::PathBuf;
+use std::path::{Path, PathBuf};
+use std::process::Command;
 use std::{env, fs};
 
 /// A folder of a test's own, which is taken away in the end.
@@ -20,6 +21,23 @@ impl Drop for Scratch {
     fn drop(&mut self) {
         let _ = fs::remove_dir_all(&self.0);
     }
+}
+
+/// A program of Python on the package beside this crate and the engine's library; `None` in a copy of the crate alone.
+pub fn python(program: &str) -> Option<Command> {
+    let crate_folder = Path::new(env!("CARGO_MANIFEST_DIR"));
+    let top = crate_folder.ancestors().find(|folder| folder.join("python/src/hikebox").is_dir())?;
+    let library = env::var_os("HIKEBOX_LIB_DIR").map_or_else(|| top.join("dist"), PathBuf::from).join("libhikebox.so");
+    let mut command = Command::new("python3");
+    command.args(["-c", program]).env("PYTHONPATH", top.join("python/src")).env("HIKEBOX_LIBRARY", library);
+    Some(command)
+}
+
+/// What a program prints, line by line.
+pub fn printed(command: &mut Command) -> Vec<String> {
+    let output = command.output().unwrap();
+    assert!(output.status.success(), "{}", String::from_utf8_lossy(&output.stderr));
+    String::from_utf8(output.stdout).unwrap().lines().map(str::to_owned).collect()
 }
 
 /// The number of a ticket that was drawn, or `None` where all are used up.
