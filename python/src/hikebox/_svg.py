@@ -180,17 +180,23 @@ def fitted(words: str, width: float) -> str:
 
 
 def wrapped(words: str, width: float) -> List[str]:
-    """The text in lines, none wider than this where its words allow that.
+    """The text in lines, none wider than this where its words allow that. A word that is wider is broken at its
+    methods.
 
     >>> wrapped("one two three", 60)
     ['one two', 'three']
+    >>> wrapped("& spaced(1).cap(2).ends_by(3)", 100)
+    ['& spaced(1)', '.cap(2)', '.ends_by(3)']
     """
     lines: List[str] = []
     for word in words.split(" "):
-        if lines and width_of(f"{lines[-1]} {word}") <= width:
-            lines[-1] += f" {word}"
-        else:
-            lines.append(word)
+        parts = [word] if width_of(word) <= width else re.split(r"(?<=\))(?=\.)", word)
+        for index, part in enumerate(parts):
+            space = "" if index else " "
+            if lines and width_of(f"{lines[-1]}{space}{part}") <= width:
+                lines[-1] += f"{space}{part}"
+            else:
+                lines.append(part)
     return lines
 
 
