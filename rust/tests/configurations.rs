@@ -1,7 +1,10 @@
 //! Policies and quotas in the files that serde reads.
 #![cfg(feature = "serde")]
 
-use hikebox::{retry, Policy, Quota};
+mod common;
+
+use common::retried_once;
+use hikebox::{Policy, Quota};
 use serde_json::{from_str, json, to_string};
 use std::time::Duration;
 
@@ -30,15 +33,7 @@ fn a_quota_is_read_of_a_configuration() {
     quota.deposit_of(4);
     assert_eq!((quota.seen().left, quota.seen().next), (5, Duration::from_secs(3600)));
     let policy: Policy = r#"{"recurs":3}"#.parse().unwrap();
-    let mut runs = 0;
-    let answer = retry(&policy, &quota, || {
-        runs += 1;
-        if runs == 2 {
-            Ok(runs)
-        } else {
-            Err("busy")
-        }
-    });
+    let answer = retried_once(&policy, &quota);
     // the call counted where it succeeded, and its ticket came back
     assert_eq!((answer, quota.seen().asked, quota.granted()), (Ok(2), 5, 0));
     let carrying: Quota = serde_json::from_str(r#"{"reserve":0,"share":1,"per":0.1,"carries":true}"#).unwrap();

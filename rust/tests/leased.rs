@@ -4,7 +4,7 @@
 #[macro_use]
 mod common;
 
-use common::{number, Scratch};
+use common::{keeper_of, number, retried_once, Scratch};
 use hikebox::{
     retry, BudgetError, Leased, LeasedQuota, Machine, NoTicket, Policy, Report, RetryError, Step, StoreError, Ticket,
     Usage,
@@ -368,16 +368,7 @@ fn a_leased_ticket_that_comes_back_is_drawn_by_this_process_again() {
     let (folder, policy) = (Scratch::new("back"), r#"{"spaced":1}"#.parse::<Policy>().unwrap());
     let quota = long_quota(&folder.0, 3, 0.0).lease(2).returning_tickets();
     for _ in 0..20 {
-        let mut runs = 0;
-        let answer = retry(&policy, &quota, || {
-            runs += 1;
-            if runs == 2 {
-                Ok(runs)
-            } else {
-                Err("busy")
-            }
-        });
-        assert_eq!(answer, Ok(2));
+        assert_eq!(retried_once(&policy, &quota), Ok(2));
     }
     // all of them by the first ticket of one lease
     assert_eq!(asked_and_given(&quota), (20, 2));
@@ -484,14 +475,7 @@ fn nobody_with_a_ticket_at_hand_waits_for_one_who_asks_the_store() {
     let ticket = quota.draw().unwrap();
     let slot = fs::read_dir(&folder.0).unwrap().next().unwrap().unwrap().path();
     let slot = fs::read_dir(slot).unwrap().next().unwrap().unwrap().path();
-    let mut keeper = Command::new("flock")
-        .args([slot.as_os_str(), "-c".as_ref(), "echo locked; read line".as_ref()])
-        .stdin(Stdio::piped())
-        .stdout(Stdio::piped())
-        .spawn()
-        .unwrap();
-    let mut line = String::new();
-    BufReader::new(keeper.stdout.take().unwrap()).read_line(&mut line).unwrap();
+    let mut keeper = keeper_of(&slot);
     thread::scope(|scope| {
         let asks = scope.spawn(|| quota.draw());
         thread::sleep(Duration::from_millis(200));

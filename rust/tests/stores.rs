@@ -5,7 +5,7 @@
 #[macro_use]
 mod common;
 
-use common::{number, Scratch};
+use common::{keeper_of, number, Scratch};
 use hikebox::{BudgetError, Leased, LeasedQuota, NoTicket, StoreError, Ticket, Usage};
 use std::env;
 use std::fs;
@@ -254,20 +254,6 @@ fn a_folder_that_was_removed_is_made_again() {
     assert_eq!(number(budget.draw()), Some(1));
     assert_eq!([number(budget.draw()), number(budget.draw())], [Some(0), Some(1)]);
     assert_eq!(number(budget.draw()), Some(2));
-}
-
-/// A process that keeps the lock of this file until its standard input ends.
-fn keeper_of(path: &Path) -> Child {
-    let mut keeper = Command::new("flock")
-        .args([path.as_os_str(), "-c".as_ref(), "echo locked; read line".as_ref()])
-        .stdin(Stdio::piped())
-        .stdout(Stdio::piped())
-        .spawn()
-        .unwrap();
-    let mut line = String::new();
-    BufReader::new(keeper.stdout.take().unwrap()).read_line(&mut line).unwrap();
-    assert_eq!(line, "locked\n");
-    keeper
 }
 
 #[test]

@@ -13,8 +13,9 @@ use crate::leased::share::{Answer, Share, Tell, AGAIN_AFTER};
 use crate::leased::uptime::Window;
 use crate::limits::budget::BudgetError;
 use crate::limits::grants::{Grants, Limit, Source, Tickets};
-use crate::limits::quota::{thousandths, AtomicTerms, Terms, Usage, Uses};
+use crate::limits::quota::{thousandths, AtomicTerms, Terms, Usage};
 use crate::limits::ticket::{NoTicket, Ticket};
+use crate::limits::uses::{options_of_uses, Uses};
 use std::path::Path;
 use std::sync::Arc;
 use std::time::{Duration, Instant};
@@ -215,23 +216,17 @@ impl LeasedQuota {
         self
     }
 
-    /// The quota, on which a call counts as a request where it succeeds: [`Quota::counting_successes`].
-    ///
-    /// [`Quota::counting_successes`]: crate::Quota::counting_successes
-    #[must_use]
-    pub fn counting_successes(mut self) -> Self {
-        self.uses.counts_successes = true;
-        self
-    }
+    options_of_uses! {
+        /// The quota, on which a call counts as a request where it succeeds: [`Quota::counting_successes`].
+        ///
+        /// [`Quota::counting_successes`]: crate::Quota::counting_successes
+        counting_successes,
 
-    /// The quota, to which a call that succeeds after retries hands the ticket of the last one back:
-    /// [`Quota::returning_tickets`]. What comes back this process alone draws again, while the window lasts.
-    ///
-    /// [`Quota::returning_tickets`]: crate::Quota::returning_tickets
-    #[must_use]
-    pub fn returning_tickets(mut self) -> Self {
-        self.uses.returns_tickets = true;
-        self
+        /// The quota, to which a call that succeeds after retries hands the ticket of the last one back:
+        /// [`Quota::returning_tickets`]. What comes back this process alone draws again, while the window lasts.
+        ///
+        /// [`Quota::returning_tickets`]: crate::Quota::returning_tickets
+        returning_tickets
     }
 
     /// Sets the reserve and the share that this process names to the store, from its next lease on.

@@ -1,8 +1,9 @@
 //! Budgets of retries.
 
 use crate::engine::{Handle, PassKind, Status};
-use crate::limits::ticket::{Drawer, NoTicket, Ticket};
-use crate::system::{generation, PerProcess};
+use crate::limits::part::{Part, Root};
+use crate::limits::ticket::{NoTicket, Ticket};
+use crate::system::PerProcess;
 use std::error::Error;
 use std::fmt;
 use std::sync::atomic::{AtomicU64, Ordering};
@@ -41,12 +42,7 @@ struct Shared {
 /// The right to draw tickets of a [`Budget`], for one thread at a time. Dropped, it is given back with its tickets.
 #[derive(Debug)]
 pub struct Pass {
-    /// None only while it is dropped.
-    handle: Option<Handle<PassKind>>,
-    budget: Budget,
-    tickets: u64,
-    /// The process that it is of.
-    generation: u64,
+    part: Part<Budget>,
 }
 
 /// Why a call on a budget or a quota is refused.
@@ -125,8 +121,7 @@ impl Budget {
     ///
     /// [`BudgetError::TooManyPasses`], or [`BudgetError::NoMemory`].
     pub fn pass(&self) -> Result<Pass, BudgetError> {
-        let part = self.lock().split().map_err(BudgetError::of)?;
-        Ok(Pass { handle: Some(part), budget: self.clone(), tickets: 0, generation: generation() })
+        Ok(Pass { part: Part::new(self.clone())? })
     }
 
     /// How many tickets were granted to retries that have ended and to passes that were given back.
@@ -152,11 +147,6 @@ impl Budget {
             .map_err(|_| Self { shared: Arc::new(Shared { limit, rises, root: PerProcess::new(Mutex::new(root)) }) })
     }
 
-    /// Lends the first pass to one call.
-    pub(crate) fn with<T>(&self, call: impl FnOnce(&mut Handle<PassKind>) -> T) -> T {
-        call(&mut self.lock())
-    }
-
     fn lock(&self) -> MutexGuard<'_, Handle<PassKind>> {
         let Shared { limit, rises, root } = &*self.shared;
         let anew = || Mutex::new(root_of(limit.load(Ordering::Relaxed), *rises).expect("memory for a budget"));
@@ -166,6 +156,12 @@ impl Budget {
     fn made(limit: u64, rises: bool) -> Result<Self, BudgetError> {
         let root = PerProcess::new(Mutex::new(root_of(limit, rises).map_err(BudgetError::of)?));
         Ok(Self { shared: Arc::new(Shared { limit: AtomicU64::new(limit), rises, root }) })
+    }
+}
+
+impl Root for Budget {
+    fn with<T>(&self, call: impl FnOnce(&mut Handle<PassKind>) -> T) -> T {
+        call(&mut self.lock())
     }
 }
 
@@ -191,10 +187,10 @@ impl Pass {
     ///
     /// [`NoTicket::UsedUp`]: of a budget that keeps its limit for good, of one that may rise until it is raised.
     pub fn draw(&mut self) -> Result<Ticket, NoTicket> {
-        match self.handle().draw(0) {
+        match self.part.handle().draw(0) {
             Ok(number) => {
-                self.tickets += 1;
-                Ok(Ticket::drawn(Drawer::BUDGET, 0, number))
+                self.part.tickets += 1;
+                Ok(Ticket::drawn(self.part.drawer, 0, number))
             }
             Err(status) => {
                 debug_assert_eq!(status, Status::NoTicket);
@@ -206,26 +202,7 @@ impl Pass {
     /// How many tickets it drew.
     #[must_use]
     pub fn count(&self) -> u64 {
-        self.tickets
-    }
-
-    /// The pass of this process: in a forked child a new one, with nothing drawn.
-    fn handle(&mut self) -> &mut Handle<PassKind> {
-        if self.generation != generation() {
-            std::mem::forget(self.handle.take());
-            *self = self.budget.pass().expect("memory for a pass");
-        }
-        self.handle.as_mut().expect("a pass has its handle until it is dropped")
-    }
-}
-
-impl Drop for Pass {
-    fn drop(&mut self) {
-        match self.handle.take() {
-            Some(handle) if self.generation == generation() => self.budget.lock().join(handle),
-            // (in a forked child it is the parent's)
-            handle => std::mem::forget(handle),
-        }
+        self.part.tickets
     }
 }
 

@@ -3,8 +3,10 @@
 pub(crate) mod budget;
 mod counters;
 pub(crate) mod grants;
+pub(crate) mod part;
 pub(crate) mod quota;
 pub(crate) mod ticket;
+pub(crate) mod uses;
 
 pub use budget::{Budget, BudgetError, Pass};
 pub use grants::{AnyBudget, Grants, Tickets, Unlimited};

@@ -6,8 +6,10 @@ use crate::engine::{quota_allows, MAX_NUMBER, MAX_TICKETS};
 use crate::engine::{Handle, PassKind, RetryKind, Status, Used};
 use crate::limits::budget::BudgetError;
 use crate::limits::counters::{Counter, Counters};
-use crate::limits::ticket::{Drawer, NoTicket, Ticket};
-use crate::system::{generation, PerProcess};
+use crate::limits::part::{Part, Root};
+use crate::limits::ticket::{NoTicket, Ticket};
+use crate::limits::uses::{options_of_uses, Uses};
+use crate::system::PerProcess;
 use std::fmt;
 use std::sync::atomic::{AtomicU64, Ordering};
 use std::sync::{Arc, Mutex, MutexGuard, PoisonError};
@@ -41,15 +43,6 @@ use std::time::{Duration, Instant};
 pub struct Quota {
     shared: Arc<Shared>,
     uses: Uses,
-}
-
-/// How calls use a quota.
-#[derive(Clone, Copy, Debug, Default)]
-pub(crate) struct Uses {
-    /// They count where they succeed, and not where they begin.
-    pub(crate) counts_successes: bool,
-    /// They hand the last ticket back where they succeed.
-    pub(crate) returns_tickets: bool,
 }
 
 struct Shared {
@@ -101,15 +94,9 @@ struct Passes {
 /// ```
 #[derive(Debug)]
 pub struct QuotaPass {
-    /// `None` only while it is dropped.
-    handle: Option<Handle<PassKind>>,
-    quota: Quota,
-    drawer: Drawer,
-    tickets: u64,
+    part: Part<Quota>,
     /// The window and the number of the latest ticket, where that did not come back.
     latest: Option<(u64, u64)>,
-    /// The process that it is of.
-    generation: u64,
 }
 
 /// What is known of a window of a quota.
@@ -226,51 +213,45 @@ impl Quota {
         Self { shared: Arc::new(Shared { made, passes: PerProcess::new(Passes::of(root)) }), uses: Uses::default() }
     }
 
-    /// The quota, on which a call counts as a request where it succeeds, and not before its first run: so a callee that
-    /// fails for good dries it out down to the reserve. What is counted by hand is so in any case.
-    ///
-    /// ```
-    /// use hikebox::{retry, Policy, Quota, RetryError};
-    /// use std::time::Duration;
-    ///
-    /// let quota = Quota::new(0, 0.5, Duration::from_secs(3600))?.counting_successes();
-    /// let policy: Policy = r#"{"recurs":3}"#.parse()?;
-    /// assert_eq!(retry(&policy, &quota, || Err::<(), _>("gone")), Err(RetryError::BudgetRefused("gone")));
-    /// assert_eq!(quota.seen().asked, 0);
-    /// for _ in 0..2 {
-    ///     assert_eq!(retry(&policy, &quota, || Ok::<_, ()>(5)), Ok(5));
-    /// }
-    /// assert_eq!(quota.seen().left, 1);
-    /// # Ok::<(), Box<dyn std::error::Error>>(())
-    /// ```
-    #[must_use]
-    pub fn counting_successes(mut self) -> Self {
-        self.uses.counts_successes = true;
-        self
-    }
+    options_of_uses! {
+        /// The quota, on which a call counts as a request where it succeeds, and not before its first run: so a callee that
+        /// fails for good dries it out down to the reserve. What is counted by hand is so in any case.
+        ///
+        /// ```
+        /// use hikebox::{retry, Policy, Quota, RetryError};
+        /// use std::time::Duration;
+        ///
+        /// let quota = Quota::new(0, 0.5, Duration::from_secs(3600))?.counting_successes();
+        /// let policy: Policy = r#"{"recurs":3}"#.parse()?;
+        /// assert_eq!(retry(&policy, &quota, || Err::<(), _>("gone")), Err(RetryError::BudgetRefused("gone")));
+        /// assert_eq!(quota.seen().asked, 0);
+        /// for _ in 0..2 {
+        ///     assert_eq!(retry(&policy, &quota, || Ok::<_, ()>(5)), Ok(5));
+        /// }
+        /// assert_eq!(quota.seen().left, 1);
+        /// # Ok::<(), Box<dyn std::error::Error>>(())
+        /// ```
+        counting_successes,
 
-    /// The quota, to which a call that succeeds after retries hands the ticket of the last one back, as by AWS's SDKs: so
-    /// faults that a retry mends take less of it than faults that last.
-    ///
-    /// ```
-    /// use hikebox::{retry, Policy, Quota};
-    /// use std::time::Duration;
-    ///
-    /// let quota = Quota::new(2, 0.0, Duration::from_secs(3600))?.returning_tickets();
-    /// let policy: Policy = r#"{"recurs":3}"#.parse()?;
-    /// let mut runs = 0;
-    /// let answer = retry(&policy, &quota, || {
-    ///     runs += 1;
-    ///     if runs < 3 { Err("not yet") } else { Ok(runs) }
-    /// });
-    /// assert_eq!(answer, Ok(3));
-    /// assert_eq!((quota.granted(), quota.seen().left), (1, 1));
-    /// # Ok::<(), Box<dyn std::error::Error>>(())
-    /// ```
-    #[must_use]
-    pub fn returning_tickets(mut self) -> Self {
-        self.uses.returns_tickets = true;
-        self
+        /// The quota, to which a call that succeeds after retries hands the ticket of the last one back, as by AWS's SDKs: so
+        /// faults that a retry mends take less of it than faults that last.
+        ///
+        /// ```
+        /// use hikebox::{retry, Policy, Quota};
+        /// use std::time::Duration;
+        ///
+        /// let quota = Quota::new(2, 0.0, Duration::from_secs(3600))?.returning_tickets();
+        /// let policy: Policy = r#"{"recurs":3}"#.parse()?;
+        /// let mut runs = 0;
+        /// let answer = retry(&policy, &quota, || {
+        ///     runs += 1;
+        ///     if runs < 3 { Err("not yet") } else { Ok(runs) }
+        /// });
+        /// assert_eq!(answer, Ok(3));
+        /// assert_eq!((quota.granted(), quota.seen().left), (1, 1));
+        /// # Ok::<(), Box<dyn std::error::Error>>(())
+        /// ```
+        returning_tickets
     }
 
     pub(crate) fn counts_successes(&self) -> bool {
@@ -301,9 +282,7 @@ impl Quota {
     ///
     /// [`BudgetError::NoMemory`].
     pub fn pass(&self) -> Result<QuotaPass, BudgetError> {
-        let part = self.lock().split().map_err(BudgetError::of)?;
-        let (quota, drawer, generation) = (self.clone(), Drawer::new(), generation());
-        Ok(QuotaPass { handle: Some(part), quota, drawer, tickets: 0, latest: None, generation })
+        Ok(QuotaPass { part: Part::new(self.clone())?, latest: None })
     }
 
     /// Counts a request. Calls that are retried under the quota do it by themselves.
@@ -418,11 +397,6 @@ impl Quota {
         }
     }
 
-    /// Lends the first pass to one call.
-    pub(crate) fn with<T>(&self, call: impl FnOnce(&mut Handle<PassKind>) -> T) -> T {
-        call(&mut self.lock())
-    }
-
     fn lock(&self) -> MutexGuard<'_, Handle<PassKind>> {
         self.passes().root.lock().unwrap_or_else(PoisonError::into_inner)
     }
@@ -431,6 +405,12 @@ impl Quota {
     #[inline]
     fn passes(&self) -> &Passes {
         self.shared.passes.get(|| self.shared.made.anew())
+    }
+}
+
+impl Root for Quota {
+    fn with<T>(&self, call: impl FnOnce(&mut Handle<PassKind>) -> T) -> T {
+        call(&mut self.lock())
     }
 }
 
@@ -477,7 +457,7 @@ impl fmt::Debug for Quota {
 impl QuotaPass {
     /// Counts a request in the present window.
     pub fn deposit(&mut self) {
-        self.deposit_at(self.quota.moment(now()));
+        self.deposit_at(self.now());
     }
 
     /// A ticket that no other draw got. Those that are carried to a window, which are drawn first, have the last numbers of
@@ -488,17 +468,17 @@ impl QuotaPass {
     /// [`NoTicket::UsedUp`] where the present window has none left: so long until the next one. More requests may give this
     /// one more.
     pub fn draw(&mut self) -> Result<Ticket, NoTicket> {
-        self.draw_at(self.quota.moment(now()))
+        self.draw_at(self.now())
     }
 
     /// What was asked of the present window, what it has given, what it has left, and when the next begins.
     pub fn seen(&mut self) -> Usage {
-        self.seen_at(self.quota.moment(now()))
+        self.seen_at(self.now())
     }
 
     /// Counts so many requests at once, as [`Quota::deposit_of`].
     pub fn deposit_of(&mut self, requests: u32) {
-        self.deposit_of_at(self.quota.moment(now()), requests);
+        self.deposit_of_at(self.now(), requests);
     }
 
     /// Hands the ticket back that it drew latest. Another may be drawn in the ticket's window for it, by any pass; where
@@ -508,12 +488,12 @@ impl QuotaPass {
     ///
     /// The ticket itself, where it is not the one that this pass drew latest.
     pub fn hand_back(&mut self, ticket: Ticket) -> Result<(), Ticket> {
-        let is_latest = ticket.is_of(self.drawer) && self.latest == Some((ticket.window(), ticket.number()));
-        if !is_latest || self.generation != generation() || !self.handle().hand_back() {
+        let is_latest = ticket.is_of(self.part.drawer) && self.latest == Some((ticket.window(), ticket.number()));
+        if !is_latest || !self.part.is_of_this_process() || !self.part.handle().hand_back() {
             return Err(ticket);
         }
         self.latest = None;
-        self.tickets -= 1;
+        self.part.tickets -= 1;
         Ok(())
     }
 
@@ -526,8 +506,8 @@ impl QuotaPass {
     /// [`QuotaPass::deposit_of`] at such a moment.
     pub fn deposit_of_at(&mut self, now: Duration, requests: u32) {
         // (a pass counts a million at once; more are counted by the quota's own)
-        if !self.handle().deposit(whole_millis(now), requests) {
-            self.quota.deposit_of_at(now, requests);
+        if !self.part.handle().deposit(whole_millis(now), requests) {
+            self.part.limit.deposit_of_at(now, requests);
         }
     }
 
@@ -538,12 +518,12 @@ impl QuotaPass {
     /// As of [`QuotaPass::draw`].
     pub fn draw_at(&mut self, now: Duration) -> Result<Ticket, NoTicket> {
         loop {
-            match self.handle().draw(whole_millis(now)) {
+            match self.part.handle().draw(whole_millis(now)) {
                 Ok(ticket) => {
-                    self.tickets += 1;
+                    self.part.tickets += 1;
                     let (window, number) = (ticket >> 32, ticket % (1 << 32));
                     self.latest = Some((window, number));
-                    return Ok(Ticket::drawn(self.drawer, window, number));
+                    return Ok(Ticket::drawn(self.part.drawer, window, number));
                 }
                 // As many other draws got a ticket meanwhile.
                 Err(Status::RacesLost) => {}
@@ -558,32 +538,18 @@ impl QuotaPass {
 
     /// [`QuotaPass::seen`] at such a moment.
     pub fn seen_at(&mut self, now: Duration) -> Usage {
-        usage(self.handle().seen(whole_millis(now)))
+        usage(self.part.handle().seen(whole_millis(now)))
     }
 
     /// How many tickets it drew, and did not hand back.
     #[must_use]
     pub fn count(&self) -> u64 {
-        self.tickets
+        self.part.tickets
     }
 
-    /// The pass of this process: in a forked child a new one, with nothing drawn.
-    fn handle(&mut self) -> &mut Handle<PassKind> {
-        if self.generation != generation() {
-            std::mem::forget(self.handle.take());
-            *self = self.quota.pass().expect("memory for a pass");
-        }
-        self.handle.as_mut().expect("a pass has its handle until it is dropped")
-    }
-}
-
-impl Drop for QuotaPass {
-    fn drop(&mut self) {
-        match self.handle.take() {
-            Some(handle) if self.generation == generation() => self.quota.lock().join(handle),
-            // (in a forked child it is the parent's)
-            handle => std::mem::forget(handle),
-        }
+    /// The present moment of the quota.
+    fn now(&self) -> Duration {
+        self.part.limit.moment(now())
     }
 }
 

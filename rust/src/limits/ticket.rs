@@ -92,12 +92,10 @@ impl Ticket {
 
 impl Drawer {
     const STORE: Self = Self(0);
-    /// Tickets of budgets do not come back.
-    pub(crate) const BUDGET: Self = Self(1);
 
     /// Another one than all before.
     pub(crate) fn new() -> Self {
-        static NEXT: AtomicU64 = AtomicU64::new(2);
+        static NEXT: AtomicU64 = AtomicU64::new(1);
         Self(NEXT.fetch_add(1, Ordering::Relaxed))
     }
 }

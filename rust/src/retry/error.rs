@@ -27,10 +27,10 @@ pub enum RetryError<E> {
     Broken(Cause, E),
 }
 
-impl<E> RetryError<E> {
-    /// The last error of the call.
-    pub fn last(&self) -> &E {
-        match self {
+/// The last error of a retry, by reference or by value as the retry's is.
+macro_rules! last_of {
+    ($error:expr) => {
+        match $error {
             Self::ScheduleDone(error)
             | Self::Deadline(error)
             | Self::BudgetRefused(error)
@@ -38,18 +38,18 @@ impl<E> RetryError<E> {
             | Self::StoreFailed(_, error)
             | Self::Broken(_, error) => error,
         }
+    };
+}
+
+impl<E> RetryError<E> {
+    /// The last error of the call.
+    pub fn last(&self) -> &E {
+        last_of!(self)
     }
 
     /// The same, by value.
     pub fn into_last(self) -> E {
-        match self {
-            Self::ScheduleDone(error)
-            | Self::Deadline(error)
-            | Self::BudgetRefused(error)
-            | Self::NotRetried(error)
-            | Self::StoreFailed(_, error)
-            | Self::Broken(_, error) => error,
-        }
+        last_of!(self)
     }
 }
 

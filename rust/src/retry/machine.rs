@@ -4,6 +4,7 @@ use crate::clock::whole_millis;
 use crate::engine::{self, Handle, Next, RetryKind, MAX_NUMBER, NO_DEADLINE};
 use crate::limits::budget::BudgetError;
 use crate::limits::grants::{Grants, Source, Tickets};
+use crate::limits::part::Root;
 use crate::limits::ticket::{NoTicket, StoreFailure, Ticket};
 use crate::policy::Policy;
 use crate::random;

@@ -182,6 +182,7 @@ const A_CENTURY: Duration = Duration::from_secs(100 * 365 * 86_400);
 
 #[cfg(test)]
 mod tests {
+    use crate::limits::part::Root;
     use crate::{retry, Budget, Policy};
     use std::sync::mpsc;
     use std::thread;

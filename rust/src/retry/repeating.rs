@@ -219,16 +219,11 @@ impl<T, C: Fn(&T) -> u64, K: Fn() -> Instant, S: Sleep, R: Random> Repeating<'_,
             if wanted(&value) {
                 return Ok(value);
             }
-            let wait = match self.after(&mut progress, &value) {
-                Ok(wait) => wait,
-                Err(ended) => return Err(RepeatError::of(ended, value)),
-            };
+            let (wait, value) = self.after(&mut progress, value)?;
             if !wait.is_zero() {
                 self.host.sleep.sleep(wait);
             }
-            if let Err(ended) = progress.resume(&self.host.clock) {
-                return Err(RepeatError::of(ended, value));
-            }
+            self.resume(&mut progress, value)?;
         }
     }
 }
@@ -266,16 +261,11 @@ impl<T, C: Fn(&T) -> u64, K: Fn() -> Instant, S: AsyncSleep, R: Random> Repeatin
             if wanted(&value) {
                 return Ok(value);
             }
-            let wait = match self.after(&mut progress, &value) {
-                Ok(wait) => wait,
-                Err(ended) => return Err(RepeatError::of(ended, value)),
-            };
+            let (wait, value) = self.after(&mut progress, value)?;
             if !wait.is_zero() {
                 self.host.sleep.sleep(wait).await;
             }
-            if let Err(ended) = progress.resume(&self.host.clock) {
-                return Err(RepeatError::of(ended, value));
-            }
+            self.resume(&mut progress, value)?;
         }
     }
 }
@@ -285,13 +275,20 @@ impl<T, C: Fn(&T) -> u64, K: Fn() -> Instant, S, R: Random> Repeating<'_, T, C, 
         Progress::new((self.host.clock)())
     }
 
-    /// How long it is waited after a run that gave this value now, or how the schedule ended. To the engine each run whose
-    /// value is not wanted is one that failed, on nothing that could refuse a retry.
-    fn after(&self, progress: &mut Progress, value: &T) -> Result<Duration, Ending> {
-        let now = (self.host.clock)();
-        let lost =
-            Lost { now, code: (self.code)(value).min(MAX_NUMBER), words: self.host.words.draw(), retry_after: None };
-        progress.lost(&Rules { policy: &self.policy, limit: &Unlimited, options: &self.options }, &lost)
+    /// How long it is waited after a run that gave this value now. To the engine each run whose value is not wanted is one
+    /// that failed, on nothing that could refuse a retry.
+    fn after<E>(&self, progress: &mut Progress, value: T) -> Result<(Duration, T), RepeatError<T, E>> {
+        let (now, code) = ((self.host.clock)(), (self.code)(&value).min(MAX_NUMBER));
+        let lost = Lost { now, code, words: self.host.words.draw(), retry_after: None };
+        match progress.lost(&Rules { policy: &self.policy, limit: &Unlimited, options: &self.options }, &lost) {
+            Ok(wait) => Ok((wait, value)),
+            Err(ended) => Err(RepeatError::of(ended, value)),
+        }
+    }
+
+    /// Begins the next run, which was waited for after this value.
+    fn resume<E>(&self, progress: &mut Progress, value: T) -> Result<(), RepeatError<T, E>> {
+        progress.resume(&self.host.clock).map(|_| ()).map_err(|ended| RepeatError::of(ended, value))
     }
 }
 

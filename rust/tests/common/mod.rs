@@ -1,9 +1,10 @@
 //! What several tests use.
 #![allow(dead_code, unused_macros)]
 
-use hikebox::{NoTicket, Ticket};
+use hikebox::{retry, Grants, NoTicket, Policy, RetryError, Ticket};
+use std::io::{BufRead, BufReader};
 use std::path::{Path, PathBuf};
-use std::process::Command;
+use std::process::{Child, Command, Stdio};
 use std::{env, fs};
 
 /// A folder of a test's own, which is taken away in the end.
@@ -38,6 +39,33 @@ pub fn printed(command: &mut Command) -> Vec<String> {
     let output = command.output().unwrap();
     assert!(output.status.success(), "{}", String::from_utf8_lossy(&output.stderr));
     String::from_utf8(output.stdout).unwrap().lines().map(str::to_owned).collect()
+}
+
+/// A process that keeps the lock of this file until its standard input ends.
+pub fn keeper_of(path: &Path) -> Child {
+    let mut keeper = Command::new("flock")
+        .args([path.as_os_str(), "-c".as_ref(), "echo locked; read line".as_ref()])
+        .stdin(Stdio::piped())
+        .stdout(Stdio::piped())
+        .spawn()
+        .unwrap();
+    let mut line = String::new();
+    BufReader::new(keeper.stdout.take().unwrap()).read_line(&mut line).unwrap();
+    assert_eq!(line, "locked\n");
+    keeper
+}
+
+/// What a retry of this call gives that fails once and then succeeds: the number of its runs.
+pub fn retried_once(policy: &Policy, budget: &impl Grants) -> Result<u32, RetryError<&'static str>> {
+    let mut runs = 0;
+    retry(policy, budget, || {
+        runs += 1;
+        if runs == 2 {
+            Ok(runs)
+        } else {
+            Err("busy")
+        }
+    })
 }
 
 /// The number of a ticket that was drawn, or `None` where all are used up.

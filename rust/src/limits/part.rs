@@ -1,0 +1,62 @@
+//! Passes that are split off a limit's first one.
+
+use crate::engine::{Handle, PassKind, Status};
+use crate::limits::budget::BudgetError;
+use crate::limits::ticket::Drawer;
+use crate::system::generation;
+
+/// A limit that has a first pass, which others are split off and joined into.
+pub(crate) trait Root {
+    /// Lends the first pass to one call.
+    fn with<T>(&self, call: impl FnOnce(&mut Handle<PassKind>) -> T) -> T;
+}
+
+/// A pass that was split off a limit's first one. Dropped, it is joined into that again.
+#[derive(Debug)]
+pub(crate) struct Part<R: Root> {
+    pub(crate) limit: R,
+    /// `None` only while it is dropped.
+    handle: Option<Handle<PassKind>>,
+    /// By which its tickets are known.
+    pub(crate) drawer: Drawer,
+    /// The tickets that it drew, and that did not come back.
+    pub(crate) tickets: u64,
+    /// The process that it is of.
+    generation: u64,
+}
+
+impl<R: Root> Part<R> {
+    pub(crate) fn new(limit: R) -> Result<Self, BudgetError> {
+        let handle = Some(split(&limit).map_err(BudgetError::of)?);
+        Ok(Self { limit, handle, drawer: Drawer::new(), tickets: 0, generation: generation() })
+    }
+
+    /// The pass of this process: in a forked child a new one, with nothing drawn.
+    pub(crate) fn handle(&mut self) -> &mut Handle<PassKind> {
+        if !self.is_of_this_process() {
+            std::mem::forget(self.handle.take());
+            self.handle = Some(split(&self.limit).expect("memory for a pass"));
+            (self.drawer, self.tickets, self.generation) = (Drawer::new(), 0, generation());
+        }
+        self.handle.as_mut().expect("a pass has its handle until it is dropped")
+    }
+
+    /// Whether its tickets were drawn by this process.
+    pub(crate) fn is_of_this_process(&self) -> bool {
+        self.generation == generation()
+    }
+}
+
+fn split(limit: &impl Root) -> Result<Handle<PassKind>, Status> {
+    limit.with(Handle::<PassKind>::split)
+}
+
+impl<R: Root> Drop for Part<R> {
+    fn drop(&mut self) {
+        match self.handle.take() {
+            Some(handle) if self.is_of_this_process() => self.limit.with(|root| root.join(handle)),
+            // (in a forked child it is the parent's)
+            handle => std::mem::forget(handle),
+        }
+    }
+}
