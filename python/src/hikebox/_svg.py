@@ -16,6 +16,7 @@ __all__ = [
     "Picture",
     "fitted",
     "headed",
+    "plain_width_of",
     "ticks",
     "width_of",
     "wrapped",
@@ -90,6 +91,12 @@ def _dark_rules() -> str:
 #: What a picture looks like on a dark ground. Without it, and in viewers that know no style, it is as on a light one.
 STYLE = f"@media (prefers-color-scheme:dark){{{_dark_rules()}}}"
 
+#: How wide the letters are that are narrow or wide.
+_WIDTHS: Dict[str, float] = {
+    **dict.fromkeys("ijlI|.,:;'! \u00a0", 4.0),
+    **dict.fromkeys("frt()[]{}-/", 5.0),
+    **dict.fromkeys("mwMW%@…", 12.0),
+}
 #: How far lines of text are apart.
 LINE = 16
 #: How wide a picture is.
@@ -169,8 +176,17 @@ def _spelt(words: str) -> str:
 
 
 def width_of(words: str) -> float:
-    """About how wide a line of text is, rather more than less."""
+    """About how wide a line of text is, also in bold, rather more than less."""
     return 6.8 * len(words)
+
+
+def plain_width_of(words: str) -> float:
+    """About how wide a line of plain text is, by its letters.
+
+    >>> plain_width_of("first calls") < plain_width_of("succeeded")
+    True
+    """
+    return sum(_WIDTHS.get(letter, 7.7) for letter in words)
 
 
 def fitted(words: str, width: float) -> str:

@@ -5,7 +5,7 @@ from __future__ import annotations
 
 from typing import TYPE_CHECKING, List, Optional, Sequence, Tuple
 
-from .._svg import MIN_WIDTH, LINE, MAX_WIDTH, Picture, width_of
+from .._svg import MIN_WIDTH, LINE, MAX_WIDTH, Picture, plain_width_of
 from ..errors import StormError
 from .heads import Heads, heads_of
 from .parameters import tickets_text
@@ -110,8 +110,8 @@ def _legend_lines(storms: Sequence[Storm], width: int, below: int) -> _Legend:
     lines: _Legend = [[]]
     x = float(_MARGIN)
     for kind, name in [*_present(storms, below), *shades]:
-        wide = 28 + width_of(name) + 10
-        if x + wide - 10 > width and lines[-1]:
+        wide = 28 + plain_width_of(name) + 14
+        if x + wide - 14 > width and lines[-1]:
             lines.append([])
             x = float(_MARGIN)
         lines[-1].append((x, kind, name))

@@ -5,7 +5,7 @@ from __future__ import annotations
 import math
 from typing import TYPE_CHECKING, Dict, List, NamedTuple, Optional, Sequence, Tuple
 
-from .._svg import MIN_WIDTH, LINE, LINES, MAX_WIDTH, Picture, headed, ticks, width_of
+from .._svg import MIN_WIDTH, LINE, LINES, MAX_WIDTH, Picture, headed, plain_width_of, ticks, width_of
 from ..errors import StormError
 from .axes import AXES, MEASURES, NEVER
 from .heads import heads_of
@@ -184,8 +184,8 @@ def _legend(names: Sequence[str], width: int) -> Tuple[List[_Entry], int]:
     x, row, rows = float(_MARGIN), 0, 0
     for index, name in enumerate(names):
         said = headed(name, width - 2 * _MARGIN - 44)
-        wide = 44 + max(map(width_of, said)) + 12
-        if x > _MARGIN and x + wide - 12 > width - _MARGIN:
+        wide = 44 + max(map(plain_width_of, said)) + 16
+        if x > _MARGIN and x + wide - 16 > width - _MARGIN:
             x, row = float(_MARGIN), rows
         entries.append(_Entry(x, row, index, said))
         x += wide
