@@ -12,6 +12,7 @@ import pytest
 from conftest import TOP
 
 from hikebox.cli.main import _parser
+from hikebox.storms.axes import AXES
 
 SHARE = TOP / "python" / "share"
 SCENARIOS = ["outage", "herd", "brown-out"]
@@ -49,6 +50,7 @@ def test_the_manual_page_has_each_option() -> None:
         lines = re.findall(r"(?m)^\.TP\n\.\w+ (.*)", sections[f"HIKEBOX {command.upper()}"])
         told = {word for line in lines for word in re.findall(r"(?<!\w)--?[a-z][a-z-]*", line)}
         assert told == set(known) - {"-h", "--help"}, f"python/share/hikebox.1: {command}"
+    assert set(AXES) <= set(re.findall(r"\w+", sections["HIKEBOX STORM"].split("BI --sweep")[1].split(".TP")[0]))
     assert {"HIKEBOX_ATTEMPT", "HIKEBOX_SECONDS_LEFT"} <= set(re.findall(r"\w+", sections["ENVIRONMENT"]))
 
 
