@@ -1,107 +1,63 @@
 """Prints random policies as JSON, a line each, with options for `zsched plan`: STEPS FROM TOOK INPUT WORD, a tab, the
-policy. The words are the number of policies and a seed; the same words give the same lines."""
+policy. The words are the number of policies and a seed; the same words give the same lines. The policies have the nodes
+of schemas/nodes.json."""
 import json
+import pathlib
 import random
 import sys
 
+TOP = pathlib.Path(__file__).resolve().parent.parent
 MAX_NUMBER = 4611686018427387903
+#: Numbers that often are the border of something.
+NUMBERS = [0, 1, 2, 3, 5, 7, 10, 60, 100, 999, 1000, 60000, MAX_NUMBER - 1, MAX_NUMBER]
 
 
-def number(rng):
-    return rng.choice(
-        [0, 1, 2, 3, 5, 7, 10, 60, 100, 999, 1000, 60000, MAX_NUMBER - 1, MAX_NUMBER, rng.randrange(100000)]
-    )
+def nodes_over(plans):
+    """The nodes over so many policies."""
+    nodes = json.loads((TOP / "schemas/nodes.json").read_text())["nodes"]
+    return [node for node in nodes if sum(item["unit"] == "plan" for item in node["items"]) == plans]
 
 
-def length(rng):
-    return max(1, number(rng))
+LEAVES, ONES, TWOS = (nodes_over(plans) for plans in range(3))
 
 
-def leaf(rng):
-    name = rng.choice(
-        [
-            "forever",
-            "elapsed",
-            "identity",
-            "recurs",
-            "spaced",
-            "fixed",
-            "windowed",
-            "linear",
-            "exponential",
-            "exponential_milli",
-            "fibonacci",
-            "decorrelated",
-            "unfold",
-            "lone",
-        ]
-    )
-    if name in ("forever", "elapsed", "identity"):
-        return name
-    if name == "recurs":
-        return {name: rng.choice([0, 1, 2, 3, 5, 20])}
-    if name in ("fixed", "windowed"):
-        return {name: length(rng)}
-    if name == "exponential":
-        return {name: [number(rng), rng.choice([1, 2, 3, 10])]}
-    if name == "exponential_milli":
-        return {name: [number(rng), rng.choice([1000, 1100, 1500, 2000, 2718])]}
-    if name == "decorrelated":
-        base, most = sorted([number(rng), number(rng)])
-        return {name: [rng.randrange(4), base, rng.choice([1000, 1500, 3000]), most]}
-    if name == "unfold":
-        return {name: [number(rng), rng.choice([0, 1, 2, 3]), rng.choice([0, 1, 7])]}
-    return {name: number(rng)}
+def some_number(rng, item):
+    """A number that the item may be."""
+    if "often" in item:
+        return rng.choice(item["often"])
+    least, most = item["min"], item["max"]
+    known = [number for number in NUMBERS if least <= number <= most]
+    return rng.choice([least, *known, rng.randrange(least, min(most, 100_000) + 1)])
 
 
-def policy(rng, depth):
-    if depth == 0 or rng.random() < 0.2:
-        return leaf(rng)
-    name = rng.choice(
-        [
-            "meet",
-            "join",
-            "follow",
-            "feed",
-            "add",
-            "set",
-            "cap",
-            "add_out",
-            "jitter",
-            "gate",
-            "gather",
-            "first",
-            "second",
-            "nothing",
-            "within",
-            "ends_by",
-            "renew",
-            "renew_idle",
-        ]
-    )
-    part = policy(rng, depth - 1)
-    if name in ("meet", "join", "follow", "feed"):
-        return {name: [part, policy(rng, depth - 1)]}
-    if name in ("add", "set", "cap", "ends_by"):
-        return {name: [number(rng), part]}
-    if name in ("within", "renew", "renew_idle"):
-        return {name: [length(rng), part]}
-    if name == "jitter":
-        least = rng.choice([0, 500, 900, 1000])
-        return {name: [rng.randrange(4), least, least + rng.choice([0, 100, 1000]), part]}
-    if name == "gate":
-        return {
-            name: [
-                rng.choice(["input", "output"]),
-                rng.random() < 0.5,
-                rng.choice(["below", "at_least", "equal"]),
-                number(rng),
-                part,
-            ]
-        }
-    if name == "gather":
-        return {name: [rng.choice(["sum", "count", "max", "list"]), part]}
-    return {name: part}
+def some_item(rng, item):
+    """What the item may be, if it is no policy."""
+    if item["unit"] == "word":
+        return rng.choice(item["words"])
+    return rng.random() < 0.5 if item["unit"] == "truth" else some_number(rng, item)
+
+
+def some_node(rng, node, plans):
+    """The node over these policies, with random items."""
+    under, items = iter(plans), {}
+    for item in node["items"]:
+        items[item["letter"]] = next(under) if item["unit"] == "plan" else some_item(rng, item)
+    for item in node["items"]:
+        least, most = item.get("at_least"), item["letter"]
+        if least is not None and items[most] < items[least]:
+            items[least], items[most] = items[most], items[least]
+    values = list(items.values())
+    return {node["name"]: values[0] if len(values) == 1 else values} if values else node["name"]
+
+
+def some_policy(rng, nodes):
+    """A random policy of about so many nodes."""
+    if nodes <= 1:
+        return some_node(rng, rng.choice(LEAVES), [])
+    if nodes >= 3 and rng.random() < 0.5:
+        left = rng.randrange(1, nodes - 1)
+        return some_node(rng, rng.choice(TWOS), [some_policy(rng, left), some_policy(rng, nodes - 1 - left)])
+    return some_node(rng, rng.choice(ONES), [some_policy(rng, nodes - 1)])
 
 
 def main():
@@ -116,7 +72,8 @@ def main():
             rng.choice([0, 1, 2**31, 2**32 - 1, rng.randrange(2**32)]),
         ]
         print(*options, end="\t")
-        print(json.dumps(policy(rng, rng.choice([1, 2, 3, 4])), separators=(",", ":")))
+        print(json.dumps(some_policy(rng, rng.randrange(1, 14)), separators=(",", ":")))
 
 
-main()
+if __name__ == "__main__":
+    main()

@@ -6,6 +6,8 @@ The tests compare the engine's steps with it. It is slow, and shares nothing wit
 from __future__ import annotations
 
 import random
+import runpy
+from pathlib import Path
 from typing import Any, Callable, Dict, List, NamedTuple, Optional, Tuple
 
 MAX_NUMBER = 2**62 - 1
@@ -234,55 +236,7 @@ def text(value: Any) -> str:
     return f"[{', '.join(map(text, value))}]" if isinstance(value, list) else str(value)
 
 
-def some_plan(rng: random.Random, nodes: int) -> Any:
-    """A random plan of about so many nodes."""
-
-    def number(least: int = 0) -> int:
-        return rng.choice([least, 1, 2, 3, 7, 50, 100, 1000, 60000, rng.randrange(1, 5000), MAX_NUMBER])
-
-    if nodes <= 1:
-        base, most = sorted([number(), number()])
-        return rng.choice(
-            [
-                "forever",
-                "elapsed",
-                "identity",
-                {"recurs": rng.randrange(8)},
-                {"spaced": number()},
-                {"fixed": number(1)},
-                {"windowed": number(1)},
-                {"linear": number()},
-                {"exponential": [number(), rng.randrange(1, 5)]},
-                {"exponential_milli": [number(), rng.randrange(1, 4000)]},
-                {"fibonacci": number()},
-                {"decorrelated": [rng.randrange(4), base, rng.randrange(1000, 4001), most]},
-                {"unfold": [number(), rng.randrange(4), number()]},
-                {"lone": number()},
-            ]
-        )
-    two = rng.choice([True, False])
-    if two and nodes >= 3:
-        left = rng.randrange(1, nodes - 1)
-        name = rng.choice(["meet", "join", "follow", "feed"])
-        return {name: [some_plan(rng, left), some_plan(rng, nodes - 1 - left)]}
-    plan = some_plan(rng, nodes - 1)
-    side, want = rng.choice(["input", "output"]), rng.choice([True, False])
-    ratios = sorted(rng.randrange(10001) for _ in range(2))
-    return rng.choice(
-        [
-            {"gate": [side, want, rng.choice(["below", "at_least", "equal"]), number(), plan]},
-            {"gather": [rng.choice(["sum", "count", "max", "list"]), plan]},
-            {"add": [number(), plan]},
-            {"set": [number(), plan]},
-            {"cap": [number(), plan]},
-            {"add_out": plan},
-            {"jitter": [rng.randrange(4), *ratios, plan]},
-            {"within": [number(), plan]},
-            {"ends_by": [number(), plan]},
-            {"renew": [number(1), plan]},
-            {"renew_idle": [number(1), plan]},
-            {"first": plan},
-            {"second": plan},
-            {"nothing": plan},
-        ]
-    )
+#: A random plan of about so many nodes, by the table of all nodes.
+some_plan: Callable[[random.Random, int], Any] = runpy.run_path(
+    str(Path(__file__).resolve().parents[2] / "tests" / "random_policies.py")
+)["some_policy"]

@@ -318,7 +318,7 @@ def test_check_says_what_a_policy_is() -> None:
     line = "plan: 4 nodes, depth 3, goes on at most 5 times\n"
     assert hikebox("check", "recurs(5) & exponential(0.1).cap(1)") == (0, line, "")
     assert hikebox("check", text='"forever"') == (0, "plan: 1 node, depth 1\n", "")
-    assert hikebox("check", "lone(1)")[1] == "plan: 1 node, depth 1, goes on at most 1 time\n"
+    assert hikebox("check", "from_duration(1)")[1] == "plan: 1 node, depth 1, goes on at most 1 time\n"
     bad = json.dumps({"meet": [{"recurs": 1}, {"cap": [1, {"exponental": [100, 2]}]}]})
     said = 'meet[1].cap[1]: no node is called "exponental"; did you mean "exponential"?\n'
     assert hikebox("check", bad) == (3, said, "hikebox: not a plan\n")

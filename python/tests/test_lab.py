@@ -281,7 +281,9 @@ PROGRAMS: List[Tuple[str, Parameters]] = [
     ("forever()", Parameters(seconds=1, calls=500, words=7, outage=Span(0, 0), until=1500)),
     ("recurs(3)", SCENARIOS["herd"]._replace(tickets=100)),
     (
-        'unfold(1, 2, 3).gather("max").then(milliseconds_free) | fixed(1)'.replace("milliseconds_free", "lone(0.25)"),
+        'unfold(1, 2, 3).gather("max").and_then(milliseconds_free) | fixed(1)'.replace(
+            "milliseconds_free", "from_duration(0.25)"
+        ),
         Parameters(seconds=2),
     ),
     ("recurs(3)", SCENARIOS["brown-out"]._replace(tickets=Terms(10, 100, 1000), patience=250, window=500, rate=400)),

@@ -34,7 +34,6 @@ from hikebox import (
     from_duration,
     identity,
     linear,
-    lone,
     milliseconds,
     once,
     recurs,
@@ -43,7 +42,7 @@ from hikebox import (
     unfold,
     windowed,
 )
-from hikebox.policy.nodes import FORMS, NAMES
+from hikebox.policy.nodes import NODES
 
 NAMESPACE = {name: getattr(hikebox, name) for name in hikebox.__all__}
 
@@ -68,14 +67,13 @@ BUILT = [
         "decorrelated(0.1, 60, 1.5, lane=2)",
     ),
     (unfold(1, 2, 3), '{"unfold":[1,2,3]}', "unfold(1, 2, 3)"),
-    (lone(30), '{"lone":30000}', "lone(30)"),
-    (from_duration(30), '{"lone":30000}', "lone(30)"),
+    (from_duration(30), '{"lone":30000}', "from_duration(30)"),
     (once(), '{"nothing":{"recurs":1}}', "recurs(1).nothing()"),
     (stop(), '{"nothing":{"recurs":0}}', "recurs(0).nothing()"),
     (recurs(1) & spaced(1), '{"meet":[{"recurs":1},{"spaced":1000}]}', "recurs(1) & spaced(1)"),
     (recurs(1) | spaced(1), '{"join":[{"recurs":1},{"spaced":1000}]}', "recurs(1) | spaced(1)"),
     (recurs(1) >> spaced(1), '{"feed":[{"recurs":1},{"spaced":1000}]}', "recurs(1) >> spaced(1)"),
-    (recurs(1).then(spaced(1)), '{"follow":[{"recurs":1},{"spaced":1000}]}', "recurs(1).then(spaced(1))"),
+    (recurs(1).and_then(spaced(1)), '{"follow":[{"recurs":1},{"spaced":1000}]}', "recurs(1).and_then(spaced(1))"),
     (
         forever() & (elapsed() & identity()),
         '{"meet":["forever",{"meet":["elapsed","identity"]}]}',
@@ -140,7 +138,7 @@ def test_a_builder_builds_the_node_of_its_name(policy: Policy, text: str, writte
 
 def test_every_node_has_a_builder() -> None:
     built = {name for _, text, _ in BUILT for name, _ in hikebox.policy.nodes.walk(json.loads(text))}
-    assert built == {*FORMS, *NAMES}
+    assert built == set(NODES)
 
 
 def test_random_policies_are_written_and_read_as_they_are() -> None:
@@ -200,7 +198,7 @@ BORDERS: List[Callable[[Callable[[List[Any]], Any]], Policy]] = [
     lambda of: windowed(of(DURATIONS)),
     lambda of: linear(of(DURATIONS)),
     lambda of: fibonacci(of(DURATIONS)),
-    lambda of: lone(of(DURATIONS)),
+    lambda of: from_duration(of(DURATIONS)),
     lambda of: exponential(of(DURATIONS), of(FACTORS)),
     lambda of: exponential_milli(of(DURATIONS), of(NUMBERS)),
     lambda of: decorrelated(of(DURATIONS), of(DURATIONS), of(FACTORS), lane=of([0, 3])),
@@ -238,7 +236,7 @@ def test_a_policy_is_refused_when_it_is_built_and_not_when_it_is_used() -> None:
     builds: List[Callable[[], Policy]] = [
         lambda: wide.nothing(),
         lambda: wide & recurs(1),
-        lambda: recurs(1).then(wide),
+        lambda: recurs(1).and_then(wide),
         lambda: wide.gather("sum"),
     ]
     for build in builds:
@@ -252,7 +250,7 @@ def test_a_policy_may_stand_twice_in_another() -> None:
     both = policy | policy
     assert both == Policy.from_dict({"join": [policy.to_dict(), policy.to_dict()]})
     assert (both.nodes, both.depth, both.most_retries) == (7, 3, 2)
-    assert policy.then(policy).most_retries == 4
+    assert policy.and_then(policy).most_retries == 4
 
 
 def test_threads_build_on_one_policy_and_preview_it() -> None:
@@ -492,7 +490,7 @@ def test_the_limits_of_depth_and_nodes() -> None:
 
 
 AT_THEIR_LIMITS: List[Policy] = [
-    *(build(milliseconds(MAX_NUMBER)) for build in (spaced, fixed, windowed, linear, fibonacci, lone)),
+    *(build(milliseconds(MAX_NUMBER)) for build in (spaced, fixed, windowed, linear, fibonacci, from_duration)),
     *(build(milliseconds(1)) for build in (fixed, windowed)),
     recurs(MAX_NUMBER),
     exponential(milliseconds(MAX_NUMBER), 1000),
@@ -514,7 +512,7 @@ AT_THEIR_LIMITS: List[Policy] = [
         for side in ("input", "output")
     ),
     *(forever().gather(fold) for fold in ("sum", "count", "max", "list")),
-    elapsed() >> identity().first() | forever().second().nothing().then(forever().add_output()),
+    elapsed() >> identity().first() | forever().second().nothing().and_then(forever().add_output()),
 ]
 
 
@@ -653,7 +651,7 @@ def test_a_preview_takes_inputs_in_turn() -> None:
     with pytest.raises(TypeError):
         spaced(1) & 3  # type: ignore[operator]
     with pytest.raises(TypeError):
-        spaced(1).then(3)  # type: ignore[arg-type]
+        spaced(1).and_then(3)  # type: ignore[arg-type]
 
 
 def test_a_preview_has_so_many_steps_at_most() -> None:
@@ -710,7 +708,7 @@ def test_at_how_many_events_a_policy_goes_on_at_most() -> None:
             continue
         steps = Policy.from_dict(tree).preview(most + 1, took=milliseconds(rng.randrange(50)))
         assert steps[-1].next_ms is None, tree
-    assert recurs(2).then(recurs(3)).most_retries == 5
+    assert recurs(2).and_then(recurs(3)).most_retries == 5
     assert (recurs(2) | recurs(3)).most_retries == 3
     assert (recurs(2) | forever()).most_retries is None
 

@@ -524,8 +524,8 @@ def test_a_coroutine_that_is_cancelled_while_it_waits() -> None:
     call = Scripted(7)
 
     async def main() -> None:
-        retrying = AsyncRetrying(spaced(0.01).then(spaced(60)) & recurs(9), budget=budget)
-        slow = AsyncRetrying(recurs(2).then(spaced(60)), budget=budget)
+        retrying = AsyncRetrying(spaced(0.01).and_then(spaced(60)) & recurs(9), budget=budget)
+        slow = AsyncRetrying(recurs(2).and_then(spaced(60)), budget=budget)
         task = asyncio.ensure_future(slow(call.later))
         while call.runs < 3:
             await asyncio.sleep(0.001)

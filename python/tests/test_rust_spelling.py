@@ -6,6 +6,7 @@
 from __future__ import annotations
 
 import random
+import runpy
 import sys
 from pathlib import Path
 from typing import Any, List
@@ -18,14 +19,16 @@ import reference
 
 from hikebox import Policy
 from hikebox.lab.cookbook import COOKBOOK
-from hikebox.policy.rust_spelling import spelt_in_rust
+from hikebox.policy.spelling import spelt_in_rust
 from hikebox.storms.code import in_rust
 from hikebox.storms.parameters import SCENARIOS, Parameters, Slow, Span
 from hikebox.quota import Terms
 
 FILE = TOP / "rust" / "tests" / "spellings.rs"
+RANDOM = runpy.run_path(str(TOP / "tests" / "random_policies.py"))
+TABLE = [*RANDOM["LEAVES"], *RANDOM["ONES"], *RANDOM["TWOS"]]
 
-#: One of each node, and operators within operators.
+#: Nodes that are spelt in more than one way, and operators within operators.
 NODES = [
     '"forever"', '{"recurs":3}', '{"spaced":1500}', '{"fixed":1000}', '{"windowed":1}', '{"linear":0}',
     '{"exponential":[100,2]}', '{"exponential_milli":[100,1500]}', '{"fibonacci":20}', '{"decorrelated":[0,100,3000,10000]}',
@@ -62,8 +65,10 @@ STORMS = [
 def policies() -> List[Policy]:
     rng = random.Random(7)
     some: List[Any] = [reference.some_plan(rng, rng.randrange(2, 12)) for _ in range(40)]
+    each = [(node, sum(item["unit"] == "plan" for item in node["items"])) for node in TABLE for _ in range(2)]
     known = [
         *map(Policy.from_json, NODES),
+        *(Policy.from_dict(RANDOM["some_node"](rng, node, ["forever"] * plans)) for node, plans in each),
         *(Policy.parse(spelt) for _, spelt in COOKBOOK),
         *map(Policy.from_dict, some),
     ]

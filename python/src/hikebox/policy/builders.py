@@ -18,7 +18,6 @@ __all__ = [
     "from_duration",
     "identity",
     "linear",
-    "lone",
     "once",
     "recurs",
     "spaced",
@@ -127,10 +126,6 @@ def unfold(start: int, times: int, plus: int) -> Policy:
     return Policy.of_node("unfold", tuple([whole(number, "unfold") for number in (start, times, plus)]))
 
 
-def lone(delay: Duration) -> Policy:
-    """Goes on once, after this delay. ZIO's `fromDuration`."""
-    return Policy.of_node("lone", (seconds(delay, "lone"),))
-
-
-#: ZIO's name of `lone`.
-from_duration = lone
+def from_duration(delay: Duration) -> Policy:
+    """Goes on once, after this delay. JSON's `lone`."""
+    return Policy.of_node("lone", (seconds(delay, "from_duration"),))

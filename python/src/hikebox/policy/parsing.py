@@ -4,35 +4,26 @@ from __future__ import annotations
 
 import ast
 import difflib
+import re
 from typing import Any, Dict, Iterable, List, NamedTuple, Union
 
 from .._time import milliseconds
 from ..errors import Fault, PolicyError
 from . import builders
+from .nodes import NODES
 from .policy import Policy
 
 __all__ = ["Refused", "parse", "read"]
 
 _BUILDERS = {name: getattr(builders, name) for name in builders.__all__}
-_METHODS = (
-    "add_delay",
-    "add_output",
-    "cap",
-    "ends_by",
-    "first",
-    "gather",
-    "jittered",
-    "nothing",
-    "renew",
-    "renew_idle",
-    "second",
-    "set_delay",
-    "then",
-    "until_input",
-    "until_output",
-    "up_to",
-    "while_input",
-    "while_output",
+_GATES = tuple(f"{way}_{side}" for way in ("while", "until") for side in NODES["gate"].items[0].words)
+#: The methods of policies that the table of nodes has; `while_input` and its kin are one node.
+_METHODS = tuple(
+    name
+    for node in NODES.values()
+    for expression in node.python
+    for found in re.findall(r"^\{A\}\.([^(]+)\(", expression)
+    for name in (_GATES if "{" in found else (found,))
 )
 
 

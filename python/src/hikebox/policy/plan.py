@@ -9,7 +9,7 @@ from typing import Any, Callable, Dict, Optional, Tuple
 from ..errors import Fault, PolicyError
 from .._engine.handles import PolicyHandle, Spelt
 from .._engine.calls import NOT_A_POLICY, NOT_JSON, OUT_OF_RANGE, TOO_DEEP, TOO_MANY
-from .nodes import FORMS, NAMES
+from .nodes import NODES
 
 __all__ = ["Plan"]
 
@@ -23,7 +23,7 @@ _FAULTS = {
 
 #: The names of the nodes that have numbers alone among their parameters; of the others the engine reads the JSON.
 _NAMES: Dict[str, Spelt] = {
-    name: (name.encode(), c_size_t(len(name))) for name in (*NAMES, *FORMS) if name not in ("gate", "gather")
+    name: (name.encode(), c_size_t(len(name))) for name, node in NODES.items() if not node.takes_words
 }
 
 #: Handles that hold nothing stand for no policy under a node.

@@ -257,11 +257,11 @@ class Policy:
         """The other one, whose inputs are this one's outputs; goes on while both do. ZIO's `>>>`, JSON's `feed`."""
         return self._with("feed", other)
 
-    def then(self, other: Policy) -> Policy:
-        """This one until it is done; that event and all later ones go to the other. ZIO's `andThen`, JSON's `follow`.
+    def and_then(self, other: Policy) -> Policy:
+        """This one until it is done; that event and all later ones go to the other. JSON's `follow`.
 
         >>> from hikebox import recurs, spaced
-        >>> [step.next_ms for step in recurs(2).then(spaced(0.05)).preview(steps=4)]
+        >>> [step.next_ms for step in recurs(2).and_then(spaced(0.05)).preview(steps=4)]
         [0, 0, 50, 100]
         """
         made = self._with("follow", other)

@@ -1,70 +1,99 @@
-"""How a policy is written in Python: the expression that builds it."""
+"""How a policy is written in Python and in Rust: the expression that builds it, by the table of nodes."""
 
 from __future__ import annotations
 
-from typing import Any, List, Optional
+import re
+from typing import Any, Callable, Dict, NamedTuple, Optional, Tuple
 
 from .._time import seconds_text
-from .nodes import parts_of
+from .nodes import NODES, parts_of
 
-__all__ = ["spelt"]
+__all__ = ["duration", "spelt", "spelt_in_rust"]
 
-_OPERATORS = {"meet": "&", "join": "|", "feed": ">>"}
-_METHODS = {
-    "add": "add_delay",
-    "set": "set_delay",
-    "cap": "cap",
-    "add_out": "add_output",
-    "within": "up_to",
-    "ends_by": "ends_by",
-    "renew": "renew",
-    "renew_idle": "renew_idle",
-    "first": "first",
-    "second": "second",
-    "nothing": "nothing",
+#: An item in an expression of the table: its letter, and how it is written if not as its unit is.
+_PLACE = re.compile(r"\{(\w+)(?::(\w+))?\}")
+
+
+def duration(milliseconds: int) -> str:
+    """A `Duration` of Rust.
+
+    >>> duration(100), duration(2000)
+    ('Duration::from_millis(100)', 'Duration::from_secs(2)')
+    """
+    if milliseconds and milliseconds % 1000 == 0:
+        return f"Duration::from_secs({milliseconds // 1000})"
+    return f"Duration::from_millis({milliseconds})"
+
+
+class _Language(NamedTuple):
+    """How a language writes items."""
+
+    expressions: Callable[[str], Tuple[str, ...]]
+    duration: Callable[[int], str]
+    ratio: Callable[[int], str]
+
+
+_PYTHON = _Language(lambda name: NODES[name].python, seconds_text, lambda count: f"{count / 1000:g}")
+_RUST = _Language(lambda name: NODES[name].rust, duration, lambda count: repr(count / 1000))
+
+#: How an item is written that the table names so; None where it can't be.
+_WAYS: Dict[str, Callable[[Any], Optional[str]]] = {
+    "part": lambda count: repr(count / 1000) if count % 1000 else None,
+    "whole": lambda count: None if count % 1000 else str(count // 1000),
+    "option": lambda lane: f", lane={lane}" if lane else "",
+    "none": lambda lane: None if lane else "",
+    "way": lambda want: "while" if want else "until",
+    "camel": lambda word: "".join(part.capitalize() for part in word.split("_")),
 }
-#: The nodes whose numbers are not durations.
-_PLAIN = ("recurs", "unfold")
 
 
 def spelt(tree: Any) -> str:
-    """The expression that builds a policy."""
+    """The expression of Python that builds a policy."""
+    return _spelt(tree, _PYTHON)
+
+
+def spelt_in_rust(tree: Any) -> str:
+    """The expression of Rust that builds the schedule of a policy.
+
+    >>> spelt_in_rust({"meet": [{"recurs": 5}, {"jitter": [0, 800, 1200, {"spaced": 100}]}]})
+    'Schedule::recurs(5) & Schedule::spaced(Duration::from_millis(100)).jittered(0.8..1.2)'
+    """
+    return _spelt(tree, _RUST)
+
+
+def _spelt(tree: Any, language: _Language) -> str:
     name, own, plans = parts_of(tree)
-    if name in _OPERATORS:
-        left, right = plans
-        return f"{_as_operand(left, name)} {_OPERATORS[name]} {_as_operand(right, None)}"
-    if name == "exponential_milli" and own[1] % 1000:
-        return f"exponential({seconds_text(own[0])}, {own[1] / 1000!r})"
-    if name == "decorrelated":
-        lane, base, factor, longest = own
-        return f"decorrelated({seconds_text(base)}, {seconds_text(longest)}, {factor / 1000:g}{_in_lane(lane)})"
-    if not plans:
-        return f"{name}({_parameters(name, own)})"
-    under = _as_operand(plans[0], None)
-    if name == "follow":
-        return f"{under}.then({spelt(plans[1])})"
-    if name == "gather":
-        return f'{under}.gather("{own[0]}")'
-    if name == "gate":
-        side, want, test, number = own
-        return f"{under}.{'while' if want else 'until'}_{side}({test}={number})"
-    if name == "jitter":
-        return f"{under}.jittered({own[1] / 1000:g}, {own[2] / 1000:g}{_in_lane(own[0])})"
-    return f"{under}.{_METHODS[name]}({', '.join(seconds_text(number) for number in own)})"
+    values = iter(own), iter(plans)
+    items = {item.letter: (item.unit, next(values[item.unit == "plan"])) for item in NODES[name].items}
+    for expression in language.expressions(name):
+        found = [_written(items, place, language, name) for place in _PLACE.finditer(expression)]
+        if None not in found:
+            rest = iter(found)
+            return _PLACE.sub(lambda _: str(next(rest)), expression)
+    raise AssertionError(f"no expression of the table can spell {tree!r}")
 
 
-def _in_lane(lane: int) -> str:
-    return f", lane={lane}" if lane else ""
+def _written(items: Dict[str, Tuple[str, Any]], place: re.Match[str], language: _Language, name: str) -> Optional[str]:
+    """An item in its place, or None where that can't spell it."""
+    letter, way = place.groups()
+    unit, value = items[letter]
+    if unit == "plan":
+        if way == "inner":
+            return _spelt(value, language)
+        return _operand(value, language, name if letter == "A" and _is_operator(name) else None)
+    if way == "ratio":
+        return language.ratio(value)
+    if way is not None:
+        return _WAYS[way](value)
+    return language.duration(value) if unit == "ms" else str(value)
 
 
-def _parameters(name: str, own: List[Any]) -> str:
-    if name in _PLAIN:
-        return ", ".join(str(number) for number in own)
-    return ", ".join(seconds_text(number) if index == 0 else str(number) for index, number in enumerate(own))
+def _is_operator(name: str) -> bool:
+    return NODES[name].python[0].startswith("{A} ")
 
 
-def _as_operand(tree: Any, before: Optional[str]) -> str:
-    """The expression in the place of an operand: in parentheses where it has an operator that is not `before`."""
+def _operand(tree: Any, language: _Language, before: Optional[str]) -> str:
+    """The expression in the place of an operand: in parentheses if it has an operator that is not `before`."""
     name = tree if isinstance(tree, str) else next(iter(tree))
-    text = spelt(tree)
-    return f"({text})" if name in _OPERATORS and name != before else text
+    text = _spelt(tree, language)
+    return f"({text})" if name != before and _is_operator(name) else text

@@ -9,7 +9,7 @@ from typing import TYPE_CHECKING, Any, Dict, List, Sequence, Tuple
 
 from .._time import seconds_text
 from ..policy import Policy
-from ..policy.rust_spelling import duration, spelt_in_rust
+from ..policy.spelling import duration, spelt_in_rust
 from ..quota import Terms
 from ..policy import builders
 from .parameters import Parameters, Span
