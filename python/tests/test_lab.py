@@ -28,7 +28,7 @@ from hikebox.lab.cookbook import COOKBOOK
 from hikebox.lab.players import BrokenOff, Players
 from hikebox.storms.code import in_command, in_python, in_scenario
 from hikebox.storms.parameters import SCENARIOS, Parameters, Slow, Span
-from hikebox.quota import Terms
+from hikebox.budgets.terms import Terms
 
 #: How long is waited for what has to happen, in seconds: on a machine with much else to do it takes long.
 _PATIENCE = 120

@@ -22,7 +22,7 @@ from hikebox import AsyncRetrying, Ending, Retrying, StoreError, TermsError, Usa
 from hikebox._engine.calls import MAX_TICKETS
 from hikebox._engine.leasing import Stored, lease_of_quota
 from hikebox.leased import FileStore, Leased, LeasedQuota, QuotaRange, RedisStore
-from hikebox.quota import Terms
+from hikebox.budgets.terms import Terms
 
 #: A window that no test sees the end of.
 LONG = 1_000_000.0

@@ -27,7 +27,7 @@ from hikebox import (
     state_of,
 )
 from hikebox.leased import FileStore, Leased, LeasedQuota, QuotaRange, Range
-from hikebox.quota import Terms
+from hikebox.budgets.terms import Terms
 
 #: A window that no test sees the end of.
 LONG = 1_000_000.0

@@ -22,7 +22,7 @@ from hikebox.cli.storm_command import wanted_of
 from hikebox.storms.cores import play_all
 from hikebox.storms.picture import storm_picture
 from hikebox.storms.parameters import RANGES
-from hikebox.quota import Terms
+from hikebox.budgets.terms import Terms
 
 SVG = "{http://www.w3.org/2000/svg}"
 BACK_OFF = recurs(5) & exponential(0.1, 2).cap(1).jittered()

@@ -22,7 +22,7 @@ from hikebox.lab.cookbook import COOKBOOK
 from hikebox.policy.spelling import spelt_in_rust
 from hikebox.storms.code import in_rust
 from hikebox.storms.parameters import SCENARIOS, Parameters, Slow, Span
-from hikebox.quota import Terms
+from hikebox.budgets.terms import Terms
 
 FILE = TOP / "rust" / "tests" / "spellings.rs"
 RANDOM = runpy.run_path(str(TOP / "tests" / "random_policies.py"))

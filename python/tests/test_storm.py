@@ -23,7 +23,7 @@ from hikebox import Budget, Policy, Quota, Storm, StormError, exponential, milli
 from hikebox.cli.storm_options import limits_of, parameters_of, tickets_of
 from hikebox.storms.parameters import SCENARIOS, Parameters, Slow, Span
 from hikebox.errors import BudgetError
-from hikebox.quota import Terms
+from hikebox.budgets.terms import Terms
 from hikebox.storm import play
 
 sys.path.insert(0, str(TOP / "tests"))

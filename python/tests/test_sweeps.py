@@ -19,7 +19,7 @@ from hikebox.cli.main import main
 from hikebox.cli.scenario import scenario_of
 from hikebox.storms.axes import AXES, values_of
 from hikebox.storms.parameters import Parameters, Slow, Span
-from hikebox.quota import Terms
+from hikebox.budgets.terms import Terms
 from hikebox.sweeps import Sweep, find, sweep
 
 BRIEF: Dict[str, Any] = {"seconds": 5, "outage": (1, 2), "rate": 100, "capacity": 120}

@@ -4,8 +4,8 @@ from __future__ import annotations
 
 from functools import partial
 
-from ._engine.handles import Pass
 from ._engine.calls import MAX_TICKETS
+from ._engine.handles import Pass
 from .budgets.granting import Granting
 from .budgets.passes import Passes
 from .budgets.tickets import Drawn, Refusal, RefusalReason, Ticket

@@ -2,58 +2,25 @@
 
 from __future__ import annotations
 
-import math
 import time
 from ctypes import c_uint64
 from dataclasses import dataclass, field
 from functools import partial
-from typing import Callable, NamedTuple, Optional
+from typing import Callable, Optional
 
 from ._engine.handles import Pass
-from ._engine.leasing import quota_allows
-from ._engine.calls import MIN_PERIOD, MAX_SHARE, MAX_TICKETS
-from ._time import MAX_NUMBER, Duration, moment, seconds, seconds_text
+from ._time import MAX_NUMBER, Duration, moment
 from .budgets.drawing import ByPass, Drawing
 from .budgets.granting import Granting
 from .budgets.passes import Passes
+from .budgets.terms import CountsRequests, Terms, requests_of, terms_of
 from .budgets.tickets import Drawn, Refusal, RefusalReason, Ticket, checked_ticket
-from .errors import EngineError, PolicyError, TermsError
+from .errors import EngineError
 
-__all__ = ["Quota", "Terms", "Usage", "requests_of", "terms_of"]
+__all__ = ["Quota", "Usage"]
 
 #: The engine's number of a ticket is its window times this, and its number there.
 WINDOW = 2**32
-
-
-class Terms(NamedTuple):
-    """What a quota is made with, in the engine's units."""
-
-    #: The tickets of each window that ask for no request.
-    reserve: int
-    #: The thousandths of a ticket that each request adds to its window.
-    share: int
-    #: How many milliseconds a window is long.
-    period: int
-
-    def allowed(self, asked: int) -> int:
-        """How many tickets a window of so many requests gives.
-
-        >>> Terms(10, 200, 1000).allowed(4), Terms(10, 200, 1000).allowed(5)
-        (10, 11)
-        """
-        return quota_allows(self.reserve, self.share, asked)
-
-    def changed(self, reserve: Optional[int], share: Optional[float]) -> Terms:
-        """The same with another reserve and share, where these are not None."""
-        return Terms(
-            self.reserve if reserve is None else _reserve_of(reserve),
-            self.share if share is None else _share_of(share),
-            self.period,
-        )
-
-    def __str__(self) -> str:
-        share = repr(self.share // 1000 if self.share % 1000 == 0 else self.share / 1000)
-        return f"{self.reserve}, {share}, per={seconds_text(self.period)}"
 
 
 @dataclass(frozen=True)
@@ -77,7 +44,7 @@ class Usage:
     next: Optional[float] = field(default=None, compare=False)
 
 
-class Quota(Granting):
+class Quota(Granting, CountsRequests):
     """Retries for a service: each window of time grants no more than a reserve and a share of the requests made in it.
 
     `reserve`
@@ -156,16 +123,6 @@ class Quota(Granting):
     def per(self) -> float:
         """How many seconds a window is long."""
         return self.terms.period / 1000
-
-    @property
-    def counts_successes(self) -> bool:
-        """Whether a call counts as a request where it succeeds, and not at its first attempt."""
-        return self._counts_successes
-
-    @property
-    def returns_tickets(self) -> bool:
-        """Whether a call that succeeds after retries hands the ticket of the last one back."""
-        return self._returns_tickets
 
     @property
     def carries(self) -> bool:
@@ -270,8 +227,7 @@ class Quota(Granting):
         return Usage(window, asked, given, left, next=after / 1000)
 
     def expression(self) -> str:
-        options = ("counts_successes", "returns_tickets", "carries")
-        return f"Quota({self.terms}{''.join(f', {name}=True' for name in options if getattr(self, name))})"
+        return f"Quota({self.terms}{self.switches()}{', carries=True' * self._carries})"
 
     def moment_of(self, clock: float) -> int:
         """The moment at which a retry begins that begins at so many seconds of the quota's clock."""
@@ -297,51 +253,3 @@ def _refusal(next_window: int) -> Refusal:
 
 def _first_pass(clock: Callable[[], float], in_force: _InForce, carries: bool) -> Pass:
     return Pass.of_quota(moment(clock()), *in_force.terms, carries)
-
-
-def terms_of(reserve: int, share: float, per: Duration) -> Terms:
-    """The terms of a quota, or a `TermsError`.
-
-    >>> from datetime import timedelta
-    >>> terms_of(10, 0.25, timedelta(minutes=1))
-    Terms(reserve=10, share=250, period=60000)
-    """
-    return Terms(_reserve_of(reserve), _share_of(share), _period_of(per))
-
-
-def requests_of(requests: int) -> int:
-    """A number of requests that are counted at once, or a `TermsError`."""
-    if isinstance(requests, bool) or not isinstance(requests, int):
-        raise TypeError(f"expected a whole number of requests, got {requests!r}")
-    if not 0 <= requests <= MAX_TICKETS:
-        raise TermsError(f"from 0 to {MAX_TICKETS} requests are counted at once, not {requests}")
-    return requests
-
-
-def _reserve_of(reserve: int) -> int:
-    if isinstance(reserve, bool) or not isinstance(reserve, int):
-        raise TypeError(f"expected a whole number of retries as the reserve, got {reserve!r}")
-    if not 0 <= reserve <= MAX_TICKETS:
-        raise TermsError(f"a reserve is from 0 to {MAX_TICKETS} retries a window, not {reserve}")
-    return reserve
-
-
-def _share_of(share: float) -> int:
-    if isinstance(share, bool) or not isinstance(share, (int, float)):
-        raise TypeError(f"expected a number of retries a request as the share, got {share!r}")
-    if not (math.isfinite(share) and 0 <= share <= MAX_SHARE / 1000):
-        raise TermsError(f"a share is from 0 to {MAX_SHARE // 1000} retries a request, not {share!r}")
-    thousandths = round(share * 1000)
-    if share > 0 and thousandths == 0:
-        raise TermsError(f"a share is counted in thousandths of a retry a request, and {share!r} is less than one")
-    return thousandths
-
-
-def _period_of(per: Duration) -> int:
-    try:
-        period = seconds(per)
-    except PolicyError as error:
-        raise TermsError(f"the window of a quota: {error.hint}") from None
-    if period < MIN_PERIOD:
-        raise TermsError(f"the window of a quota is at least {MIN_PERIOD} ms long, not {per!r}")
-    return period

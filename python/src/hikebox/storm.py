@@ -6,13 +6,14 @@ import json
 from dataclasses import dataclass
 from typing import Any, Dict, List, NamedTuple, Optional, Tuple, Union
 
-from ._engine.handles import Totals, play_storm
 from ._engine.calls import MAX_TICKETS
+from ._engine.handles import Totals, play_storm
 from ._time import Duration, seconds as in_milliseconds
 from .budget import Budget
+from .budgets.terms import Terms
 from .errors import PolicyError, StormError
 from .policy import Policy
-from .quota import Quota, Terms
+from .quota import Quota
 from .storms.parameters import MAX_SEED, Parameters, Slow, Span
 
 __all__ = ["Storm", "StormRow", "StormTotals", "storm"]

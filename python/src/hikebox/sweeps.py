@@ -9,11 +9,11 @@ from dataclasses import dataclass
 from typing import Any, Callable, Dict, Iterable, List, Optional, Sequence, Tuple, Union
 
 from ._time import seconds as in_milliseconds
+from .budgets.terms import Terms
 from .errors import StormError
 from .policy import Policy
 from .policy.builders import recurs
 from .policy.checks import whole
-from .quota import Terms
 from .storm import Storm, play
 from .storms.axes import AXES, MAX_VALUES, MEASURES, NEVER
 from .storms.cores import Told, play_all, silent

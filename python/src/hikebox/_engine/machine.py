@@ -5,8 +5,8 @@ from __future__ import annotations
 from ctypes import byref, c_uint64
 from typing import Any, Dict, List, Optional, Tuple
 
-from .handles import Handle, Pass, PolicyHandle
 from .calls import NO_DEADLINE, OK, OVER, TOO_MANY_PASSES, WAIT, give_memory_back, library, refused, unchecked
+from .handles import Handle, Pass, PolicyHandle
 from .structs import Next, Words
 
 __all__ = ["Loan", "Machine", "end_retry", "is_crowded", "lend_machine", "park", "resumed", "take_machine_back"]

@@ -23,6 +23,21 @@ __all__ = ["DRAIN_BYTES", "DRAIN_SECONDS", "Call", "PolicyClient", "drive", "dri
 DRAIN_BYTES = 65536
 DRAIN_SECONDS = 0.5
 
+#: What `help()` says of each adapter, after its own text.
+_COMMON = """
+    `on`, `on_status`
+        The errors and the statuses to retry: broken connections and timeouts, and 429, 502, 503, 504. A 413 is retried
+        too if it has a `Retry-After`.
+    `methods`
+        The methods that may be repeated. A request with another method, or with a body that can't be sent again, such
+        as a stream, is retried only if no connection was made.
+
+    It takes the options of `Retrying` too, such as `budget` and `deadline`. Each wait is the policy's, or the
+    `Retry-After` of the response if that is longer, up to `max_retry_after` seconds. The policy's input is the status
+    of the response. When the retry ends, you get the last response, or the last error is raised. With a `deadline`, the
+    time that is left is the timeout of each attempt, unless the client's own is shorter.
+    """
+
 #: Where a request keeps the call that it belongs to.
 _KEY = "hikebox"
 
@@ -86,6 +101,10 @@ class PolicyClient:
     #: What retries them, and what it retries where nothing is said.
     _KIND: ClassVar[Type[BaseRetrying]]
     _ON: ClassVar[Any]
+
+    def __init_subclass__(cls, **how: Any) -> None:
+        super().__init_subclass__(**how)
+        cls.__doc__ = f"{(cls.__doc__ or str()).rstrip()}\n{_COMMON}"
 
     def __init__(
         self,
@@ -221,27 +240,8 @@ def _settled(steps: Union[bool, Steps[bool]]) -> Steps[bool]:
     return steps if isinstance(steps, bool) else (yield from steps)
 
 
-def drive(steps: Generator[Ask, Any, Any]) -> Any:
-    """Does what the steps ask for, and gives their answer. What is raised meanwhile they hear of."""
-    answer: Any = None
-    error: Optional[BaseException] = None
-    try:
-        while True:
-            function, argument = steps.send(answer) if error is None else steps.throw(error)
-            answer, error = None, None
-            try:
-                answer = not_awaitable(function(argument))
-            except BaseException as raised:
-                error = raised
-    except StopIteration as done:
-        return done.value
-    finally:
-        del error
-        steps.close()
-
-
-async def drive_async(steps: Generator[Ask, Any, Any]) -> Any:
-    """The same, where some of it is awaited."""
+async def drive_async(steps: Generator[Ask, Any, Any], awaits: bool = True) -> Any:
+    """Does what the steps ask for, and returns their answer. They hear of what is raised meanwhile."""
     answer: Any = None
     error: Optional[BaseException] = None
     try:
@@ -250,7 +250,9 @@ async def drive_async(steps: Generator[Ask, Any, Any]) -> Any:
             answer, error = None, None
             try:
                 answer = function(argument)
-                if hasattr(type(answer), "__await__"):
+                if not awaits:
+                    not_awaitable(answer)
+                elif hasattr(type(answer), "__await__"):
                     answer = await answer
             except BaseException as raised:
                 error = raised
@@ -259,3 +261,11 @@ async def drive_async(steps: Generator[Ask, Any, Any]) -> Any:
     finally:
         del error
         steps.close()
+
+
+def drive(steps: Generator[Ask, Any, Any]) -> Any:
+    """The same where nothing is awaited, so that the coroutine ends at its first step."""
+    try:
+        drive_async(steps, awaits=False).send(None)
+    except StopIteration as done:
+        return done.value

@@ -36,22 +36,11 @@ _KEPT = (bytes, bytearray, str, dict, list, tuple, type(None))
 class PolicySession(PolicyClient):
     """Makes the requests of a session, and retries them by a policy, under a budget.
 
-    `on`, `on_status`
-        The errors and the statuses to retry: broken connections and timeouts, and 429, 502, 503, 504. A 413 is retried
-        too if it has a `Retry-After`.
-    `methods`
-        The methods that may be repeated. A request with another method, or with a stream or a form as its body, is
-        retried only if no connection was made.
     `read_up_to`
         A body with a `Content-Length` up to this many bytes is read within the attempt, so a body that breaks is
         retried. None reads every body, also an endless one, such as a stream of events.
 
-    It takes the parameters of `AsyncRetrying` too, such as `budget` and `deadline`. Each wait is the policy's, or the
-    `Retry-After` of the response where that is longer, up to `max_retry_after` seconds. The policy's input is the
-    status of the response. When the retry ends, you get the last response, or the last error is raised.
-
-    With a `deadline`, the time that is left is the timeout of each attempt, unless the client's own is shorter. An
-    attempt follows redirects, and a retry begins with the first request again.
+    An attempt follows redirects, and a retry begins with the first request again.
 
     Statuses are retried before `raise_for_status`, of the session or the request, raises for the last one. You close
     the session yourself.

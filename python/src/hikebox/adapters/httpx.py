@@ -91,22 +91,11 @@ class PolicyTransport(_PolicyTransport, httpx.BaseTransport):
 
     `transport`
         Makes the requests; `httpx.HTTPTransport()` by default.
-    `on`, `on_status`
-        The errors and the statuses to retry: broken connections and timeouts, and 429, 502, 503, 504. A 413 is retried
-        too if it has a `Retry-After`.
-    `methods`
-        The methods that may be repeated. A request with another method, or with a stream as its body, is retried only
-        if no connection was made.
     `read_up_to`
         A body with a `Content-Length` up to this many bytes is read within the attempt, so a body that breaks is
         retried. None reads every body, also an endless one, such as a stream of events.
 
-    It takes the parameters of `Retrying` too, such as `budget` and `deadline`. Each wait is the policy's, or the
-    `Retry-After` of the response where that is longer, up to `max_retry_after` seconds. The policy's input is the
-    status of the response. When the retry ends, you get the last response, or the last error is raised.
-
-    With a `deadline`, the time that is left is the timeout of each attempt, unless the client's own is shorter. The
-    requests of a redirect share the deadline and the number of retries, and count as one request of a quota.
+    The requests of a redirect share the deadline and the number of retries, and count as one request of a quota.
     """
 
     _KIND = Retrying
@@ -132,22 +121,15 @@ class PolicyTransport(_PolicyTransport, httpx.BaseTransport):
         return response
 
     def _let_go(self, request: httpx.Request, response: httpx.Response) -> None:
-        timeouts = request.extensions["timeout"]
-        timeouts.most = DRAIN_SECONDS
-        until = time.monotonic() + DRAIN_SECONDS
-        kept = _Kept()
-        try:
-            for part in response.stream:
-                if kept.is_too_large(part) or time.monotonic() > until:
-                    break
-            else:
-                kept.is_whole = True
-        except httpx.HTTPError:
-            pass  # nobody wants it
-        finally:
-            response.stream.close()
-            timeouts.most = None
-        response.stream = kept.in_place_of(response.stream)
+        with _Kept(request, response) as kept:
+            try:
+                for part in response.stream:
+                    if kept.has_enough_of(part):
+                        break
+                else:
+                    kept.is_whole = True
+            finally:
+                response.stream.close()
 
     def close(self) -> None:
         """Closes the transport that makes the requests."""
@@ -180,22 +162,15 @@ class AsyncPolicyTransport(_PolicyTransport, httpx.AsyncBaseTransport):
         return response
 
     async def _let_go(self, request: httpx.Request, response: httpx.Response) -> None:
-        timeouts = request.extensions["timeout"]
-        timeouts.most = DRAIN_SECONDS
-        until = time.monotonic() + DRAIN_SECONDS
-        kept = _Kept()
-        try:
-            async for part in response.stream:
-                if kept.is_too_large(part) or time.monotonic() > until:
-                    break
-            else:
-                kept.is_whole = True
-        except httpx.HTTPError:
-            pass  # nobody wants it
-        finally:
-            await response.stream.aclose()
-            timeouts.most = None
-        response.stream = kept.in_place_of(response.stream)
+        with _Kept(request, response) as kept:
+            try:
+                async for part in response.stream:
+                    if kept.has_enough_of(part):
+                        break
+                else:
+                    kept.is_whole = True
+            finally:
+                await response.stream.aclose()
 
     async def aclose(self) -> None:
         """Closes the transport that makes the requests."""
@@ -203,22 +178,32 @@ class AsyncPolicyTransport(_PolicyTransport, httpx.AsyncBaseTransport):
 
 
 class _Kept:
-    """A body that was let go: it can be read where it is short, should no other attempt follow after all."""
+    """A body that is let go: it can be read where it is short, should no other attempt follow after all."""
 
-    def __init__(self) -> None:
+    def __init__(self, request: httpx.Request, response: httpx.Response) -> None:
+        self.response = response
+        self.timeouts: _Timeouts = request.extensions["timeout"]
         self.parts: List[bytes] = []
         self.size = 0
         self.is_whole = False
 
-    def is_too_large(self, part: bytes) -> bool:
-        """Takes one more part: whether it is too much to keep."""
+    def __enter__(self) -> _Kept:
+        self.timeouts.most = DRAIN_SECONDS
+        self.until = time.monotonic() + DRAIN_SECONDS
+        return self
+
+    def has_enough_of(self, part: bytes) -> bool:
+        """Takes one more part: whether that is too much to keep, or took too long."""
         self.parts.append(part)
         self.size += len(part)
-        return self.size > DRAIN_BYTES
+        return self.size > DRAIN_BYTES or time.monotonic() > self.until
 
-    def in_place_of(self, stream: Any) -> Any:
-        """The body, or where it was not read to its end, the stream that was closed."""
-        return httpx.ByteStream(b"".join(self.parts)) if self.is_whole else stream
+    def __exit__(self, kind: Any, error: Optional[BaseException], trace: Any) -> bool:
+        self.timeouts.most = None
+        if self.is_whole:
+            # (where it was not read to its end, the stream that was closed stays)
+            self.response.stream = httpx.ByteStream(b"".join(self.parts))
+        return isinstance(error, httpx.HTTPError)  # of a body that nobody wants
 
 
 class _Body:

@@ -48,24 +48,13 @@ class _Hop:
 class PolicyAdapter(PolicyClient, HTTPAdapter):
     """Retries a session's requests by a policy, under a budget.
 
-    `on`, `on_status`
-        The errors and the statuses to retry: broken connections and timeouts, and 429, 502, 503, 504. A 413 is retried
-        too if it has a `Retry-After`.
-    `methods`
-        The methods that may be repeated. A request with another method, or with a body that can't be sent again, is
-        retried only if no connection was made.
     `raise_on_status`
         Whether to raise `requests.exceptions.RetryError` if the last response has such a status.
 
     The body is read within the attempt, so a body that breaks is retried, unless you asked for `stream=True`. The
     adapter takes `pool_connections`, `pool_maxsize` and `pool_block` of `HTTPAdapter`.
 
-    It takes the parameters of `Retrying` too, such as `budget` and `deadline`. Each wait is the policy's, or the
-    `Retry-After` of the response where that is longer, up to `max_retry_after` seconds. The policy's input is the
-    status of the response. When the retry ends, you get the last response, or the last error is raised.
-
-    With a `deadline`, the time that is left is the timeout of each attempt, unless the client's own is shorter. The
-    requests of a redirect share the deadline and the number of retries, and count as one request of a quota. You
+    The requests of a redirect share the deadline and the number of retries, and count as one request of a quota. You
     can copy a session with an adapter, and pickle it if its budget can be pickled.
     """
 

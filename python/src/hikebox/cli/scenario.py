@@ -6,9 +6,9 @@ import json
 from typing import Any, List, NamedTuple, Optional, Tuple, Union
 
 from .._engine.calls import MAX_TICKETS
+from ..budgets.terms import Terms, terms_of
 from ..errors import BudgetError, PolicyError, StormError
 from ..policy import Policy
-from ..quota import Terms, terms_of
 from ..storms.parameters import RANGES, SCENARIOS, Parameters, Slow, Span
 from .values import terms
 

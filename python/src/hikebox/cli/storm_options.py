@@ -8,8 +8,8 @@ from typing import Any, List, Optional, Tuple, Union
 
 from .._engine.calls import MAX_TICKETS
 from .._svg import fitted
+from ..budgets.terms import Terms, terms_of
 from ..errors import BudgetError
-from ..quota import Terms, terms_of
 from ..storms.axes import MEASURES
 from ..storms.parameters import RANGES, Parameters, Slow, Span
 from . import values

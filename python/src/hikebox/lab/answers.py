@@ -5,11 +5,11 @@ from __future__ import annotations
 from typing import Any, Dict, List, Optional, Sequence, Tuple, Union
 
 from .._svg import MIN_WIDTH, MAX_WIDTH
+from ..budgets.terms import Terms
 from ..cli.storm_options import tickets_of
 from ..errors import BudgetError, StormError
 from ..policy import Policy
 from ..policy.picture import plan_picture
-from ..quota import Terms
 from ..storm import Storm, play
 from ..storms.axes import AXES
 from ..storms.code import in_command, in_python, in_rust, in_scenario

@@ -9,9 +9,9 @@ import secrets
 import time
 from typing import Callable, Iterator, Optional, Union
 
-from ..errors import StoreError
-from ..quota import Terms
 from .._engine.leasing import Stored, lease_of_budget, lease_of_quota
+from ..budgets.terms import Terms
+from ..errors import StoreError
 from .slots import NO_BOOT, Copy, Slot, make_slot, slot_path, sync_folder, unpack
 from .stores import Present, QuotaRange, Range, checked_name, present_window
 

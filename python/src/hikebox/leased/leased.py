@@ -5,11 +5,12 @@ from __future__ import annotations
 import threading
 from typing import Callable, Optional
 
-from .._time import Duration, seconds, seconds_text
-from ..errors import TermsError
-from ..quota import Terms, Usage, requests_of, terms_of
-from .leases import Leases
 from .._engine.leasing import Grant
+from .._time import Duration, seconds, seconds_text
+from ..budgets.terms import CountsRequests, Terms, requests_of, terms_of
+from ..errors import TermsError
+from ..quota import Usage
+from .leases import Leases
 from .stores import QuotaRange, QuotaStore, Range, Store, uptime
 
 __all__ = ["Leased", "LeasedQuota"]
@@ -62,7 +63,7 @@ class Leased(Leases):
         return f"Leased({self.store!r}, {self.name!r}, limit={self.limit}{per}, lease={self.lease})"
 
 
-class LeasedQuota(Leases):
+class LeasedQuota(Leases, CountsRequests):
     """A quota that all processes with the same store and name share. Threads may share it too.
 
     `reserve`, `share`, `per`
@@ -116,16 +117,6 @@ class LeasedQuota(Leases):
         #: Whether the store had no ticket left when it was asked last, and by which terms it was asked.
         self._spent = False
         self._asked_by = self.terms
-
-    @property
-    def counts_successes(self) -> bool:
-        """Whether a call counts as a request where it succeeds, and not at its first attempt."""
-        return self._counts_successes
-
-    @property
-    def returns_tickets(self) -> bool:
-        """Whether a call that succeeds after retries hands the ticket of the last one back."""
-        return self._returns_tickets
 
     def set_terms(self, reserve: Optional[int] = None, share: Optional[float] = None) -> None:
         """Sets the reserve and the share that this process names to the store, from its next lease on. Each process
@@ -190,8 +181,7 @@ class LeasedQuota(Leases):
 
     def __repr__(self) -> str:
         lease = "" if self.lease is None else f", lease={self.lease}"
-        options = "".join(f", {name}=True" for name in ("counts_successes", "returns_tickets") if getattr(self, name))
-        return f"LeasedQuota({self.store!r}, {self.name!r}, {self.terms}{lease}{options})"
+        return f"LeasedQuota({self.store!r}, {self.name!r}, {self.terms}{lease}{self.switches()})"
 
 
 def _checked_lease(lease: Optional[int]) -> Optional[int]:

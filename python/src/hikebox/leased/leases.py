@@ -7,12 +7,12 @@ import math
 import threading
 from typing import Any, Awaitable, Callable, ClassVar, List, Optional, Union
 
+from .._engine.leasing import Grant, LeasedPass, LeasedTicket
 from .._forks import begins_anew_in_a_child
 from .._time import MAX_NUMBER, FLOAT_ERROR
 from ..budgets.drawing import Drawing
 from ..budgets.tickets import Drawn, Refusal, RefusalReason, Ticket, checked_ticket
 from ..errors import StoreError, StoreLost, TicketError
-from .._engine.leasing import Grant, LeasedPass, LeasedTicket
 from .stores import Range, checked_name
 
 __all__ = ["Leases", "Moments"]

@@ -6,9 +6,9 @@ import contextlib
 from typing import Any, Callable, Iterator, List, Optional, Tuple
 
 from .._engine.calls import MAX_TICKETS
-from ..errors import StoreError, StoreLost
-from ..quota import Terms
 from .._engine.leasing import Stored, lease_of_budget
+from ..budgets.terms import Terms
+from ..errors import StoreError, StoreLost
 from .stores import Present, QuotaRange, Range, present_window
 
 __all__ = ["GRANT", "RedisStore"]

@@ -18,9 +18,9 @@ import time
 import zlib
 from typing import NamedTuple, Optional
 
+from .._engine.leasing import Stored
 from .._forks import begins_anew_in_a_child, no_fork
 from ..errors import StoreError, StoreLost
-from .._engine.leasing import Stored
 
 __all__ = ["NO_BOOT", "SIZE", "Copy", "Slot", "make_slot", "slot_path", "unpack"]
 

@@ -5,8 +5,8 @@ from __future__ import annotations
 import time
 from typing import Callable, NamedTuple, Optional, Protocol
 
+from ..budgets.terms import Terms
 from ..errors import TermsError
-from ..quota import Terms
 
 __all__ = ["Present", "QuotaRange", "QuotaStore", "Range", "Store", "checked_name", "present_window", "uptime"]
 

@@ -6,9 +6,9 @@ import json
 from ctypes import c_size_t
 from typing import Any, Callable, Dict, Optional, Tuple
 
-from ..errors import Fault, PolicyError
-from .._engine.handles import PolicyHandle, Spelt
 from .._engine.calls import NOT_A_POLICY, NOT_JSON, OUT_OF_RANGE, TOO_DEEP, TOO_MANY
+from .._engine.handles import PolicyHandle, Spelt
+from ..errors import Fault, PolicyError
 from .nodes import NODES
 
 __all__ = ["Plan"]

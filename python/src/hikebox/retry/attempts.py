@@ -8,7 +8,7 @@ from typing import TYPE_CHECKING, Any, Optional, Tuple, Type, Union
 
 from .course import Course, Steps
 from .deadline import Limit, enter, leave
-from .drivers import advance, answer_of, not_awaitable, settle, settle_async
+from .drivers import advance, answer_of, next_begins, settle, settle_async
 from .state import Outcome, RetryState
 
 if TYPE_CHECKING:
@@ -150,12 +150,7 @@ class Attempts(_BaseAttempts):
             if self.is_open:
                 settle(self.told())
             wait, self.wait = self.wait, None
-            if wait is not None:
-                if wait > 0.0:
-                    not_awaitable(course.settings.sleeps(wait))
-                if course.goes_on():
-                    return self.begins()
-            elif settle(course.begins()):
+            if next_begins(course, wait):
                 return self.begins()
         except BaseException:
             course.close()

@@ -4,7 +4,7 @@ from __future__ import annotations
 
 from inspect import unwrap
 from types import CoroutineType
-from typing import TYPE_CHECKING, Any, Callable, Tuple, TypeVar, Union
+from typing import TYPE_CHECKING, Any, Callable, Optional, Tuple, TypeVar, Union
 
 from .course import Course, Steps
 from .deadline import enter, leave
@@ -13,7 +13,17 @@ from .kinds import is_async
 if TYPE_CHECKING:
     from ..retrying import BaseRetrying
 
-__all__ = ["advance", "answer_of", "not_awaitable", "refuse_awaitable", "run", "run_async", "settle", "settle_async"]
+__all__ = [
+    "advance",
+    "answer_of",
+    "next_begins",
+    "not_awaitable",
+    "refuse_awaitable",
+    "run",
+    "run_async",
+    "settle",
+    "settle_async",
+]
 
 Answer = TypeVar("Answer")
 
@@ -86,20 +96,24 @@ def run(owner: BaseRetrying, fn: Callable[..., Any], args: Any, kwargs: Any) -> 
                         settings.deposit_won()
                     return result
                 settle(course.returned(result))
-            if wait is None:
-                goes_on = settle(course.begins())
-                continue
-            if wait > 0.0:
-                slept = settings.sleeps(wait)
-                if slept is not None:
-                    not_awaitable(slept)
-            goes_on = course.goes_on()
+            goes_on = next_begins(course, wait)
         return None if course is None else answer_of(course)
     finally:
         if token is not None:
             leave(token)
         if course is not None:
             course.close()
+
+
+def next_begins(course: Course, wait: Optional[float]) -> Any:
+    """Waits so many seconds after an attempt that failed, or does what the course asks for: whether the next begins."""
+    if wait is None:
+        return settle(course.begins())
+    if wait > 0.0:
+        slept = course.settings.sleeps(wait)
+        if slept is not None:
+            not_awaitable(slept)
+    return course.goes_on()
 
 
 async def run_async(owner: BaseRetrying, fn: Callable[..., Any], args: Any, kwargs: Any) -> Any:
@@ -113,7 +127,7 @@ async def run_async(owner: BaseRetrying, fn: Callable[..., Any], args: Any, kwar
     try:
         if course is None and settings.deposit is not None:
             settings.deposit()
-        goes_on = True if course is None else await settle_async(course.begins())
+        goes_on = course is None or await settle_async(course.begins())
         while goes_on:
             wait = None
             try:
@@ -122,8 +136,7 @@ async def run_async(owner: BaseRetrying, fn: Callable[..., Any], args: Any, kwar
             except BaseException as error:
                 if course is None:
                     course = Course(owner, fn, args, kwargs, start, limit)
-                if awaitable is None and course.state.attempt_number == 1 and isinstance(error, Exception):
-                    _refuse_function(fn, settings.repeats, error)
+                _look_at_function(course, awaitable, error)
                 wait = course.fails(error)
                 if not await settle_async(course.raised(error)) if wait is None else wait < 0.0:
                     raise
@@ -136,23 +149,27 @@ async def run_async(owner: BaseRetrying, fn: Callable[..., Any], args: Any, kwar
                         settings.deposit_won()
                     return result
                 await settle_async(course.returned(result))
-            if wait is None:
-                awaitable = None  # which nobody needs while it waits
-                goes_on = await settle_async(course.begins())
-                continue
-            awaitable = settings.sleeps(wait) if wait > 0.0 else settings.pause and settings.pause(0)
-            if hasattr(type(awaitable), "__await__"):
-                if wait > 0.0:
-                    course.parks()
+            awaitable = None if wait is None else _waits(course, wait)  # (and no longer what was awaited)
+            if awaitable is not None:
                 await awaitable
-            awaitable = None
-            goes_on = course.goes_on()
+            goes_on = await settle_async(course.begins()) if wait is None else course.goes_on()
         return None if course is None else answer_of(course)
     finally:
         if token is not None:
             leave(token)
         if course is not None:
             course.close()
+
+
+def _waits(course: Course, wait: float) -> Any:
+    """Begins to wait so many seconds, or lets other coroutines go on: what is to be awaited for that, or None."""
+    settings = course.settings
+    awaitable = settings.sleeps(wait) if wait > 0.0 else settings.pause and settings.pause(0)
+    if not hasattr(type(awaitable), "__await__"):
+        return None
+    if wait > 0.0:
+        course.parks()
+    return awaitable
 
 
 _NOT_AWAITABLE = object()
@@ -182,10 +199,12 @@ def refuse_awaitable(what: str, awaitable: Any, repeats: bool = False) -> None:
     raise TypeError(f"{what} returned a {type(awaitable).__name__}, which is not awaited here: use {awaits}")
 
 
-def _refuse_function(fn: Any, repeats: bool, error: Exception) -> None:
+def _look_at_function(course: Course, awaitable: Any, error: BaseException) -> None:
     """Refuses a function that raised before it returned anything to await, and is not a coroutine function."""
-    if not is_async(unwrap(fn)):
-        plain = _plain(repeats)
+    fn: Any = course.state.fn
+    state = course.state
+    if awaitable is None and state.attempt_number == 1 and isinstance(error, Exception) and not is_async(unwrap(fn)):
+        plain = _plain(course.settings.repeats)
         raise TypeError(f"{fn!r} raised before it returned anything to await: {plain} is for functions") from error
 
 

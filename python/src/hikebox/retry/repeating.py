@@ -7,8 +7,8 @@ from typing import Any, Callable, Dict, cast
 from ..retrying import AsyncRetrying, BaseRetrying, Retrying, decorator, look_at_names
 from .drivers import not_awaitable
 from .kinds import is_async, look_at_function
-from .retried import Decorator
 from .options import DEFAULTS, PolicyLike
+from .retried import Decorator
 
 __all__ = ["AsyncRepeating", "Repeating", "poll_until", "repeat"]
 

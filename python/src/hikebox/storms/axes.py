@@ -6,8 +6,8 @@ import difflib
 import re
 from typing import TYPE_CHECKING, Any, Callable, Dict, List, NamedTuple, Optional, Tuple
 
+from ..budgets.terms import Terms
 from ..errors import StormError
-from ..quota import Terms
 from .parameters import RANGES, Parameters, Span
 
 if TYPE_CHECKING:

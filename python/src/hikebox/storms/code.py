@@ -8,10 +8,10 @@ import shlex
 from typing import TYPE_CHECKING, Any, Dict, List, Sequence, Tuple
 
 from .._time import seconds_text
+from ..budgets.terms import Terms
 from ..policy import Policy
-from ..policy.spelling import duration, spelt_in_rust
-from ..quota import Terms
 from ..policy import builders
+from ..policy.spelling import duration, spelt_in_rust
 from .parameters import Parameters, Span
 
 if TYPE_CHECKING:

@@ -4,10 +4,10 @@ from __future__ import annotations
 
 from typing import Any, Dict, List, NamedTuple, Optional, Tuple, Union
 
-from ..errors import StormError
-from ..quota import Terms
 from .._engine.calls import ON_BUDGET, ON_QUOTA
 from .._engine.structs import Storm
+from ..budgets.terms import Terms
+from ..errors import StormError
 
 __all__ = ["MAX_SEED", "RANGES", "SCENARIOS", "Parameters", "Slow", "Span", "limit_text", "tickets_text"]
 

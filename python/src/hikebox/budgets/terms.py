@@ -1,0 +1,115 @@
+"""The terms of quotas, and what `Quota` and `LeasedQuota` have in common."""
+
+from __future__ import annotations
+
+import math
+from typing import NamedTuple, Optional
+
+from .._engine.calls import MAX_SHARE, MAX_TICKETS, MIN_PERIOD
+from .._engine.leasing import quota_allows
+from .._time import Duration, seconds, seconds_text
+from ..errors import PolicyError, TermsError
+
+__all__ = ["CountsRequests", "Terms", "requests_of", "terms_of"]
+
+
+class Terms(NamedTuple):
+    """What a quota is made with, in the engine's units."""
+
+    #: The tickets of each window that ask for no request.
+    reserve: int
+    #: The thousandths of a ticket that each request adds to its window.
+    share: int
+    #: How many milliseconds a window is long.
+    period: int
+
+    def allowed(self, asked: int) -> int:
+        """How many tickets a window of so many requests gives.
+
+        >>> Terms(10, 200, 1000).allowed(4), Terms(10, 200, 1000).allowed(5)
+        (10, 11)
+        """
+        return quota_allows(self.reserve, self.share, asked)
+
+    def changed(self, reserve: Optional[int], share: Optional[float]) -> Terms:
+        """The same with another reserve and share, where these are not None."""
+        return Terms(
+            self.reserve if reserve is None else _reserve_of(reserve),
+            self.share if share is None else _share_of(share),
+            self.period,
+        )
+
+    def __str__(self) -> str:
+        share = repr(self.share // 1000 if self.share % 1000 == 0 else self.share / 1000)
+        return f"{self.reserve}, {share}, per={seconds_text(self.period)}"
+
+
+class CountsRequests:
+    """How a quota counts requests, and whether tickets come back to it."""
+
+    __slots__ = ()
+
+    _counts_successes: bool
+    _returns_tickets: bool
+
+    @property
+    def counts_successes(self) -> bool:
+        """Whether a call counts as a request when it succeeds, and not at its first attempt."""
+        return self._counts_successes
+
+    @property
+    def returns_tickets(self) -> bool:
+        """Whether a call that succeeds after retries hands the ticket of the last one back."""
+        return self._returns_tickets
+
+    def switches(self) -> str:
+        """Those of the two that are on, as arguments."""
+        return "".join(f", {name}=True" for name in ("counts_successes", "returns_tickets") if getattr(self, name))
+
+
+def terms_of(reserve: int, share: float, per: Duration) -> Terms:
+    """The terms of a quota, or a `TermsError`.
+
+    >>> from datetime import timedelta
+    >>> terms_of(10, 0.25, timedelta(minutes=1))
+    Terms(reserve=10, share=250, period=60000)
+    """
+    return Terms(_reserve_of(reserve), _share_of(share), _period_of(per))
+
+
+def requests_of(requests: int) -> int:
+    """A number of requests that are counted at once, or a `TermsError`."""
+    if isinstance(requests, bool) or not isinstance(requests, int):
+        raise TypeError(f"expected a whole number of requests, got {requests!r}")
+    if not 0 <= requests <= MAX_TICKETS:
+        raise TermsError(f"from 0 to {MAX_TICKETS} requests are counted at once, not {requests}")
+    return requests
+
+
+def _reserve_of(reserve: int) -> int:
+    if isinstance(reserve, bool) or not isinstance(reserve, int):
+        raise TypeError(f"expected a whole number of retries as the reserve, got {reserve!r}")
+    if not 0 <= reserve <= MAX_TICKETS:
+        raise TermsError(f"a reserve is from 0 to {MAX_TICKETS} retries a window, not {reserve}")
+    return reserve
+
+
+def _share_of(share: float) -> int:
+    if isinstance(share, bool) or not isinstance(share, (int, float)):
+        raise TypeError(f"expected a number of retries a request as the share, got {share!r}")
+    if not (math.isfinite(share) and 0 <= share <= MAX_SHARE / 1000):
+        raise TermsError(f"a share is from 0 to {MAX_SHARE // 1000} retries a request, not {share!r}")
+    thousandths = round(share * 1000)
+    if share > 0 and thousandths == 0:
+        raise TermsError(f"a share is counted in thousandths of a retry a request, and {share!r} is less than one")
+    return thousandths
+
+
+def _period_of(per: Duration) -> int:
+    try:
+        period = seconds(per)
+    except PolicyError as error:
+        raise TermsError(f"the window of a quota: {error.hint}") from None
+    if period < MIN_PERIOD:
+        raise TermsError(f"the window of a quota is at least {MIN_PERIOD} ms long, not {per!r}")
+    return period
