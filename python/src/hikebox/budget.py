@@ -1,4 +1,4 @@
-"""Budgets: how many retries all threads of a process make together, at most."""
+"""Budgets: the most retries that all threads of a process make together."""
 
 from __future__ import annotations
 
@@ -15,11 +15,11 @@ __all__ = ["Budget"]
 
 
 class Budget(Granting):
-    """A number of tickets, each of which is drawn once. A retry needs one, so no more retries happen than there are.
+    """A fixed number of tickets. Each retry draws one, so there are never more retries than tickets.
 
-    All threads may share it, and draw at once, for any number of retries. `Budget(limit)` keeps its limit,
-    `Budget.rising(limit)` has one that can be raised. Closing it, or leaving it as a context, gives the exact number of
-    tickets drawn.
+    Threads may share it and draw at once, for any number of calls. `Budget(limit)` keeps its limit;
+    `Budget.rising(limit)` makes one that you can raise. Closing it, or leaving its `with` block, returns the exact
+    number of tickets drawn.
 
     >>> with Budget(2) as budget:
     ...     budget.draw(), budget.draw(), budget.draw()
@@ -27,8 +27,8 @@ class Budget(Granting):
     >>> budget.granted
     2
 
-    A budget belongs to its process: a forked child has one of its own, with nothing drawn. For one that processes share
-    see `hikebox.leased`.
+    A budget belongs to its process: a forked child begins with a budget of its own and nothing drawn.
+    `hikebox.leased` has budgets that processes share.
     """
 
     __slots__ = ("_limit", "_rising")
@@ -38,8 +38,8 @@ class Budget(Granting):
 
     @classmethod
     def rising(cls, limit: int) -> Budget:
-        """A budget whose limit can be raised by `raise_to`. A draw that finds no ticket uses none up, so a limit raised
-        by some gives as many tickets more.
+        """Makes a budget whose limit `raise_to` can raise. A draw that finds no ticket uses none up, so a limit raised
+        by N gives N more tickets.
 
         >>> budget = Budget.rising(0)
         >>> budget.draw(), budget.raise_to(5), budget.draw()
@@ -59,11 +59,11 @@ class Budget(Granting):
 
     @property
     def limit(self) -> int:
-        """The most tickets that are drawn: of a rising budget, as of now."""
+        """The most tickets that can be drawn; for a rising budget, as of now."""
         return self._limit
 
     def draw(self) -> Drawn:
-        """A `Ticket`, or a `Refusal`, which is false, where there is none left."""
+        """Returns a `Ticket`, or a `Refusal`, which is false, if none is left."""
         passes = self.passes
         lent = passes.lend()
         try:
@@ -76,11 +76,11 @@ class Budget(Granting):
         return Refusal(RefusalReason.USED_UP) if number is None else Ticket(number, None, self)
 
     def hand_back(self, ticket: Ticket) -> None:
-        """A `TicketError`: what was drawn of a budget does not come back."""
+        """Raises a `TicketError`: tickets of a budget do not come back."""
         raise TicketError(f"expected a ticket of a quota, got {ticket!r} of a budget, which does not come back")
 
     def raise_to(self, limit: int) -> int:
-        """Makes the limit of a rising budget the greater of itself and this one, and answers it."""
+        """Raises the limit of a rising budget to this one, unless it is higher already, and returns it."""
         if not self._rising:
             raise BudgetError("this budget keeps its limit: Budget.rising makes one that can be raised")
         _look_at_limit(limit)
@@ -94,7 +94,7 @@ class Budget(Granting):
         return f"Budget.rising({self._limit})" if self._rising else f"Budget({self._limit})"
 
     def moment_of(self, clock: float) -> int:
-        """The moment at which a retry begins: 0, since a budget has no clock."""
+        """Returns 0 as the moment at which a retry begins, since a budget has no clock."""
         return 0
 
 

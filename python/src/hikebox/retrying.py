@@ -1,4 +1,4 @@
-"""Retrying calls: `@retry`, `Retrying` and `AsyncRetrying`."""
+"""Retries of calls: `@retry`, `Retrying` and `AsyncRetrying`."""
 
 from __future__ import annotations
 
@@ -39,7 +39,7 @@ Self = TypeVar("Self", bound="BaseRetrying")
 
 
 def _named_after(kind: type, init: Any) -> Any:
-    """The same `__init__`, which errors call by the name of this class."""
+    """Returns the same `__init__` under the name of this class, which errors show."""
     own = FunctionType(init.__code__, init.__globals__, "__init__", init.__defaults__, init.__closure__)
     own.__kwdefaults__, own.__annotations__, own.__doc__ = init.__kwdefaults__, init.__annotations__, init.__doc__
     own.__module__, own.__qualname__ = kind.__module__, f"{kind.__qualname__}.__init__"
@@ -47,7 +47,7 @@ def _named_after(kind: type, init: Any) -> Any:
     return own
 
 
-#: The parameters of a `Retrying`.
+#: The parameters of a `Retrying`, for its signature.
 _PARAMETERS = [
     inspect.Parameter("policy", inspect.Parameter.POSITIONAL_OR_KEYWORD),
     *(inspect.Parameter(name, inspect.Parameter.KEYWORD_ONLY, default=plain) for name, plain in DEFAULTS.items()),
@@ -55,7 +55,7 @@ _PARAMETERS = [
 
 
 def look_at_names(called: str, given: Iterable[str], known: Iterable[str]) -> None:
-    """Refuses a keyword argument that what was called does not have."""
+    """Raises a `TypeError` for a keyword argument that is not known, with the nearest one."""
     for name in given:
         if name not in known:
             import difflib
@@ -74,11 +74,11 @@ if TYPE_CHECKING:
 
 
 class BaseRetrying(Options):
-    """What `Retrying` and `AsyncRetrying` have in common: how to retry. Threads may share it."""
+    """What `Retrying` and `AsyncRetrying` have in common: a policy and options. Threads may share it."""
 
     __slots__ = ("settings", "counts", "__weakref__")
 
-    #: Which calls are for it: whether they are awaited, and whether it repeats them.
+    #: Whether calls are awaited, and whether it repeats successes.
     _AWAITS: ClassVar[bool] = False
     _REPEATS: ClassVar[bool] = False
 
@@ -101,9 +101,9 @@ class BaseRetrying(Options):
         del own
         __doc__ = f"{__doc__ or str()}\n\n    {ABOUT}"
 
-    #: What it was made with, and what follows from it.
+    #: The policy and the options, and what follows from them.
     settings: Settings
-    #: What is counted of its calls.
+    #: Counts of its calls.
     counts: Counts
 
     def __init_subclass__(cls, **how: Any) -> None:
@@ -113,11 +113,11 @@ class BaseRetrying(Options):
 
     @property
     def given(self) -> Dict[str, Any]:
-        """The policy, and the options that are not their defaults."""
+        """The policy, and the options that differ from their defaults."""
         return {"policy": self.settings.policy, **self.settings.given}
 
     def copy(self: Self, **changes: Any) -> Self:
-        """The same with these parameters in the place of its own, and counts of its own."""
+        """Returns another one with these options changed, and counts of its own."""
         look_at_names("copy", changes, ("policy", *DEFAULTS))
         return type(self)(**{**self.given, **changes})
 
@@ -129,7 +129,7 @@ class BaseRetrying(Options):
 
     @property
     def statistics(self) -> Statistics:
-        """Counts over all calls that are over, from all threads."""
+        """Counts over all finished calls, of all threads."""
         return self.counts.seen()
 
     @overload
@@ -147,7 +147,8 @@ class BaseRetrying(Options):
         ...
 
     def wraps(self, fn: Any) -> Any:
-        """The function, retried at each call; with `retry`, this object, and `retry_with(..)`, a copy with changes."""
+        """Returns the function with retries. Its `retry` is this object, and its `retry_with(..)` returns a copy of the
+        function with other options."""
         if isinstance(fn, (classmethod, staticmethod)):
             return type(fn)(self.wraps(fn.__func__))
         if not callable(fn):
@@ -176,7 +177,7 @@ def _made(kind: Type[BaseRetrying], given: Dict[str, Any]) -> BaseRetrying:
 
 
 class Retrying(BaseRetrying):
-    """Retries calls of functions, and blocks.
+    """Retries calls of functions, and `with` blocks.
 
     >>> from hikebox import recurs
     >>> answers = iter([ConnectionError(), ConnectionError(), "here"])
@@ -188,7 +189,7 @@ class Retrying(BaseRetrying):
     >>> Retrying(recurs(5), on=ConnectionError)(ask)
     'here'
 
-    As an iterator it gives attempts, each for one `with` block:
+    Iterate over it to retry a block:
 
     >>> answers = iter([ConnectionError(), "here"])
     >>> for attempt in Retrying(recurs(5)):
@@ -201,11 +202,11 @@ class Retrying(BaseRetrying):
     __slots__ = ()
 
     def __call__(self, fn: Callable[..., Result], /, *args: Any, **kwargs: Any) -> Result:
-        """Calls the function until it succeeds; in the end its last exception is raised."""
+        """Calls the function until it succeeds or the retry gives up, which raises its last exception."""
         result: Result = run(self, fn, args, kwargs)
         return result
 
-    #: The same, by its name.
+    #: The same by its name.
     call = __call__
 
     def __iter__(self) -> Iterator[Attempt]:
@@ -222,12 +223,12 @@ class Retrying(BaseRetrying):
         return wrapped
 
 
-#: Of the many coroutines that may wait at once.
+#: One empty dict for all of the many coroutines that may wait at once.
 _NO_KEYWORDS: Dict[str, Any] = {}
 
 
 class AsyncRetrying(BaseRetrying):
-    """Retries calls of coroutine functions, and blocks with `async for`.
+    """Retries calls of coroutine functions, and `with` blocks in `async for`.
 
     >>> import asyncio
     >>> from hikebox import recurs
@@ -240,8 +241,8 @@ class AsyncRetrying(BaseRetrying):
     >>> asyncio.run(main())
     3
 
-    It waits as `asyncio.sleep` does; `sleep=trio.sleep` makes it one for trio. Hooks, `on`, `on_result` and `fallback`
-    may be coroutine functions.
+    It waits by `asyncio.sleep`, or by `trio.sleep` with `sleep=trio.sleep`. Hooks and the functions given as `on`,
+    `on_result` and `fallback` may be coroutine functions.
     """
 
     __slots__ = ()
@@ -251,10 +252,11 @@ class AsyncRetrying(BaseRetrying):
     def __call__(
         self, fn: Callable[..., Awaitable[Result]], /, *args: Any, **kwargs: Any
     ) -> Coroutine[Any, Any, Result]:
-        """Awaits the coroutine function's calls until one succeeds; in the end its last exception is raised."""
+        """Awaits calls of the coroutine function until one succeeds or the retry gives up, which raises the last
+        exception."""
         return run_async(self, fn, args, kwargs or _NO_KEYWORDS)
 
-    #: The same, by its name.
+    #: The same by its name.
     call = __call__
 
     def __aiter__(self) -> AsyncIterator[Attempt]:
@@ -274,7 +276,7 @@ class AsyncRetrying(BaseRetrying):
 def _takes_what(
     init: Callable[Concatenate[Any, Parameters], None],
 ) -> Callable[[Callable[..., Result]], Callable[Parameters, Result]]:
-    """Gives a function the parameters of a class: a type checker reads them here, and all others in its signature."""
+    """Gives a function the parameters and the help text of a `Retrying`; a type checker reads them off `init`."""
 
     def give(fn: Any) -> Any:
         fn.__signature__ = inspect.signature(fn).replace(parameters=_PARAMETERS)
@@ -286,7 +288,7 @@ def _takes_what(
 
 @_takes_what(BaseRetrying.__init__)
 def retry(policy: PolicyLike, **how: Any) -> Decorator:
-    """Retries each call of a function or a coroutine function by a policy. It takes what `Retrying` takes.
+    """Decorates a function or a coroutine function so that its calls are retried by a policy.
 
     >>> from hikebox import exponential, recurs
     >>> @retry(recurs(3) & exponential(0.001), on=(TimeoutError, ConnectionError))
@@ -298,13 +300,14 @@ def retry(policy: PolicyLike, **how: Any) -> Decorator:
     ...     print(error, error.retry_state.attempt_number, error.retry_state.ending.name)
     nobody there 4 SCHEDULE_DONE
 
-    The function has `retry`, its `Retrying`, with `retry.statistics`; and `retry_with(..)`, itself with changes.
+    The function's `retry` is its `Retrying`, with `retry.statistics`. Its `retry_with(..)` returns the function with
+    other options. The options are those of `Retrying`:
     """
     return decorator(Retrying, AsyncRetrying, "retry", policy, how)
 
 
 def decorator(plain: Type[BaseRetrying], awaits: Type[BaseRetrying], name: str, policy: Any, how: Any) -> Decorator:
-    """The decorator that makes one of the two, by what it is given."""
+    """Returns a decorator that takes one of the two classes, as the function is awaited or not."""
     if not isinstance(policy, Policy) and (callable(policy) or isinstance(policy, (classmethod, staticmethod))):
         raise TypeError(f"{name}() expected a policy, got {policy!r}: write @{name}(recurs(3) & spaced(1))")
     look_at_names(name, how, DEFAULTS)

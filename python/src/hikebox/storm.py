@@ -20,64 +20,63 @@ __all__ = ["Storm", "StormRow", "StormTotals", "storm"]
 
 
 class StormRow(NamedTuple):
-    """A window of a storm. Calls count in the window in which they begin, or end."""
+    """A window of a storm."""
 
-    #: Its first moment, in milliseconds since the first request.
+    #: When it begins, in milliseconds since the first request.
     from_ms: int
     #: The requests that began in it.
     requests: int
-    #: How many of these were won in the end.
+    #: How many of these succeeded in the end.
     won: int
     #: The retries that began in it.
     retries: int
-    #: The calls that succeeded in it.
+    #: The calls that ended in it with success.
     succeeded: int
-    #: Those that the peer refused, in its outage.
+    #: The calls that the peer refused in its outage.
     refused: int
-    #: Those that the peer shed, since its queue was full.
+    #: The calls that the peer shed because its queue was full.
     shed: int
-    #: Those that their clients gave up.
+    #: The calls that their clients gave up.
     late: int
-    #: The calls of work that stand at the peer at its end.
+    #: The calls in the peer's queue at the end of the window.
     waiting: int
 
 
 @dataclass(frozen=True)
 class StormTotals:
-    """What a storm comes to. `requests` is `won + lost + denied + open`."""
+    """The totals of a storm. `requests` is `won + lost + denied + open`."""
 
     requests: int
-    #: Those whose last call succeeded.
+    #: Requests whose last call succeeded.
     won: int
-    #: Those whose last call failed, and whose policy was done.
+    #: Requests whose last call failed because the policy was done.
     lost: int
-    #: Those whose policy went on, and for which there was no ticket.
+    #: Requests whose policy went on, but for which there was no ticket.
     denied: int
-    #: Those that had not ended when the storm did.
+    #: Requests that were still under way when the storm ended.
     open: int
-    #: Requests and retries begun.
+    #: Calls: requests and retries that began.
     calls: int
-    #: Calls for each request, in hundredths.
+    #: Calls per request, in hundredths.
     hundredths: int
-    #: The most calls begun in a window, and the first moment of that.
+    #: The most calls that began in one window, and when that window begins.
     most_calls: int
     most_from_ms: int
-    #: The tickets given.
+    #: The tickets drawn.
     tickets: int
-    #: How long requests that were won took: half of them at most so long, 99 in 100, and the slowest; None where there
-    #: is none.
+    #: How long successful requests took: the median, the 99th percentile and the slowest; None if none succeeded.
     p50_ms: Optional[int]
     p99_ms: Optional[int]
     slowest_ms: Optional[int]
-    #: The first moment of the first window after outage and brown-out from which on 99 in 100 requests of each window
-    #: were won, or None.
+    #: When the storm recovered: the start of the first window after the outage and the brown-out from which on 99 in
+    #: 100 requests of every window succeed. None if it did not.
     recovered_ms: Optional[int]
-    #: Whether the storm was cut before the call after `calls`.
+    #: Whether the simulation stopped after `calls` calls.
     cut: bool
 
     @property
     def calls_per_request(self) -> float:
-        """Calls for each request, to the nearest hundredth."""
+        """Calls per request, to the nearest hundredth."""
         return self.hundredths / 100
 
 
@@ -105,8 +104,8 @@ class Storm:
         return {name.replace("_ms", ""): value for name, value in vars(self.totals).items()}
 
     def svg(self, *others: Storm, width: int = 760, detail: bool = False, title: Optional[str] = None) -> str:
-        """The picture as SVG so many units wide, with other storms beside it on the same scales. `detail` tells apart
-        why calls failed, and `title` stands in the place of the policy that the storms share."""
+        """Returns the picture as SVG of this width. Other storms are drawn beside it on the same scales. `detail` shows
+        why calls failed. `title` replaces the policy that the storms share."""
         from .storms.picture import storm_picture
 
         return storm_picture([self, *others], width=width, detail=detail, title=title)
@@ -115,8 +114,8 @@ class Storm:
         return self.svg()
 
     def plot(self, ax: Any = None) -> Any:
-        """Draws the calls by time with matplotlib (the extra `plot` of the package) on these axes, or on those of a
-        new figure with a legend, and gives the axes."""
+        """Draws the calls over time with matplotlib (the extra `plot` of the package), on these axes or on those of a
+        new figure with a legend. Returns the axes."""
         from .storms.plot import plot
 
         return plot(self, ax)
@@ -152,31 +151,33 @@ def storm(
     seed: int = 0,
     budget: Union[None, int, Budget, Quota] = None,
 ) -> Storm:
-    """Plays many requests under one policy, on a peer that fails for a while. No time passes and no call is made.
+    """Simulates many requests under one policy, on a peer that fails for a while. It makes no call and does not wait.
 
     `rate`, `together`, `seconds`
-        So many requests a second come, so many of them at one moment, for so long: 1,048,576 in all at most.
+        How many requests come in a second, how many of them at once, and for how many seconds: at most 1,048,576
+        requests in all.
     `capacity`, `queue`
-        The calls that the peer can do in a second, one after another, and how many may stand there: it sheds others.
+        How many calls the peer does in a second, one after another, and how many may wait in its queue. It sheds the
+        others.
     `patience`
-        After how long a client gives a call up. What it gave up the peer does all the same.
+        How long a client waits for a call before it gives up. The peer does the call all the same.
     `outage`
-        From when to when the peer refuses all calls; None for no outage.
+        When the peer refuses all calls: from when to when, or None for no outage.
     `slow`
-        A brown-out: from when to when the peer works at what share of its capacity, such as `(10, 20, 0.5)`.
+        A brown-out: from when to when the peer works at a share of its capacity, such as `(10, 20, 0.5)`.
     `window`
-        How long a row of the result is.
+        The length of a row of the result.
     `until`
-        When the storm ends, if requests are still under way; None for a minute after the last one comes.
+        When the storm ends even if requests are under way. None is a minute after the last request came.
     `calls`
-        The storm is cut before the call after so many.
+        The simulation stops after this many calls.
     `seed`
-        Of the random numbers by which jitter is picked.
+        The seed of the random numbers that pick jitter.
     `budget`
-        What the retries draw on: nothing, so many tickets, or tickets by the terms of a `Budget` or a `Quota`, of which
-        none is drawn. A request is counted as it comes, and no ticket comes back, whatever a quota's options are.
+        What limits the retries: None, a number of tickets, or the terms of a `Budget` or a `Quota`, from which no
+        ticket is drawn. Requests count when they come, and no ticket comes back, whatever the quota's options are.
 
-    Times are seconds, or a `timedelta`. What is out of range is a `StormError`.
+    Times are seconds, or a `timedelta`. A value out of range raises a `StormError`.
 
     >>> from hikebox import Quota, exponential, recurs
     >>> policy = recurs(8) & exponential(0.1, 2).cap(10).jittered(0, 1)

@@ -1,4 +1,4 @@
-"""What `Budget` and `Quota` have in common for their users."""
+"""What `Budget` and `Quota` have in common."""
 
 from __future__ import annotations
 
@@ -15,31 +15,31 @@ Self = TypeVar("Self", bound="Granting")
 
 
 class Granting:
-    """Something that grants tickets, and can be closed."""
+    """A limit that grants tickets until you close it."""
 
     __slots__ = ("passes", "__weakref__")
 
-    #: The engine's passes, which are handed out inside.
+    #: The engine's passes, which this package hands out to threads.
     passes: Passes
 
     @property
     def granted(self) -> int:
-        """How many tickets were drawn, and not handed back, also by retries that are still under way."""
+        """How many tickets were drawn and not handed back, by retries under way too."""
         return self.passes.drawn()
 
     @property
     def closed(self) -> bool:
-        """Whether it was closed."""
+        """Whether it is closed."""
         return self.passes.closed is not None
 
     @property
     def generation(self) -> int:
-        """How often it began anew: in a forked child once more than in its parent."""
+        """How often it began anew. A forked child begins anew, so its number is one more than its parent's."""
         return self.passes.generation
 
     def close(self) -> int:
-        """Ends it: how many tickets were drawn, exactly. Where a retry is still under way it is a `BudgetInUse`, and
-        nothing has changed. Closing it again gives the same number."""
+        """Closes it and returns the exact number of tickets drawn. If a retry is under way, it raises a `BudgetInUse`
+        and changes nothing. Closing it again returns the same number."""
         return self.passes.close()
 
     def __enter__(self: Self) -> Self:
@@ -69,14 +69,14 @@ class Granting:
     # Retries that draw on it
 
     def begin_retry(self, machine: Machine, policy: PolicyHandle, deadline: int) -> None:
-        """Begins a retry in this machine, with a pass of its own."""
+        """Begins a retry of the engine in this machine, with a pass of its own."""
         self.passes.begin(machine, policy, deadline)
 
     def end_retry(self, machine: Machine, hands_back: bool) -> None:
-        """Takes the pass of the machine's retry back, with its tickets; the latest one is handed back where that is so,
-        and where it is a quota's."""
+        """Takes back the pass of the machine's retry with its tickets. `hands_back` returns the latest ticket of a
+        quota."""
         self.passes.end(machine, hands_back)
 
     def expression(self) -> str:
-        """The expression that makes one like it."""
+        """Returns the expression that makes one like it."""
         raise NotImplementedError

@@ -1,4 +1,4 @@
-"""What a draw answers: a ticket, or why there is none."""
+"""What a draw returns: a ticket, or why there is none."""
 
 from __future__ import annotations
 
@@ -18,13 +18,13 @@ class Owner(Protocol):
 
 
 class Ticket:
-    """A ticket that was drawn by hand. It is true, and a `Refusal` is false.
+    """A ticket that you drew. It is true, and a `Refusal` is false.
 
     `number`
-        Its number, from 0: of a budget in all, of a quota in its window. Those that are drawn while a store can't be
-        reached are -1, -2 and so on.
+        Its number, from 0: over all tickets of a budget, or within its window of a quota. Tickets drawn while a store
+        can't be reached are -1, -2 and so on.
     `window`
-        The window that it was drawn in, or carried from; None of a budget without windows.
+        The window in which it was drawn or from which it was carried; None for a budget without windows.
     """
 
     __slots__ = ("number", "window", "_owner", "_use", "__weakref__")
@@ -43,16 +43,16 @@ class Ticket:
         return f"<Ticket {self.number}>" if self.window is None else f"<Ticket {self.number} of window {self.window}>"
 
     def hand_back(self) -> None:
-        """Hands the ticket back, which was not used: one more may be drawn while its window lasts. This can be done
-        once, and not with a ticket of a `Budget`, else it is a `TicketError`."""
+        """Hands the ticket back if you did not use it: one more may be drawn while its window lasts. You can do this
+        once. A second time, or for a ticket of a `Budget`, it raises a `TicketError`."""
         self._owner.hand_back(self)
 
     def may_come_back_to(self, use: Any) -> None:
-        """It may be handed back, which is done by this."""
+        """Notes what takes the ticket back."""
         self._use.append(use)
 
     def comes_back(self, owner: Owner) -> Any:
-        """What takes it back for this owner: once, or a `TicketError`."""
+        """Returns what takes it back for this owner: once, and then raises a `TicketError`."""
         if self._owner is not owner:
             raise TicketError(f"expected a ticket of {owner!r}, got one of {self._owner!r}")
         try:
@@ -62,7 +62,7 @@ class Ticket:
 
 
 def checked_ticket(ticket: Ticket) -> Ticket:
-    """What is handed back, or a `TypeError` where it is no ticket."""
+    """Returns the ticket that is to be handed back, or raises a `TypeError` if it is none."""
     if not isinstance(ticket, Ticket):
         raise TypeError(f"expected a Ticket, got {ticket!r}")
     return ticket
@@ -82,9 +82,8 @@ class Refusal:
     `reason`
         A `RefusalReason`.
     `again_at`
-        When it makes sense to draw again, in seconds of the clock of what was drawn on: when the next window begins, or
-        when the store is asked again. None where no such moment is known. Requests, and a limit that is raised, may
-        give a ticket before.
+        When to draw again, in seconds by the clock of the limit: when the next window begins, or when the store is
+        asked again. None if that is not known. More requests, or a raised limit, may give a ticket before.
     `error`
         What the store raised, or None.
     """
@@ -106,5 +105,5 @@ class Refusal:
         return f"<Refusal: {self.reason.value}{until}>"
 
 
-#: What a draw answers.
+#: What a draw returns.
 Drawn = Union[Ticket, Refusal]
