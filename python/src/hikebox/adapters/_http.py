@@ -10,9 +10,9 @@ from typing import Any, ClassVar, Collection, Dict, Generator, Optional, Type, U
 from ..errors import ResultRefused
 from ..http import is_bad, retry_after, retry_after_of
 from ..policy import Policy
-from ..retry.course import Ask, Course, Steps
 from ..retry.deadline import enter, leave
 from ..retry.drivers import answer_of, not_awaitable
+from ..retry.progress import Ask, Progress, Steps
 from ..retry.state import Ending, Outcome, RetryState, Statistics
 from ..retrying import BaseRetrying, look_at_names
 
@@ -51,13 +51,13 @@ class Call:
     They are one request of a quota, have one deadline, and share the number of retries that the policy has.
     """
 
-    __slots__ = ("owner", "start", "limit", "retries", "hops", "request", "leads_on")
+    __slots__ = ("owner", "start", "deadline", "retries", "hops", "request", "leads_on")
 
     def __init__(self, owner: BaseRetrying) -> None:
         settings = owner.settings
         self.owner = owner
         self.start = settings.clock()
-        self.limit = settings.limit_of(self.start)
+        self.deadline = settings.deadline_from(self.start)
         #: Retries that its requests had so far.
         self.retries = 0
         #: Requests that it had so far, each counted once.
@@ -87,7 +87,7 @@ class Call:
 
     def is_late(self) -> bool:
         """Whether its deadline has passed before a redirect could be followed."""
-        return self.hops > 0 and self.limit is not None and self.limit.left() <= 0
+        return self.hops > 0 and self.deadline is not None and self.deadline.left() <= 0
 
     def is_spent(self) -> bool:
         """Whether its requests before have had all the retries that the policy has."""
@@ -140,40 +140,40 @@ class PolicyClient:
         if call.is_late():
             raise self._too_late(request)
         owner = self.retrying if may_repeat else self._careful
-        course = Course(owner, self._attempt, (request,), start=call.start, limit=call.limit)
-        token = None if call.limit is None else enter(call.limit)
+        progress = Progress(owner, self._attempt, (request,), start=call.start, deadline=call.deadline)
+        token = None if call.deadline is None else enter(call.deadline)
         try:
-            yield from _begins(call, course)
+            yield from _begins(call, progress)
             goes_on = True
             while goes_on:
-                yield from self._one_attempt(call, course, request)
-                goes_on = yield from _settled(course.begins())
-            return answer_of(course)
+                yield from self._one_attempt(call, progress, request)
+                goes_on = yield from _settled(progress.begins())
+            return answer_of(progress)
         except ResultRefused as refused:
             return self._refused(refused.result, request)
         finally:
             if token is not None:
                 leave(token)
-            course.close()
+            progress.close()
 
-    def _one_attempt(self, call: Call, course: Course, request: Any) -> Steps[None]:
+    def _one_attempt(self, call: Call, progress: Progress, request: Any) -> Steps[None]:
         """Makes one attempt and judges it. The last one's error is raised."""
-        course.ends_now = call.is_spent()
+        progress.ends_now = call.is_spent()
         try:
             response = yield self._attempt, request
         except BaseException as error:
-            if not (yield from _settled(course.raised(error))):
+            if not (yield from _settled(progress.raised(error))):
                 raise
         else:
             if self._leads_on(response) and not self.is_refused(response):
-                course.over, course.answer = True, Outcome(response)
-                course.state.ending = Ending.WON
+                progress.over, progress.answer = True, Outcome(response)
+                progress.state.ending = Ending.WON
                 call.leads_on = True
                 return
-            yield from course.returned(response)
-            if not course.over:
+            yield from progress.returned(response)
+            if not progress.over:
                 yield partial(self._let_go, request), response
-        if not course.over:
+        if not progress.over:
             call.retries += 1
 
     def is_refused(self, response: Any) -> bool:
@@ -226,14 +226,14 @@ def _asked_for(state: RetryState) -> Optional[float]:
     return retry_after_of(outcome.result()) if error is None else retry_after(error)
 
 
-def _begins(call: Call, course: Course) -> Steps[None]:
+def _begins(call: Call, progress: Progress) -> Steps[None]:
     """What comes before the first attempt of a request."""
     call.hops += 1
-    settings = course.settings
+    settings = progress.settings
     if call.hops == 1 and settings.deposit is not None:
         settings.deposit()
     for hook in settings.hooks_before:
-        yield hook, course.state
+        yield hook, progress.state
 
 
 def _settled(steps: Union[bool, Steps[bool]]) -> Steps[bool]:

@@ -24,8 +24,8 @@ from tenacity.wait import wait_base
 from ..leased import LeasedQuota
 from ..policy import Policy
 from ..quota import Quota
-from ..retry.course import Course
 from ..retry.drivers import settle
+from ..retry.progress import Progress
 from ..retry.state import Outcome
 from ..retrying import Retrying
 
@@ -68,10 +68,10 @@ def before_deposit(quota: Union[Quota, LeasedQuota]) -> Callable[[Any], None]:
 class _Answer:
     """What the policy said of one attempt."""
 
-    __slots__ = ("course", "attempt", "goes_on", "delay")
+    __slots__ = ("progress", "attempt", "goes_on", "delay")
 
-    def __init__(self, course: Course) -> None:
-        self.course = course
+    def __init__(self, progress: Progress) -> None:
+        self.progress = progress
         self.attempt = 0
         self.goes_on = True
         self.delay = 0.0
@@ -90,19 +90,19 @@ class _Shared:
         if answer is None:
             # tenacity's moments are those of this clock
             start = state.start_time if self.retrying.clock is time.monotonic else None
-            answer = answers[self] = _Answer(Course(self.retrying, start=start))
+            answer = answers[self] = _Answer(Progress(self.retrying, start=start))
         if answer.attempt == state.attempt_number or not answer.goes_on:
             return answer
-        course = answer.course
+        progress = answer.progress
         # (tenacity has made the attempt, which may have begun past the deadline)
-        is_late = answer.attempt > 0 and not course.waited()
-        course.state.attempt_number = answer.attempt = state.attempt_number
-        answer.goes_on = not is_late and settle(course.judges(_outcome(state.outcome)))
-        answer.delay = settle(course.delay()) if answer.goes_on else 0.0
+        is_late = answer.attempt > 0 and not progress.waited()
+        progress.state.attempt_number = answer.attempt = state.attempt_number
+        answer.goes_on = not is_late and settle(progress.judges(_outcome(state.outcome)))
+        answer.delay = settle(progress.delay()) if answer.goes_on else 0.0
         if answer.goes_on:
-            course.uses_ticket()
+            progress.uses_ticket()
         else:
-            course.close()
+            progress.close()
         return answer
 
 

@@ -17,8 +17,8 @@ from ..budget import Budget
 from ..http import METHODS, STATUSES, is_bad, parse_retry_after
 from ..policy import Policy
 from ..quota import Quota
-from ..retry.course import Course
 from ..retry.drivers import settle
+from ..retry.progress import Progress
 from ..retry.state import Ending, Outcome, Statistics
 from ..retrying import Retrying, Tickets, look_at_names
 
@@ -91,7 +91,7 @@ class PolicyRetry(Retry):
             self.retrying = Retrying(policy, budget=budget, code=_code, retry_after=_asked_for, **how)
         #: The call that is under way, once that is known, and the retry of its present request.
         self._call: Optional[_Call] = None
-        self._course: Optional[Course] = None
+        self._progress: Optional[Progress] = None
         #: What is raised where the deadline has passed before the next attempt could begin.
         self._late: Exception = MaxRetryError(None, "", None)
 
@@ -105,7 +105,7 @@ class PolicyRetry(Retry):
         made: PolicyRetry = super().new(**kw)
         made.retrying = self.retrying
         made._call = self._call
-        made._course = self._course
+        made._progress = self._progress
         return made
 
     def is_retry(self, method: str, status_code: int, has_retry_after: bool = False) -> bool:
@@ -126,16 +126,16 @@ class PolicyRetry(Retry):
         """The request is over, with this response."""
         if self.retrying is None:
             return
-        course = self._course or self._begun()
-        self._course = None
+        progress = self._progress or self._begun()
+        self._progress = None
         try:
             if status in _REDIRECT_STATUSES:
                 # (neither a success nor a failure: what it leads to is)
-                course.over, course.state.ending = True, Ending.WON
+                progress.over, progress.state.ending = True, Ending.WON
             else:
-                settle(course.returned(status))
+                settle(progress.returned(status))
         finally:
-            course.close()
+            progress.close()
 
     def increment(
         self,
@@ -151,8 +151,8 @@ class PolicyRetry(Retry):
         try:
             made: Any = super().increment(method, url, response, error, _pool, _stacktrace)
         except Exception:
-            if self._course is not None:
-                self._course.close()
+            if self._progress is not None:
+                self._progress.close()
             raise
         if self.retrying is None:
             return made
@@ -162,28 +162,28 @@ class PolicyRetry(Retry):
         failure = _failure_of(response, error, self.respect_retry_after_header)
         if error is not None:
             self._deposit()
-        course = self._begun() if self._course is None else self._course
-        made._call = self._call or _Call(course.state.start_time)
-        if not self._goes_on(course, made._call, failure):
-            course.close()
+        progress = self._begun() if self._progress is None else self._progress
+        made._call = self._call or _Call(progress.state.start_time)
+        if not self._goes_on(progress, made._call, failure):
+            progress.close()
             raise MaxRetryError(_pool, url, _reason_of(response, error))
         made._call.retries += 1
-        made._course = course
+        made._progress = progress
         made._late = MaxRetryError(_pool, url, _reason_of(response, error))
         return made
 
-    def _begun(self) -> Course:
+    def _begun(self) -> Progress:
         """The retry of a request that has its first answer now."""
         assert self.retrying is not None
-        return Course(self.retrying, start=None if self._call is None else self._call.start)
+        return Progress(self.retrying, start=None if self._call is None else self._call.start)
 
-    def _goes_on(self, course: Course, call: _Call, failure: BaseException) -> bool:
+    def _goes_on(self, progress: Progress, call: _Call, failure: BaseException) -> bool:
         """Whether one more attempt follows this failure."""
         assert self.retrying is not None
-        outcome = Outcome(error=failure, attempt_number=course.state.attempt_number)
+        outcome = Outcome(error=failure, attempt_number=progress.state.attempt_number)
         most = self.retrying.policy.most_retries
-        course.ends_now = most is not None and call.retries >= most
-        return bool(settle(course.judges(outcome)))
+        progress.ends_now = most is not None and call.retries >= most
+        return bool(settle(progress.judges(outcome)))
 
     def _follows(self, response: Any, pool: Any, url: Any) -> _Call:
         """The call of a request whose redirect is followed, where its deadline has not passed."""
@@ -191,24 +191,24 @@ class PolicyRetry(Retry):
         settings = self.retrying.settings
         call: Optional[_Call] = self._call or getattr(response.retries, "_call", None)
         call = _Call(settings.clock()) if call is None else call
-        limit = settings.limit_of(call.start)
-        if limit is not None and limit.left() <= 0:
-            if self._course is not None:
-                self._course.close()
+        deadline = settings.deadline_from(call.start)
+        if deadline is not None and deadline.left() <= 0:
+            if self._progress is not None:
+                self._progress.close()
             raise MaxRetryError(pool, url, ResponseError("the deadline passed before a redirect was followed"))
         return call
 
     def sleep(self, response: Any = None) -> None:
         """Waits for the next attempt."""
-        course = self._course
-        if course is None:
+        progress = self._progress
+        if progress is None:
             super().sleep(response)
             return
-        delay = settle(course.delay())
+        delay = settle(progress.delay())
         if delay > 0:
-            course.settings.sleeps(delay)
-        if not course.waited():
-            course.close()
+            progress.settings.sleeps(delay)
+        if not progress.waited():
+            progress.close()
             raise self._late
 
     def _deposit(self) -> None:

@@ -1,1 +1,1 @@
-"""How a call is retried: the settings of a `Retrying`, the course of one retry, and what drives it."""
+"""How a call is retried: the options of a `Retrying`, the progress of one retry, and what drives it."""

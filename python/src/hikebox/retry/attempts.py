@@ -6,9 +6,9 @@ from contextvars import Token
 from types import TracebackType
 from typing import TYPE_CHECKING, Any, Optional, Tuple, Type, Union
 
-from .course import Course, Steps
-from .deadline import Limit, enter, leave
+from .deadline import Deadline, enter, leave
 from .drivers import advance, answer_of, next_begins, settle, settle_async
+from .progress import Progress, Steps
 from .state import Outcome, RetryState
 
 if TYPE_CHECKING:
@@ -28,7 +28,7 @@ class Attempt:
     @property
     def retry_state(self) -> RetryState:
         """What the retry is at."""
-        return self._attempts.course.state
+        return self._attempts.progress.state
 
     @property
     def number(self) -> int:
@@ -42,8 +42,8 @@ class Attempt:
 
     def __enter__(self) -> Attempt:
         attempts = self._attempts
-        if attempts.limit is not None:
-            attempts.token = enter(attempts.limit)
+        if attempts.deadline is not None:
+            attempts.token = enter(attempts.deadline)
         return self
 
     def __exit__(
@@ -67,10 +67,10 @@ class _BaseAttempts:
     """
 
     def __init__(self, owner: BaseRetrying) -> None:
-        self.course = Course(owner)
-        self.limit: Optional[Limit] = self.course.state.limit
+        self.progress = Progress(owner)
+        self.deadline: Optional[Deadline] = self.progress.state.deadline
         #: What goes back to the time that calls had before the attempt.
-        self.token: Optional[Token[Optional[Limit]]] = None
+        self.token: Optional[Token[Optional[Deadline]]] = None
         #: Whether an attempt is under way, and whether one is over that is not judged yet.
         self.under_way = False
         self.is_open = False
@@ -82,18 +82,18 @@ class _BaseAttempts:
     def look_at_block(self) -> None:
         """Refuses a turn whose attempt was not used."""
         if self.under_way:
-            self.course.close()
+            self.progress.close()
             raise RuntimeError("each attempt of the loop wants its `with attempt:` block")
 
     def ended(self, error: Optional[BaseException]) -> bool:
         """The attempt's block was left: whether its exception stops there."""
         self.under_way = False
-        course = self.course
+        progress = self.progress
         if error is not None:
-            return self.judge(course.raised(error), error)
-        settings, outcome = course.settings, course.state.outcome
+            return self.judge(progress.raised(error), error)
+        settings, outcome = progress.settings, progress.state.outcome
         if outcome is None and (settings.on_result is not None or settings.repeats or settings.hooks_on_success):
-            course.state.outcome = Outcome(attempt_number=course.state.attempt_number)
+            progress.state.outcome = Outcome(attempt_number=progress.state.attempt_number)
             self.is_open = True
             return True
         return self.judge(self.told(), None)
@@ -101,8 +101,8 @@ class _BaseAttempts:
     def told(self) -> Steps[None]:
         """The steps for the result that was told, or none."""
         self.is_open = False
-        outcome = self.course.state.outcome
-        return self.course.returned(None if outcome is None else outcome.result())
+        outcome = self.progress.state.outcome
+        return self.progress.returned(None if outcome is None else outcome.result())
 
     def judge(self, steps: Union[bool, Steps[Any]], error: Optional[BaseException]) -> bool:
         raise NotImplementedError
@@ -121,42 +121,42 @@ class Attempts(_BaseAttempts):
         if error is None:
             return super().ended(None)
         try:
-            wait = self.wait = self.course.fails(error)
+            wait = self.wait = self.progress.fails(error)
         except BaseException:
-            self.course.close()
+            self.progress.close()
             raise
         if wait is None:
             return super().ended(error)
         self.under_way = False
         if wait < 0.0:
-            self.course.close()
+            self.progress.close()
         return wait >= 0.0
 
     def judge(self, steps: Union[bool, Steps[Any]], error: Optional[BaseException]) -> bool:
-        course = self.course
+        progress = self.progress
         try:
             stays = settle(steps)
         except BaseException:
-            course.close()
+            progress.close()
             raise
-        if course.over:
-            course.close()
+        if progress.over:
+            progress.close()
         return error is None or bool(stays)
 
     def __next__(self) -> Attempt:
         self.look_at_block()
-        course = self.course
+        progress = self.progress
         try:
             if self.is_open:
                 settle(self.told())
             wait, self.wait = self.wait, None
-            if next_begins(course, wait):
+            if next_begins(progress, wait):
                 return self.begins()
         except BaseException:
-            course.close()
+            progress.close()
             raise
-        course.close()
-        answer_of(course)
+        progress.close()
+        answer_of(progress)
         raise StopIteration
 
 
@@ -173,17 +173,17 @@ class AsyncAttempts(_BaseAttempts):
         return self
 
     def judge(self, steps: Union[bool, Steps[Any]], error: Optional[BaseException]) -> bool:
-        course = self.course
+        progress = self.progress
         try:
             done, stays = advance(steps)
         except BaseException:
-            course.close()
+            progress.close()
             raise
         if not done:
             self.pending = steps, stays, error
             return True
-        if course.over:
-            course.close()
+        if progress.over:
+            progress.close()
         return error is None or bool(stays)
 
     async def _judge_pending(self) -> None:
@@ -204,14 +204,14 @@ class AsyncAttempts(_BaseAttempts):
 
     async def __anext__(self) -> Attempt:
         self.look_at_block()
-        course = self.course
+        progress = self.progress
         try:
             await self._judge_pending()
-            if await settle_async(course.begins()):
+            if await settle_async(progress.begins()):
                 return self.begins()
         except BaseException:
-            course.close()
+            progress.close()
             raise
-        course.close()
-        answer_of(course)
+        progress.close()
+        answer_of(progress)
         raise StopAsyncIteration

@@ -5,10 +5,10 @@ from __future__ import annotations
 from contextvars import ContextVar, Token
 from typing import Callable, Optional
 
-__all__ = ["Limit", "enter", "leave", "seconds_left"]
+__all__ = ["Deadline", "enter", "leave", "seconds_left"]
 
 
-class Limit:
+class Deadline:
     """A moment by a retry's clock, past which no attempt but the first begins."""
 
     __slots__ = ("clock", "at", "ahead", "outer")
@@ -19,26 +19,26 @@ class Limit:
         #: Seconds by which sleeps came back before the moments that they were to wait for.
         self.ahead = 0.0
         #: That of the retry in which this one is made.
-        self.outer: Optional[Limit] = None
+        self.outer: Optional[Deadline] = None
 
     def left(self) -> float:
         """How many seconds it is until then, and 0 afterwards."""
         return max(0.0, self.at - self.clock() - self.ahead)
 
 
-_limit: ContextVar[Optional[Limit]] = ContextVar("hikebox_limit", default=None)
+_deadline: ContextVar[Optional[Deadline]] = ContextVar("hikebox_deadline", default=None)
 
 
-def enter(limit: Limit) -> Token[Optional[Limit]]:
-    """Has calls from here on go by this limit, and by those that they went by."""
-    limit.outer = _limit.get()
-    return _limit.set(limit)
+def enter(deadline: Deadline) -> Token[Optional[Deadline]]:
+    """Has calls from here on go by this deadline, and by those that they went by."""
+    deadline.outer = _deadline.get()
+    return _deadline.set(deadline)
 
 
-def leave(token: Token[Optional[Limit]]) -> None:
+def leave(token: Token[Optional[Deadline]]) -> None:
     """Goes back to what was before."""
     try:
-        _limit.reset(token)
+        _deadline.reset(token)
     except ValueError:
         pass  # a coroutine that nobody awaits any more is closed in another context
 
@@ -56,10 +56,10 @@ def seconds_left() -> Optional[float]:
     >>> 29 < fetch() <= 30, seconds_left()
     (True, None)
     """
-    limit = _limit.get()
+    deadline = _deadline.get()
     least: Optional[float] = None
-    while limit is not None:
-        left = limit.left()
+    while deadline is not None:
+        left = deadline.left()
         least = left if least is None or left < least else least
-        limit = limit.outer
+        deadline = deadline.outer
     return least

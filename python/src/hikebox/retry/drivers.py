@@ -1,4 +1,4 @@
-"""The two drivers of a course: one that blocks, and one for coroutines."""
+"""The two drivers of a retry: one that blocks, and one for coroutines."""
 
 from __future__ import annotations
 
@@ -6,9 +6,9 @@ from inspect import unwrap
 from types import CoroutineType
 from typing import TYPE_CHECKING, Any, Callable, Optional, Tuple, TypeVar, Union
 
-from .course import Course, Steps
 from .deadline import enter, leave
 from .kinds import is_async
+from .progress import Progress, Steps
 
 if TYPE_CHECKING:
     from ..retrying import BaseRetrying
@@ -69,115 +69,115 @@ def run(owner: BaseRetrying, fn: Callable[..., Any], args: Any, kwargs: Any) -> 
     """Calls the function until its retry is over."""
     settings = owner.settings
     start = settings.clock()
-    limit = None if settings.deadline_millis is None else settings.limit_of(start)
-    token = None if limit is None else enter(limit)
+    deadline = None if settings.deadline_millis is None else settings.deadline_from(start)
+    token = None if deadline is None else enter(deadline)
     # until something is to be done for it, a retry is only its start
-    course = None if settings.is_quiet else Course(owner, fn, args, kwargs, start, limit)
+    progress = None if settings.is_quiet else Progress(owner, fn, args, kwargs, start, deadline)
     try:
-        if course is None and settings.deposit is not None:
+        if progress is None and settings.deposit is not None:
             settings.deposit()
-        goes_on = course is None or settle(course.begins())
+        goes_on = progress is None or settle(progress.begins())
         while goes_on:
             wait = None
             try:
                 result = fn(*args, **kwargs)
             except BaseException as error:
-                if course is None:
-                    course = Course(owner, fn, args, kwargs, start, limit)
-                wait = course.fails(error)
-                if not settle(course.raised(error)) if wait is None else wait < 0.0:
+                if progress is None:
+                    progress = Progress(owner, fn, args, kwargs, start, deadline)
+                wait = progress.fails(error)
+                if not settle(progress.raised(error)) if wait is None else wait < 0.0:
                     raise
             else:
                 if type(result) is CoroutineType:
                     refuse_awaitable(repr(fn), result, settings.repeats)
-                if course is None:
+                if progress is None:
                     owner.counts.add_success()
                     if settings.deposit_won is not None:
                         settings.deposit_won()
                     return result
-                settle(course.returned(result))
-            goes_on = next_begins(course, wait)
-        return None if course is None else answer_of(course)
+                settle(progress.returned(result))
+            goes_on = next_begins(progress, wait)
+        return None if progress is None else answer_of(progress)
     finally:
         if token is not None:
             leave(token)
-        if course is not None:
-            course.close()
+        if progress is not None:
+            progress.close()
 
 
-def next_begins(course: Course, wait: Optional[float]) -> Any:
-    """Waits so many seconds after an attempt that failed, or does what the course asks for: whether the next begins."""
+def next_begins(progress: Progress, wait: Optional[float]) -> Any:
+    """Waits so many seconds after an attempt that failed, or does what the retry asks for: whether the next begins."""
     if wait is None:
-        return settle(course.begins())
+        return settle(progress.begins())
     if wait > 0.0:
-        slept = course.settings.sleeps(wait)
+        slept = progress.settings.sleeps(wait)
         if slept is not None:
             not_awaitable(slept)
-    return course.goes_on()
+    return progress.goes_on()
 
 
 async def run_async(owner: BaseRetrying, fn: Callable[..., Any], args: Any, kwargs: Any) -> Any:
     """Awaits the function's calls until its retry is over."""
     settings = owner.settings
     start = settings.clock()
-    limit = None if settings.deadline_millis is None else settings.limit_of(start)
-    token = None if limit is None else enter(limit)
-    course = None if settings.is_quiet else Course(owner, fn, args, kwargs, start, limit)
+    deadline = None if settings.deadline_millis is None else settings.deadline_from(start)
+    token = None if deadline is None else enter(deadline)
+    progress = None if settings.is_quiet else Progress(owner, fn, args, kwargs, start, deadline)
     awaitable: Any = None
     try:
-        if course is None and settings.deposit is not None:
+        if progress is None and settings.deposit is not None:
             settings.deposit()
-        goes_on = course is None or await settle_async(course.begins())
+        goes_on = progress is None or await settle_async(progress.begins())
         while goes_on:
             wait = None
             try:
                 awaitable = fn(*args, **kwargs)
                 result = await awaitable if hasattr(type(awaitable), "__await__") else _NOT_AWAITABLE
             except BaseException as error:
-                if course is None:
-                    course = Course(owner, fn, args, kwargs, start, limit)
-                _look_at_function(course, awaitable, error)
-                wait = course.fails(error)
-                if not await settle_async(course.raised(error)) if wait is None else wait < 0.0:
+                if progress is None:
+                    progress = Progress(owner, fn, args, kwargs, start, deadline)
+                _look_at_function(progress, awaitable, error)
+                wait = progress.fails(error)
+                if not await settle_async(progress.raised(error)) if wait is None else wait < 0.0:
                     raise
             else:
                 if result is _NOT_AWAITABLE:
                     raise TypeError(f"{fn!r} returned nothing to await: {_plain(settings.repeats)} is for functions")
-                if course is None:
+                if progress is None:
                     owner.counts.add_success()
                     if settings.deposit_won is not None:
                         settings.deposit_won()
                     return result
-                await settle_async(course.returned(result))
-            awaitable = None if wait is None else _waits(course, wait)  # (and no longer what was awaited)
+                await settle_async(progress.returned(result))
+            awaitable = None if wait is None else _waits(progress, wait)  # (and no longer what was awaited)
             if awaitable is not None:
                 await awaitable
-            goes_on = await settle_async(course.begins()) if wait is None else course.goes_on()
-        return None if course is None else answer_of(course)
+            goes_on = await settle_async(progress.begins()) if wait is None else progress.goes_on()
+        return None if progress is None else answer_of(progress)
     finally:
         if token is not None:
             leave(token)
-        if course is not None:
-            course.close()
+        if progress is not None:
+            progress.close()
 
 
-def _waits(course: Course, wait: float) -> Any:
+def _waits(progress: Progress, wait: float) -> Any:
     """Begins to wait so many seconds, or lets other coroutines go on: what is to be awaited for that, or None."""
-    settings = course.settings
+    settings = progress.settings
     awaitable = settings.sleeps(wait) if wait > 0.0 else settings.pause and settings.pause(0)
     if not hasattr(type(awaitable), "__await__"):
         return None
     if wait > 0.0:
-        course.parks()
+        progress.parks()
     return awaitable
 
 
 _NOT_AWAITABLE = object()
 
 
-def answer_of(course: Course) -> Any:
-    """What comes of a course that is over: a result, or the exception that is raised here."""
-    outcome, course.answer = course.answer, None
+def answer_of(progress: Progress) -> Any:
+    """Returns the result of a retry that is over, or raises its exception."""
+    outcome, progress.answer = progress.answer, None
     try:
         return None if outcome is None else outcome.result()
     finally:
@@ -199,12 +199,12 @@ def refuse_awaitable(what: str, awaitable: Any, repeats: bool = False) -> None:
     raise TypeError(f"{what} returned a {type(awaitable).__name__}, which is not awaited here: use {awaits}")
 
 
-def _look_at_function(course: Course, awaitable: Any, error: BaseException) -> None:
+def _look_at_function(progress: Progress, awaitable: Any, error: BaseException) -> None:
     """Refuses a function that raised before it returned anything to await, and is not a coroutine function."""
-    fn: Any = course.state.fn
-    state = course.state
+    fn: Any = progress.state.fn
+    state = progress.state
     if awaitable is None and state.attempt_number == 1 and isinstance(error, Exception) and not is_async(unwrap(fn)):
-        plain = _plain(course.settings.repeats)
+        plain = _plain(progress.settings.repeats)
         raise TypeError(f"{fn!r} raised before it returned anything to await: {plain} is for functions") from error
 
 

@@ -9,7 +9,7 @@ from .._time import MAX_NUMBER
 from ..budgets.drawing import Drawing
 from ..budgets.passes import DrawnOn
 from ..policy import Policy
-from .deadline import Limit
+from .deadline import Deadline
 from .options import DEFAULTS, OPTIONS, Hook, Options
 from .state import RetryState, code_of
 
@@ -115,9 +115,9 @@ class Settings(HasOptions):
         """The parameters that are not their defaults, without the policy."""
         return {name: self.__dict__[name] for name, plain in DEFAULTS.items() if self.__dict__[name] is not plain}
 
-    def limit_of(self, start: float) -> Optional[Limit]:
+    def deadline_from(self, start: float) -> Optional[Deadline]:
         """The deadline of a retry that began then."""
-        return None if self.deadline_millis is None else Limit(self.clock, start + self.deadline_millis / 1000)
+        return None if self.deadline_millis is None else Deadline(self.clock, start + self.deadline_millis / 1000)
 
     def code_for(self, failure: Any) -> int:
         """The number of an exception, or of a result that is not accepted, as the policy is given it."""

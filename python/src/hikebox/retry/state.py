@@ -11,7 +11,7 @@ from typing import TYPE_CHECKING, Any, Callable, Dict, Mapping, NamedTuple, Opti
 from .._forks import begins_anew_in_a_child
 from .._time import MAX_NUMBER
 from ..budgets.tickets import Refusal
-from .deadline import Limit
+from .deadline import Deadline
 
 if TYPE_CHECKING:
     from ..retrying import BaseRetrying
@@ -124,7 +124,7 @@ class RetryState:
         "granted",
         "refusal",
         "ending",
-        "limit",
+        "deadline",
     )
 
     def __init__(
@@ -160,7 +160,7 @@ class RetryState:
         #: How it ended, or None where it is not over.
         self.ending: Optional[Ending] = None
         #: Its deadline, where it has one.
-        self.limit: Optional[Limit] = None
+        self.deadline: Optional[Deadline] = None
 
     @property
     def next_action(self) -> Optional[NextAction]:
@@ -171,7 +171,7 @@ class RetryState:
     @property
     def seconds_left(self) -> Optional[float]:
         """How many seconds it is until the deadline of the retry, or None where it has none."""
-        return None if self.limit is None else self.limit.left()
+        return None if self.deadline is None else self.deadline.left()
 
     @property
     def outcome_timestamp(self) -> Optional[float]:

@@ -17,14 +17,14 @@ from .._time import MAX_NUMBER, FLOAT_ERROR
 from ..budgets.drawing import Drawing
 from ..errors import ResultRefused
 from ..policy.preview import word_of
-from .deadline import Limit
+from .deadline import Deadline
 from .marks import log_end, log_wait, logger, mark
 from .state import ENDINGS, Ending, Outcome, RetryState
 
 if TYPE_CHECKING:
     from ..retrying import BaseRetrying
 
-__all__ = ["Course", "Steps", "switch"]
+__all__ = ["Progress", "Steps", "switch"]
 
 Answer = TypeVar("Answer")
 #: What is to be called, with what; the answer is sent back.
@@ -45,7 +45,7 @@ class _Switch:
 switch = _Switch()
 
 
-class Course:
+class Progress:
     """A retry from its first attempt to its end. The engine hears of it at its first failure, with the moments at
     which it began and failed; until then there is nothing to decide."""
 
@@ -78,12 +78,12 @@ class Course:
         args: Tuple[Any, ...] = (),
         kwargs: Mapping[str, Any] = {},
         start: Optional[float] = None,
-        limit: Optional[Limit] = None,
+        deadline: Optional[Deadline] = None,
     ) -> None:
         settings = self.settings = owner.settings
         self._clock = settings.clock
         state = self.state = RetryState(owner, fn, args, kwargs, self._clock() if start is None else start)
-        state.limit = settings.limit_of(state.start_time) if limit is None else limit
+        state.deadline = settings.deadline_from(state.start_time) if deadline is None else deadline
         #: Whether no attempt follows, and what comes of the retry, where that is not the exception at hand.
         self.over = False
         self.answer: Optional[Outcome] = None
@@ -195,7 +195,7 @@ class Course:
             delay = 0.0
         state.upcoming_sleep = delay
         state.idle_for += delay
-        if self._logs or state.limit is not None or state.fn is None:
+        if self._logs or state.deadline is not None or state.fn is None:
             state.outcome = Outcome(None, error, state.attempt_number)
             if self._logs:
                 log_wait(state, delay)
@@ -232,7 +232,7 @@ class Course:
         if settings.is_stopped is not None and settings.is_stopped(state):
             state.ending = Ending.STOPPED
             return False
-        if state.limit is not None and self._is_past(state.limit):
+        if state.deadline is not None and self._is_past(state.deadline):
             state.ending = Ending.DEADLINE
             return False
         seconds = state.seconds_since_start or 0.0
@@ -287,13 +287,13 @@ class Course:
             log_wait(state, delay)
         return delay
 
-    def _is_past(self, limit: Limit) -> bool:
+    def _is_past(self, deadline: Deadline) -> bool:
         """Whether the wait that `retry_after` or `wait` asks for goes past the deadline."""
         settings = self.settings
         if settings.retry_after is None and settings.wait is None:
             return False
         self._asked = self._asked_for()
-        return self._asked > 0.0 and self._asked > limit.left() + FLOAT_ERROR / 1000
+        return self._asked > 0.0 and self._asked > deadline.left() + FLOAT_ERROR / 1000
 
     def _asked_for(self) -> float:
         """How many seconds `retry_after` and `wait` ask for, up to `max_retry_after`."""
@@ -315,8 +315,8 @@ class Course:
         if seconds * 1000 + FLOAT_ERROR < self._until:
             self._ahead += self._until / 1000 - seconds
             seconds = self._until / 1000
-            if state.limit is not None:
-                state.limit.ahead = self._ahead
+            if state.deadline is not None:
+                state.deadline.ahead = self._ahead
         now = self._moment(seconds)
         if now < self._until:
             now = self._last = self._until
