@@ -3,12 +3,15 @@
 from __future__ import annotations
 
 import gc
+import linecache
 import os
+import re
 import signal
 import sys
 import time
+import traceback
 from pathlib import Path
-from typing import Any, Callable, Dict, Iterator, List, Set, Tuple
+from typing import Any, Callable, Dict, Iterator, List, Optional, Set, Tuple
 
 import pytest
 
@@ -46,6 +49,21 @@ def fails() -> Any:
 OFTEN, SECONDS = 1000, 30
 
 
+def is_of_os_stat(error: BaseException) -> bool:
+    """Whether Python itself made this of an `Interrupt`, in os.stat or os.fstat.
+
+    These look for signals several times as they make the numbers of their result, and go on after a handler has raised.
+    If a second signal comes meanwhile, its handler finds the exception of the first, and the first thing that it calls
+    is a SystemError. No other call of the package does this.
+    """
+    *_, caller, handler = traceback.extract_tb(error.__traceback__)
+    cause: Optional[BaseException] = error
+    while isinstance(cause, SystemError):
+        cause = cause.__cause__
+    is_stat = re.search(r"\bos\.f?stat\(", caller.line or "") is not None
+    return isinstance(cause, Interrupt) and handler.name == "handler" and is_stat
+
+
 def interrupted(call: Callable[[], Any]) -> None:
     """Calls this again and again, while a timer of 0.1 ms raises exceptions inside the package."""
     package = os.path.dirname(hikebox.__file__)
@@ -63,8 +81,10 @@ def interrupted(call: Callable[[], Any]) -> None:
         while came_through < OFTEN and time.monotonic() < until:
             try:
                 call()
-            except (Interrupt, SystemError):
-                # (on a busy machine the next signal comes in the handler, and Python makes a SystemError of it)
+            except Interrupt:
+                came_through += 1
+            except SystemError as error:
+                assert is_of_os_stat(error)
                 came_through += 1
     finally:
         signal.setitimer(signal.ITIMER_REAL, 0)
@@ -267,6 +287,24 @@ def test_leases_go_on_and_no_ticket_is_drawn_twice(lease: int, tmp_path: Path) -
     other = Leased(FileStore(tmp_path / "counts", patience=20), "a", MANY, lease=lease, per=10**6)
     ticket = other.draw()
     assert ticket and ticket.number not in drawn
+
+
+def test_a_system_error_is_told_from_that_of_os_stat() -> None:
+    def handler(*_: Any) -> None:
+        try:
+            raise Interrupt
+        except Interrupt as error:
+            raise SystemError("a call returned a result with an exception set") from error
+
+    def raised(call: Callable[[], Any]) -> bool:
+        with pytest.raises(SystemError) as caught:
+            call()
+        return is_of_os_stat(caught.value)
+
+    os_stat = {"os": type("os", (), {"stat": staticmethod(handler)})}
+    linecache.cache["<of os.stat>"] = (16, None, ["os.stat('/')\n"], "<of os.stat>")
+    assert raised(lambda: exec(compile("os.stat('/')", "<of os.stat>", "exec"), os_stat))
+    assert not raised(lambda: handler())
 
 
 @RELEASES
