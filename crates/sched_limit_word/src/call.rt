@@ -1,0 +1,20 @@
+//! What a limit is told.
+
+use sched_time::Moment;
+
+/// A call on a limit. Each machine takes of a call what it needs.
+#[derive(Clone, Copy, Debug, PartialEq, Eq, Drop)]
+pub enum Call {
+    /// A request asks to be admitted before its first run, at this moment.
+    Admit(Moment),
+    /// A request asks for a retry: at this moment, at this cost, and with so many slots that its earlier retries hold.
+    Draw(Moment, u64, u64),
+    /// A run failed: at this moment, and admitted in this generation.
+    Failed(Moment, u64),
+    /// A run succeeded: admitted in this generation, and worth so much.
+    Succeeded(u64, u64),
+    /// A request is over, with so many slots that its retries hold.
+    Ended(u64),
+    /// A retry that was drawn at this cost was cancelled while it waited.
+    Returned(u64),
+}
