@@ -48,7 +48,7 @@ fn starts(json: &str, deadline: Option<u64>, mut numbers: u64) -> Vec<u64> {
     let retrying = Retrying::new(&policy, &Unlimited)
         .clock(|| now.get())
         .sleep(|wait| now.set(now.get() + wait))
-        .words(|| [7, 1 << 30, 1 << 31, 9]);
+        .random(|| [7, 1 << 30, 1 << 31, 9]);
     let retrying = match deadline {
         Some(deadline) => retrying.deadline(Duration::from_millis(deadline)),
         None => retrying,

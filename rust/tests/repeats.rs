@@ -106,7 +106,7 @@ fn a_schedule_is_given_the_numbers_of_values_and_random_words() {
     let (mut statuses, waits) = ([202, 202, 200, 202].into_iter(), RefCell::new(Vec::new()));
     let repeating = Repeating::new(&policy)
         .code(|status: &u64| *status)
-        .words(|| [9, 1 << 31, 9, 9])
+        .random(|| [9, 1 << 31, 9, 9])
         .sleep(|wait: Duration| waits.borrow_mut().push(wait.as_millis()));
     assert_eq!(repeating.call(|| statuses.next().ok_or(())), Ok(200));
     drop(repeating);

@@ -151,7 +151,7 @@ fn words_pick_the_delays() {
     for (word, wait) in [(0, 0), (1 << 31, 500)] {
         let waits = RefCell::new(Vec::new());
         let _ = Retrying::new(&policy(json), &Unlimited)
-            .words(|| [9, 9, word, 9])
+            .random(|| [9, 9, word, 9])
             .sleep(|_: Duration| ())
             .notify(|_, wait| waits.borrow_mut().push(wait.as_millis()))
             .call(|| Err::<(), _>(()));

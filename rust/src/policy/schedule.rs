@@ -57,8 +57,8 @@ struct Node {
 #[derive(Clone, Debug, PartialEq, Eq, Hash)]
 enum Given {
     Numbers(Vec<u64>),
-    /// With words among them, as JSON has them.
-    Words(String),
+    /// With texts among them, as JSON has them.
+    Texts(String),
 }
 
 /// A call of a builder, as it is written, and what is wrong with it.
@@ -240,7 +240,7 @@ impl Schedule {
             Fold::Max => "max",
             Fold::List => "list",
         };
-        Self::node("gather", Given::Words(format!("\"{kind}\"")), [self])
+        Self::node("gather", Given::Texts(format!("\"{kind}\"")), [self])
     }
 
     /// Each delay is longer by `delay`.
@@ -269,7 +269,7 @@ impl Schedule {
     /// A ratio that is not a number, or is negative or past 10, is refused when the [`Policy`](crate::Policy) is made.
     pub fn jittered(self, ratios: Range<f64>) -> Self {
         self.ratios(0, thousandths(ratios.start), thousandths(ratios.end))
-            .checked(range_of(&ratios), format_args!("jittered({:?})", ratios))
+            .checked(range_of(&ratios), format_args!("jittered({ratios:?})"))
     }
 
     /// Each delay is multiplied by a ratio from `least` to `most` thousandths (at most 10,000) that the random word of
@@ -332,7 +332,7 @@ impl Schedule {
             let mut under = built.split_off(built.len() - over);
             built.push(match given {
                 Given::Numbers(numbers) => Handle::node(name, numbers, &mut under)?,
-                Given::Words(words) => read(name, words, &mut under)?,
+                Given::Texts(members) => read(name, members, &mut under)?,
             });
         }
         built.pop().ok_or(Status::NotAPolicy)
@@ -380,7 +380,7 @@ impl Schedule {
             Test::Equal(number) => ("equal", number),
         };
         let builder = format!("{}_{side}", if want { "while" } else { "until" });
-        Self::node("gate", Given::Words(format!("\"{side}\",{want},\"{name}\",{than}")), [self])
+        Self::node("gate", Given::Texts(format!("\"{side}\",{want},\"{name}\",{than}")), [self])
             .checked(number(than), format_args!("{builder}({test:?})"))
     }
 
@@ -393,9 +393,9 @@ impl Schedule {
     }
 }
 
-/// A node with words among its parameters, which the engine reads from JSON alone.
-fn read(name: &str, words: &str, under: &mut [Handle<PolicyKind>]) -> Result<Handle<PolicyKind>, Status> {
-    let mut json = format!("{{\"{name}\":[{words}");
+/// A node with texts among its parameters, which the engine reads from JSON alone.
+fn read(name: &str, members: &str, under: &mut [Handle<PolicyKind>]) -> Result<Handle<PolicyKind>, Status> {
+    let mut json = format!("{{\"{name}\":[{members}");
     for policy in under {
         json += ",";
         json += &policy.json()?;
@@ -408,7 +408,7 @@ impl Given {
     fn spelt(&self) -> Vec<String> {
         match self {
             Self::Numbers(numbers) => numbers.iter().map(ToString::to_string).collect(),
-            Self::Words(words) => vec![words.clone()],
+            Self::Texts(members) => vec![members.clone()],
         }
     }
 }

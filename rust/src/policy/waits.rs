@@ -36,8 +36,8 @@ impl Policy {
     /// Where memory is wanting.
     pub fn waits(&self) -> Waits {
         let mut machine = Machine::new(self, &Unlimited).expect("memory for a machine");
-        let begun = machine.step(Duration::ZERO, None);
-        debug_assert_eq!(begun, Step::Run);
+        let step = machine.step(Duration::ZERO, None);
+        debug_assert_eq!(step, Step::Run);
         Waits { machine: Some(machine), now: Duration::ZERO }
     }
 }
@@ -56,9 +56,9 @@ impl Iterator for Waits {
                 return None;
             }
         }
-        let begun = machine.step(self.now, None);
-        debug_assert_eq!(begun, Step::Run);
-        Some(self.now - began)
+        let step = machine.step(self.now, None);
+        debug_assert_eq!(step, Step::Run);
+        Some(self.now.saturating_sub(began))
     }
 }
 

@@ -71,7 +71,7 @@ impl<E, H: Hooked<E>, K: Fn() -> Instant, S, R: Random> Retrying<'_, E, (), H, H
             return Then::End(Err(RetryError::NotRetried(error)));
         }
         let (retry_after, code) = (self.hooks.retry_after(&error), self.hooks.code(&error));
-        let lost = Lost { now, code, words: self.host.words.draw(), retry_after };
+        let lost = Lost { now, code, words: self.host.random.draw(), retry_after };
         let wait = match progress.lost(&self.rules(), &lost) {
             Ok(wait) => wait,
             Err(ended) => return Then::End(Err(progress.error(ended, error))),

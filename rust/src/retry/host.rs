@@ -9,11 +9,11 @@ use std::time::{Duration, Instant};
 pub struct Host<K, S, R> {
     pub(crate) clock: K,
     pub(crate) sleep: S,
-    pub(crate) words: R,
+    pub(crate) random: R,
 }
 
 /// The system's clock, waits and random words; with the feature `tokio` tokio's clock, and its waits in futures.
-pub type SystemHost = Host<fn() -> Instant, SystemSleep, SystemWords>;
+pub type SystemHost = Host<fn() -> Instant, SystemSleep, SystemRandom>;
 
 /// Waits of the thread, or with the feature `tokio` of the task.
 #[derive(Clone, Copy, Debug, Default)]
@@ -21,7 +21,7 @@ pub struct SystemSleep;
 
 /// Random words of the thread, which the system's random bytes begin.
 #[derive(Clone, Copy, Debug, Default)]
-pub struct SystemWords;
+pub struct SystemRandom;
 
 /// A way to block for some time: any function of a [`Duration`].
 pub trait Sleep {
@@ -37,7 +37,7 @@ pub trait Random {
 
 impl SystemHost {
     pub(crate) fn system() -> Self {
-        Self { clock: clock::now, sleep: SystemSleep, words: SystemWords }
+        Self { clock: clock::now, sleep: SystemSleep, random: SystemRandom }
     }
 }
 
@@ -53,7 +53,7 @@ impl<F: Fn(Duration)> Sleep for F {
     }
 }
 
-impl Random for SystemWords {
+impl Random for SystemRandom {
     fn draw(&self) -> [u32; 4] {
         random::next()
     }

@@ -25,7 +25,7 @@ pub use attempts::Attempt;
 pub use blocking::{retry, Blocking, BlockingRetryable};
 pub use error::RetryError;
 pub use hooks::{Hooked, Hooks, PlainHooks, SharedHooks};
-pub use host::{Host, Random, Sleep, SystemHost, SystemSleep, SystemWords};
+pub use host::{Host, Random, Sleep, SystemHost, SystemRandom, SystemSleep};
 pub use machine::{Cause, Ending, Machine, Report, Step};
 pub use repeating::{poll_until, repeat, RepeatError, Repeating};
 #[cfg(feature = "tokio")]

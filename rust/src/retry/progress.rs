@@ -34,12 +34,12 @@ pub(crate) struct Lost {
 #[derive(Debug)]
 pub(crate) struct Progress {
     began: Instant,
-    begun: Option<Begun>,
+    running: Option<Running>,
 }
 
 /// A retry that the engine has begun. Its moments are whole milliseconds.
 #[derive(Debug)]
-struct Begun {
+struct Running {
     machine: Machine,
     /// When the first run began.
     origin: u64,
@@ -58,7 +58,7 @@ const NO_WORDS: [u32; 4] = [0; 4];
 impl Progress {
     /// One whose first run begins now.
     pub(crate) fn new(now: Instant) -> Self {
-        Self { began: now, begun: None }
+        Self { began: now, running: None }
     }
 
     /// How long ago the first run began.
@@ -74,36 +74,36 @@ impl Progress {
             Some(asked) => rules.options.granted(asked, passed).ok_or(Ending::Deadline)?,
             None => Duration::ZERO,
         };
-        let begun = match &mut self.begun {
-            Some(begun) => begun,
-            None => self.begun.insert(Begun::new(rules, self.began)?),
+        let running = match &mut self.running {
+            Some(running) => running,
+            None => self.running.insert(Running::new(rules, self.began)?),
         };
-        begun.due = begun.step(passed, Some(Report::Lost(lost.code)), &lost.words)?;
-        let wait = match begun.due {
-            Some(due) => asked.max(Duration::from_millis(due - begun.latest)),
+        running.due = running.step(passed, Some(Report::Lost(lost.code)), &lost.words)?;
+        let wait = match running.due {
+            Some(due) => asked.max(Duration::from_millis(due - running.latest)),
             None => asked,
         };
-        begun.machine.set_waits(!wait.is_zero());
+        running.machine.set_waits(!wait.is_zero());
         Ok(wait)
     }
 
     /// The run under way succeeded, and ends the retry: the ticket of the last retry, of a store.
     #[inline]
     pub(crate) fn won(&mut self) -> Option<Ticket> {
-        self.begun.as_mut().and_then(|begun| begun.machine.succeeded())
+        self.running.as_mut().and_then(|running| running.machine.succeeded())
     }
 
     /// Begins the run that was waited for: in the engine, too, where that did not at the failure before. Past the deadline
     /// the retry is over. `None` is answered where nobody had to look at the clock.
     pub(crate) fn resume(&mut self, clock: impl FnOnce() -> Instant) -> Result<Option<Instant>, Ending> {
         let began = self.began;
-        match &mut self.begun {
-            Some(begun) if begun.due.is_some() || begun.deadline.is_some() => {
+        match &mut self.running {
+            Some(running) if running.due.is_some() || running.deadline.is_some() => {
                 let now = clock();
-                begun.resume(now.saturating_duration_since(began)).map(|()| Some(now))
+                running.resume(now.saturating_duration_since(began)).map(|()| Some(now))
             }
-            Some(begun) => {
-                begun.machine.set_waits(false);
+            Some(running) => {
+                running.machine.set_waits(false);
                 Ok(None)
             }
             None => Ok(None),
@@ -112,7 +112,7 @@ impl Progress {
 
     /// The error of a retry that ended so.
     pub(crate) fn error<E>(&self, ended: Ending, error: E) -> RetryError<E> {
-        let failure = || self.begun.as_ref().and_then(|begun| begun.machine.store_failure());
+        let failure = || self.running.as_ref().and_then(|running| running.machine.store_failure());
         match ended {
             Ending::BudgetRefused => RetryError::BudgetRefused(error),
             Ending::Broken(cause) => match failure() {
@@ -126,7 +126,7 @@ impl Progress {
     }
 }
 
-impl Begun {
+impl Running {
     /// A retry whose first run began then.
     fn new(rules: &Rules<'_>, began: Instant) -> Result<Self, Ending> {
         let origin = rules.limit.origin(began);
@@ -136,9 +136,9 @@ impl Begun {
         let machine = Machine::on(rules.policy, rules.limit.source(), until);
         // (for want of passes 2^42 of them would have to be alive)
         let machine = machine.map_err(|_| Ending::Broken(Cause::NoMemory))?;
-        let mut begun = Self { machine, origin, latest: origin, due: None, deadline };
-        begun.step(Duration::ZERO, None, &NO_WORDS)?;
-        Ok(begun)
+        let mut running = Self { machine, origin, latest: origin, due: None, deadline };
+        running.step(Duration::ZERO, None, &NO_WORDS)?;
+        Ok(running)
     }
 
     /// Begins the run that is due, or that the engine has begun and an error had wait. A clock that did not move while it

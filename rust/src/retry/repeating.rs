@@ -177,18 +177,18 @@ impl<'a, T, C, M> Repeating<'a, T, C, M> {
 impl<'a, T, C, K, S, R> Repeating<'a, T, C, Host<K, S, R>> {
     /// The clock, in the place of the system's.
     pub fn clock<X: Fn() -> Instant>(self, clock: X) -> Repeating<'a, T, C, Host<X, S, R>> {
-        self.with(|Host { sleep, words, .. }| Host { clock, sleep, words })
+        self.with(|Host { sleep, random, .. }| Host { clock, sleep, random })
     }
 
     /// How to wait, as [`Retrying::sleep`](crate::Retrying::sleep): a function that blocks, or one that makes a future of
     /// any runtime.
     pub fn sleep<X>(self, sleep: X) -> Repeating<'a, T, C, Host<K, X, R>> {
-        self.with(|Host { clock, words, .. }| Host { clock, sleep, words })
+        self.with(|Host { clock, random, .. }| Host { clock, sleep, random })
     }
 
     /// Random words, in the place of the system's: four for each value, of which a jitter takes the one of its lane.
-    pub fn words<X: Fn() -> [u32; 4]>(self, words: X) -> Repeating<'a, T, C, Host<K, S, X>> {
-        self.with(|Host { clock, sleep, .. }| Host { clock, sleep, words })
+    pub fn random<X: Fn() -> [u32; 4]>(self, random: X) -> Repeating<'a, T, C, Host<K, S, X>> {
+        self.with(|Host { clock, sleep, .. }| Host { clock, sleep, random })
     }
 }
 
@@ -279,7 +279,7 @@ impl<T, C: Fn(&T) -> u64, K: Fn() -> Instant, S, R: Random> Repeating<'_, T, C, 
     /// that failed, on nothing that could refuse a retry.
     fn after<E>(&self, progress: &mut Progress, value: T) -> Result<(Duration, T), RepeatError<T, E>> {
         let (now, code) = ((self.host.clock)(), (self.code)(&value).min(MAX_NUMBER));
-        let lost = Lost { now, code, words: self.host.words.draw(), retry_after: None };
+        let lost = Lost { now, code, words: self.host.random.draw(), retry_after: None };
         match progress.lost(&Rules { policy: &self.policy, limit: &Unlimited, options: &self.options }, &lost) {
             Ok(wait) => Ok((wait, value)),
             Err(ended) => Err(RepeatError::of(ended, value)),

@@ -249,19 +249,19 @@ impl<'a, E, F, W, C, A, N, M> Retrying<'a, E, F, Hooks<W, C, A, N>, M> {
 impl<'a, E, F, H, K, S, R> Retrying<'a, E, F, H, Host<K, S, R>> {
     /// The clock, in the place of the system's.
     pub fn clock<X: Fn() -> Instant>(self, clock: X) -> Retrying<'a, E, F, H, Host<X, S, R>> {
-        self.with(|hooks| hooks, |Host { sleep, words, .. }| Host { clock, sleep, words })
+        self.with(|hooks| hooks, |Host { sleep, random, .. }| Host { clock, sleep, random })
     }
 
     /// How to wait: a function that blocks for so long, or of a retry of futures one that makes a future of any
     /// runtime, as `async_std::task::sleep`. It is not called for a wait of nothing. After a wait the retry goes on,
     /// also where the clock did not move.
     pub fn sleep<X>(self, sleep: X) -> Retrying<'a, E, F, H, Host<K, X, R>> {
-        self.with(|hooks| hooks, |Host { clock, words, .. }| Host { clock, sleep, words })
+        self.with(|hooks| hooks, |Host { clock, random, .. }| Host { clock, sleep, random })
     }
 
     /// Random words, in the place of the system's: four for each failure, of which a jitter takes the one of its lane.
-    pub fn words<X: Fn() -> [u32; 4]>(self, words: X) -> Retrying<'a, E, F, H, Host<K, S, X>> {
-        self.with(|hooks| hooks, |Host { clock, sleep, .. }| Host { clock, sleep, words })
+    pub fn random<X: Fn() -> [u32; 4]>(self, random: X) -> Retrying<'a, E, F, H, Host<K, S, X>> {
+        self.with(|hooks| hooks, |Host { clock, sleep, .. }| Host { clock, sleep, random })
     }
 }
 

@@ -122,14 +122,14 @@ impl Axis {
 
     /// Whether the parameter is one of this storm.
     pub(super) fn is_of(&self, storm: &Storm) -> bool {
-        self.limit.map_or(true, |limit| storm.storm.draws_on == limit)
+        self.limit.map_or(true, |limit| storm.parameters.draws_on == limit)
     }
 
     /// The storm with this value.
     pub(super) fn put(&self, storm: &Storm, value: u64) -> Storm {
         let mut storm = storm.clone();
         if self.is_of(&storm) {
-            storm.storm = (self.put)(storm.storm, value);
+            storm.parameters = (self.put)(storm.parameters, value);
         }
         storm
     }

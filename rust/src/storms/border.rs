@@ -97,10 +97,11 @@ impl Goal {
         let mut storm = storm.clone();
         match self {
             Self::Quota => {
-                if storm.storm.draws_on != ON_QUOTA {
-                    (storm.storm.draws_on, storm.storm.reserve, storm.storm.period) = (ON_QUOTA, 10, 1000);
+                if storm.parameters.draws_on != ON_QUOTA {
+                    (storm.parameters.draws_on, storm.parameters.reserve, storm.parameters.period) =
+                        (ON_QUOTA, 10, 1000);
                 }
-                storm.storm.share = value;
+                storm.parameters.share = value;
             }
             Self::Retries => {
                 let json = format!("{{\"meet\":[{},{{\"recurs\":{value}}}]}}", storm.policy.as_json());
@@ -109,7 +110,7 @@ impl Goal {
                     _ => StormError::PolicyTooLarge,
                 })?;
             }
-            Self::Patience => storm.storm.patience = value,
+            Self::Patience => storm.parameters.patience = value,
         }
         Ok(storm)
     }

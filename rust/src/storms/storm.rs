@@ -40,7 +40,7 @@ const MAX_WINDOWS: u64 = 65_536;
 #[must_use]
 pub struct Storm {
     pub(super) policy: Policy,
-    pub(super) storm: engine::Storm,
+    pub(super) parameters: engine::Storm,
     until: Option<u64>,
     /// Whether there is a brown-out.
     is_slow: bool,
@@ -93,7 +93,7 @@ impl Storm {
     /// The storm of an outage: 800 requests a second for a minute, on a peer that does 1,000 calls a second, and that
     /// refuses all from 10 to 20 s.
     pub fn new(policy: &Policy) -> Self {
-        let storm = engine::Storm {
+        let parameters = engine::Storm {
             rate: 800,
             together: 1,
             seconds: 60,
@@ -115,7 +115,7 @@ impl Storm {
             share: 0,
             period: 1,
         };
-        Self { policy: policy.clone(), storm, until: None, is_slow: false, fault: None }
+        Self { policy: policy.clone(), parameters, until: None, is_slow: false, fault: None }
     }
 
     /// A herd: 10,000 clients lose one connection at one moment, and the peer takes 500 at a time.
@@ -131,43 +131,43 @@ impl Storm {
 
     /// So many requests a second come: 1 to 1,000,000.
     pub fn rate(mut self, requests: u64) -> Self {
-        self.storm.rate = requests;
+        self.parameters.rate = requests;
         self
     }
 
     /// So many requests come at one moment: 1 to 1,000,000.
     pub fn together(mut self, requests: u64) -> Self {
-        self.storm.together = requests;
+        self.parameters.together = requests;
         self
     }
 
     /// Requests come for so many seconds, 1 to 3,600; there are at most 1,048,576 in all.
     pub fn seconds(mut self, seconds: u64) -> Self {
-        self.storm.seconds = seconds;
+        self.parameters.seconds = seconds;
         self
     }
 
     /// The peer can do so many calls in a second: 1 to 1,000,000.
     pub fn capacity(mut self, calls: u64) -> Self {
-        self.storm.capacity = calls;
+        self.parameters.capacity = calls;
         self
     }
 
     /// A client gives a call up after this, a millisecond to an hour. The peer does the call's work all the same.
     pub fn patience(mut self, patience: Duration) -> Self {
-        self.storm.patience = whole_millis(patience);
+        self.parameters.patience = whole_millis(patience);
         self
     }
 
     /// So many calls may stand at the peer, 0 to 1,048,576; what is more it sheds.
     pub fn queue(mut self, calls: u64) -> Self {
-        self.storm.queue = calls;
+        self.parameters.queue = calls;
         self
     }
 
     /// The peer refuses all calls from the range's start to before its end, within the first hour.
     pub fn outage(mut self, when: Range<Duration>) -> Self {
-        (self.storm.outage_from, self.storm.outage_to) = (whole_millis(when.start), whole_millis(when.end));
+        (self.parameters.outage_from, self.parameters.outage_to) = (whole_millis(when.start), whole_millis(when.end));
         self
     }
 
@@ -178,14 +178,14 @@ impl Storm {
 
     /// A brown-out: in this range, within the first hour, the peer works at `percent` of its capacity, 1 to 100.
     pub fn slow(mut self, when: Range<Duration>, percent: u64) -> Self {
-        (self.storm.slow_from, self.storm.slow_to) = (whole_millis(when.start), whole_millis(when.end));
-        (self.is_slow, self.storm.slow_percent) = (true, percent);
+        (self.parameters.slow_from, self.parameters.slow_to) = (whole_millis(when.start), whole_millis(when.end));
+        (self.is_slow, self.parameters.slow_percent) = (true, percent);
         self
     }
 
     /// How long a window of the report is: a millisecond to an hour.
     pub fn window(mut self, window: Duration) -> Self {
-        self.storm.window = whole_millis(window);
+        self.parameters.window = whole_millis(window);
         self
     }
 
@@ -198,19 +198,19 @@ impl Storm {
 
     /// The storm is cut before the call after so many, 1 to 4,294,967,296; 16,777,216 where nothing is said.
     pub fn calls(mut self, calls: u64) -> Self {
-        self.storm.calls = calls;
+        self.parameters.calls = calls;
         self
     }
 
     /// The seed of the random words by which jitter is picked.
     pub fn seed(mut self, seed: u64) -> Self {
-        self.storm.words = seed;
+        self.parameters.words = seed;
         self
     }
 
     /// The retries draw on a budget of so many tickets, at most 4,294,967,296.
     pub fn budget(mut self, limit: u64) -> Self {
-        (self.storm.draws_on, self.storm.limit) = (ON_BUDGET, limit);
+        (self.parameters.draws_on, self.parameters.limit) = (ON_BUDGET, limit);
         self.fault = Handle::<PassKind>::fixed(limit).err().map(BudgetError::of);
         self
     }
@@ -219,7 +219,7 @@ impl Storm {
     pub fn quota(mut self, reserve: u64, share: f64, per: Duration) -> Self {
         self.fault = match Terms::new(reserve, share, per) {
             Ok(Terms { reserve, share, period }) => {
-                self.storm = engine::Storm { draws_on: ON_QUOTA, reserve, share, period, ..self.storm };
+                self.parameters = engine::Storm { draws_on: ON_QUOTA, reserve, share, period, ..self.parameters };
                 Handle::quota(0, reserve, share, period, false).err().map(BudgetError::of)
             }
             Err(fault) => Some(fault),
@@ -244,7 +244,7 @@ impl Storm {
 
     /// From when on the peer is well again, in milliseconds; `None` where there is no outage and no brown-out.
     pub(super) fn well_from(&self) -> Option<u64> {
-        let engine::Storm { outage_from, outage_to, slow_from, slow_to, .. } = self.storm;
+        let engine::Storm { outage_from, outage_to, slow_from, slow_to, .. } = self.parameters;
         if outage_from < outage_to || slow_from < slow_to {
             Some(outage_to.max(slow_to))
         } else {
@@ -254,8 +254,8 @@ impl Storm {
 
     /// The parameters, where all are within their ranges.
     pub(super) fn checked(&self) -> Result<engine::Storm, StormError> {
-        let until = self.until.unwrap_or_else(|| self.storm.seconds.saturating_mul(1000).saturating_add(60_000));
-        let storm = engine::Storm { until, ..self.storm };
+        let until = self.until.unwrap_or_else(|| self.parameters.seconds.saturating_mul(1000).saturating_add(60_000));
+        let storm = engine::Storm { until, ..self.parameters };
         within("rate", storm.rate, 1, 1_000_000)?;
         within("together", storm.together, 1, 1_000_000)?;
         within("seconds", storm.seconds, 1, 3600)?;

@@ -4,7 +4,7 @@ use crate::storms::axis::{Axis, Measure};
 use crate::storms::report::StormReport;
 use crate::storms::storm::{Storm, StormError};
 use std::collections::HashMap;
-use std::fmt;
+use std::fmt::{self, Write as _};
 use std::num::NonZeroUsize;
 use std::sync::atomic::{AtomicUsize, Ordering};
 use std::thread;
@@ -129,9 +129,9 @@ impl SweepReport {
         let widths: Vec<usize> = columns.iter().map(|column| width_of(column)).collect();
         let mut text = measure.title().to_owned();
         for row in 0..=self.axis.values.len() {
-            text += &format!("\n{:<width$}", columns[0][row], width = widths[0]);
+            let _ = write!(text, "\n{:<width$}", columns[0][row], width = widths[0]);
             for (column, width) in columns.iter().zip(&widths).skip(1) {
-                text += &format!("  {:>width$}", column[row], width = *width);
+                let _ = write!(text, "  {:>width$}", column[row], width = *width);
             }
         }
         text
@@ -147,7 +147,7 @@ impl SweepReport {
             for (value, report) in self.axis.values.iter().zip(&line.reports) {
                 let totals =
                     report.totals.in_json().map(|(_, total)| if total == "null" { String::new() } else { total });
-                text += &format!("{},{},{}\n", self.axis.shown(*value), quoted(&line.name), totals.join(","));
+                let _ = writeln!(text, "{},{},{}", self.axis.shown(*value), quoted(&line.name), totals.join(","));
             }
         }
         text
