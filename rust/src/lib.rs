@@ -1,9 +1,9 @@
 //! Retries by schedules and shared budgets.
 //!
-//! A [`Schedule`] says when to call again and when to stop; as a [`Policy`] it was built and found right by the engine.
-//! A [`Budget`] is a number of retries that all threads of a program share, and a [`Quota`] one in each window of time,
-//! which grows with the requests made. [`retry()`] runs a call by both, and gives its first success, or its last error
-//! with the reason why it was the last:
+//! A [`Schedule`] says when to call again and when to stop. A [`Policy`] is a schedule that the engine has built and
+//! accepted. A [`Budget`] is a number of retries that all threads of a program share. A [`Quota`] is a number of
+//! retries in each window of time, which grows with the requests made. [`retry()`] runs a call by a policy and such a
+//! limit. It returns the first success, or the last error with the reason why it was the last:
 //!
 //! ```
 //! use hikebox::{retry, Budget, Policy, Schedule};
@@ -17,22 +17,22 @@
 //! # Ok::<(), Box<dyn std::error::Error>>(())
 //! ```
 //!
-//! - [`Retrying`] adds which errors are retried, the numbers by which the schedule knows them, the time that a call may
-//!   take in all, and who hears of a retry.
-//! - A call is retried by a method of its own, too: see [`BlockingRetryable`] and [`Retryable`].
-//! - [`repeat`] runs a call again after each success, [`poll_until`] until its answer is as wanted; [`Repeating`] adds
-//!   the time that it may take in all, a clock and a sleep of your own.
-//! - With the feature `tokio`, `retry_async` retries futures. [`Retrying::sleep`] takes the waits of any runtime.
+//! - [`Retrying`] adds which errors are retried, the numbers by which the schedule tests them, a deadline for the call
+//!   with all its runs, and a function that is called before each retry.
+//! - You can also retry a call by a method on it: see [`BlockingRetryable`] and [`Retryable`].
+//! - [`repeat`] runs a call again after each success, and [`poll_until`] until you accept its value. [`Repeating`] adds
+//!   a deadline, and a clock and a sleep of your own.
+//! - With the feature `tokio`, `retry_async` retries futures. [`Retrying::sleep`] takes the sleep of any runtime.
 //! - With the feature `tower`, `RetryPolicy` is a `tower::retry::Policy`.
-//! - With the feature `leased`, `Leased` and `LeasedQuota` are shared by all processes of a machine, by a folder. A store
-//!   of your own implements [`Tickets`].
-//! - With the feature `serde`, a policy and a quota are read as parts of a configuration.
-//! - [`Machine`] is a retry that a host with a clock of its own steps.
+//! - With the feature `leased`, all processes of a machine can share a `Leased` or a `LeasedQuota`, which count in a
+//!   folder. A store of your own implements [`Tickets`].
+//! - With the feature `serde`, a configuration can contain a policy and a quota.
+//! - [`Machine`] is a retry that you step yourself, by a clock of your own.
 //! - [`Storm`] shows what a policy does to a peer that fails for a while, when thousands of calls fail together; a
 //!   [`Sweep`] plays storms along a parameter.
 //!
-//! What the engine does is proved; this crate, which calls it, is tested. `docs/RUST.md` of the repository is the
-//! guide.
+//! The engine is proved to do what its definitions say; this crate, which calls it, is tested. The guide is
+//! `docs/RUST.md` of the repository.
 
 #![deny(unsafe_code)]
 
@@ -105,7 +105,7 @@ mod pages {
     /// ```
     struct Grows;
 
-    /// What does nothing by itself, and a ticket that nobody looks at, are told:
+    /// The compiler warns if a value that does nothing by itself, or a ticket, is dropped:
     ///
     /// ```compile_fail
     /// #![deny(unused_must_use)]

@@ -18,7 +18,8 @@ thread_local! {
     static STREAM: Cell<Stream> = const { Cell::new(Stream { state: 0, generation: u64::MAX }) };
 }
 
-/// A state from the system's random bytes. In a forked child these are the parent's, so the process and the time count too.
+/// A state from the system's random bytes. In a forked child these are the parent's, so the process and the time count
+/// too.
 fn seed() -> u64 {
     let mut hasher = RandomState::new().build_hasher();
     let now = SystemTime::now().duration_since(SystemTime::UNIX_EPOCH).unwrap_or_default();

@@ -7,7 +7,8 @@ use serde::ser::{Error as _, Serialize, Serializer};
 use serde_json::{Map, Value};
 use std::time::Duration;
 
-/// As the tree that its JSON spells, in whatever format: a policy of a configuration in TOML or YAML is one.
+/// A policy is written as the tree that its JSON spells, in whatever format: a configuration in TOML or YAML can
+/// contain it.
 impl Serialize for Policy {
     fn serialize<S: Serializer>(&self, serializer: S) -> Result<S::Ok, S::Error> {
         let tree: Value = serde_json::from_str(self.as_json()).map_err(S::Error::custom)?;
@@ -15,7 +16,8 @@ impl Serialize for Policy {
     }
 }
 
-/// Of the tree that its JSON spells. A tree that is no policy is refused with its first fault, the place and the hint.
+/// A policy is read from the tree that its JSON spells. A tree that is not a policy is rejected with its first error,
+/// where that is, and a hint.
 impl<'de> Deserialize<'de> for Policy {
     fn deserialize<D: Deserializer<'de>>(deserializer: D) -> Result<Self, D::Error> {
         Self::from_json(&Value::deserialize(deserializer)?.to_string()).map_err(D::Error::custom)
@@ -25,8 +27,8 @@ impl<'de> Deserialize<'de> for Policy {
 /// The members of a quota in a configuration.
 const MEMBERS: &[&str] = &["reserve", "share", "per", "carries", "counts_successes", "returns_tickets"];
 
-/// Of an object with `reserve`, `share`, and `per` in seconds; `carries`, `counts_successes` and `returns_tickets` are false
-/// unless they are there. Windows are counted from the moment at which it is read.
+/// A quota is read from an object with `reserve`, `share`, and `per` in seconds. `carries`, `counts_successes` and
+/// `returns_tickets` are false if they are missing. Windows are counted from the moment at which the object is read.
 impl<'de> Deserialize<'de> for Quota {
     fn deserialize<D: Deserializer<'de>>(deserializer: D) -> Result<Self, D::Error> {
         let members = Map::<String, Value>::deserialize(deserializer)?;

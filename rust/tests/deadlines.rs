@@ -41,7 +41,8 @@ fn no_run_is_planned_past_the_deadline_and_no_ticket_is_drawn_for_it() {
     assert_eq!(runs(spaced, 129_000, 30_000), (vec![(0, 129_000)], 0));
 }
 
-/// When each run of a retry began, in milliseconds, of runs that take as long as these numbers say, a millisecond at least.
+/// When each run of a retry began, in milliseconds, of runs that take as long as these numbers say, a millisecond at
+/// least.
 fn starts(json: &str, deadline: Option<u64>, mut numbers: u64) -> Vec<u64> {
     let (policy, now) = (policy(json), Cell::new(Instant::now()));
     let (origin, mut seen) = (now.get(), Vec::new());

@@ -109,8 +109,8 @@ fn a_lease_that_dies_is_lost_and_no_more() {
     assert_eq!(number(Leased::new(&folder.0, "another", 1).unwrap().draw()), Some(0));
 }
 
-/// The answer of a draw, and the window of so many hundredths of a second in which it was made for sure, by the machine's
-/// uptime.
+/// The answer of a draw, and the window of so many hundredths of a second in which it was made for sure, by the
+/// machine's uptime.
 fn in_window<T>(length: u64, draw: impl FnOnce() -> T) -> (Option<u64>, T) {
     let uptime = || -> u64 {
         let text = fs::read_to_string("/proc/uptime").unwrap();
@@ -161,8 +161,8 @@ fn eight_threads_draw_each_ticket_of_a_folder_once() {
     assert_eq!(drawn(&|| number(quota.draw())), (0..2000).collect::<Vec<_>>());
 }
 
-/// Processes are killed while they draw. What each of them had printed is its own, and the others have the rest, but for
-/// what leases had that died.
+/// Processes are killed while they draw. What each of them had printed is its own, and the others have the rest, but
+/// for what leases had that died.
 #[test]
 fn processes_that_are_killed_overdraw_nothing() {
     // (six processes with 2,500 requests each add the half of those to a reserve of 20,000)
@@ -193,8 +193,8 @@ fn processes_that_are_killed_overdraw_nothing() {
     }
 }
 
-/// What a process of the next test does: two threads draw in windows of a tenth of a second, hand each third ticket back,
-/// and keep the others.
+/// What a process of the next test does: two threads draw in windows of a tenth of a second, hand each third ticket
+/// back, and keep the others.
 #[test]
 #[ignore = "run by tickets_that_come_back_are_kept_once_in_each_window"]
 fn process_that_hands_back() {

@@ -1,5 +1,5 @@
-//! Folders of slots, under attack: damaged, full, removed, forked, killed, pruned, and in a time namespace. The bytes of a
-//! slot are written here a second time, from the words of docs/MACHINES.md.
+//! Folders of slots, under attack: damaged, full, removed, forked, killed, pruned, and in a time namespace. The bytes
+//! of a slot are written here a second time, from the words of docs/MACHINES.md.
 #![cfg(feature = "leased")]
 
 #[macro_use]
@@ -289,7 +289,8 @@ fn a_slot_that_was_replaced_meanwhile_is_opened_again() {
     keeper.wait().unwrap();
 }
 
-/// What a process of the next test does, in a file system of 24 KB: it fills it up while it draws, and makes room again.
+/// What a process of the next test does, in a file system of 24 KB: it fills it up while it draws, and makes room
+/// again.
 #[test]
 #[ignore = "run by a_full_disk_stops_and_damages_no_slot"]
 fn process_on_a_full_disk() {
@@ -476,7 +477,8 @@ fn what_dying_processes_left_behind_is_pruned() {
     assert_eq!([old.exists(), young.exists(), others.exists()], [false, true, true]);
 }
 
-/// The number of a ticket, or `None` where there is none. A lock that others keep for long, on a busy machine, is asked for again.
+/// The number of a ticket, or `None` where there is none. A lock that others keep for long, on a busy machine, is asked
+/// for again.
 fn number_in_the_end(draw: impl Fn() -> Result<Ticket, NoTicket>) -> Option<u64> {
     loop {
         match draw() {

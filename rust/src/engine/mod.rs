@@ -1,5 +1,5 @@
-//! The engine: its calls as safe ones, on handles that own what they hold. All `unsafe` code that calls the engine is in
-//! this folder.
+//! The engine: its calls as safe ones, on handles that own what they hold. All `unsafe` code that calls the engine is
+//! in this folder.
 #![allow(unsafe_code)]
 
 #[cfg(feature = "leased")]
@@ -25,10 +25,10 @@ pub(crate) use sys::{
     LOST, MAX_NUMBER, MAX_STEPS, MAX_TICKETS, NO_DEADLINE, NO_REPORT, ON_BUDGET, ON_NOTHING, ON_QUOTA, OVER, WAIT, WON,
 };
 
-// SAFETY of the calls in this folder: a pointer is to a handle of the kind that the call wants, or to an empty one that it
-// fills; a text or a room is valid for the length that is told; each result has a place of its own; and a handle that
-// is lent by `&mut` is used by no other thread. Passes that are joined, and a retry and the pass that it ends into, are
-// of one budget or quota: `Pass`, `QuotaPass` and `Machine` keep the one that theirs was split off.
+// SAFETY of the calls in this folder: a pointer is to a handle of the kind that the call wants, or to an empty one that
+// it fills; a text or a room is valid for the length that is told; each result has a place of its own; and a handle
+// that is lent by `&mut` is used by no other thread. Passes that are joined, and a retry and the pass that it ends
+// into, are of one budget or quota: `Pass`, `QuotaPass` and `Machine` keep the one that theirs was split off.
 
 /// Why a call is refused.
 #[derive(Clone, Copy, Debug, PartialEq, Eq)]

@@ -28,8 +28,8 @@ impl Handle<RetryKind> {
         Self::begun(policy, &mut Handle::unlimited()?, deadline)
     }
 
-    /// Steps it, and tells what it is at; or says that it is refused, as a report of no run is, and what was told before
-    /// stays.
+    /// Steps it, and tells what it is at; or says that it is refused, as a report of no run is, and what was told
+    /// before stays.
     #[inline]
     pub(crate) fn poll(&mut self, now: u64, words: &[u32; 4], report: u32, code: u64, told: &mut Next) -> bool {
         let status = unsafe { hikebox_retry_poll(self.raw(), now, words, report, code, told) };

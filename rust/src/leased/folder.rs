@@ -20,15 +20,15 @@ use std::time::{Duration, Instant, SystemTime};
 #[derive(Debug)]
 #[non_exhaustive]
 pub enum StoreError {
-    /// The slot can't be made, opened, read, locked or written.
+    /// The slot cannot be made, opened, read, locked or written.
     Io(io::Error),
-    /// Another process keeps the slot's lock.
+    /// Another process keeps the slot locked.
     Locked,
-    /// The file is damaged, or no slot of this budget or quota.
+    /// The file is damaged, or is not a slot of this budget or quota.
     Damaged(PathBuf),
-    /// The path names a file. Counts are kept in a folder.
+    /// The path names a file, and counts are kept in a folder.
     NotAFolder(PathBuf),
-    /// The slot counts a later window than the present one, of which it has no count any more.
+    /// The slot counts a later window than the current one, and has no count of the current one any more.
     Lost,
 }
 

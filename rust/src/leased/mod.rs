@@ -20,12 +20,12 @@ use std::path::Path;
 use std::sync::Arc;
 use std::time::{Duration, Instant};
 
-/// A budget that all processes with the same folder and name share, Python's (`hikebox.Leased`) too. Threads may share
-/// it; it is cheap to clone, and all clones draw from one lease.
+/// A budget that all processes with the same folder and name share, including those of the Python package
+/// (`hikebox.Leased`). Threads can share it; it is cheap to clone, and all clones draw from one lease.
 ///
-/// A process leases a range of tickets by one change of a file of the folder under its lock, which is on the disk before
-/// it is granted, and then draws from the range. So each ticket is in one lease, and is drawn once. What is left of a
-/// lease when its process ends is lost.
+/// A process leases a range of tickets by one change of a file of the folder, under the file's lock. The change is on
+/// the disk before the lease is granted, and the process then draws from the range. So each ticket is in one lease and
+/// is drawn once. What is left of a lease when its process ends is lost.
 ///
 /// ```
 /// use hikebox::Leased;
@@ -51,12 +51,12 @@ pub struct Leased {
     share: Arc<Share>,
 }
 
-/// A quota that all processes with the same folder and name share, Python's (`hikebox.LeasedQuota`) too. Threads may
-/// share it; it is cheap to clone, and all clones are the same quota.
+/// A quota that all processes with the same folder and name share, including those of the Python package
+/// (`hikebox.LeasedQuota`). Threads can share it; it is cheap to clone, and all clones are the same quota.
 ///
 /// It is a [`Quota`](crate::Quota) over all processes: in each window of the machine's uptime they draw no more tickets
-/// than the reserve, and the share of the requests that they told the store in it. Requests are counted in the process;
-/// it tells them when it asks for a lease, or by [`LeasedQuota::seen`], and those of the present window alone.
+/// than the reserve, and the share of the requests that they told the store in it. A process counts its requests
+/// itself. It tells the store those of the current window when it asks for a lease, or by [`LeasedQuota::seen`].
 ///
 /// ```
 /// use hikebox::LeasedQuota;
@@ -103,8 +103,8 @@ struct Found {
 const MAX_LIMIT: u64 = (1 << 52) - 1;
 
 impl Leased {
-    /// A budget of `limit` tickets (at most 2^52 - 1; a greater number counts as that) over all processes that name it
-    /// so in this folder, which is made where it is missing. It has to be on a local disk.
+    /// A budget of `limit` tickets over all processes that name it so in this folder. The limit is at most 2^52 - 1,
+    /// and a greater number counts as that. The folder has to be on a local disk, and is made if it is missing.
     ///
     /// # Errors
     ///
@@ -122,8 +122,8 @@ impl Leased {
         })
     }
 
-    /// So many tickets in each window of this length (whole milliseconds, at least one), by the machine's uptime, and
-    /// not in all.
+    /// Gives that many tickets in each window of this length, and not in all. The length is in whole milliseconds, at
+    /// least one; windows are counted by the machine's uptime.
     #[must_use]
     pub fn in_each(mut self, period: Duration) -> Self {
         let millis = u64::try_from(period.as_millis()).unwrap_or(u64::MAX).max(1);
@@ -132,27 +132,27 @@ impl Leased {
         self
     }
 
-    /// How many tickets are leased at a time, from 1 to 2^32: a process that ends loses at most so many. Unless it is
-    /// said, a sixty-fourth of the limit, from 1 to 1000.
+    /// How many tickets are leased at a time, from 1 to 2^32. A process that ends loses at most that many. By default
+    /// it is a sixty-fourth of the limit, from 1 to 1000.
     #[must_use]
     pub fn lease(mut self, tickets: u64) -> Self {
         self.lease = tickets.clamp(1, MAX_TICKETS);
         self
     }
 
-    /// How long the store is left alone where it failed, or had nothing left: a second, unless it is said. Where a budget
-    /// has windows, it is asked in the next one.
+    /// How long the store is not asked again after it failed, or had nothing left: a second by default. A budget with
+    /// windows asks again in the next one.
     #[must_use]
     pub fn again_after(mut self, wait: Duration) -> Self {
         self.again_after = wait;
         self
     }
 
-    /// A ticket, whose number is below the limit: from the lease, or from a new one where it is used up.
+    /// Draws a ticket, whose number is below the limit: from the lease, or from a new one if that is used up.
     ///
     /// # Errors
     ///
-    /// [`NoTicket`] where a new lease is needed, and the store has nothing left, or fails: with a [`StoreError`].
+    /// [`NoTicket`] if a new lease is needed and the store has nothing left, or fails with a [`StoreError`].
     pub fn draw(&self) -> Result<Ticket, NoTicket> {
         self.share.draw(self.again_after, |_| self.ask())
     }
@@ -175,11 +175,11 @@ impl Leased {
 
 impl LeasedQuota {
     /// A quota of these terms, as of [`Quota::new`](crate::Quota::new), over all processes that name it so in this
-    /// folder, which is made where it is missing. It has to be on a local disk.
+    /// folder. The folder has to be on a local disk, and is made if it is missing.
     ///
     /// # Errors
     ///
-    /// [`BudgetError`] says which of the terms is out of its range.
+    /// [`BudgetError`] says which argument is out of its range.
     pub fn new(
         path: impl AsRef<Path>,
         name: impl Into<String>,
@@ -200,16 +200,16 @@ impl LeasedQuota {
         })
     }
 
-    /// How many tickets are leased at a time, from 1 to 2^32: a process that ends loses at most so many. Unless it is
-    /// said, a sixty-fourth of what the window allows, from 1 to 1000.
+    /// How many tickets are leased at a time, from 1 to 2^32. A process that ends loses at most that many. By default
+    /// it is a sixty-fourth of what the window allows, from 1 to 1000.
     #[must_use]
     pub fn lease(mut self, tickets: u64) -> Self {
         self.lease = Some(tickets.clamp(1, MAX_TICKETS));
         self
     }
 
-    /// How long the store is left alone where it failed, or had nothing left and the requests since then are not worth a
-    /// lease: a second, unless it is said, and up to the next window at most.
+    /// How long the store is not asked again after it failed, or had nothing left and the requests since are not worth
+    /// a lease: a second by default, and at most until the next window.
     #[must_use]
     pub fn again_after(mut self, wait: Duration) -> Self {
         self.again_after = wait;
@@ -217,13 +217,13 @@ impl LeasedQuota {
     }
 
     options_of_uses! {
-        /// The quota, on which a call counts as a request where it succeeds: [`Quota::counting_successes`].
+        /// Makes a call count as a request when it succeeds: [`Quota::counting_successes`].
         ///
         /// [`Quota::counting_successes`]: crate::Quota::counting_successes
         counting_successes,
 
-        /// The quota, to which a call that succeeds after retries hands the ticket of the last one back:
-        /// [`Quota::returning_tickets`]. What comes back this process alone draws again, while the window lasts.
+        /// Makes a call that succeeds after retries hand the ticket of its last retry back:
+        /// [`Quota::returning_tickets`]. Only this process draws a ticket again that came back, while its window lasts.
         ///
         /// [`Quota::returning_tickets`]: crate::Quota::returning_tickets
         returning_tickets
@@ -233,7 +233,7 @@ impl LeasedQuota {
     ///
     /// # Errors
     ///
-    /// [`BudgetError`] says which of them is out of its range; then nothing changes.
+    /// [`BudgetError`] says which argument is out of its range; then nothing changes.
     pub fn set_terms(&self, reserve: u64, share: f64) -> Result<(), BudgetError> {
         let terms = Terms { reserve, share: thousandths(share)?, period: self.period }.checked()?;
         self.shared.terms.set(terms.reserve, terms.share);
@@ -251,16 +251,16 @@ impl LeasedQuota {
         self.deposit_of(1);
     }
 
-    /// Counts so many requests at once.
+    /// Counts several requests at once.
     pub fn deposit_of(&self, requests: u32) {
         self.shared.share.deposit(requests);
     }
 
-    /// A ticket of the present window: from the lease, or from a new one where it is used up.
+    /// Draws a ticket of the current window: from the lease, or from a new one if that is used up.
     ///
     /// # Errors
     ///
-    /// [`NoTicket`] where a new lease is needed, and the store has nothing left, or fails: with a [`StoreError`].
+    /// [`NoTicket`] if a new lease is needed and the store has nothing left, or fails with a [`StoreError`].
     pub fn draw(&self) -> Result<Ticket, NoTicket> {
         self.shared.share.draw(self.again_after, |tell| {
             let terms = self.terms();
@@ -273,20 +273,21 @@ impl LeasedQuota {
         })
     }
 
-    /// Hands a ticket back that was not used: this process draws it again, while its window lasts. The store is not asked.
+    /// Hands back a ticket that was not used. This process can draw it again while its window lasts. The store is not
+    /// asked.
     ///
     /// # Errors
     ///
-    /// The ticket itself, where this quota did not draw it, or its window is over.
+    /// The ticket itself, if this quota did not draw it, or its window is over.
     pub fn hand_back(&self, ticket: Ticket) -> Result<(), Ticket> {
         self.shared.share.hand_back(ticket)
     }
 
-    /// Tells the store the requests that were counted since, and answers what it has of the present window.
+    /// Tells the store the requests that were counted since, and returns its counts of the current window.
     ///
     /// # Errors
     ///
-    /// [`StoreError`] where the store can't be read or written, or has lost its count of the present window.
+    /// [`StoreError`] if the store cannot be read or written, or has lost its count of the current window.
     pub fn seen(&self) -> Result<Usage, StoreError> {
         let terms = self.terms();
         let ask = |tell: Tell<'_>| self.ask(terms, false, tell).map(|found| (found.window, found.stored));

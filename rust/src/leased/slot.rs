@@ -41,8 +41,8 @@ impl Record {
         record
     }
 
-    /// The copy of the slot that was written last, of those that are right: of this key, where one is named. `None` where
-    /// neither is, or the file is not as long as a slot.
+    /// The copy of the slot that was written last, of those that are right: of this key, where one is named. `None`
+    /// where neither is, or the file is not as long as a slot.
     pub(crate) fn read(slot: &File, key: Option<&str>) -> Option<Self> {
         let mut bytes = [0; SIZE as usize];
         if slot.metadata().ok()?.len() != SIZE {
@@ -110,8 +110,8 @@ impl Record {
         }
     }
 
-    /// Whether its window is over for good at this moment, and the next one is: of another start of the machine each is.
-    /// What has no windows is never over.
+    /// Whether its window is over for good at this moment, and the next one is: of another start of the machine each
+    /// is. What has no windows is never over.
     pub(crate) fn is_over(&self, boot: &Boot, now: u64) -> bool {
         match self.period() {
             Some(period) => self.boot != *boot || self.window.saturating_add(2).saturating_mul(period) <= now,

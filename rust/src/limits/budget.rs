@@ -9,8 +9,8 @@ use std::fmt;
 use std::sync::atomic::{AtomicU64, Ordering};
 use std::sync::{Arc, Mutex, MutexGuard, PoisonError};
 
-/// A number of tickets that all threads of a program share: a retry needs one, and no ticket is drawn twice. It is
-/// cheap to clone; all clones are the same budget.
+/// A fixed number of tickets that all threads of a program share. Each retry takes one, and no ticket is drawn twice.
+/// It is cheap to clone; all clones are the same budget.
 ///
 /// ```
 /// use hikebox::Budget;
@@ -25,8 +25,8 @@ use std::sync::{Arc, Mutex, MutexGuard, PoisonError};
 /// # Ok::<(), Box<dyn std::error::Error>>(())
 /// ```
 ///
-/// It makes as many passes and retries as are wanted: a pass that is given back gives its part of the budget back. It
-/// belongs to its process: a forked child has one of its own, with nothing drawn.
+/// You can make as many passes and retries as you like; one that is dropped returns its part of the budget. A budget
+/// belongs to its process: a forked child has its own, with nothing drawn.
 #[derive(Clone)]
 pub struct Budget {
     shared: Arc<Shared>,
@@ -39,23 +39,24 @@ struct Shared {
     root: PerProcess<Mutex<Handle<PassKind>>>,
 }
 
-/// The right to draw tickets of a [`Budget`], for one thread at a time. Dropped, it is given back with its tickets.
+/// The right to draw tickets of a [`Budget`], for one thread at a time. A pass that is dropped adds its tickets to the
+/// budget's count.
 #[derive(Debug)]
 pub struct Pass {
     part: Part<Budget>,
 }
 
-/// Why a call on a budget or a quota is refused.
+/// Why a budget or a quota rejects a call.
 #[derive(Clone, Copy, Debug, PartialEq, Eq, Hash)]
 #[non_exhaustive]
 pub enum BudgetError {
     /// The limit is above 4,294,967,296.
     LimitTooLarge,
-    /// The budget was made by [`Budget::new`], which keeps its limit.
+    /// The budget was made by [`Budget::new`], so its limit is fixed.
     Fixed,
     /// The reserve is above 4,294,967,296 retries a window.
     ReserveTooLarge,
-    /// The share is below 0 or above 10 retries a request, no number, or more than 0 and less than a thousandth.
+    /// The share is below 0, above 10 retries for each request, not a number, or above 0 and below a thousandth.
     ShareOutOfRange,
     /// The window is shorter than 100 milliseconds.
     PeriodTooShort,
@@ -63,12 +64,12 @@ pub enum BudgetError {
     PeriodTooLong,
     /// The name of a `Leased` or a `LeasedQuota` is empty, or longer than 255 bytes.
     NameLength {
-        /// How long it is.
+        /// Its length, in bytes.
         bytes: usize,
     },
     /// More than 2^42 passes are alive.
     TooManyPasses,
-    /// Memory is wanting.
+    /// Memory ran out.
     NoMemory,
 }
 
@@ -82,8 +83,8 @@ impl Budget {
         Self::made(limit, false)
     }
 
-    /// A budget of `limit` tickets that [`Budget::raise`] may raise. A draw that is refused uses no ticket up, so a
-    /// limit that is raised by some gives as many tickets more.
+    /// A budget of `limit` tickets that [`Budget::raise`] can raise. A draw that is refused uses no ticket, so raising
+    /// the limit by a number of tickets allows that many more.
     ///
     /// ```
     /// use hikebox::Budget;
@@ -103,11 +104,11 @@ impl Budget {
         Self::made(limit, true)
     }
 
-    /// Raises the limit to `to`, where it is below that, and answers the limit.
+    /// Raises the limit to `to` if it is below that, and returns the limit.
     ///
     /// # Errors
     ///
-    /// [`BudgetError::Fixed`] of one that was made by [`Budget::new`], or [`BudgetError::LimitTooLarge`].
+    /// [`BudgetError::Fixed`] if the budget was made by [`Budget::new`], or [`BudgetError::LimitTooLarge`].
     pub fn raise(&self, to: u64) -> Result<u64, BudgetError> {
         let mut root = self.lock();
         let limit = root.raise(to).map_err(BudgetError::of)?;
@@ -115,7 +116,7 @@ impl Budget {
         Ok(limit)
     }
 
-    /// A pass of the budget, for a thread that draws by itself.
+    /// A pass of the budget, for a thread that draws tickets by itself.
     ///
     /// # Errors
     ///
@@ -124,18 +125,18 @@ impl Budget {
         Ok(Pass { part: Part::new(self.clone())? })
     }
 
-    /// How many tickets were granted to retries that have ended and to passes that were given back.
+    /// The number of tickets that were drawn by retries that have ended and by passes that were dropped.
     #[must_use]
     pub fn granted(&self) -> u64 {
         self.lock().count()
     }
 
-    /// Closes the budget, where no other clone of it, no pass and no retry is alive, and answers how many tickets were
-    /// drawn of it; otherwise the budget comes back.
+    /// Closes the budget if no other clone, no pass and no retry of it is alive, and returns the exact number of
+    /// tickets drawn.
     ///
     /// # Errors
     ///
-    /// The budget itself.
+    /// The budget itself, if something of it is alive.
     pub fn close(self) -> Result<u64, Self> {
         let Shared { limit, rises, root } = Arc::try_unwrap(self.shared).map_err(|shared| Self { shared })?;
         let mut root = match root.into_inner() {
@@ -181,11 +182,11 @@ impl fmt::Debug for Budget {
 }
 
 impl Pass {
-    /// A ticket that no other draw got. A draw takes no lock and no memory, and never waits.
+    /// Draws a ticket that no other draw got. It takes no lock and no memory, and never waits.
     ///
     /// # Errors
     ///
-    /// [`NoTicket::UsedUp`]: of a budget that keeps its limit for good, of one that may rise until it is raised.
+    /// [`NoTicket::UsedUp`]: for good if the limit is fixed, and otherwise until it is raised.
     pub fn draw(&mut self) -> Result<Ticket, NoTicket> {
         match self.part.handle().draw(0) {
             Ok(number) => {
@@ -199,7 +200,7 @@ impl Pass {
         }
     }
 
-    /// How many tickets it drew.
+    /// The number of tickets that it drew.
     #[must_use]
     pub fn count(&self) -> u64 {
         self.part.tickets

@@ -41,8 +41,8 @@ fn next_slot() -> usize {
 }
 
 impl Counter {
-    /// Counts so many requests at this instant, where its window is not over and its pass counts so many at once, and says
-    /// whether it did.
+    /// Counts so many requests at this instant, where its window is not over and its pass counts so many at once, and
+    /// says whether it did.
     #[inline]
     pub(crate) fn count(&mut self, now: Instant, requests: u32) -> bool {
         now < self.ends && self.pass.deposit(self.first, requests)

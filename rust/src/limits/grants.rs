@@ -11,8 +11,9 @@ use std::fmt;
 use std::sync::Arc;
 use std::time::Instant;
 
-/// What retries draw their tickets on: a [`Budget`], a [`Quota`], an `Arc` of [`Tickets`], or [`Unlimited`] for
-/// nothing; with the feature `leased` also `Leased` and `LeasedQuota`. Whatever retries takes any of them.
+/// What retries can draw their tickets on: a [`Budget`], a [`Quota`], an `Arc` of your own store of [`Tickets`], or
+/// [`Unlimited`] for no limit; with the feature `leased` also `Leased` and `LeasedQuota`. Everything that retries takes
+/// any of them.
 ///
 /// ```
 /// use hikebox::{retry, Budget, Grants, Policy, Quota, RetryError, Unlimited};
@@ -31,7 +32,7 @@ use std::time::Instant;
 /// # Ok::<(), Box<dyn std::error::Error>>(())
 /// ```
 ///
-/// It is sealed. A store of one's own implements [`Tickets`].
+/// The trait is sealed. A store of your own implements [`Tickets`].
 pub trait Grants: Limit {}
 
 impl Grants for Budget {}
@@ -40,7 +41,7 @@ impl Grants for Unlimited {}
 impl Grants for AnyBudget {}
 impl<S: Tickets + 'static> Grants for Arc<S> {}
 
-/// Whatever retries draw on, for a budget that is chosen when the program runs.
+/// Any of these limits, for one that is chosen when the program runs.
 ///
 /// ```
 /// use hikebox::{retry, AnyBudget, Budget, Policy, Quota, RetryError};
@@ -65,27 +66,27 @@ impl<S: Tickets + 'static> Grants for Arc<S> {}
 #[derive(Clone, Debug, Default)]
 #[non_exhaustive]
 pub enum AnyBudget {
-    /// None.
+    /// No limit.
     #[default]
     Unlimited,
     /// A budget.
     Budget(Budget),
     /// A quota.
     Quota(Quota),
-    /// A budget that processes share.
+    /// A budget that all processes of a machine share.
     #[cfg(feature = "leased")]
     Leased(Leased),
-    /// A quota that processes share.
+    /// A quota that all processes of a machine share.
     #[cfg(feature = "leased")]
     LeasedQuota(LeasedQuota),
 }
 
-/// No budget: each retry that the schedule goes on to is granted.
+/// No limit: every retry that the schedule allows is granted.
 #[derive(Clone, Copy, Debug, Default, PartialEq, Eq, Hash)]
 pub struct Unlimited;
 
-/// A store of tickets outside of the engine, as a table of a database (with the feature `leased`, `Leased` and
-/// `LeasedQuota` are such, by a folder). An `Arc` of it is given to whatever retries:
+/// A store of tickets outside the engine, such as a table of a database. (With the feature `leased`, `Leased` and
+/// `LeasedQuota` are stores in a folder.) Pass an `Arc` of it to whatever retries:
 ///
 /// ```
 /// use hikebox::{retry, NoTicket, Policy, RetryError, Ticket, Tickets};
@@ -112,27 +113,27 @@ pub struct Unlimited;
 /// # Ok::<(), hikebox::PolicyError>(())
 /// ```
 ///
-/// That it gives out no more tickets than it should is its own affair. A retry of a future draws on the thread that
-/// polls it, so what a draw waits for, as a disk, that thread waits for.
+/// The store itself has to see that it gives out no more tickets than it should. A retry of a future draws on the
+/// thread that polls it, so that thread waits for whatever the draw waits for, such as a disk.
 pub trait Tickets: Send + Sync {
-    /// Counts a request, before its first run. Unless it is said, nothing is counted.
+    /// Counts a request, before its first run. By default nothing is counted.
     fn deposit(&self) {}
 
     /// Draws a ticket for one retry.
     ///
     /// # Errors
     ///
-    /// [`NoTicket::UsedUp`] where there is none: the retry ends as
-    /// [`RetryError::BudgetRefused`](crate::RetryError::BudgetRefused). [`NoTicket::failed`] where the store can't know: it
-    /// ends as [`RetryError::StoreFailed`](crate::RetryError::StoreFailed).
+    /// [`NoTicket::UsedUp`] if there is none: the retry ends as
+    /// [`RetryError::BudgetRefused`](crate::RetryError::BudgetRefused). [`NoTicket::failed`] if the store cannot know:
+    /// the retry ends as [`RetryError::StoreFailed`](crate::RetryError::StoreFailed).
     fn draw(&self) -> Result<Ticket, NoTicket>;
 
-    /// Takes a ticket back: its retry was cancelled, dropped, or over by its deadline, before its run began. Unless it is
-    /// said, the ticket stays drawn.
+    /// Takes a ticket back, because its retry was cancelled, dropped, or past its deadline before its run began. By
+    /// default the ticket stays drawn.
     fn hand_back(&self, _ticket: Ticket) {}
 
-    /// Hears of a call that succeeded: of one that was retried with the ticket of the last retry, which a store may take
-    /// back. Unless it is said, nothing is done.
+    /// Learns that a call succeeded, with the ticket of its last retry if it was retried; the store can take that back.
+    /// By default nothing happens.
     fn succeeded(&self, _last: Option<Ticket>) {}
 }
 

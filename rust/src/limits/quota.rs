@@ -15,12 +15,12 @@ use std::sync::atomic::{AtomicU64, Ordering};
 use std::sync::{Arc, Mutex, MutexGuard, PoisonError};
 use std::time::{Duration, Instant};
 
-/// Retries for a service, shared by all threads of a program: in each window of time no more are granted than a
-/// reserve, and a share of the requests made in it. Nothing is carried from a window to the next, but by
+/// A limit for a service, shared by all threads of a program. In each window of time it grants at most a reserve of
+/// retries, and a share of the requests made in that window. Nothing is carried to the next window, except by
 /// [`Quota::carrying`]. It is cheap to clone; all clones are the same quota.
 ///
-/// A retry draws a ticket where its run fails, and begins after its delay, maybe in a later window: more retries can
-/// begin in a window than it granted. Each call that is retried counts as one request, before its first run:
+/// A retry draws its ticket when a run fails, and begins after its delay, perhaps in a later window. So more retries
+/// can begin in a window than it granted. Each call that is retried counts as one request, before its first run:
 ///
 /// ```
 /// use hikebox::{retry, Policy, Quota};
@@ -37,8 +37,8 @@ use std::time::{Duration, Instant};
 /// ```
 ///
 /// Windows are counted from the moment at which the quota was made, by the system's monotonic clock; with the feature
-/// `tokio` by tokio's, which `tokio::time::pause` stops. It belongs to its process: a forked child has one of its own,
-/// with nothing counted, in the same windows.
+/// `tokio` by tokio's clock, which `tokio::time::pause` stops. A quota belongs to its process: a forked child has its
+/// own, with nothing counted, in the same windows.
 #[derive(Clone)]
 pub struct Quota {
     shared: Arc<Shared>,
@@ -74,8 +74,9 @@ struct Passes {
     counters: Counters,
 }
 
-/// The right to count requests and to draw tickets of a [`Quota`], for one thread at a time: no call of it takes a lock
-/// or memory, and none waits. Dropped, it is given back with its tickets.
+/// The right to count requests and to draw tickets of a [`Quota`], for one thread at a time. Its calls take no lock and
+/// no memory and never wait, except a deposit of more than a million requests at once. A pass that is dropped adds its
+/// tickets to the quota's count.
 ///
 /// ```
 /// use hikebox::Quota;
@@ -99,20 +100,20 @@ pub struct QuotaPass {
     latest: Option<(u64, u64)>,
 }
 
-/// What is known of a window of a quota.
+/// The counts of a quota's latest window.
 #[derive(Clone, Copy, Debug, PartialEq, Eq, Hash)]
 pub struct Usage {
-    /// Which window it is: from 0 on, in which the quota was made; of a `LeasedQuota` by the machine's uptime.
+    /// The number of the window. A quota's first window is 0; a `LeasedQuota` counts from the machine's start.
     pub window: u64,
-    /// The requests that were counted in it.
+    /// The requests counted in it.
     pub asked: u64,
-    /// The tickets that it has given out: of a quota that carries, its own alone.
+    /// The tickets drawn in it. If the quota carries, these are the window's own only.
     pub given: u64,
-    /// The tickets that it may yet give for the requests counted so far, and what is left of those carried to it.
+    /// The tickets that it can still give for the requests counted so far, and those carried to it that are left.
     pub left: u64,
-    /// When the next window begins, as a moment of the quota's. If that is further off than the window's length, this
-    /// one was opened by a call whose clock was ahead, or by the requests past the 4,294,967,296 of the window before. Of a
-    /// `LeasedQuota` it is a moment of the machine's uptime.
+    /// When the next window begins: a moment of the quota's, or of the machine's uptime for a `LeasedQuota`. If that is
+    /// further off than the window's length, a call whose clock was ahead opened this window, or the requests past the
+    /// 4,294,967,296 of the window before did.
     pub next: Duration,
 }
 
@@ -125,43 +126,43 @@ pub(crate) struct Terms {
 }
 
 impl Quota {
-    /// A quota of `reserve` retries in each window of this length (whole milliseconds), and `share` retries for each
-    /// request of the window: 0.2 is one for every five. The share is counted in thousandths, and is at most 10: a
-    /// number that was meant as per cent, as 20.0, is refused. A window is at least 100 milliseconds long.
+    /// A quota of `reserve` retries in each window of length `per` (whole milliseconds, at least 100), and of `share`
+    /// retries for each request of the window: 0.2 is one for every five. The share is counted in thousandths and is at
+    /// most 10, so a number that was meant as per cent, such as 20.0, is an error.
     ///
     /// # Errors
     ///
-    /// [`BudgetError`] says which of them is out of its range.
+    /// [`BudgetError`] says which argument is out of its range.
     pub fn new(reserve: u64, share: f64, per: Duration) -> Result<Self, BudgetError> {
         Self::new_at(now(), reserve, share, per)
     }
 
-    /// The same with windows that are counted from this moment, as that of a clock which a test has stopped. Before it,
-    /// it is moment 0.
+    /// [`Quota::new`] with windows that are counted from `began`, for instance a moment of a clock that a test has
+    /// stopped. Moments before it count as moment 0.
     ///
     /// # Errors
     ///
-    /// [`BudgetError`] says which of them is out of its range.
+    /// [`BudgetError`] says which argument is out of its range.
     pub fn new_at(began: Instant, reserve: u64, share: f64, per: Duration) -> Result<Self, BudgetError> {
         Self::made(Duration::ZERO, began, Terms::new(reserve, share, per)?, false)
     }
 
-    /// The same for a host that has a clock of its own, whose moment is this one: windows are counted from the one that
-    /// it lies in. Its moments are given by [`Quota::deposit_at`], [`QuotaPass::draw_at`] and [`Machine::step`]; they may
-    /// be those since 1970.
+    /// [`Quota::new`] for a host with a clock of its own that now reads `moment`. Windows are counted from the one in
+    /// which that moment lies. The host passes its moments to [`Quota::deposit_at`], [`QuotaPass::draw_at`] and
+    /// [`Machine::step`]; they may be times since 1970.
     ///
     /// [`Machine::step`]: crate::Machine::step
     ///
     /// # Errors
     ///
-    /// [`BudgetError`] says which of them is out of its range.
+    /// [`BudgetError`] says which argument is out of its range.
     pub fn new_of_host(moment: Duration, reserve: u64, share: f64, per: Duration) -> Result<Self, BudgetError> {
         Self::made(moment, beginning(moment), Terms::new(reserve, share, per)?, false)
     }
 
-    /// A quota as by [`Quota::new`] that carries: each window may draw, once, what the one before left of its share,
-    /// but none of its reserve. So a run that fails just after a window's end is retried by the requests before it. A
-    /// window gives at most 2,147,483,648 tickets of its own, and leaves as many at most.
+    /// [`Quota::new`], but the quota carries: each window can also draw, once, what the window before left of its
+    /// share, but nothing of its reserve. So a run that fails just after a window ends is retried on the requests
+    /// before. A window gives at most 2,147,483,648 tickets of its own, and leaves at most as many.
     ///
     /// ```
     /// use hikebox::Quota;
@@ -178,25 +179,25 @@ impl Quota {
     ///
     /// # Errors
     ///
-    /// [`BudgetError`] says which of them is out of its range.
+    /// [`BudgetError`] says which argument is out of its range.
     pub fn carrying(reserve: u64, share: f64, per: Duration) -> Result<Self, BudgetError> {
         Self::carrying_at(now(), reserve, share, per)
     }
 
-    /// The same with windows that are counted from this moment, as by [`Quota::new_at`].
+    /// [`Quota::carrying`] with windows that are counted from `began`, as by [`Quota::new_at`].
     ///
     /// # Errors
     ///
-    /// [`BudgetError`] says which of them is out of its range.
+    /// [`BudgetError`] says which argument is out of its range.
     pub fn carrying_at(began: Instant, reserve: u64, share: f64, per: Duration) -> Result<Self, BudgetError> {
         Self::made(Duration::ZERO, began, Terms::new(reserve, share, per)?, true)
     }
 
-    /// The same for a host that has a clock of its own, whose moment is this one, as by [`Quota::new_of_host`].
+    /// [`Quota::carrying`] for a host with a clock of its own that now reads `moment`, as by [`Quota::new_of_host`].
     ///
     /// # Errors
     ///
-    /// [`BudgetError`] says which of them is out of its range.
+    /// [`BudgetError`] says which argument is out of its range.
     pub fn carrying_of_host(moment: Duration, reserve: u64, share: f64, per: Duration) -> Result<Self, BudgetError> {
         Self::made(moment, beginning(moment), Terms::new(reserve, share, per)?, true)
     }
@@ -214,8 +215,8 @@ impl Quota {
     }
 
     options_of_uses! {
-        /// The quota, on which a call counts as a request where it succeeds, and not before its first run: so a callee that
-        /// fails for good dries it out down to the reserve. What is counted by hand is so in any case.
+        /// Makes a call count as a request when it succeeds, and not before its first run. A service that keeps failing
+        /// then drains the quota down to its reserve. Requests that you count by hand are counted in any case.
         ///
         /// ```
         /// use hikebox::{retry, Policy, Quota, RetryError};
@@ -233,8 +234,8 @@ impl Quota {
         /// ```
         counting_successes,
 
-        /// The quota, to which a call that succeeds after retries hands the ticket of the last one back, as by AWS's SDKs: so
-        /// faults that a retry mends take less of it than faults that last.
+        /// Makes a call that succeeds after retries hand the ticket of its last retry back, as AWS's SDKs do. Failures
+        /// that a retry repairs then take less of the quota than failures that last.
         ///
         /// ```
         /// use hikebox::{retry, Policy, Quota};
@@ -262,12 +263,13 @@ impl Quota {
         self.uses.returns_tickets
     }
 
-    /// Sets the reserve and the share, as [`Quota::new`] takes them, while the quota is used, as where a service reads its
-    /// configuration again: each draw goes by them from now on, also in the present window. What was given stays given.
+    /// Sets the reserve and the share, as [`Quota::new`] takes them, while the quota is used: for instance when a
+    /// service reads its configuration again. Each draw follows them from now on, also in the current window. Tickets
+    /// that were drawn stay drawn.
     ///
     /// # Errors
     ///
-    /// [`BudgetError`] says which of them is out of its range; then nothing changes.
+    /// [`BudgetError`] says which argument is out of its range; then nothing changes.
     pub fn set_terms(&self, reserve: u64, share: f64) -> Result<(), BudgetError> {
         let share = thousandths(share)?;
         let mut root = self.lock();
@@ -276,7 +278,7 @@ impl Quota {
         Ok(())
     }
 
-    /// A pass of the quota, for a thread that counts requests and draws by itself.
+    /// A pass of the quota, for a thread that counts requests and draws tickets by itself.
     ///
     /// # Errors
     ///
@@ -285,17 +287,17 @@ impl Quota {
         Ok(QuotaPass { part: Part::new(self.clone())?, latest: None })
     }
 
-    /// Counts a request. Calls that are retried under the quota do it by themselves.
+    /// Counts a request. Calls that are retried on the quota are counted by themselves.
     pub fn deposit(&self) {
         self.deposit_by_clock(now());
     }
 
-    /// Counts so many requests at once: a dear one as several, or those of a while.
+    /// Counts several requests at once: an expensive one, or those of a while.
     pub fn deposit_of(&self, requests: u32) {
         self.count(now(), requests);
     }
 
-    /// [`Quota::deposit`] at a moment of a host that has a clock of its own: the time since one that it chooses.
+    /// [`Quota::deposit`] at a moment of a host with a clock of its own: the time since one that it chooses.
     pub fn deposit_at(&self, now: Duration) {
         self.deposit_of_at(now, 1);
     }
@@ -314,8 +316,8 @@ impl Quota {
         }
     }
 
-    /// Counts requests at this instant, by this thread's counter, which comes to the instant's window; or by the quota's
-    /// first pass, where another thread uses the counter, or they are more than it counts at once.
+    /// Counts requests at this instant, by this thread's counter, which comes to the instant's window; or by the
+    /// quota's first pass, where another thread uses the counter, or they are more than it counts at once.
     #[cold]
     fn count(&self, now: Instant, requests: u32) {
         let Made { began, period, .. } = self.shared.made;
@@ -334,26 +336,26 @@ impl Quota {
         }
     }
 
-    /// What was asked of the present window, what it has given, what it has left, and when the next begins.
+    /// The counts of the current window, and when the next begins.
     #[must_use]
     pub fn seen(&self) -> Usage {
         self.seen_at(self.moment(now()))
     }
 
-    /// The same at a moment of a host that has a clock of its own.
+    /// [`Quota::seen`] at a moment of a host with a clock of its own.
     #[must_use]
     pub fn seen_at(&self, now: Duration) -> Usage {
         usage(self.lock().seen(whole_millis(now)))
     }
 
-    /// How many tickets were granted, in all windows, to retries that have ended and to passes that were given back, less
-    /// those that came back.
+    /// The number of tickets that were drawn, in all windows, by retries that have ended and by passes that were
+    /// dropped, less those that came back.
     #[must_use]
     pub fn granted(&self) -> u64 {
         self.lock().count()
     }
 
-    /// The quota's moment at this instant: the time since it was made.
+    /// The quota's moment at `now`: the time since it was made.
     #[must_use]
     pub fn moment(&self, now: Instant) -> Duration {
         now.saturating_duration_since(self.shared.made.began)
@@ -364,12 +366,12 @@ impl Quota {
         whole_millis(self.moment(now))
     }
 
-    /// Closes the quota, where no other clone of it, no pass and no retry is alive, and answers how many tickets were
-    /// drawn of it, less those that came back; otherwise the quota comes back.
+    /// Closes the quota if no other clone, no pass and no retry of it is alive, and returns the exact number of tickets
+    /// drawn, less those that came back.
     ///
     /// # Errors
     ///
-    /// The quota itself.
+    /// The quota itself, if something of it is alive.
     pub fn close(self) -> Result<u64, Self> {
         let Self { shared, uses } = self;
         let Shared { made, passes } = Arc::try_unwrap(shared).map_err(|shared| Self { shared, uses })?;
@@ -455,38 +457,38 @@ impl fmt::Debug for Quota {
 }
 
 impl QuotaPass {
-    /// Counts a request in the present window.
+    /// Counts a request in the current window.
     pub fn deposit(&mut self) {
         self.deposit_at(self.now());
     }
 
-    /// A ticket that no other draw got. Those that are carried to a window, which are drawn first, have the last numbers of
-    /// the window before.
+    /// Draws a ticket that no other draw got. Tickets that were carried to a window are drawn first, and have the last
+    /// numbers of the window before.
     ///
     /// # Errors
     ///
-    /// [`NoTicket::UsedUp`] where the present window has none left: so long until the next one. More requests may give this
-    /// one more.
+    /// [`NoTicket::UsedUp`] if the current window has none left, with the time until the next one. More requests may
+    /// add some before that.
     pub fn draw(&mut self) -> Result<Ticket, NoTicket> {
         self.draw_at(self.now())
     }
 
-    /// What was asked of the present window, what it has given, what it has left, and when the next begins.
+    /// The counts of the current window, and when the next begins.
     pub fn seen(&mut self) -> Usage {
         self.seen_at(self.now())
     }
 
-    /// Counts so many requests at once, as [`Quota::deposit_of`].
+    /// Counts several requests at once, as [`Quota::deposit_of`].
     pub fn deposit_of(&mut self, requests: u32) {
         self.deposit_of_at(self.now(), requests);
     }
 
-    /// Hands the ticket back that it drew latest. Another may be drawn in the ticket's window for it, by any pass; where
-    /// that is over, or the ticket was carried from it, none is.
+    /// Hands back the ticket that the pass drew last. Any pass can then draw another one in the ticket's window; if
+    /// that window is over, or the ticket was carried from it, nothing is added.
     ///
     /// # Errors
     ///
-    /// The ticket itself, where it is not the one that this pass drew latest.
+    /// The ticket itself, if it is not the one that this pass drew last.
     pub fn hand_back(&mut self, ticket: Ticket) -> Result<(), Ticket> {
         let is_latest = ticket.is_of(self.part.drawer) && self.latest == Some((ticket.window(), ticket.number()));
         if !is_latest || !self.part.is_of_this_process() || !self.part.handle().hand_back() {
@@ -497,8 +499,8 @@ impl QuotaPass {
         Ok(())
     }
 
-    /// [`QuotaPass::deposit`] at a moment of a host that has a clock of its own. A moment in an earlier window than the
-    /// latest counts as one of the latest.
+    /// [`QuotaPass::deposit`] at a moment of a host with a clock of its own. A moment in an earlier window than the
+    /// latest counts in the latest.
     pub fn deposit_at(&mut self, now: Duration) {
         self.deposit_of_at(now, 1);
     }
@@ -541,7 +543,7 @@ impl QuotaPass {
         usage(self.part.handle().seen(whole_millis(now)))
     }
 
-    /// How many tickets it drew, and did not hand back.
+    /// The number of tickets that it drew and did not hand back.
     #[must_use]
     pub fn count(&self) -> u64 {
         self.part.tickets

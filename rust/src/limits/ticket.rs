@@ -6,8 +6,8 @@ use std::sync::atomic::{AtomicU64, Ordering};
 use std::sync::Arc;
 use std::time::Duration;
 
-/// A ticket: the right to one retry. It can't be copied, so whoever drew it can hand it back once. One that is dropped
-/// stays drawn.
+/// The right to one retry. A ticket cannot be copied, so whoever drew it can hand it back once. A ticket that is
+/// dropped stays drawn.
 ///
 /// ```
 /// use hikebox::Quota;
@@ -40,30 +40,31 @@ pub(crate) struct Drawer(u64);
 pub enum NoTicket {
     /// All tickets are drawn.
     UsedUp {
-        /// How long it is until there may be one without more requests, or `None` where that is never, or not known.
+        /// The time until there may be one without more requests, or `None` if that is never, or unknown.
         next_in: Option<Duration>,
     },
     /// The store of tickets failed.
     StoreFailed {
-        /// Its error.
+        /// The store's error.
         failure: StoreFailure,
-        /// How long it is until the store is asked again: at once where that is `None`.
+        /// The time until the store is asked again, or `None` if that is at once.
         next_in: Option<Duration>,
     },
 }
 
-/// The error of a store of [`Tickets`](crate::Tickets). Clones are the same failure, and equal.
+/// The error of a store of [`Tickets`](crate::Tickets). Clones are equal, since they are the same failure.
 #[derive(Clone, Debug)]
 pub struct StoreFailure(Arc<dyn Error + Send + Sync>);
 
 impl Ticket {
-    /// The ticket of this number, of a store of your own. No [`Quota`](crate::Quota) and no `LeasedQuota` takes it back.
+    /// The ticket with this number, for a store of your own. No [`Quota`](crate::Quota) and no `LeasedQuota` takes it
+    /// back.
     #[must_use]
     pub fn new(number: u64) -> Self {
         Self { window: 0, number, drawer: Drawer::STORE }
     }
 
-    /// The same in this window.
+    /// The ticket, in this window.
     #[must_use]
     pub fn in_window(self, window: u64) -> Self {
         Self { window, ..self }
@@ -77,13 +78,13 @@ impl Ticket {
         self.drawer == drawer
     }
 
-    /// Its number, from 0 on, which no other ticket of its window has.
+    /// Its number, from 0, which no other ticket of its window has.
     #[must_use]
     pub fn number(&self) -> u64 {
         self.number
     }
 
-    /// The window that it was drawn in: 0 where there are no windows.
+    /// The window in which it was drawn, or 0 if there are no windows.
     #[must_use]
     pub fn window(&self) -> u64 {
         self.window
@@ -101,18 +102,18 @@ impl Drawer {
 }
 
 impl NoTicket {
-    /// That all tickets are drawn, and it is not known when there are more.
+    /// All tickets are drawn, and it is not known when there will be more.
     #[must_use]
     pub fn used_up() -> Self {
         Self::UsedUp { next_in: None }
     }
 
-    /// That the store failed with this error.
+    /// The store failed with this error.
     pub fn failed(error: impl Into<Box<dyn Error + Send + Sync>>) -> Self {
         Self::StoreFailed { failure: StoreFailure::new(error), next_in: None }
     }
 
-    /// How long it is until there may be one, where that is known.
+    /// The time until there may be one, if that is known.
     #[must_use]
     pub fn next_in(&self) -> Option<Duration> {
         match self {
@@ -120,7 +121,7 @@ impl NoTicket {
         }
     }
 
-    /// The store's failure, where that is the reason.
+    /// The store's failure, if that is the reason.
     #[must_use]
     pub fn failure(&self) -> Option<&StoreFailure> {
         match self {
@@ -150,7 +151,7 @@ impl StoreFailure {
         Self(error.into().into())
     }
 
-    /// The error, as the store gave it.
+    /// The error that the store returned.
     #[must_use]
     pub fn get(&self) -> &(dyn Error + Send + Sync + 'static) {
         &*self.0

@@ -13,8 +13,8 @@ use std::fmt;
 use std::str::FromStr;
 use std::sync::{Arc, Mutex, PoisonError};
 
-/// A schedule that the engine has found right, of at most 256 nodes and depth at most 32. It is cheap to clone, and
-/// threads may share it; all retries by it have one plan.
+/// A schedule that the engine has accepted: at most 256 nodes, and at most 32 deep. It is cheap to clone, threads can
+/// share it, and all retries by it share one plan.
 ///
 /// ```
 /// use hikebox::{Policy, Schedule};
@@ -38,7 +38,7 @@ struct Shared {
     handle: PerProcess<Mutex<Handle<PolicyKind>>>,
 }
 
-/// Why a text or a [`Schedule`] is no policy: its first fault, where that is, and what is wanted there.
+/// Why a text or a [`Schedule`] is not a policy: its first error, where that is, and what was expected there.
 ///
 /// ```
 /// use hikebox::{Policy, PolicyFault};
@@ -59,14 +59,14 @@ pub struct PolicyError {
 #[derive(Clone, Copy, Debug, PartialEq, Eq, Hash)]
 #[non_exhaustive]
 pub enum PolicyFault {
-    /// The text is not JSON; where it stops being so, counted from 1, where that is known.
+    /// The text is not JSON. It stops being JSON at this place, counted from 1, or 0 if that is not known.
     NotJson {
         /// The line.
         line: u64,
         /// The column.
         column: u64,
     },
-    /// The JSON value, or one in it that should be a policy, has not the form of one.
+    /// The JSON value, or one inside it, does not have the form of a policy.
     NotAPolicy,
     /// A parameter is outside its range.
     OutOfRange,
@@ -74,27 +74,27 @@ pub enum PolicyFault {
     TooDeep,
     /// It has more than 256 nodes.
     TooMany,
-    /// Memory is wanting.
+    /// Memory ran out.
     NoMemory,
 }
 
-/// One line of what a policy would do: see [`Policy::preview`].
+/// One event of what a policy would do: see [`Policy::preview`].
 #[derive(Clone, Debug, PartialEq, Eq, Hash)]
 pub struct Line {
     /// The moment of the event, in milliseconds.
     pub moment: u64,
     /// The output, as text.
     pub output: String,
-    /// The planned start, or `None` where the policy is done.
+    /// The planned start, in milliseconds, or `None` if the policy is done.
     pub next: Option<u64>,
 }
 
 impl Policy {
-    /// The policy of a schedule. It is built node by node, and no text is read.
+    /// Builds the policy of a schedule, node by node. No text is read.
     ///
     /// # Errors
     ///
-    /// The schedule's first fault.
+    /// [`PolicyError`] is the schedule's first error.
     pub fn new(schedule: &Schedule) -> Result<Self, PolicyError> {
         if let Some(refused) = schedule.fault() {
             let (place, hint) = (refused.call.clone(), refused.why.to_owned());
@@ -108,11 +108,11 @@ impl Policy {
         }
     }
 
-    /// The policy that a JSON text spells.
+    /// Reads the policy that a JSON text spells.
     ///
     /// # Errors
     ///
-    /// The text's first fault.
+    /// [`PolicyError`] is the text's first error.
     pub fn from_json(json: &str) -> Result<Self, PolicyError> {
         let handle = Handle::read(json).map_err(|(status, place)| PolicyError::of_text(json, status, place))?;
         Self::of(handle).map_err(PolicyError::of)
@@ -141,7 +141,7 @@ impl Policy {
         self.shared.size.depth
     }
 
-    /// At how many failures it goes on at most, whatever comes, or `None` where its nodes alone don't bound that.
+    /// The maximum number of retries, whatever happens, or `None` if the nodes alone do not bound it.
     ///
     /// ```
     /// use hikebox::Policy;
@@ -157,9 +157,9 @@ impl Policy {
         self.shared.size.most
     }
 
-    /// What the policy would do, event by event, as `zsched plan` prints it: the first event is at 0, each further one
-    /// at the start planned before it, with the input 0 and random words that pick the middle of each jitter. It ends
-    /// after `steps` events (at most 4,096), or with the one at which the policy is done.
+    /// What the policy would do, event by event, as `zsched plan` prints it. The first event is at 0 and each further
+    /// one at the start planned before it, with the input 0 and with random words that pick the middle of each jitter.
+    /// The preview ends after `steps` events (at most 4,096), or when the policy is done.
     ///
     /// ```
     /// use hikebox::Policy;
@@ -172,7 +172,7 @@ impl Policy {
     ///
     /// # Errors
     ///
-    /// Where memory is wanting.
+    /// [`PolicyFault::NoMemory`] if memory runs out.
     pub fn preview(&self, steps: usize) -> Result<Vec<Line>, PolicyError> {
         let steps = u64::try_from(steps).unwrap_or(MAX_STEPS).min(MAX_STEPS);
         let course = engine::Course { steps, from: 0, took: 0 };
@@ -212,14 +212,15 @@ impl PolicyError {
         self.fault
     }
 
-    /// Where: the builder's call of a [`Schedule`], as `jittered(1.2..0.8)`; of a text the steps to the node, as
-    /// `meet[1].cap[1]`, or `line 2, column 7` where it is not JSON. Empty where it is the whole policy, or not known.
+    /// Where it is: the builder's call of a [`Schedule`], such as `jittered(1.2..0.8)`; for a text the path to the
+    /// node, such as `meet[1].cap[1]`, or `line 2, column 7` if it is not JSON. Empty if it is the whole policy, or
+    /// unknown.
     #[must_use]
     pub fn place(&self) -> &str {
         &self.place
     }
 
-    /// What is wanted there and was found, or why it is not JSON, in the words of `zsched check`, or nothing.
+    /// What was expected there and what was found, or why it is not JSON, as `zsched check` says it; or nothing.
     #[must_use]
     pub fn hint(&self) -> &str {
         &self.hint
@@ -322,7 +323,7 @@ impl std::hash::Hash for Policy {
     }
 }
 
-/// Policies are equal where they have the same nodes with the same parameters, however they were spelt.
+/// Policies are equal if they have the same nodes with the same parameters, however they were spelt.
 impl PartialEq for Policy {
     fn eq(&self, other: &Self) -> bool {
         self.as_json() == other.as_json()

@@ -7,12 +7,12 @@ use std::time::Duration;
 
 /// A recurrence schedule as an expression: when to call again, and when to stop.
 ///
-/// Leaves are functions of this type, nodes over schedules are methods; `&`, `|` and `>>` are [`meet`](Schedule::meet),
-/// [`join`](Schedule::join) and [`feed`](Schedule::feed), as `&&`, `||` and `>>>` of ZIO's `Schedule`. A `Schedule` is
-/// a list of nodes, and the engine hears of none before it becomes a [`Policy`](crate::Policy).
+/// Leaves are functions of this type, and nodes over schedules are methods. The operators `&`, `|` and `>>` are
+/// [`meet`](Schedule::meet), [`join`](Schedule::join) and [`feed`](Schedule::feed), like `&&`, `||` and `>>>` of ZIO's
+/// `Schedule`. The engine builds the nodes when you make a [`Policy`](crate::Policy).
 ///
-/// All times are whole milliseconds: a duration is rounded up. One that is not 0 and is below a millisecond is refused
-/// when the [`Policy`](crate::Policy) is made, and so is a ratio below a thousandth, and what else is out of its range:
+/// Times are whole milliseconds; a duration is rounded up. [`Policy::new`](crate::Policy::new) rejects a duration above
+/// 0 and below a millisecond, a ratio above 0 and below a thousandth, and every other argument that is out of range:
 ///
 /// ```
 /// use hikebox::{Policy, Schedule};
@@ -41,7 +41,7 @@ pub struct Schedule {
     json: String,
     /// Its nodes, each after those that it is over.
     nodes: Vec<Node>,
-    /// The first builder that was called with what it does not take.
+    /// The first builder that was called with an argument out of range.
     fault: Option<Refused>,
 }
 
@@ -68,7 +68,7 @@ pub(crate) struct Refused {
     pub(crate) why: &'static str,
 }
 
-/// What [`Schedule::while_input`] and its kin look for in a number. It is false of a value that is no number.
+/// A test of a number, for [`Schedule::while_input`] and its kin. It is false for a value that is not a number.
 #[derive(Clone, Copy, Debug, PartialEq, Eq, Hash)]
 pub enum Test {
     /// The number is below this one.
@@ -108,12 +108,13 @@ impl Schedule {
         Self::leaf("spaced", [millis(delay)]).checked(span(delay), format_args!("spaced({delay:?})"))
     }
 
-    /// Goes on at fixed intervals from the first event on; where a call takes longer than one, at once.
+    /// Goes on at fixed intervals, counted from the first event. If a call took longer than an interval, it goes on at
+    /// once.
     pub fn fixed(interval: Duration) -> Self {
         Self::leaf("fixed", [millis(interval)]).checked(interval_of(interval), format_args!("fixed({interval:?})"))
     }
 
-    /// Goes on at the next boundary of windows of this length, from the first event on.
+    /// Goes on at the next boundary between windows of this length, counted from the first event.
     pub fn windowed(interval: Duration) -> Self {
         Self::leaf("windowed", [millis(interval)])
             .checked(interval_of(interval), format_args!("windowed({interval:?})"))
@@ -124,7 +125,7 @@ impl Schedule {
         Self::leaf("linear", [millis(base)]).checked(span(base), format_args!("linear({base:?})"))
     }
 
-    /// Delays of `base`, each `factor` (1 to 1000) times the one before.
+    /// Delays that begin with `base`, each `factor` (1 to 1000) times the one before.
     pub fn exponential(base: Duration, factor: u64) -> Self {
         Self::leaf("exponential", [millis(base), factor]).checked(
             span(base).or(factor_of(factor, 1..=1000, FACTOR)),
@@ -132,8 +133,8 @@ impl Schedule {
         )
     }
 
-    /// Delays of `base`, each `thousandths` (1 to 1,000,000) thousandths of the one before: 1500 makes each half as
-    /// long again.
+    /// Delays that begin with `base`, each `thousandths` (1 to 1,000,000) thousandths of the one before: with 1500 each
+    /// is half as long again.
     pub fn exponential_milli(base: Duration, thousandths: u64) -> Self {
         Self::leaf("exponential_milli", [millis(base), thousandths]).checked(
             span(base).or(factor_of(thousandths, 1..=1_000_000, THOUSANDTHS)),
@@ -146,8 +147,8 @@ impl Schedule {
         Self::leaf("fibonacci", [millis(first)]).checked(span(first), format_args!("fibonacci({first:?})"))
     }
 
-    /// Random delays, each from `base` up to `factor` (1 to 1000) times the one before, and none longer than `longest`;
-    /// `base` stands for the delay before the first. AWS calls it decorrelated jitter, and takes the factor 3.
+    /// Random delays, each from `base` up to `factor` (1 to 1000) times the one before, and none longer than `longest`.
+    /// `base` stands in for the delay before the first. AWS calls this decorrelated jitter and uses the factor 3.
     pub fn decorrelated(base: Duration, factor: u64, longest: Duration) -> Self {
         Self::delays(0, base, factor.saturating_mul(1000), longest).checked(
             delays_of(base, longest).or(factor_of(factor, 1..=1000, FACTOR)),
@@ -155,7 +156,8 @@ impl Schedule {
         )
     }
 
-    /// The same with a factor of `thousandths` (1000 to 1,000,000), where the random word of the lane, 0 to 3, picks.
+    /// [`Schedule::decorrelated`] with a factor of `thousandths` (1000 to 1,000,000). The random word of `lane` (0 to
+    /// 3) picks each delay.
     pub fn decorrelated_milli(lane: u8, base: Duration, thousandths: u64, longest: Duration) -> Self {
         Self::delays(lane, base, thousandths, longest).checked(
             delays_of(base, longest).or(lane_of(lane)).or(factor_of(
@@ -176,12 +178,13 @@ impl Schedule {
         Self::leaf("elapsed", [])
     }
 
-    /// Goes on at once; the output is the input, which of a retry is the failure's code.
+    /// Goes on at once; the output is the input, which in a retry is the failure's code.
     pub fn identity() -> Self {
         Self::leaf("identity", [])
     }
 
-    /// Goes on at once; the output is `start`, and then `times * x + plus` of the output `x` before.
+    /// Goes on at once; the first output is `start`, and each further one is `times * x + plus` of the output `x`
+    /// before.
     pub fn unfold(start: u64, times: u64, plus: u64) -> Self {
         Self::leaf("unfold", [start, times, plus])
             .checked(number(start.max(times).max(plus)), format_args!("unfold({start}, {times}, {plus})"))
@@ -192,47 +195,47 @@ impl Schedule {
         Self::leaf("lone", [millis(delay)]).checked(span(delay), format_args!("from_duration({delay:?})"))
     }
 
-    /// Goes on while both do, at the later start.
+    /// Goes on while both do, at the later of the two starts.
     pub fn meet(self, other: Self) -> Self {
         Self::over("meet", [self, other])
     }
 
-    /// Goes on while one of both does, at the earlier start.
+    /// Goes on while either does, at the earlier of the two starts.
     pub fn join(self, other: Self) -> Self {
         Self::over("join", [self, other])
     }
 
-    /// This schedule until it is done, and from that event on the other one.
+    /// This schedule until it is done, then the other one, beginning with that event.
     pub fn and_then(self, other: Self) -> Self {
         Self::over("follow", [self, other])
     }
 
-    /// The other schedule with this one's outputs as its inputs; it goes on while both do, at the later start.
+    /// The other schedule with this one's outputs as its inputs. It goes on while both do, at the later start.
     pub fn feed(self, other: Self) -> Self {
         Self::over("feed", [self, other])
     }
 
-    /// Done at the first input of which the test is false. Of a retry the input is the failure's code.
+    /// Done at the first input for which the test is false. In a retry, the input is the failure's code.
     pub fn while_input(self, test: Test) -> Self {
         self.gate("input", true, test)
     }
 
-    /// Done at the first input of which the test is true.
+    /// Done at the first input for which the test is true.
     pub fn until_input(self, test: Test) -> Self {
         self.gate("input", false, test)
     }
 
-    /// Done at the first output of which the test is false.
+    /// Done at the first output for which the test is false.
     pub fn while_output(self, test: Test) -> Self {
         self.gate("output", true, test)
     }
 
-    /// Done at the first output of which the test is true.
+    /// Done at the first output for which the test is true.
     pub fn until_output(self, test: Test) -> Self {
         self.gate("output", false, test)
     }
 
-    /// The output is what `fold` makes of the outputs at the earlier events.
+    /// The output is `fold` of the outputs at the earlier events.
     pub fn gather(self, fold: Fold) -> Self {
         let kind = match fold {
             Fold::Sum => "sum",
@@ -263,17 +266,17 @@ impl Schedule {
         Self::over("add_out", [self])
     }
 
-    /// Each delay is multiplied by a random ratio out of `ratios`, in thousandths from 0 to 10: `0.8..1.2` is what
-    /// `jittered` of ZIO does. So that callers that failed together do not retry together.
+    /// Multiplies each delay by a random ratio in `ratios`, from 0 to 10 and in thousandths, so that callers that
+    /// failed together do not retry together. `0.8..1.2` is what `jittered` of ZIO does.
     ///
-    /// A ratio that is not a number, or is negative or past 10, is refused when the [`Policy`](crate::Policy) is made.
+    /// [`Policy::new`](crate::Policy::new) rejects a ratio that is negative, above 10, or not a number.
     pub fn jittered(self, ratios: Range<f64>) -> Self {
         self.ratios(0, thousandths(ratios.start), thousandths(ratios.end))
             .checked(range_of(&ratios), format_args!("jittered({ratios:?})"))
     }
 
-    /// Each delay is multiplied by a ratio from `least` to `most` thousandths (at most 10,000) that the random word of
-    /// the lane, 0 to 3, picks.
+    /// Multiplies each delay by a ratio from `least` to `most` thousandths (at most 10,000). The random word of `lane`
+    /// (0 to 3) picks it.
     pub fn jitter(self, lane: u8, least: u64, most: u64) -> Self {
         self.ratios(lane, least, most)
             .checked(lane_of(lane).or(jitter_of(least, most)), format_args!("jitter({lane}, {least}, {most})"))
@@ -284,12 +287,12 @@ impl Schedule {
         self.under("within", "up_to", time)
     }
 
-    /// Done where it would go on later than `time` after the first event: it plans no call for later.
+    /// Done if it would go on later than `time` after the first event: it plans no call for later.
     pub fn ends_by(self, time: Duration) -> Self {
         self.under("ends_by", "ends_by", time)
     }
 
-    /// Begins anew at the first event that comes `time` or more after the first one of the present round.
+    /// Begins anew at the first event that comes `time` or more after the first event of the current round.
     pub fn renew(self, time: Duration) -> Self {
         self.under("renew", "renew", time)
     }
@@ -314,13 +317,13 @@ impl Schedule {
         Self::over("nothing", [self])
     }
 
-    /// The schedule's JSON text, which `zsched plan` and all other ways into Hikebox read.
+    /// The schedule's JSON text, as `zsched plan` and every other entry to Hikebox reads it.
     #[must_use]
     pub fn as_json(&self) -> &str {
         &self.json
     }
 
-    /// The first builder that was called with what it does not take.
+    /// The first builder that was called with an argument out of range.
     pub(crate) fn fault(&self) -> Option<&Refused> {
         self.fault.as_ref()
     }

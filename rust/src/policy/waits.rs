@@ -16,8 +16,8 @@ pub struct Waits {
 }
 
 impl Policy {
-    /// The waits that it plans one after another, where each call fails at once with the code 0: without an end, where the
-    /// policy has none. Each time that it is asked, jitters take other random words. It is for libraries that take their
+    /// The waits that the policy plans, one after another, if each call fails at once with the code 0. The iterator has
+    /// no end if the policy has none. Each use draws new random words for jitter. It serves libraries that take their
     /// delays from an iterator.
     ///
     /// ```
@@ -33,7 +33,7 @@ impl Policy {
     ///
     /// # Panics
     ///
-    /// Where memory is wanting.
+    /// If memory runs out.
     pub fn waits(&self) -> Waits {
         let mut machine = Machine::new(self, &Unlimited).expect("memory for a machine");
         let step = machine.step(Duration::ZERO, None);

@@ -14,12 +14,12 @@ use crate::retry::retrying::Retrying;
 use std::future::Future;
 use std::time::{Duration, Instant};
 
-/// A way to wait for some time without blocking: any function of a [`Duration`] that makes a future.
+/// A way to wait without blocking: any function of a [`Duration`] that returns a future.
 pub trait AsyncSleep {
-    /// What is waited for.
+    /// The future that is awaited.
     type Sleeping: Future<Output = ()>;
 
-    /// A future that is ready after so long, or later.
+    /// A future that is ready after this wait, or later.
     fn sleep(&self, wait: Duration) -> Self::Sleeping;
 }
 
@@ -68,11 +68,11 @@ macro_rules! until_it_succeeds {
 }
 
 /// [`retry`](crate::retry()) for futures: `call` makes one for each run, and between runs the task waits by tokio's
-/// timer. An async function will do, and an async closure that changes nothing which it captures; one that does is
-/// retried by `Retrying::call_async_mut`, with Rust 1.85 or later.
+/// timer. `call` can be an async function, or an async closure that changes nothing which it captures. For one that
+/// does, use `Retrying::call_async_mut`, with Rust 1.85 or later.
 ///
-/// A retry whose future is dropped is cancelled: it draws no more, and its tickets stay counted, but of a quota the one
-/// of a retry for which it waited. A wait of nothing does not touch the timer.
+/// Dropping the future cancels the retry. It draws no more tickets, and those that it drew stay counted, except that a
+/// quota gets back the ticket of a retry that was waiting to begin. A wait of zero does not touch the timer.
 ///
 /// ```
 /// use hikebox::{retry_async, Budget, Policy};
@@ -94,7 +94,7 @@ macro_rules! until_it_succeeds {
 ///
 /// # Errors
 ///
-/// [`RetryError`] keeps the last error of the call.
+/// [`RetryError`] with the last error of the call.
 #[cfg(feature = "tokio")]
 pub async fn retry_async<T, E, F>(
     policy: &Policy,
@@ -111,7 +111,7 @@ where
 ///
 /// # Errors
 ///
-/// [`RetryError`] keeps the last error of the call.
+/// [`RetryError`] with the last error of the call.
 #[cfg(all(feature = "tokio", hikebox_async_closures))]
 pub async fn retry_async_mut<T, E>(
     policy: &Policy,
@@ -124,7 +124,7 @@ pub async fn retry_async_mut<T, E>(
 /// The trait, over what a compiler takes for a call of futures.
 macro_rules! retryable {
     ($call:ident: [$($makes:tt)*] [$($and:tt)*] [$($where:tt)*]) => {
-        /// Calls of futures, which can be retried: async functions and closures, and functions that make futures of a
+        /// Calls of futures that can be retried: async functions and closures, and functions that return a future of a
         /// `Result`.
         ///
         /// ```
@@ -148,7 +148,7 @@ macro_rules! retryable {
             Self: $($makes)*,
             $($where)*
         {
-            /// The call, to be retried by the policy; on no budget, unless [`Retrying::budget`] gives one.
+            /// Retries the call by the policy; on no limit, unless you add one by [`Retrying::budget`].
             fn retry(self, policy: &Policy) -> Retrying<'_, E, Async<Self>> {
                 Retrying::of(policy, &Unlimited, Async(self))
             }
@@ -170,11 +170,11 @@ retryable!(F: [AsyncFnMut() -> Result<T, E>] [] []);
 retryable!(F: [FnMut() -> P] [, P] [P: Future<Output = Result<T, E>>]);
 
 impl<E, H: Hooked<E>, K: Fn() -> Instant, S: AsyncSleep, R: Random> Retrying<'_, E, (), H, Host<K, S, R>> {
-    /// [`Retrying::call`] for futures. Without the feature `tokio` it wants a [`Retrying::sleep`] of the runtime.
+    /// [`Retrying::call`] for futures. Without the feature `tokio` it needs a [`Retrying::sleep`] of your runtime.
     ///
     /// # Errors
     ///
-    /// [`RetryError`] keeps the last error of the call.
+    /// [`RetryError`] with the last error of the call.
     pub async fn call_async<T, P>(&self, mut call: impl FnMut() -> P) -> Result<T, RetryError<E>>
     where
         P: Future<Output = Result<T, E>>,
@@ -182,8 +182,8 @@ impl<E, H: Hooked<E>, K: Fn() -> Instant, S: AsyncSleep, R: Random> Retrying<'_,
         self.call_async_with(|_| call()).await
     }
 
-    /// The same of a call that is told which run it is, and how long it has left up to the [`Retrying::deadline`], which
-    /// may be the time that the run is given:
+    /// [`Retrying::call_async`] for a call that takes the number of the run, and how long it has left until the
+    /// [`Retrying::deadline`], which can serve as the run's timeout:
     ///
     /// ```
     /// # #[cfg(feature = "tokio")]
@@ -209,7 +209,7 @@ impl<E, H: Hooked<E>, K: Fn() -> Instant, S: AsyncSleep, R: Random> Retrying<'_,
     ///
     /// # Errors
     ///
-    /// [`RetryError`] keeps the last error of the call.
+    /// [`RetryError`] with the last error of the call.
     pub async fn call_async_with<T, P>(&self, mut call: impl FnMut(Attempt) -> P) -> Result<T, RetryError<E>>
     where
         P: Future<Output = Result<T, E>>,
@@ -217,9 +217,9 @@ impl<E, H: Hooked<E>, K: Fn() -> Instant, S: AsyncSleep, R: Random> Retrying<'_,
         until_it_succeeds!(self, attempt => call(attempt))
     }
 
-    /// The same for an async closure that changes what it captures. From Rust 1.85 on. Its future is not `Send` where
-    /// the closure borrows: a task that is spawned takes [`Retrying::call_async`], or a closure that owns what it
-    /// changes.
+    /// [`Retrying::call_async`] for an async closure that changes what it captures (Rust 1.85 or later). Its future is
+    /// not `Send` if the closure borrows. For a task that is spawned, use [`Retrying::call_async`], or a closure that
+    /// owns what it changes.
     ///
     /// ```
     /// # #[cfg(feature = "tokio")]
@@ -241,7 +241,7 @@ impl<E, H: Hooked<E>, K: Fn() -> Instant, S: AsyncSleep, R: Random> Retrying<'_,
     ///
     /// # Errors
     ///
-    /// [`RetryError`] keeps the last error of the call.
+    /// [`RetryError`] with the last error of the call.
     #[cfg(hikebox_async_closures)]
     pub async fn call_async_mut<T>(&self, mut call: impl AsyncFnMut() -> Result<T, E>) -> Result<T, RetryError<E>> {
         until_it_succeeds!(self, _attempt => call())
@@ -253,7 +253,7 @@ impl<E, F, H: Hooked<E>, K: Fn() -> Instant, S: AsyncSleep, R: Random> Retrying<
     ///
     /// # Errors
     ///
-    /// [`RetryError`] keeps the last error of the call.
+    /// [`RetryError`] with the last error of the call.
     pub async fn run<T, P>(self) -> Result<T, RetryError<E>>
     where
         F: FnMut() -> P,
@@ -263,11 +263,11 @@ impl<E, F, H: Hooked<E>, K: Fn() -> Instant, S: AsyncSleep, R: Random> Retrying<
         retrying.call_async(call).await
     }
 
-    /// The same for an async closure that changes what it captures: see [`Retrying::call_async_mut`].
+    /// [`Retrying::run`] for an async closure that changes what it captures: see [`Retrying::call_async_mut`].
     ///
     /// # Errors
     ///
-    /// [`RetryError`] keeps the last error of the call.
+    /// [`RetryError`] with the last error of the call.
     #[cfg(hikebox_async_closures)]
     pub async fn run_mut<T>(self) -> Result<T, RetryError<E>>
     where
@@ -278,7 +278,8 @@ impl<E, F, H: Hooked<E>, K: Fn() -> Instant, S: AsyncSleep, R: Random> Retrying<
     }
 }
 
-/// A future that owns all that it needs is awaited without [`Retrying::run`]: it is [`Send`], and takes memory of its own.
+/// You can `.await` a retry directly if everything in it is [`Send`]. The future takes memory of its own; that of
+/// [`Retrying::run`] does not.
 ///
 /// ```
 /// use hikebox::{Budget, Policy, Retryable};

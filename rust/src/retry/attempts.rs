@@ -8,7 +8,7 @@ use crate::retry::progress::{later, Lost, Progress};
 use crate::retry::retrying::Retrying;
 use std::time::{Duration, Instant};
 
-/// A run of a call, as [`Retrying::call_with`] tells it.
+/// A run of a call, as [`Retrying::call_with`] passes it.
 #[derive(Clone, Copy, Debug, PartialEq, Eq, Hash)]
 pub struct Attempt {
     number: u64,
@@ -16,13 +16,13 @@ pub struct Attempt {
 }
 
 impl Attempt {
-    /// Which run it is, from 1 on.
+    /// The number of the run, from 1.
     #[must_use]
     pub fn number(&self) -> u64 {
         self.number
     }
 
-    /// How long it is from the run's beginning to the deadline, or `None` where there is none.
+    /// The time from the run's start to the deadline, or `None` if there is no deadline.
     #[must_use]
     pub fn left(&self) -> Option<Duration> {
         self.left

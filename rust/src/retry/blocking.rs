@@ -9,8 +9,8 @@ use crate::retry::host::{Host, Random, Sleep};
 use crate::retry::retrying::Retrying;
 use std::time::Instant;
 
-/// Runs the call until it succeeds, again after each failure as the policy says, with a ticket of the budget for each
-/// retry. The first run needs none, and is a request of a [`Quota`](crate::Quota).
+/// Runs the call until it succeeds: again after each failure, as the policy says, with a ticket of the budget for each
+/// retry. The first run takes none, and counts as a request of a [`Quota`](crate::Quota).
 ///
 /// ```
 /// use hikebox::{retry, Budget, Policy, RetryError, Schedule};
@@ -34,7 +34,7 @@ use std::time::Instant;
 ///
 /// # Errors
 ///
-/// [`RetryError`] keeps the last error of the call.
+/// [`RetryError`] with the last error of the call.
 pub fn retry<T, E>(
     policy: &Policy,
     budget: &impl Grants,
@@ -43,7 +43,7 @@ pub fn retry<T, E>(
     Retrying::new(policy, budget).call(call)
 }
 
-/// Calls that block, which can be retried: all that give a `Result`.
+/// Calls that block and can be retried: every function or closure that returns a `Result`.
 ///
 /// ```
 /// use hikebox::{BlockingRetryable, Budget, Policy};
@@ -60,7 +60,7 @@ pub fn retry<T, E>(
 /// # Ok::<(), Box<dyn std::error::Error>>(())
 /// ```
 pub trait BlockingRetryable<T, E>: FnMut() -> Result<T, E> + Sized {
-    /// The call, to be retried by the policy; on no budget, unless [`Retrying::budget`] gives one.
+    /// Retries the call by the policy; on no limit, unless you add one by [`Retrying::budget`].
     fn retry(self, policy: &Policy) -> Retrying<'_, E, Blocking<Self>> {
         Retrying::of(policy, &Unlimited, Blocking(self))
     }
@@ -77,12 +77,13 @@ impl<E, H: Hooked<E>, K: Fn() -> Instant, S: Sleep, R: Random> Retrying<'_, E, (
     ///
     /// # Errors
     ///
-    /// [`RetryError`] keeps the last error of the call.
+    /// [`RetryError`] with the last error of the call.
     pub fn call<T>(&self, mut call: impl FnMut() -> Result<T, E>) -> Result<T, RetryError<E>> {
         self.call_with(|_| call())
     }
 
-    /// The same of a call that is told which run it is, and how long it has left up to the [`Retrying::deadline`].
+    /// [`Retrying::call`] for a call that takes the number of the run, and how long it has left until the
+    /// [`Retrying::deadline`].
     ///
     /// ```
     /// use hikebox::{Policy, Retrying, Unlimited};
@@ -100,7 +101,7 @@ impl<E, H: Hooked<E>, K: Fn() -> Instant, S: Sleep, R: Random> Retrying<'_, E, (
     ///
     /// # Errors
     ///
-    /// [`RetryError`] keeps the last error of the call.
+    /// [`RetryError`] with the last error of the call.
     pub fn call_with<T>(&self, mut call: impl FnMut(Attempt) -> Result<T, E>) -> Result<T, RetryError<E>> {
         let mut progress = self.begin();
         let mut attempt = self.first();
@@ -125,7 +126,7 @@ impl<E, F, H: Hooked<E>, K: Fn() -> Instant, S: Sleep, R: Random> Retrying<'_, E
     ///
     /// # Errors
     ///
-    /// [`RetryError`] keeps the last error of the call.
+    /// [`RetryError`] with the last error of the call.
     pub fn run<T>(self) -> Result<T, RetryError<E>>
     where
         F: FnMut() -> Result<T, E>,

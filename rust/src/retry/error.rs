@@ -5,25 +5,25 @@ use crate::retry::machine::Cause;
 use std::error::Error;
 use std::fmt;
 
-/// Why a retry gave no value, with the last error of the call.
+/// Why a retry returned no value, with the last error of the call.
 ///
-/// Its text has that of the last error, so it has no [`source`](Error::source): [`RetryError::last`] leads to the error
-/// and its causes. It is an [`Error`] for every `E` that can be shown, `&str`, `Box<dyn Error>` and `anyhow::Error`
-/// too, so `?` takes it on.
+/// Its text contains that of the last error, so it has no [`source`](Error::source); [`RetryError::last`] returns the
+/// error itself. It is an [`Error`] for every `E` that can be displayed, including `&str`, `Box<dyn Error>` and
+/// `anyhow::Error`, so `?` converts it.
 #[derive(Clone, Debug, PartialEq, Eq, Hash)]
 #[non_exhaustive]
 pub enum RetryError<E> {
-    /// The call failed, and the schedule does not go on.
+    /// The call failed, and the schedule was done.
     ScheduleDone(E),
-    /// The call failed, and the next run would begin past the deadline.
+    /// The call failed, and the next run would have begun past the deadline.
     Deadline(E),
-    /// The call failed, the schedule goes on, and the budget or the quota has no ticket.
+    /// The call failed, and the budget or quota had no ticket for a retry.
     BudgetRefused(E),
-    /// The call failed with an error that is not to be retried.
+    /// The call failed with an error that is not retried.
     NotRetried(E),
-    /// The call failed, the schedule goes on, and the store of tickets failed.
+    /// The call failed, and the store of tickets failed.
     StoreFailed(StoreFailure, E),
-    /// The retry could not go on after this error.
+    /// The call failed, and the retry could not go on.
     Broken(Cause, E),
 }
 
@@ -47,7 +47,7 @@ impl<E> RetryError<E> {
         last_of!(self)
     }
 
-    /// The same, by value.
+    /// The last error of the call, by value.
     pub fn into_last(self) -> E {
         last_of!(self)
     }

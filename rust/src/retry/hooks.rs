@@ -1,9 +1,9 @@
-//! What is asked and told at each failure.
+//! The functions that a retry calls at each failure.
 
 use std::sync::Arc;
 use std::time::Duration;
 
-/// What is asked and told at each failure.
+/// The functions that a retry calls at each failure.
 #[derive(Clone, Copy)]
 pub struct Hooks<W, C, A, N> {
     pub(crate) when: W,
@@ -15,7 +15,7 @@ pub struct Hooks<W, C, A, N> {
 /// Hooks that retry every error, by the code 0.
 pub type PlainHooks<E> = Hooks<fn(&E) -> bool, fn(&E) -> u64, fn(&E) -> Option<Duration>, fn(&E, Duration)>;
 
-/// Hooks behind one pointer, so that their type can be named: see [`Retrying::shared`](crate::Retrying::shared).
+/// Hooks behind one pointer, so that you can name their type: see [`Retrying::shared`](crate::Retrying::shared).
 pub struct SharedHooks<E>(Arc<dyn Hooked<E> + Send + Sync>);
 
 /// Hooks for errors of this type.

@@ -1,10 +1,10 @@
-//! Where a retry has its clock, its waits and its random words from.
+//! Where a retry takes its clock, its waits and its random words from.
 
 use crate::{clock, random};
 use std::thread;
 use std::time::{Duration, Instant};
 
-/// Where a retry has its clock, its waits and its random words from.
+/// Where a retry takes its clock, its waits and its random words from.
 #[derive(Clone, Copy)]
 pub struct Host<K, S, R> {
     pub(crate) clock: K,
@@ -15,23 +15,23 @@ pub struct Host<K, S, R> {
 /// The system's clock, waits and random words; with the feature `tokio` tokio's clock, and its waits in futures.
 pub type SystemHost = Host<fn() -> Instant, SystemSleep, SystemRandom>;
 
-/// Waits of the thread, or with the feature `tokio` of the task.
+/// Blocks the thread, or with the feature `tokio` lets the task wait.
 #[derive(Clone, Copy, Debug, Default)]
 pub struct SystemSleep;
 
-/// Random words of the thread, which the system's random bytes begin.
+/// Random words of the thread, seeded by the system's random bytes.
 #[derive(Clone, Copy, Debug, Default)]
 pub struct SystemRandom;
 
-/// A way to block for some time: any function of a [`Duration`].
+/// A way to block: any function of a [`Duration`].
 pub trait Sleep {
-    /// Blocks for so long, or longer.
+    /// Blocks for this long, or longer.
     fn sleep(&self, wait: Duration);
 }
 
-/// Random words: any function that makes four.
+/// Random words: any function that returns four.
 pub trait Random {
-    /// The next four.
+    /// The next four words.
     fn draw(&self) -> [u32; 4];
 }
 

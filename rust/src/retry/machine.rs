@@ -11,10 +11,10 @@ use crate::random;
 use crate::system::generation;
 use std::time::Duration;
 
-/// A retry that the host steps: it says when to run the call and when to wait, and is told how each run went.
+/// A retry that you step yourself: it says when to run the call and when to wait, and you report how each run went.
 ///
-/// [`retry`](crate::retry()) and [`Retrying`](crate::Retrying) drive one by the system's clock. It is for hosts that
-/// have a clock of their own, as an event loop or a test.
+/// [`retry`](crate::retry()) and [`Retrying`](crate::Retrying) drive one by the system's clock. Use it in a program
+/// that has a clock of its own, such as an event loop or a test.
 ///
 /// ```
 /// use hikebox::{Budget, Ending, Machine, Policy, Report, Step};
@@ -31,10 +31,10 @@ use std::time::Duration;
 /// # Ok::<(), Box<dyn std::error::Error>>(())
 /// ```
 ///
-/// A moment is the time since one that the host chooses, and counts in whole milliseconds, rounded down. On a
-/// [`Quota`](crate::Quota) it draws at the moments that it is stepped at, so these are on one clock with all others of
-/// the quota, and the host deposits each request: `quota.deposit_at(now)`. One that is dropped while it waits hands the
-/// ticket of the run back that never began.
+/// A moment is the time since one that you choose, in whole milliseconds, rounded down. On a [`Quota`](crate::Quota)
+/// the machine draws at the moments at which you step it, so use one clock for everything on that quota, and count each
+/// request by `quota.deposit_at(now)`. A machine that is dropped while it waits hands back the ticket of the run that
+/// never began.
 #[derive(Debug)]
 pub struct Machine {
     /// `None` only while it is dropped.
@@ -64,7 +64,7 @@ struct Drawn {
     ended: Option<Ending>,
 }
 
-/// How a run went, with a code up to 2^62 - 1 by which the schedule knows it; a greater one counts as that.
+/// How a run went, with a code up to 2^62 - 1 that the schedule can test; a greater one counts as that.
 #[derive(Clone, Copy, Debug, PartialEq, Eq, Hash)]
 pub enum Report {
     /// It succeeded.
@@ -73,13 +73,13 @@ pub enum Report {
     Lost(u64),
 }
 
-/// What the host is to do.
+/// What to do next.
 #[derive(Clone, Copy, Debug, PartialEq, Eq, Hash)]
 #[must_use]
 pub enum Step {
     /// Run the call, and report how it went at the next step.
     Run,
-    /// Wait until this moment, and step with no report.
+    /// Wait until this moment, and then step without a report.
     Wait(Duration),
     /// Nothing: the retry is over.
     Over(Ending),
@@ -91,11 +91,11 @@ pub enum Step {
 pub enum Ending {
     /// The last run succeeded.
     Won,
-    /// The last run failed, and the schedule does not go on.
+    /// The last run failed, and the schedule was done.
     ScheduleDone,
-    /// The last run failed, and the next one would begin past the deadline.
+    /// The last run failed, and the next one would have begun past the deadline.
     Deadline,
-    /// The last run failed, the schedule goes on, and the budget or the quota has no ticket.
+    /// The last run failed, and the budget or quota had no ticket for a retry.
     BudgetRefused,
     /// It was cancelled.
     Cancelled,
@@ -107,16 +107,16 @@ pub enum Ending {
 #[derive(Clone, Copy, Debug, PartialEq, Eq, Hash)]
 #[non_exhaustive]
 pub enum Cause {
-    /// Memory is wanting.
+    /// Memory ran out.
     NoMemory,
     /// The clock went back.
     Backwards,
-    /// The store of tickets failed: [`Machine::store_failure`] says how.
+    /// The store of tickets failed; [`Machine::store_failure`] says why.
     StoreFailed,
 }
 
 impl Machine {
-    /// A retry by the policy under the budget or the quota, which has not begun.
+    /// A retry by this policy on this limit, which has not begun.
     ///
     /// # Errors
     ///
@@ -125,9 +125,9 @@ impl Machine {
         Self::on(policy, budget.source(), NO_DEADLINE)
     }
 
-    /// The same with a moment past which no run but the first begins: where the schedule plans one, it is over as
-    /// [`Ending::Deadline`], and draws no ticket for that. So it is where it is stepped past that moment while it waits; its
-    /// ticket goes back, if it is a quota's.
+    /// [`Machine::new`] with a deadline: no run but the first begins past this moment. If the schedule plans one later,
+    /// the retry is over as [`Ending::Deadline`] and draws no ticket. It is also over if it is stepped past the
+    /// deadline while it waits; a quota then has the ticket back.
     ///
     /// ```
     /// use hikebox::{Ending, Machine, Policy, Report, Step, Unlimited};
@@ -162,14 +162,14 @@ impl Machine {
         Ok(Self { handle, source, drawn, generation: generation(), deadline, told, waits: false, won: false })
     }
 
-    /// Steps it at the moment `now`, which is not before that of the step before, with random words of its own. A
-    /// report is of the run under way; where none is, it counts for nothing.
+    /// Steps the machine at the moment `now`, which is not before that of the last step, with the system's random
+    /// words. A report is about the run under way; if there is none, it is ignored.
     pub fn step(&mut self, now: Duration, report: Option<Report>) -> Step {
         self.step_with(now, report, random::next())
     }
 
-    /// The same with random words of the host's, of which each jitter takes the one of its lane: `u32::MAX / 2` picks
-    /// the middle.
+    /// [`Machine::step`] with your own random words. Each jitter takes the one of its lane: `u32::MAX / 2` picks the
+    /// middle.
     pub fn step_with(&mut self, now: Duration, report: Option<Report>, words: [u32; 4]) -> Step {
         match self.step_at(whole_millis(now), report, &words) {
             Ok(None) => Step::Run,
@@ -231,7 +231,7 @@ impl Machine {
         }
     }
 
-    /// How many retries it was granted.
+    /// The number of retries that were granted.
     #[must_use]
     pub fn granted(&self) -> u64 {
         match self.source {
@@ -240,14 +240,14 @@ impl Machine {
         }
     }
 
-    /// How many runs were reported.
+    /// The number of runs that were reported.
     #[must_use]
     pub fn runs(&self) -> u64 {
         self.told.runs
     }
 
-    /// How long it is from a moment to the deadline, as the time that a run may be given: none where that is past. `None`
-    /// where there is no deadline.
+    /// The time from `now` to the deadline, which can serve as a run's timeout: zero if the deadline is past, and
+    /// `None` if there is none.
     #[must_use]
     pub fn left(&self, now: Duration) -> Option<Duration> {
         match self.left_at(whole_millis(now)) {
@@ -265,14 +265,14 @@ impl Machine {
         }
     }
 
-    /// Why the store of tickets failed, where it did.
+    /// Why the store of tickets failed, if it did.
     #[must_use]
     pub fn store_failure(&self) -> Option<&StoreFailure> {
         self.drawn.failure.as_ref()
     }
 
-    /// Ends it as cancelled, where it is not over. On a quota, where it waited, its latest ticket goes back when it is
-    /// dropped.
+    /// Ends the retry as cancelled, if it is not over. On a quota, the latest ticket goes back when the machine is
+    /// dropped, if it was waiting.
     pub fn cancel(&mut self) {
         if let Some(handle) = &mut self.handle {
             handle.cancel(&mut self.told);
@@ -302,8 +302,8 @@ impl Drop for Machine {
 }
 
 impl Drawn {
-    /// How the retry ended, where it did: the store is asked where the schedule went on to one retry more than were granted,
-    /// and may have no ticket, or fail.
+    /// How the retry ended, where it did: the store is asked where the schedule went on to one retry more than were
+    /// granted, and may have no ticket, or fail.
     fn refuses(&mut self, store: &dyn Tickets, wanted: u64) -> Option<Ending> {
         if wanted > self.granted && self.ended.is_none() {
             match store.draw() {

@@ -12,8 +12,8 @@ pub(crate) struct Options {
 }
 
 impl Options {
-    /// The wait that is granted to an error that asks for this one so long after the first run began; `None` where the next
-    /// run would begin past the deadline then.
+    /// The wait that is granted to an error that asks for this one so long after the first run began; `None` where the
+    /// next run would begin past the deadline then.
     #[cold]
     pub(crate) fn granted(&self, retry_after: Duration, passed: Duration) -> Option<Duration> {
         let wait = retry_after.min(self.max_retry_after);

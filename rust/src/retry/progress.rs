@@ -47,8 +47,8 @@ struct Running {
     latest: u64,
     /// When the next run is due, where the engine has not begun it yet.
     due: Option<u64>,
-    /// How long after the first run began the last one may begin. Where it has one, moments are rounded up, so that a run
-    /// which is due by it in whole milliseconds is so by the clock.
+    /// How long after the first run began the last one may begin. Where it has one, moments are rounded up, so that a
+    /// run which is due by it in whole milliseconds is so by the clock.
     deadline: Option<Duration>,
 }
 
@@ -93,8 +93,8 @@ impl Progress {
         self.running.as_mut().and_then(|running| running.machine.succeeded())
     }
 
-    /// Begins the run that was waited for: in the engine, too, where that did not at the failure before. Past the deadline
-    /// the retry is over. `None` is answered where nobody had to look at the clock.
+    /// Begins the run that was waited for: in the engine, too, where that did not at the failure before. Past the
+    /// deadline the retry is over. `None` is answered where nobody had to look at the clock.
     pub(crate) fn resume(&mut self, clock: impl FnOnce() -> Instant) -> Result<Option<Instant>, Ending> {
         let began = self.began;
         match &mut self.running {
@@ -141,8 +141,8 @@ impl Running {
         Ok(running)
     }
 
-    /// Begins the run that is due, or that the engine has begun and an error had wait. A clock that did not move while it
-    /// was waited is taken to have moved.
+    /// Begins the run that is due, or that the engine has begun and an error had wait. A clock that did not move while
+    /// it was waited is taken to have moved.
     fn resume(&mut self, passed: Duration) -> Result<(), Ending> {
         let due = self.due.take();
         if self.deadline.map_or(false, |deadline| passed > deadline) {
@@ -160,8 +160,8 @@ impl Running {
         Ok(())
     }
 
-    /// A step so long after the first run began, and not before the latest: when the next run is due, or `None` where it
-    /// is under way.
+    /// A step so long after the first run began, and not before the latest: when the next run is due, or `None` where
+    /// it is under way.
     fn step(&mut self, passed: Duration, report: Option<Report>, words: &[u32; 4]) -> Result<Option<u64>, Ending> {
         let passed = match self.deadline {
             Some(_) => passed.saturating_add(Duration::from_nanos(999_999)),

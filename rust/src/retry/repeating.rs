@@ -15,21 +15,21 @@ use std::future::Future;
 use std::marker::PhantomData;
 use std::time::{Duration, Instant};
 
-/// Why a repeat or a poll ended without what was wanted.
+/// Why a repeat or a poll returned no value.
 #[derive(Clone, Debug, PartialEq, Eq, Hash)]
 #[non_exhaustive]
 pub enum RepeatError<T, E> {
     /// A run failed. A repeat does not retry.
     Failed(E),
-    /// The schedule was done before the answer was as wanted, which was last so.
+    /// The schedule was done before a value was accepted; this is the last one.
     ScheduleDone(T),
-    /// The next run would begin past the deadline, and the answer was last so.
+    /// The next run would have begun past the deadline; this is the last value.
     Deadline(T),
     /// The schedule could not go on.
     Broken(PolicyError),
 }
 
-/// Runs the call once, and again after each success as the policy says: `recurs(2)` is three runs. Gives the last
+/// Runs the call once, and again after each success as the policy says: `recurs(2)` makes three runs. Returns the last
 /// value. A repeat needs no budget.
 ///
 /// ```
@@ -47,12 +47,12 @@ pub enum RepeatError<T, E> {
 ///
 /// # Errors
 ///
-/// [`RepeatError::Failed`] at the first failure.
+/// [`RepeatError::Failed`] with the first error.
 pub fn repeat<T, E>(policy: &Policy, call: impl FnMut() -> Result<T, E>) -> Result<T, RepeatError<T, E>> {
     Repeating::new(policy).call(call)
 }
 
-/// Runs the call until its value is as wanted, again as the policy says after each one that is not.
+/// Runs the call until `wanted` returns true for its value, again as the policy says.
 ///
 /// ```
 /// use hikebox::{poll_until, Policy};
@@ -66,7 +66,7 @@ pub fn repeat<T, E>(policy: &Policy, call: impl FnMut() -> Result<T, E>) -> Resu
 ///
 /// # Errors
 ///
-/// [`RepeatError::Failed`] at the first failure, and [`RepeatError::ScheduleDone`] with the last value.
+/// [`RepeatError::Failed`] with the first error, and [`RepeatError::ScheduleDone`] with the last value.
 pub fn poll_until<T, E>(
     policy: &Policy,
     wanted: impl FnMut(&T) -> bool,
@@ -79,7 +79,7 @@ pub fn poll_until<T, E>(
 ///
 /// # Errors
 ///
-/// [`RepeatError::Failed`] at the first failure.
+/// [`RepeatError::Failed`] with the first error.
 #[cfg(feature = "tokio")]
 pub async fn repeat_async<T, E, F>(policy: &Policy, call: impl FnMut() -> F) -> Result<T, RepeatError<T, E>>
 where
@@ -92,7 +92,7 @@ where
 ///
 /// # Errors
 ///
-/// [`RepeatError::Failed`] at the first failure, and [`RepeatError::ScheduleDone`] with the last value.
+/// [`RepeatError::Failed`] with the first error, and [`RepeatError::ScheduleDone`] with the last value.
 #[cfg(feature = "tokio")]
 pub async fn poll_until_async<T, E, F>(
     policy: &Policy,
@@ -105,8 +105,8 @@ where
     Repeating::new(policy).until_async(wanted, call).await
 }
 
-/// How to repeat, or to poll: by which numbers the schedule knows the values, how long it may take in all, and by which
-/// clock. [`repeat`] and [`poll_until`] are this with nothing said.
+/// How to repeat or to poll: the numbers that the schedule tests, how long it may take in all, and by which clock.
+/// [`repeat`] and [`poll_until`] use the defaults.
 ///
 /// ```
 /// use hikebox::{Policy, Repeating, Schedule, Test};
@@ -144,20 +144,20 @@ impl<'a, T> Repeating<'a, T> {
 }
 
 impl<'a, T, C, M> Repeating<'a, T, C, M> {
-    /// No run but the first begins later than this (whole milliseconds) after the first one began, also where a wait took
-    /// longer than it should.
+    /// No run but the first begins later than this (in whole milliseconds) after the start of the first, even if a wait
+    /// took longer than it should.
     pub fn deadline(mut self, deadline: Duration) -> Self {
         self.options.deadline = Some(deadline);
         self
     }
 
-    /// The number by which the schedule knows a value, up to 2^62 - 1: its input.
+    /// The number of a value, up to 2^62 - 1, which the schedule can test: its input.
     pub fn code<X: Fn(&T) -> u64>(self, code: X) -> Repeating<'a, T, X, M> {
         let Self { policy, options, host, value, .. } = self;
         Repeating { policy, options, code, host, value }
     }
 
-    /// The same with a policy of its own, as for a field of a type, or for a task that is spawned.
+    /// Makes it own its policy, for a field of a type or for a spawned task.
     pub fn into_owned(self) -> Repeating<'static, T, C, M> {
         let Self { policy, options, code, host, value } = self;
         Repeating { policy: Cow::Owned(policy.into_owned()), options, code, host, value }
@@ -175,39 +175,39 @@ impl<'a, T, C, M> Repeating<'a, T, C, M> {
 }
 
 impl<'a, T, C, K, S, R> Repeating<'a, T, C, Host<K, S, R>> {
-    /// The clock, in the place of the system's.
+    /// The clock to use instead of the system's.
     pub fn clock<X: Fn() -> Instant>(self, clock: X) -> Repeating<'a, T, C, Host<X, S, R>> {
         self.with(|Host { sleep, random, .. }| Host { clock, sleep, random })
     }
 
-    /// How to wait, as [`Retrying::sleep`](crate::Retrying::sleep): a function that blocks, or one that makes a future of
-    /// any runtime.
+    /// How to wait, as by [`Retrying::sleep`](crate::Retrying::sleep): a function that blocks, or one that returns a
+    /// future of any runtime.
     pub fn sleep<X>(self, sleep: X) -> Repeating<'a, T, C, Host<K, X, R>> {
         self.with(|Host { clock, random, .. }| Host { clock, sleep, random })
     }
 
-    /// Random words, in the place of the system's: four for each value, of which a jitter takes the one of its lane.
+    /// The random words to use instead of the system's: four for each value. A jitter takes the one of its lane.
     pub fn random<X: Fn() -> [u32; 4]>(self, random: X) -> Repeating<'a, T, C, Host<K, S, X>> {
         self.with(|Host { clock, sleep, .. }| Host { clock, sleep, random })
     }
 }
 
 impl<T, C: Fn(&T) -> u64, K: Fn() -> Instant, S: Sleep, R: Random> Repeating<'_, T, C, Host<K, S, R>> {
-    /// Runs the call again after each success, and gives the last value. Between runs the thread sleeps.
+    /// Runs the call again after each success, and returns the last value. Between runs the thread sleeps.
     ///
     /// # Errors
     ///
-    /// [`RepeatError::Failed`] at the first failure.
+    /// [`RepeatError::Failed`] with the first error.
     pub fn call<E>(&self, call: impl FnMut() -> Result<T, E>) -> Result<T, RepeatError<T, E>> {
         last(self.until(|_| false, call))
     }
 
-    /// Runs the call until its value is as wanted. Between runs the thread sleeps.
+    /// Runs the call until `wanted` returns true for its value. Between runs the thread sleeps.
     ///
     /// # Errors
     ///
-    /// [`RepeatError::Failed`] at the first failure; [`RepeatError::ScheduleDone`] and [`RepeatError::Deadline`] with the last
-    /// value.
+    /// [`RepeatError::Failed`] with the first error; [`RepeatError::ScheduleDone`] and [`RepeatError::Deadline`] with
+    /// the last value.
     pub fn until<E>(
         &self,
         mut wanted: impl FnMut(&T) -> bool,
@@ -229,11 +229,11 @@ impl<T, C: Fn(&T) -> u64, K: Fn() -> Instant, S: Sleep, R: Random> Repeating<'_,
 }
 
 impl<T, C: Fn(&T) -> u64, K: Fn() -> Instant, S: AsyncSleep, R: Random> Repeating<'_, T, C, Host<K, S, R>> {
-    /// [`Repeating::call`] for futures. Without the feature `tokio` it wants a [`Repeating::sleep`] of the runtime.
+    /// [`Repeating::call`] for futures. Without the feature `tokio` it needs a [`Repeating::sleep`] of your runtime.
     ///
     /// # Errors
     ///
-    /// [`RepeatError::Failed`] at the first failure.
+    /// [`RepeatError::Failed`] with the first error.
     pub async fn call_async<E, F>(&self, call: impl FnMut() -> F) -> Result<T, RepeatError<T, E>>
     where
         F: Future<Output = Result<T, E>>,
@@ -245,8 +245,8 @@ impl<T, C: Fn(&T) -> u64, K: Fn() -> Instant, S: AsyncSleep, R: Random> Repeatin
     ///
     /// # Errors
     ///
-    /// [`RepeatError::Failed`] at the first failure; [`RepeatError::ScheduleDone`] and [`RepeatError::Deadline`] with the last
-    /// value.
+    /// [`RepeatError::Failed`] with the first error; [`RepeatError::ScheduleDone`] and [`RepeatError::Deadline`] with
+    /// the last value.
     pub async fn until_async<E, F>(
         &self,
         mut wanted: impl FnMut(&T) -> bool,
@@ -275,8 +275,8 @@ impl<T, C: Fn(&T) -> u64, K: Fn() -> Instant, S, R: Random> Repeating<'_, T, C, 
         Progress::new((self.host.clock)())
     }
 
-    /// How long it is waited after a run that gave this value now. To the engine each run whose value is not wanted is one
-    /// that failed, on nothing that could refuse a retry.
+    /// How long it is waited after a run that gave this value now. To the engine each run whose value is not wanted is
+    /// one that failed, on nothing that could refuse a retry.
     fn after<E>(&self, progress: &mut Progress, value: T) -> Result<(Duration, T), RepeatError<T, E>> {
         let (now, code) = ((self.host.clock)(), (self.code)(&value).min(MAX_NUMBER));
         let lost = Lost { now, code, words: self.host.random.draw(), retry_after: None };

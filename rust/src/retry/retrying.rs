@@ -11,9 +11,10 @@ use std::fmt;
 use std::marker::PhantomData;
 use std::time::{Duration, Instant};
 
-/// How to retry: which errors, by which numbers the schedule knows them, how long an error asks to wait, how long it may
-/// take in all, who hears of each retry, and by which clock. It is made by [`Retrying::new`], or of a call itself by
-/// [`BlockingRetryable`](crate::BlockingRetryable) or [`Retryable`](crate::Retryable), and called as often as one likes.
+/// How to retry: which errors, by which numbers the schedule tests them, how long an error asks to wait, how long the
+/// call may take in all, what is called before each retry, and by which clock. Make one by [`Retrying::new`], or from a
+/// call by [`BlockingRetryable`](crate::BlockingRetryable) or [`Retryable`](crate::Retryable), and call it as often as
+/// you like.
 ///
 /// ```
 /// use hikebox::{Budget, Policy, RetryError, Retrying};
@@ -31,12 +32,12 @@ use std::time::{Duration, Instant};
 /// # Ok::<(), Box<dyn std::error::Error>>(())
 /// ```
 ///
-/// It is called by `&self`, so what it asks and tells is `Fn`: a closure that counts takes a `Cell` or an atomic. A clone
-/// has the same settings and draws on the same budget; it is `Send` and `Sync` where its closures are. A call that succeeds
-/// at once takes no memory and no lock; on a quota it is counted, by a pass that its thread shares with few others.
+/// Calls take `&self`, so its closures are `Fn`: one that counts uses a `Cell` or an atomic. A clone has the same
+/// settings and draws on the same budget; it is `Send` and `Sync` if its closures are. A call that succeeds at once
+/// takes no memory and no lock, except on a quota, which counts it by a pass that few threads share.
 ///
-/// It borrows its policy and its budget. One that is kept owns them ([`Retrying::into_owned`]), and has a type that can be
-/// named ([`Retrying::shared`]):
+/// It borrows its policy and its budget. To keep one, make it own them ([`Retrying::into_owned`]), and give it a type
+/// that you can name ([`Retrying::shared`]):
 ///
 /// ```
 /// use hikebox::{Policy, Quota, Retrying, SharedRetrying};
@@ -71,7 +72,7 @@ pub struct Retrying<'a, E, F = (), H = PlainHooks<E>, M = SystemHost> {
     error: PhantomData<fn(&E)>,
 }
 
-/// A [`Retrying`] that is kept: it owns its policy and its budget, and all its hooks have one type.
+/// A [`Retrying`] to keep: it owns its policy and its budget, and its hooks have one type.
 pub type SharedRetrying<E> = Retrying<'static, E, (), SharedHooks<E>>;
 
 /// What a [`Retrying`] draws on.
@@ -91,7 +92,7 @@ impl CowLimit<'_> {
 }
 
 impl<'a, E> Retrying<'a, E> {
-    /// Retries every error, by the code 0.
+    /// Retries every error; each has the code 0.
     pub fn new(policy: &'a Policy, budget: &'a impl Grants) -> Self {
         Self::of(policy, budget, ())
     }
@@ -113,22 +114,22 @@ impl<'a, E, F> Retrying<'a, E, F> {
 }
 
 impl<'a, E, F, H, M> Retrying<'a, E, F, H, M> {
-    /// Each retry draws a ticket on this.
+    /// The limit on which each retry draws a ticket.
     pub fn budget(mut self, budget: &'a impl Grants) -> Self {
         self.budget = CowLimit::Borrowed(budget);
         self
     }
 
-    /// The longest wait that an error is granted by [`Retrying::retry_after`]: six hours, unless it is said.
+    /// The longest wait that an error can ask for by [`Retrying::retry_after`]: six hours by default.
     pub fn max_retry_after(mut self, longest: Duration) -> Self {
         self.options.max_retry_after = longest;
         self
     }
 
-    /// No run but the first begins later than this (whole milliseconds) after the first one began. Where the policy, or an
-    /// error, would wait longer, the retry ends as [`RetryError::Deadline`], and draws no ticket for that. It ends so, too,
-    /// where a wait took longer than it should: then a quota has the ticket back. A run that is under way is not ended:
-    /// [`Retrying::call_with`] tells it how long it has left.
+    /// No run but the first begins later than this (in whole milliseconds) after the start of the first. If the policy
+    /// or an error would have the next run begin later, the retry ends as [`RetryError::Deadline`] and draws no ticket.
+    /// It also ends so if a wait took longer than it should; a quota then has the ticket back. A run that is under way
+    /// is not stopped: [`Retrying::call_with`] tells it how long it has left.
     ///
     /// [`RetryError::Deadline`]: crate::RetryError::Deadline
     ///
@@ -151,7 +152,7 @@ impl<'a, E, F, H, M> Retrying<'a, E, F, H, M> {
         self
     }
 
-    /// The same with a policy and a budget of its own, as for a field of a type, or for a task that is spawned.
+    /// Makes it own its policy and its budget, for a field of a type or for a spawned task.
     ///
     /// ```
     /// # #[cfg(feature = "tokio")]
@@ -186,8 +187,8 @@ impl<'a, E, F, H, M> Retrying<'a, E, F, H, M> {
         }
     }
 
-    /// The same, owned, with hooks behind one pointer, so that its type can be named: [`SharedRetrying`]. It has no other
-    /// hooks from then on.
+    /// Makes it own its policy and its budget, and puts its hooks behind one pointer, so that you can name its type:
+    /// [`SharedRetrying`]. Hooks cannot be changed after that.
     pub fn shared(self) -> Retrying<'static, E, F, SharedHooks<E>, M>
     where
         H: Hooked<E> + Send + Sync + 'static,
@@ -219,20 +220,20 @@ impl<'a, E, F, H, M> Retrying<'a, E, F, H, M> {
 }
 
 impl<'a, E, F, W, C, A, N, M> Retrying<'a, E, F, Hooks<W, C, A, N>, M> {
-    /// Retries only errors of which this is true. Another one ends the retry as [`RetryError::NotRetried`].
+    /// Retries only the errors for which this returns true. Any other ends the retry as [`RetryError::NotRetried`].
     ///
     /// [`RetryError::NotRetried`]: crate::RetryError::NotRetried
     pub fn when<X: Fn(&E) -> bool>(self, when: X) -> Retrying<'a, E, F, Hooks<X, C, A, N>, M> {
         self.with(|Hooks { code, retry_after, notify, .. }| Hooks { when, code, retry_after, notify }, |host| host)
     }
 
-    /// The number by which the schedule knows an error, up to 2^62 - 1: its input.
+    /// The number of an error, up to 2^62 - 1, which the schedule can test: its input.
     pub fn code<X: Fn(&E) -> u64>(self, code: X) -> Retrying<'a, E, F, Hooks<W, X, A, N>, M> {
         self.with(|Hooks { when, retry_after, notify, .. }| Hooks { when, code, retry_after, notify }, |host| host)
     }
 
-    /// How long an error asks to wait, as `Retry-After` of HTTP does. The retry waits for so long, up to
-    /// [`Retrying::max_retry_after`], where the schedule would wait for less.
+    /// How long an error asks to wait, as HTTP's `Retry-After` does. If the schedule would wait for less, the retry
+    /// waits that long, up to [`Retrying::max_retry_after`].
     pub fn retry_after<X: Fn(&E) -> Option<Duration>>(
         self,
         retry_after: X,
@@ -240,26 +241,26 @@ impl<'a, E, F, W, C, A, N, M> Retrying<'a, E, F, Hooks<W, C, A, N>, M> {
         self.with(|Hooks { when, code, notify, .. }| Hooks { when, code, retry_after, notify }, |host| host)
     }
 
-    /// Called before each retry with the error, and with how long it will wait.
+    /// Called before each retry with the error and the wait.
     pub fn notify<X: Fn(&E, Duration)>(self, notify: X) -> Retrying<'a, E, F, Hooks<W, C, A, X>, M> {
         self.with(|Hooks { when, code, retry_after, .. }| Hooks { when, code, retry_after, notify }, |host| host)
     }
 }
 
 impl<'a, E, F, H, K, S, R> Retrying<'a, E, F, H, Host<K, S, R>> {
-    /// The clock, in the place of the system's.
+    /// The clock to use instead of the system's.
     pub fn clock<X: Fn() -> Instant>(self, clock: X) -> Retrying<'a, E, F, H, Host<X, S, R>> {
         self.with(|hooks| hooks, |Host { sleep, random, .. }| Host { clock, sleep, random })
     }
 
-    /// How to wait: a function that blocks for so long, or of a retry of futures one that makes a future of any
-    /// runtime, as `async_std::task::sleep`. It is not called for a wait of nothing. After a wait the retry goes on,
-    /// also where the clock did not move.
+    /// How to wait: a function that blocks for that long, or for futures one that returns a future of any runtime, such
+    /// as `async_std::task::sleep`. It is not called for a wait of zero. After a wait the retry goes on even if the
+    /// clock did not move.
     pub fn sleep<X>(self, sleep: X) -> Retrying<'a, E, F, H, Host<K, X, R>> {
         self.with(|hooks| hooks, |Host { clock, random, .. }| Host { clock, sleep, random })
     }
 
-    /// Random words, in the place of the system's: four for each failure, of which a jitter takes the one of its lane.
+    /// The random words to use instead of the system's: four for each failure. A jitter takes the one of its lane.
     pub fn random<X: Fn() -> [u32; 4]>(self, random: X) -> Retrying<'a, E, F, H, Host<K, S, X>> {
         self.with(|hooks| hooks, |Host { clock, sleep, .. }| Host { clock, sleep, random })
     }

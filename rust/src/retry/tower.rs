@@ -16,9 +16,9 @@ use std::task::{Context, Poll};
 use std::time::{Duration, Instant};
 
 /// A [`tower::retry::Policy`](::tower::retry::Policy) that retries a request as a schedule says, with a ticket of a
-/// [`Budget`](crate::Budget) or a [`Quota`](crate::Quota) for each retry, in the place of `tower::retry::budget`. Each
-/// request is one of the quota, when it is made. An error is a failure, and so is a response that
-/// [`RetryPolicy::failed`] names.
+/// [`Budget`](crate::Budget) or a [`Quota`](crate::Quota) for each retry. It takes the place of `tower::retry::budget`.
+/// A quota counts each request when it is made. An error is a failure, and so is a response for which
+/// [`RetryPolicy::failed`] returns true.
 ///
 /// ```
 /// use hikebox::{Budget, Policy, RetryPolicy};
@@ -48,7 +48,7 @@ pub struct RetryPolicy<Request, Response, E, B = Whenever> {
     began: B,
 }
 
-/// Of a request it is not noted when it began: it has no deadline.
+/// The start of a request is not noted, so it has no deadline.
 #[derive(Clone, Copy, Debug)]
 pub struct Whenever;
 
@@ -56,7 +56,8 @@ pub struct Whenever;
 #[derive(Clone, Copy, Debug)]
 pub struct Since(Instant);
 
-/// Whether a [`RetryPolicy`] notes when its request began: [`Since`] when, with a deadline, or [`Whenever`]. It is sealed.
+/// Whether a [`RetryPolicy`] notes when its request began: [`Since`] does, for a deadline, and [`Whenever`] does not.
+/// The trait is sealed.
 pub trait Noted: sealed::Begins {}
 
 impl Noted for Whenever {}
@@ -115,15 +116,15 @@ struct Settings<Request, Response, E> {
 }
 
 impl<Request: Clone, Response, E> RetryPolicy<Request, Response, E> {
-    /// Retries every error, by the code 0.
+    /// Retries every error; each has the code 0.
     pub fn new(policy: Policy, budget: impl Grants) -> Self {
         Self::copying(policy, budget, |request: &Request| Some(request.clone()))
     }
 }
 
 impl<Request, Response, E> RetryPolicy<Request, Response, E> {
-    /// The same for requests that are not `Clone`: the function copies one, as tower's `clone_request`, or says by
-    /// `None` that it can't be made again.
+    /// [`RetryPolicy::new`] for requests that are not `Clone`. Like tower's `clone_request`, `copy` copies a request,
+    /// or returns `None` if it cannot be made again.
     pub fn copying(
         policy: Policy,
         budget: impl Grants,
@@ -147,33 +148,33 @@ impl<Request, Response, E> RetryPolicy<Request, Response, E> {
 }
 
 impl<Request, Response, E, B: Noted> RetryPolicy<Request, Response, E, B> {
-    /// Retries only errors of which this is true.
+    /// Retries only the errors for which this returns true.
     pub fn when(mut self, when: impl Fn(&E) -> bool + Send + Sync + 'static) -> Self {
         self.set().when = Some(Arc::new(when));
         self
     }
 
-    /// A response of which this is true is a failure too, as one with the status 503. Where it is not retried it is the
-    /// answer.
+    /// Makes a response a failure if this returns true for it, for instance one with the status 503. If it is not
+    /// retried, it is the answer.
     pub fn failed(mut self, failed: impl Fn(&Response) -> bool + Send + Sync + 'static) -> Self {
         self.set().failed = Some(Arc::new(failed));
         self
     }
 
-    /// The number by which the schedule knows an error, up to 2^62 - 1: its input.
+    /// The number of an error, up to 2^62 - 1, which the schedule can test: its input.
     pub fn code(mut self, code: impl Fn(&E) -> u64 + Send + Sync + 'static) -> Self {
         self.set().code = Some(Arc::new(code));
         self
     }
 
-    /// The number by which the schedule knows a response that is a failure.
+    /// The number of a response that is a failure, which the schedule can test.
     pub fn response_code(mut self, code: impl Fn(&Response) -> u64 + Send + Sync + 'static) -> Self {
         self.set().response_code = Some(Arc::new(code));
         self
     }
 
-    /// How long a failure asks to wait, as a response's `Retry-After` does. The retry waits for so long, up to
-    /// [`RetryPolicy::max_retry_after`], where the schedule would wait for less.
+    /// How long a failure asks to wait, as the `Retry-After` of a response does. If the schedule would wait for less,
+    /// the retry waits that long, up to [`RetryPolicy::max_retry_after`].
     pub fn retry_after(
         mut self,
         retry_after: impl Fn(Result<&Response, &E>) -> Option<Duration> + Send + Sync + 'static,
@@ -182,15 +183,15 @@ impl<Request, Response, E, B: Noted> RetryPolicy<Request, Response, E, B> {
         self
     }
 
-    /// The longest wait that a failure is granted by [`RetryPolicy::retry_after`]: six hours, unless it is said.
+    /// The longest wait that a failure can ask for by [`RetryPolicy::retry_after`]: six hours by default.
     pub fn max_retry_after(mut self, longest: Duration) -> Self {
         self.set().options.max_retry_after = longest;
         self
     }
 
-    /// No retry is planned to begin later than this (whole milliseconds) after the request was made. Tower makes a run that
-    /// it was promised also where its timer was late; [`Retrying::deadline`](crate::Retrying::deadline) does not. A layer
-    /// of `tower::timeout` ends a run that is under way.
+    /// No retry is planned to begin later than this (in whole milliseconds) after the request was made. Tower makes a
+    /// run that it was promised even if its timer was late; [`Retrying::deadline`](crate::Retrying::deadline) does not.
+    /// To end a run that is under way, add a layer of `tower::timeout`.
     pub fn deadline(mut self, deadline: Duration) -> RetryPolicy<Request, Response, E, Since> {
         self.set().options.deadline = Some(deadline);
         RetryPolicy { settings: self.settings, progress: ToTake::none(), began: Since(now()) }
@@ -251,8 +252,8 @@ impl<Request, Response, E> Settings<Request, Response, E> {
     }
 }
 
-/// The wait for the next run of a request, which gives its [`RetryPolicy`]. It has a timer only where there is a time to
-/// wait: a timer's tick is a millisecond.
+/// The wait for the next run of a request, which returns its [`RetryPolicy`]. It has a timer only if there is something
+/// to wait for, since a timer's tick is a millisecond.
 #[must_use = "futures do nothing unless they are polled"]
 pub struct RetryWait<Request, Response, E, B = Whenever> {
     next: Option<RetryPolicy<Request, Response, E, B>>,

@@ -9,8 +9,8 @@ use crate::storms::storm::{Storm, StormError};
 #[derive(Clone, Copy, Debug, PartialEq, Eq, Hash)]
 #[non_exhaustive]
 pub enum Goal {
-    /// The greatest share of a quota, from 0 to 10,000 thousandths of a retry for each request. The quota has the reserve
-    /// and the window of the storm's, or 10 and a second where it has none.
+    /// The greatest share of a quota, from 0 to 10,000 thousandths of a retry for each request. The quota has the
+    /// reserve and the window of the storm's, or 10 and a second where it has none.
     Quota,
     /// The most retries of a request, from 0 to 64.
     Retries,
@@ -44,8 +44,8 @@ impl Storm {
     ///
     /// # Errors
     ///
-    /// [`StormError::NothingToRecoverFrom`] of a storm with no outage and no brown-out, [`StormError::PolicyTooLarge`], or
-    /// the first parameter that is out of its range.
+    /// [`StormError::NothingToRecoverFrom`] of a storm with no outage and no brown-out, [`StormError::PolicyTooLarge`],
+    /// or the first parameter that is out of its range.
     pub fn find(&self, goal: Goal) -> Result<Found, StormError> {
         if self.well_from().is_none() {
             return Err(StormError::NothingToRecoverFrom);

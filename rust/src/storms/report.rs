@@ -9,9 +9,9 @@ use std::time::Duration;
 #[derive(Clone, Debug, PartialEq, Eq)]
 #[non_exhaustive]
 pub struct StormReport {
-    /// Each window, from the first moment to that of the last event.
+    /// The windows, from the first moment to that of the last event.
     pub windows: Vec<StormWindow>,
-    /// What it came to.
+    /// The totals.
     pub totals: StormTotals,
 }
 
@@ -23,23 +23,23 @@ pub struct StormWindow {
     pub from: Duration,
     /// The requests that began in it.
     pub requests: u64,
-    /// How many of these were won in the end.
+    /// The number of these that succeeded in the end.
     pub won: u64,
     /// The retries that began in it.
     pub retries: u64,
     /// The calls that succeeded in it.
     pub succeeded: u64,
-    /// Those that the peer refused, in its outage.
+    /// The calls that the peer refused, in its outage.
     pub refused: u64,
-    /// Those that the peer shed, since its queue was full.
+    /// The calls that the peer shed, since its queue was full.
     pub shed: u64,
-    /// Those that their clients gave up.
+    /// The calls that their clients gave up.
     pub late: u64,
-    /// The calls of work that stand at the peer at its end.
+    /// The calls of work that wait at the peer at its end.
     pub waiting: u64,
 }
 
-/// What a storm comes to: `requests` is the sum of `won`, `lost`, `denied` and `open`.
+/// The totals of a storm. `requests` is the sum of `won`, `lost`, `denied` and `open`.
 #[derive(Clone, Copy, Debug, PartialEq, Eq, Hash)]
 #[non_exhaustive]
 pub struct StormTotals {
@@ -49,7 +49,7 @@ pub struct StormTotals {
     pub won: u64,
     /// Those whose last call failed, and whose policy was done.
     pub lost: u64,
-    /// Those whose policy went on, and for which there was no ticket.
+    /// Those for which the policy went on, but there was no ticket.
     pub denied: u64,
     /// Those that had not ended when the storm did.
     pub open: u64,
@@ -63,16 +63,16 @@ pub struct StormTotals {
     pub most_from: Duration,
     /// The tickets that were given.
     pub tickets: u64,
-    /// How long half of the requests that were won took at most; `None` where none was won.
+    /// The time within which half of the requests that succeeded did so; `None` if none succeeded.
     pub p50: Option<Duration>,
-    /// How long 99 in 100 of them took at most.
+    /// The time within which 99 in 100 of them did so.
     pub p99: Option<Duration>,
-    /// How long the slowest of them took.
+    /// The time that the slowest of them took.
     pub slowest: Option<Duration>,
     /// The first moment of the first window after outage and brown-out from which on 99 in 100 of the requests of each
-    /// window were won, where there is one.
+    /// window succeeded, if there is one.
     pub recovered: Option<Duration>,
-    /// Whether the storm was cut: one call more was to begin than [`Storm::calls`](crate::Storm::calls) allows.
+    /// Whether the storm stopped because one more call was to begin than [`Storm::calls`](crate::Storm::calls) allows.
     pub cut: bool,
 }
 
@@ -173,7 +173,7 @@ fn listed(numbers: &[u64]) -> String {
     texts.join(",")
 }
 
-/// What it comes to, in words.
+/// The totals, in words.
 impl fmt::Display for StormReport {
     fn fmt(&self, f: &mut fmt::Formatter<'_>) -> fmt::Result {
         let StormTotals { requests, won, lost, denied, open, calls, .. } = self.totals;

@@ -15,12 +15,12 @@ const HOUR: u64 = 3_600_000;
 const MAX_REQUESTS: u64 = 1_048_576;
 const MAX_WINDOWS: u64 = 65_536;
 
-/// Many requests under one policy, on a peer that fails for a while: what a policy does to a peer when thousands of
-/// calls fail together. No call is made, and no time passes; two storms with the same parameters are the same.
+/// A simulation of many requests under one policy, on a peer that fails for a while: what a policy does to a service
+/// when thousands of calls fail together. No call is made and no time passes. Two storms with the same parameters are
+/// equal.
 ///
-/// A storm begins with 800 requests a second for a minute, on a peer that does 1,000 calls a second and is away from
-/// 10 to 20 s. Under eight retries with full jitter that peer never comes back; under a quota of a tenth it does at
-/// once:
+/// By default, 800 requests a second come for a minute, to a peer that does 1,000 calls a second and is away from 10 to
+/// 20 s. Under eight retries with full jitter that peer never recovers. Under a quota of a tenth it recovers at once:
 ///
 /// ```
 /// use hikebox::{Policy, Schedule, Storm};
@@ -35,7 +35,7 @@ const MAX_WINDOWS: u64 = 65_536;
 /// # Ok::<(), Box<dyn std::error::Error>>(())
 /// ```
 ///
-/// A storm goes by whole milliseconds: a duration is rounded down.
+/// Times are whole milliseconds; a duration is rounded down.
 #[derive(Clone, Debug)]
 #[must_use]
 pub struct Storm {
@@ -48,7 +48,7 @@ pub struct Storm {
     fault: Option<BudgetError>,
 }
 
-/// Why a storm is not played.
+/// Why a storm, a sweep or a border is not played.
 #[derive(Clone, Copy, Debug, PartialEq, Eq, Hash)]
 #[non_exhaustive]
 pub enum StormError {
@@ -85,13 +85,13 @@ pub enum StormError {
     NothingToRecoverFrom,
     /// The policy with a bound on its retries has more than 256 nodes, or is deeper than 32.
     PolicyTooLarge,
-    /// Memory is wanting.
+    /// Memory ran out.
     NoMemory,
 }
 
 impl Storm {
-    /// The storm of an outage: 800 requests a second for a minute, on a peer that does 1,000 calls a second, and that
-    /// refuses all from 10 to 20 s.
+    /// A storm with an outage: 800 requests a second for a minute, to a peer that does 1,000 calls a second and refuses
+    /// all of them from 10 to 20 s.
     pub fn new(policy: &Policy) -> Self {
         let parameters = engine::Storm {
             rate: 800,
@@ -124,98 +124,99 @@ impl Storm {
         herd.patience(Duration::from_secs(1))
     }
 
-    /// A brown-out: the storm of the outage, but that the peer works at half its capacity from 10 to 20 s.
+    /// A storm with a brown-out: as [`Storm::new`], but from 10 to 20 s the peer works at half its capacity, and
+    /// refuses nothing.
     pub fn brown_out(policy: &Policy) -> Self {
         Self::new(policy).no_outage().slow(Duration::from_secs(10)..Duration::from_secs(20), 50)
     }
 
-    /// So many requests a second come: 1 to 1,000,000.
+    /// The number of requests that come in a second: 1 to 1,000,000.
     pub fn rate(mut self, requests: u64) -> Self {
         self.parameters.rate = requests;
         self
     }
 
-    /// So many requests come at one moment: 1 to 1,000,000.
+    /// The number of requests that come at one moment: 1 to 1,000,000.
     pub fn together(mut self, requests: u64) -> Self {
         self.parameters.together = requests;
         self
     }
 
-    /// Requests come for so many seconds, 1 to 3,600; there are at most 1,048,576 in all.
+    /// The number of seconds for which requests come: 1 to 3,600. There are at most 1,048,576 requests in all.
     pub fn seconds(mut self, seconds: u64) -> Self {
         self.parameters.seconds = seconds;
         self
     }
 
-    /// The peer can do so many calls in a second: 1 to 1,000,000.
+    /// The number of calls that the peer can do in a second: 1 to 1,000,000.
     pub fn capacity(mut self, calls: u64) -> Self {
         self.parameters.capacity = calls;
         self
     }
 
-    /// A client gives a call up after this, a millisecond to an hour. The peer does the call's work all the same.
+    /// How long a client waits for an answer: a millisecond to an hour. The peer does the work of a call that was given
+    /// up all the same.
     pub fn patience(mut self, patience: Duration) -> Self {
         self.parameters.patience = whole_millis(patience);
         self
     }
 
-    /// So many calls may stand at the peer, 0 to 1,048,576; what is more it sheds.
+    /// The number of calls that can wait at the peer: 0 to 1,048,576. It sheds further ones.
     pub fn queue(mut self, calls: u64) -> Self {
         self.parameters.queue = calls;
         self
     }
 
-    /// The peer refuses all calls from the range's start to before its end, within the first hour.
+    /// The outage: the peer refuses all calls from the range's start to before its end, within the first hour.
     pub fn outage(mut self, when: Range<Duration>) -> Self {
         (self.parameters.outage_from, self.parameters.outage_to) = (whole_millis(when.start), whole_millis(when.end));
         self
     }
 
-    /// The peer refuses nothing.
+    /// No outage: the peer refuses nothing.
     pub fn no_outage(self) -> Self {
         self.outage(Duration::ZERO..Duration::ZERO)
     }
 
-    /// A brown-out: in this range, within the first hour, the peer works at `percent` of its capacity, 1 to 100.
+    /// The brown-out: in this range, within the first hour, the peer works at `percent` of its capacity, 1 to 100.
     pub fn slow(mut self, when: Range<Duration>, percent: u64) -> Self {
         (self.parameters.slow_from, self.parameters.slow_to) = (whole_millis(when.start), whole_millis(when.end));
         (self.is_slow, self.parameters.slow_percent) = (true, percent);
         self
     }
 
-    /// How long a window of the report is: a millisecond to an hour.
+    /// The length of a window of the report: a millisecond to an hour.
     pub fn window(mut self, window: Duration) -> Self {
         self.parameters.window = whole_millis(window);
         self
     }
 
-    /// What lies after this moment is not played, at most two hours: a minute after the last request, where nothing is
-    /// said.
+    /// The moment at which the storm ends, at most two hours: by default a minute after the last request.
     pub fn until(mut self, until: Duration) -> Self {
         self.until = Some(whole_millis(until));
         self
     }
 
-    /// The storm is cut before the call after so many, 1 to 4,294,967,296; 16,777,216 where nothing is said.
+    /// The number of calls after which the storm stops: 1 to 4,294,967,296, and by default 16,777,216.
     pub fn calls(mut self, calls: u64) -> Self {
         self.parameters.calls = calls;
         self
     }
 
-    /// The seed of the random words by which jitter is picked.
+    /// The seed of the random words that pick each jitter.
     pub fn seed(mut self, seed: u64) -> Self {
         self.parameters.words = seed;
         self
     }
 
-    /// The retries draw on a budget of so many tickets, at most 4,294,967,296.
+    /// The retries draw on a budget of this many tickets, at most 4,294,967,296.
     pub fn budget(mut self, limit: u64) -> Self {
         (self.parameters.draws_on, self.parameters.limit) = (ON_BUDGET, limit);
         self.fault = Handle::<PassKind>::fixed(limit).err().map(BudgetError::of);
         self
     }
 
-    /// The retries draw on a quota, with terms as [`Quota::new`](crate::Quota::new) takes them.
+    /// The retries draw on a quota with these terms, as [`Quota::new`](crate::Quota::new) takes them.
     pub fn quota(mut self, reserve: u64, share: f64, per: Duration) -> Self {
         self.fault = match Terms::new(reserve, share, per) {
             Ok(Terms { reserve, share, period }) => {
@@ -227,12 +228,12 @@ impl Storm {
         self
     }
 
-    /// Plays it. It takes a second for some millions of calls, and a lot of memory only where a million requests are
-    /// under way at once.
+    /// Plays the storm. Some millions of calls take a second. It takes much memory only if a million requests are under
+    /// way at once.
     ///
     /// # Errors
     ///
-    /// [`StormError`] names the first parameter that is out of its range.
+    /// [`StormError`] is the first parameter that is out of its range.
     pub fn play(&self) -> Result<StormReport, StormError> {
         let storm = self.checked()?;
         let mut policy = self.policy.share().map_err(StormError::of)?;

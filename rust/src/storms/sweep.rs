@@ -9,8 +9,8 @@ use std::num::NonZeroUsize;
 use std::sync::atomic::{AtomicUsize, Ordering};
 use std::thread;
 
-/// Storms along a parameter: each line is a storm, which is played for each value, on all processors. So you see where a
-/// policy or a limit stops bringing the peer back.
+/// Storms along a parameter: each line is a storm, which is played for each value, on all processors. So you see where
+/// a policy or a limit stops bringing the peer back.
 ///
 /// ```
 /// use hikebox::{Axis, Measure, Policy, Schedule, Storm, Sweep};
@@ -109,8 +109,8 @@ impl SweepReport {
         self.lines.iter().map(|line| (line.name.as_str(), line.reports.as_slice()))
     }
 
-    /// The numbers of a measure, a list for each line. `None` stands where a storm has no such number: no recovery where
-    /// there was nothing to recover from, and no slowest success where none was.
+    /// The numbers of a measure, a list for each line. `None` stands where a storm has no such number: no recovery
+    /// where there was nothing to recover from, and no slowest success where none was.
     #[must_use]
     pub fn numbers(&self, measure: Measure) -> Vec<Vec<Option<f64>>> {
         self.lines.iter().map(|line| line.numbers(&self.axis, measure)).collect()
@@ -137,8 +137,8 @@ impl SweepReport {
         text
     }
 
-    /// A row for each storm as CSV with a line of names: the value as `zsched` takes it (milliseconds, and per cent of a
-    /// share), the line's name, and the totals.
+    /// A row for each storm as CSV with a line of names: the value as `zsched` takes it (milliseconds, and per cent of
+    /// a share), the line's name, and the totals.
     #[must_use]
     pub fn to_csv(&self) -> String {
         let names: Vec<&str> = self.lines[0].reports[0].totals.in_json().iter().map(|(name, _)| *name).collect();

@@ -13,12 +13,14 @@ static LOCKED: [AtomicI32; 32] = {
     [NONE; 32]
 };
 
-/// Closes the files of the parent's locks in a child: they would stay locked as long as it lives, where the parent died.
+/// Closes the files of the parent's locks in a child: they would stay locked as long as it lives, where the parent
+/// died.
 pub(super) fn close_inherited() {
     for locked in &LOCKED {
         let descriptor = locked.swap(-1, Ordering::Relaxed);
         if descriptor >= 0 {
-            // SAFETY: the descriptor is that of a file which a thread of the parent had open, and no thread of the child.
+            // SAFETY: the descriptor is that of a file which a thread of the parent had open, and no thread of the
+            // child.
             unsafe { libc::close(descriptor) };
         }
     }
