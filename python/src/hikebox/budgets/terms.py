@@ -6,7 +6,6 @@ import math
 from typing import NamedTuple, Optional
 
 from .._engine.calls import MAX_SHARE, MAX_TICKETS, MIN_PERIOD
-from .._engine.leasing import quota_allows
 from .._time import Duration, seconds, seconds_text
 from ..errors import PolicyError, TermsError
 
@@ -29,6 +28,8 @@ class Terms(NamedTuple):
         >>> Terms(10, 200, 1000).allowed(4), Terms(10, 200, 1000).allowed(5)
         (10, 11)
         """
+        from .._engine.leasing import quota_allows  # which leases alone need
+
         return quota_allows(self.reserve, self.share, asked)
 
     def changed(self, reserve: Optional[int], share: Optional[float]) -> Terms:

@@ -12,7 +12,6 @@ from .checks import interval, ratio, whole
 from .nodes import FOLDS, MAX_DEPTH, MAX_NODES, reads_of, reads_of_node
 from .plan import Plan
 from .preview import Step, played
-from .spelling import spelt
 
 __all__ = ["Policy", "Step"]
 
@@ -167,6 +166,8 @@ class Policy:
         return self.plan.size()[2]
 
     def __repr__(self) -> str:
+        from .spelling import spelt
+
         return spelt(self.plan.tree)
 
     def __eq__(self, other: object) -> bool:

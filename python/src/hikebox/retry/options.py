@@ -42,7 +42,7 @@ else:
         return lambda kind: kind
 
     def field(*, kw_only, metadata):
-        return Option(None, metadata["about"], None, ())
+        return Option(None, metadata["about"])
 
 
 __all__ = [
@@ -171,7 +171,7 @@ def _deposit_won(deposit: Callable[[], Any]) -> None:
 class Option:
     """An option of a `Retrying`, which you can read and not set."""
 
-    __slots__ = ("name", "default", "about", "looks", "follows")
+    __slots__ = ("name", "default", "about", "follows", "looks", "shapes")
 
     name: str
 
@@ -179,13 +179,15 @@ class Option:
         self,
         default: Any,
         about: str,
-        looks: Optional[Callable[[str, Any, bool], None]],
-        follows: Tuple[Callable[[Settings], None], ...],
+        follows: Tuple[Callable[[Settings], None], ...] = (),
+        looks: Optional[Callable[[str, Any, bool], None]] = None,
+        shapes: bool = False,
     ) -> None:
         self.default = default
         self.about = about
-        self.looks = looks
         self.follows = follows
+        self.looks = looks
+        self.shapes = shapes
 
     def __set_name__(self, owner: Any, name: str) -> None:
         self.name = name
@@ -205,10 +207,12 @@ def option(
     about: str,
     *follows: Callable[[Settings], None],
     looks: Optional[Callable[[str, Any, bool], None]] = None,
+    shapes: bool = False,
 ) -> Value:
-    """Declares an option: its default, its text for `help()`, what works out what follows from it, and what checks its
-    value by the option's name, the value, and whether coroutine functions are awaited."""
-    declared: Any = Option(default, about, looks, follows)
+    """Declares an option: its default, its text for `help()`, what works out what follows from it, what checks its
+    value (by its name, the value, and whether coroutine functions are awaited), and whether a retry that has it can
+    leave out less."""
+    declared: Any = Option(default, about, follows, looks, shapes)
     return declared  # type: ignore[no-any-return]
 
 
@@ -233,6 +237,7 @@ class Options:
         """A `Budget` or a `Quota` that limits all calls together, or other `Tickets`; None for no limit. A quota counts
         each call as a request.""",
         _drawing_follows,
+        shapes=True,
     )
     on: On = option(
         Exception,
@@ -245,6 +250,7 @@ class Options:
         None,
         """A function of the result that returns true if the call is to be retried.""",
         looks=look_at_function,
+        shapes=True,
     )
     code: Optional[Callable[[Any], int]] = option(
         None,
@@ -257,11 +263,13 @@ class Options:
         """A function of the exception that returns the least seconds to wait, or None, as
         `hikebox.http.retry_after` does. The wait is the longest of this, of `wait` and of the policy's.""",
         looks=_plain,
+        shapes=True,
     )
     wait: Optional[Callable[[Any], Optional[float]]] = option(
         None,
         """The same as a function of the `RetryState`.""",
         looks=_plain,
+        shapes=True,
     )
     max_retry_after: Optional[float] = option(
         MAX_RETRY_AFTER,
@@ -281,32 +289,38 @@ class Options:
         of asyncio or trio, which ends a wait too when it is set; or a function of the `RetryState` that returns true,
         called after each failed attempt and each wait.""",
         _waits_follow,
+        shapes=True,
     )
     before: Hooks = option(
         None,
         """A function of the `RetryState`, or a list of functions, called before each attempt.""",
         _hooks_follow,
+        shapes=True,
     )
     after: Hooks = option(
         None,
         """The same, called after each attempt that failed.""",
         _hooks_follow,
+        shapes=True,
     )
     before_sleep: Hooks = option(
         None,
         """The same, called before each wait.""",
         _hooks_follow,
+        shapes=True,
     )
     on_success: Hooks = option(
         None,
         """The same, called when a call has succeeded.""",
         _hooks_follow,
+        shapes=True,
     )
     fallback: Optional[Hook] = option(
         None,
         """A function of the `RetryState` that returns the result when the retry gives up. None raises the last
         exception.""",
         looks=look_at_function,
+        shapes=True,
     )
     sleep: Optional[Callable[[float], Any]] = option(
         None,
@@ -321,6 +335,7 @@ class Options:
         _waits_follow,
         _drawing_follows,
         looks=_plain,
+        shapes=True,
     )
     random: Callable[[], float] = option(
         _random.random,

@@ -3,7 +3,7 @@
 from __future__ import annotations
 
 from functools import cached_property, lru_cache
-from typing import TYPE_CHECKING, Any, Callable, Dict, Iterable, Optional, Tuple, Type
+from typing import TYPE_CHECKING, Any, Callable, Dict, Iterable, List, Optional, Tuple, Type
 
 from .._time import MAX_NUMBER
 from ..budgets.drawing import Drawing
@@ -74,31 +74,28 @@ class Settings(HasOptions):
 
     def _derive(self, names: Iterable[str]) -> None:
         """Checks the options of these names, and works out what follows from them."""
-        follow: Dict[Callable[[Settings], None], None] = {}
+        follow: List[Callable[[Settings], None]] = []
+        shapes = False
         for name in names:
             option = OPTIONS[name]
             if option.looks is not None:
                 option.looks(name, self.__dict__[name], self.awaits)
-            for derive in option.follows:
-                follow[derive] = None
-        for derive in follow:
+            follow += option.follows
+            shapes = shapes or option.shapes
+        # (each once, whatever number of options it follows from)
+        for derive in dict.fromkeys(follow):
             derive(self)
-        self._derive_shape()
+        if shapes:
+            self._derive_shape()
 
     def _derive_shape(self) -> None:
         """Works out what a retry can leave out."""
-        calls_nothing = not (self.repeats or self.hooks_before or self.hooks_on_success)
+        has_hooks = bool(self.hooks_before or self.hooks_on_success)
         self.asks = self.retry_after is not None or self.wait is not None
-        self.is_quiet = calls_nothing and self.on_result is None
-        called = (self.stop, self.fallback, self.drawing)
-        self.is_plain = not (
-            self.asks
-            or any(each is not None for each in called)
-            or self.hooks_before
-            or self.hooks_on_success
-            or self.hooks_after
-            or self.hooks_before_sleep
-        )
+        self.is_quiet = not (self.repeats or has_hooks) and self.on_result is None
+        calls_at_failures = self.hooks_after or self.hooks_before_sleep or self.asks or self.stop is not None
+        gives_up_by_itself = self.fallback is None and self.drawing is None
+        self.is_plain = gives_up_by_itself and not (has_hooks or calls_at_failures)
 
     @cached_property
     def lanes(self) -> Tuple[int, ...]:
