@@ -126,11 +126,13 @@ def make_slot(path: str, first: Copy, to_disk: bool) -> None:
 
 def sync_folder(path: str) -> None:
     """Writes the names in a folder to the disk."""
-    folder = os.open(path, os.O_RDONLY | os.O_DIRECTORY | os.O_CLOEXEC)
-    try:
-        os.fsync(folder)
-    finally:
-        os.close(folder)
+    # (no child has it open)
+    with no_fork:
+        folder = os.open(path, os.O_RDONLY | os.O_DIRECTORY | os.O_CLOEXEC)
+        try:
+            os.fsync(folder)
+        finally:
+            os.close(folder)
 
 
 class Slot:
