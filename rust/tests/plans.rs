@@ -210,34 +210,42 @@ fn a_fault_of_a_schedule_is_told_in_the_words_of_the_call() {
     let [small, one, second] = [400, 1000, 1_000_000].map(Duration::from_micros);
     let far = Duration::from_millis(1 << 62);
     for (schedule, told) in [
-        (Schedule::forever() | Schedule::fixed(Duration::ZERO), "fixed(0ns): the interval is 0"),
-        (Schedule::windowed(Duration::ZERO), "windowed(0ns): the interval is 0"),
-        (Schedule::spaced(small) & Schedule::fixed(small), "spaced(400µs): the duration is below a millisecond"),
-        (Schedule::forever().cap(small).nothing(), "cap(400µs): the duration is below a millisecond"),
-        (Schedule::forever().up_to(small).first(), "up_to(400µs): the duration is below a millisecond"),
+        (Schedule::forever() | Schedule::fixed(Duration::ZERO), "fixed(0ns): expected an interval above 0"),
+        (Schedule::windowed(Duration::ZERO), "windowed(0ns): expected an interval above 0"),
+        (Schedule::forever().renew(Duration::ZERO), "renew(0ns): expected an interval above 0"),
+        (Schedule::forever().renew_idle(Duration::ZERO), "renew_idle(0ns): expected an interval above 0"),
+        (Schedule::spaced(small) & Schedule::fixed(small), "spaced(400µs): expected 0 or at least a millisecond"),
+        (Schedule::forever().cap(small).nothing(), "cap(400µs): expected 0 or at least a millisecond"),
+        (Schedule::forever().up_to(small).first(), "up_to(400µs): expected 0 or at least a millisecond"),
         (Schedule::forever().jittered(1.2..0.8), "jittered(1.2..0.8): the range is empty"),
-        (Schedule::forever().jittered(0.0001..0.0004), "jittered(0.0001..0.0004): a ratio is below a thousandth"),
-        (Schedule::forever().jittered(0.0..10.5) & Schedule::forever(), "jittered(0.0..10.5): a ratio is from 0 to 10"),
-        (Schedule::forever().jitter(4, 1, 2), "jitter(4, 1, 2): a lane is from 0 to 3"),
+        (Schedule::forever().jittered(0.0001..0.0004), "jittered(0.0001..0.0004): expected 0 or at least a thousandth"),
+        (
+            Schedule::forever().jittered(0.0..10.5) & Schedule::forever(),
+            "jittered(0.0..10.5): expected a ratio from 0 to 10",
+        ),
+        (Schedule::forever().jitter(4, 1, 2), "jitter(4, 1, 2): expected a lane from 0 to 3"),
         (Schedule::forever().jitter(0, 3, 2), "jitter(0, 3, 2): the range is empty"),
-        (Schedule::exponential(second, 0), "exponential(1s, 0): a factor is from 1 to 1000"),
+        (Schedule::exponential(second, 0), "exponential(1s, 0): expected a factor from 1 to 1000"),
         (
             Schedule::exponential_milli(one, 1_000_001),
-            "exponential_milli(1ms, 1000001): a factor is from 1 to 1,000,000 thousandths",
+            "exponential_milli(1ms, 1000001): expected a factor from 1 to 1,000,000 thousandths",
         ),
-        (Schedule::decorrelated(second, 3, one), "decorrelated(1s, 3, 1ms): the longest delay is below the base"),
-        (Schedule::recurs(1 << 62), "recurs(4611686018427387904): a number is at most 2^62 - 1"),
-        (Schedule::unfold(1, 1 << 62, 2), "unfold(1, 4611686018427387904, 2): a number is at most 2^62 - 1"),
+        (
+            Schedule::decorrelated(second, 3, one),
+            "decorrelated(1s, 3, 1ms): expected a longest delay of at least the base",
+        ),
+        (Schedule::recurs(1 << 62), "recurs(4611686018427387904): expected a number of at most 2^62 - 1"),
+        (Schedule::unfold(1, 1 << 62, 2), "unfold(1, 4611686018427387904, 2): expected a number of at most 2^62 - 1"),
         (
             Schedule::forever().until_input(Test::Equal(1 << 62)),
-            "until_input(Equal(4611686018427387904)): a number is at most 2^62 - 1",
+            "until_input(Equal(4611686018427387904)): expected a number of at most 2^62 - 1",
         ),
-        (Schedule::linear(far), "linear(4611686018427387.904s): a duration is at most 2^62 - 1 milliseconds"),
+        (Schedule::linear(far), "linear(4611686018427387.904s): expected at most 2^62 - 1 milliseconds"),
     ] {
         let error = Policy::new(&schedule).unwrap_err();
         assert_eq!(error.to_string(), format!("number out of range: {told}"), "{schedule}");
         // what the crate refuses for its range, and not for its grain, the engine refuses in the text
-        if !told.contains("below a") && !told.contains("decorrelated") {
+        if !told.contains("0 or at least a") && !told.contains("decorrelated") {
             assert!(Policy::from_json(schedule.as_json()).is_err(), "{schedule}");
         }
     }

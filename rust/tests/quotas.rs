@@ -116,7 +116,10 @@ fn terms_out_of_their_ranges_are_refused() {
     assert_eq!(refused(0, 0.0, Duration::from_micros(99_999)), BudgetError::PeriodTooShort);
     assert_eq!(refused(0, 0.0, Duration::from_millis(1 << 62)), BudgetError::PeriodTooLong);
     assert_eq!(refused(0, 0.0, Duration::MAX), BudgetError::PeriodTooLong);
-    assert_eq!(BudgetError::PeriodTooShort.to_string(), "the window is shorter than 100 milliseconds");
+    assert_eq!(
+        BudgetError::PeriodTooShort.to_string(),
+        "expected a window of at least 100 milliseconds, got a shorter one"
+    );
     assert!(Quota::new(4_294_967_296, 10.0, Duration::from_millis((1 << 62) - 1)).is_ok());
     assert!(Quota::new(0, 0.001, Duration::from_millis(100)).is_ok());
 }

@@ -146,7 +146,7 @@ fn what_is_out_of_range_is_named() {
         (told(storm().window(Duration::ZERO)), "window: expected 1 to 3600000, got 0"),
         (told(storm().until(Duration::MAX)), "until: expected 0 to 7200000, got 4611686018427387903"),
         (told(storm().calls(0)), "calls: expected 1 to 4294967296, got 0"),
-        (told(storm().budget(u64::MAX)), "the limit is above 4294967296"),
+        (told(storm().budget(u64::MAX)), "expected a limit of at most 4294967296, got more"),
         (told(storm().outage(SECOND..Duration::MAX)), "outage: expected 0 to 3600000, got 4611686018427387903"),
         (told(storm().outage(seconds(2)..SECOND)), "outage: expected an end after the beginning, got one before"),
         (told(storm().slow(seconds(2)..SECOND, 50)), "slow: expected an end after the beginning, got one before"),
@@ -156,9 +156,12 @@ fn what_is_out_of_range_is_named() {
         (told(storm().window(millis(1))), "expected at most 65537 windows, got more: until divided by window"),
         (
             told(storm().quota(1, 20.0, SECOND)),
-            "the share is not 0, nor from 0.001 to 10 retries a request (0.2 is one for every five)",
+            "expected a share of 0, or from 0.001 to 10 retries a request (0.2 is one for every five), got another",
         ),
-        (told(storm().quota(1, 0.1, Duration::ZERO)), "the window is shorter than 100 milliseconds"),
+        (
+            told(storm().quota(1, 0.1, Duration::ZERO)),
+            "expected a window of at least 100 milliseconds, got a shorter one",
+        ),
     ];
     for (told, wanted) in cases {
         assert_eq!(told, wanted);

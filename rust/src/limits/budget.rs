@@ -227,15 +227,15 @@ impl fmt::Display for BudgetError {
     fn fmt(&self, f: &mut fmt::Formatter<'_>) -> fmt::Result {
         f.write_str(match self {
             Self::NameLength { bytes } => return write!(f, "expected a name of 1 to 255 bytes, got {bytes}"),
-            Self::LimitTooLarge => "the limit is above 4294967296",
-            Self::Fixed => "the budget keeps its limit",
-            Self::ReserveTooLarge => "the reserve is above 4294967296 retries a window",
+            Self::LimitTooLarge => "expected a limit of at most 4294967296, got more",
+            Self::Fixed => "expected a budget that can rise, got one with a fixed limit",
+            Self::ReserveTooLarge => "expected a reserve of at most 4294967296 retries a window, got more",
             Self::ShareOutOfRange => {
-                "the share is not 0, nor from 0.001 to 10 retries a request (0.2 is one for every five)"
+                "expected a share of 0, or from 0.001 to 10 retries a request (0.2 is one for every five), got another"
             }
-            Self::PeriodTooShort => "the window is shorter than 100 milliseconds",
-            Self::PeriodTooLong => "the window is longer than 2^62 - 1 milliseconds",
-            Self::TooManyPasses => "more than 2^42 passes are alive",
+            Self::PeriodTooShort => "expected a window of at least 100 milliseconds, got a shorter one",
+            Self::PeriodTooLong => "expected a window of at most 2^62 - 1 milliseconds, got a longer one",
+            Self::TooManyPasses => "expected at most 2^42 passes at once, got one more",
             Self::NoMemory => "no memory",
         })
     }

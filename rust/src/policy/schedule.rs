@@ -21,7 +21,7 @@ use std::time::Duration;
 /// let error = Policy::new(&Schedule::spaced(Duration::from_secs(1)).jittered(1.2..0.8)).unwrap_err();
 /// assert_eq!(error.to_string(), "number out of range: jittered(1.2..0.8): the range is empty");
 /// let error = Policy::new(&Schedule::spaced(Duration::from_micros(400))).unwrap_err();
-/// assert_eq!(error.to_string(), "number out of range: spaced(400µs): the duration is below a millisecond");
+/// assert_eq!(error.to_string(), "number out of range: spaced(400µs): expected 0 or at least a millisecond");
 /// ```
 ///
 /// ```
@@ -163,7 +163,7 @@ impl Schedule {
             delays_of(base, longest).or(lane_of(lane)).or(factor_of(
                 thousandths,
                 1000..=1_000_000,
-                "a factor is from 1000 to 1,000,000 thousandths",
+                "expected a factor from 1000 to 1,000,000 thousandths",
             )),
             format_args!("decorrelated_milli({lane}, {base:?}, {thousandths}, {longest:?})"),
         )
@@ -294,12 +294,12 @@ impl Schedule {
 
     /// Begins anew at the first event that comes `time` or more after the first event of the current round.
     pub fn renew(self, time: Duration) -> Self {
-        self.under("renew", "renew", time)
+        self.under("renew", "renew", time).checked(interval_of(time), format_args!("renew({time:?})"))
     }
 
     /// Begins anew at each event that comes `time` or more after the one before it.
     pub fn renew_idle(self, time: Duration) -> Self {
-        self.under("renew_idle", "renew_idle", time)
+        self.under("renew_idle", "renew_idle", time).checked(interval_of(time), format_args!("renew_idle({time:?})"))
     }
 
     /// The output is the first part of a pair.
@@ -416,14 +416,14 @@ impl Given {
     }
 }
 
-const FACTOR: &str = "a factor is from 1 to 1000";
-const THOUSANDTHS: &str = "a factor is from 1 to 1,000,000 thousandths";
+const FACTOR: &str = "expected a factor from 1 to 1000";
+const THOUSANDTHS: &str = "expected a factor from 1 to 1,000,000 thousandths";
 
 /// What is wrong with a duration, where something is.
 fn span(time: Duration) -> Option<&'static str> {
     match millis(time) {
-        1 if time < Duration::from_millis(1) => Some("the duration is below a millisecond"),
-        millis if millis > MAX_NUMBER => Some("a duration is at most 2^62 - 1 milliseconds"),
+        1 if time < Duration::from_millis(1) => Some("expected 0 or at least a millisecond"),
+        millis if millis > MAX_NUMBER => Some("expected at most 2^62 - 1 milliseconds"),
         _ => None,
     }
 }
@@ -431,7 +431,7 @@ fn span(time: Duration) -> Option<&'static str> {
 /// The same with one that is not 0.
 fn interval_of(time: Duration) -> Option<&'static str> {
     if time.is_zero() {
-        Some("the interval is 0")
+        Some("expected an interval above 0")
     } else {
         span(time)
     }
@@ -439,7 +439,7 @@ fn interval_of(time: Duration) -> Option<&'static str> {
 
 fn number(number: u64) -> Option<&'static str> {
     if number > MAX_NUMBER {
-        Some("a number is at most 2^62 - 1")
+        Some("expected a number of at most 2^62 - 1")
     } else {
         None
     }
@@ -454,12 +454,16 @@ fn factor_of(factor: u64, range: RangeInclusive<u64>, why: &'static str) -> Opti
 }
 
 fn delays_of(base: Duration, longest: Duration) -> Option<&'static str> {
-    span(base).or(span(longest)).or(if longest < base { Some("the longest delay is below the base") } else { None })
+    span(base).or(span(longest)).or(if longest < base {
+        Some("expected a longest delay of at least the base")
+    } else {
+        None
+    })
 }
 
 fn lane_of(lane: u8) -> Option<&'static str> {
     if lane > 3 {
-        Some("a lane is from 0 to 3")
+        Some("expected a lane from 0 to 3")
     } else {
         None
     }
@@ -467,7 +471,7 @@ fn lane_of(lane: u8) -> Option<&'static str> {
 
 fn jitter_of(least: u64, most: u64) -> Option<&'static str> {
     match () {
-        () if most > 10_000 => Some("a ratio is from 0 to 10,000 thousandths"),
+        () if most > 10_000 => Some("expected a ratio from 0 to 10,000 thousandths"),
         () if least > most => Some("the range is empty"),
         () => None,
     }
@@ -477,9 +481,11 @@ fn jitter_of(least: u64, most: u64) -> Option<&'static str> {
 fn range_of(ratios: &Range<f64>) -> Option<&'static str> {
     let ends = [ratios.start, ratios.end];
     match () {
-        () if !ends.iter().all(|ratio| (0.0..=10.0).contains(ratio)) => Some("a ratio is from 0 to 10"),
+        () if !ends.iter().all(|ratio| (0.0..=10.0).contains(ratio)) => Some("expected a ratio from 0 to 10"),
         () if ratios.start > ratios.end => Some("the range is empty"),
-        () if ends.iter().any(|end| *end > 0.0 && thousandths(*end) == 0) => Some("a ratio is below a thousandth"),
+        () if ends.iter().any(|end| *end > 0.0 && thousandths(*end) == 0) => {
+            Some("expected 0 or at least a thousandth")
+        }
         () => None,
     }
 }
