@@ -2,7 +2,7 @@
 use denote.Param.Send.{IsSend, sendable}
 use Rattle.std.proofs.Crossing.{crosses}
 use Rattle.sched_plan.proofs.sends.Events.{event_sends}
-use Rattle.sched_driver_stepper.proofs.Sends.{stepper_sends}
+use Rattle.sched_driver_tree.proofs.Sends.{stepper_sends}
 use Rattle.sched_driver.specs.contracts.drivers.Driver as Driver
 
 pub driver_sends : IsSend Driver.the_row

@@ -6,8 +6,8 @@ use Rattle.sched_plan.specs.Schedule.{Schedule}
 use Rattle.sched_plan.specs.ScheduleCode.{coded_schedule}
 use Rattle.sched_plan.specs.EventCode.{coded_event}
 use Rattle.sched_plan.specs.declared.history.Event.{Event}
-pub use Rattle.sched_driver_stepper.specs.Standing.{last_answer}
-use Rattle.sched_driver_stepper.specs.Standing.{output_given, start_planned}
+pub use Rattle.sched_driver_tree.specs.Standing.{last_answer}
+use Rattle.sched_driver_tree.specs.Standing.{output_given, start_planned}
 
 pub record Driven : Type 0 where
   pub plan : Schedule

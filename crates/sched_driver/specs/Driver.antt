@@ -2,10 +2,10 @@
 use Rattle.std.specs.Prelude.{◌≡◌, ℕ, ◌<◌, ◌≤◌, List, length}
 use Rattle.sched_plan.specs.History.{last_moment}
 use Rattle.sched_plan.specs.declared.history.Event.{Event}
-use Rattle.sched_driver_stepper.specs.Standing.{Standing, StandsFor}
-use Rattle.sched_driver_stepper.specs.declared.steppers.StepFault.{StepFault}
-use Rattle.sched_driver_stepper.specs.declared.steppers.StepFault.TheVariants.{Backwards as StepBackwards}
-use Rattle.sched_driver_stepper.specs.declared.steppers.StepFault.TheVariants.{NoMemory as StepNoMemory}
+use Rattle.sched_driver_tree.specs.Standing.{Standing, StandsFor}
+use Rattle.sched_driver_tree.specs.declared.trees.StepFault.{StepFault}
+use Rattle.sched_driver_tree.specs.declared.trees.StepFault.TheVariants.{Backwards as StepBackwards}
+use Rattle.sched_driver_tree.specs.declared.trees.StepFault.TheVariants.{NoMemory as StepNoMemory}
 use Rattle.sched_driver.specs.Driven.{Driven}
 use Rattle.sched_driver.specs.declared.drivers.DriveFault.{DriveFault}
 use Rattle.sched_driver.specs.declared.drivers.DriveFault.TheVariants.{Backwards, JournalFull, NoMemory}

@@ -1,7 +1,7 @@
 -- What a driver has done, and what its methods do.
 pub mod Driven
 pub mod Driver
-pub use Rattle.sched_driver_stepper.specs.Standing
+pub use Rattle.sched_driver_tree.specs.Standing
 pub use Rattle.sched_time.specs.Decision
 pub use Rattle.sched_plan.specs.Datum
 pub use Rattle.sched_plan.specs.Schedule

@@ -6,7 +6,7 @@ ghost use Rattle.sched_step.specs.StateOf.{state_of, event_of};
 ghost use Rattle.sched_step.specs.Starts.{StartsBy};
 ghost use Rattle.sched_driver.specs.Driven.{last_output, next_start_of, after};
 
-use sched_driver_stepper::{StepFault, Stepper};
+use sched_driver_tree::{StepFault, TreeStepper};
 use sched_plan::{Event, Plan, SharedPlan, Val};
 use sched_step::State;
 use sched_time::{Decision, Moment, NoMemory, Tick};
@@ -61,7 +61,7 @@ impl From<StepFault> for DriveFault {
 /// Its state, its last output and its next start are always those that the plan's definition gives for the journal.
 #[derive(Drop)]
 pub struct Driver {
-    stepper: Stepper,
+    stepper: TreeStepper,
     journal: Vec<Event>,
 }
 
@@ -95,7 +95,7 @@ impl Driver {
         ensures plan { IfOk result (λ driver. driver.plan ≡ plan) }
         ensures fresh { IfOk result (λ driver. driver.journal ≡ []) }
     {
-        let stepper = Stepper::of_shared(alloc, plan)?;
+        let stepper = TreeStepper::of_shared(alloc, plan)?;
         Ok(Driver {
             stepper,
             journal: Vec::new(alloc),

@@ -1,3 +1,3 @@
--- The lemmas that the proofs of `sched_driver_stepper` cite, and that a stepper may go to another thread.
+-- The lemmas that the proofs of `sched_driver_stepper` cite.
 pub mod Standings
-pub mod Sends
+pub mod Plays

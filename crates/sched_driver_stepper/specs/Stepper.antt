@@ -1,21 +1,22 @@
 -- What is true of every stepper, what its steps give, and when they are refused.
-use Rattle.std.specs.Prelude.{◌≡◌, ℕ, ◌<◌, ◌≤◌, List, ◌∷◌, ◌++◌, IsTrue}
+use Rattle.std.specs.Prelude.{◌≡◌, ℕ, ◌<◌, ◌≤◌, List, ◌∷◌, ◌++◌, Option}
 use Rattle.sched_time.specs.declared.numbers.TheConstants.{FAR}
 use Rattle.sched_time.specs.declared.starts.Decision.{Decision}
 use Rattle.sched_plan.specs.Schedule.{Schedule}
 use Rattle.sched_plan.specs.Answer.{answer}
 use Rattle.sched_plan.specs.declared.history.Event.{Event}
-use Rattle.sched_step.specs.Progress.{fits}
+use Rattle.sched_driver_tree.specs.declared.trees.StepFault.{StepFault}
+use Rattle.sched_driver_tree.specs.declared.trees.StepFault.TheVariants.{Backwards, NoMemory}
 use Rattle.sched_driver_stepper.specs.Standing.{Standing, StandsFor}
-use Rattle.sched_driver_stepper.specs.declared.steppers.StepFault.{StepFault}
-use Rattle.sched_driver_stepper.specs.declared.steppers.StepFault.TheVariants.{Backwards, NoMemory}
+use Rattle.sched_driver_stepper.specs.Kept.{KeptFits, standing_of}
+use Rattle.sched_driver_stepper.specs.declared.kept.Kept.{Kept}
 
--- It stands for some history, and its state fits the plan from the last moment on.
-pub record IsStepper (v : Standing) : Type 0 where
+-- It stands for some history, and what it keeps may be stepped from the last moment on.
+pub record IsStepper (plan : Schedule) (kept : Kept) (start : Option ℕ) (floor : ℕ) : Type 0 where
   pub history : List Event
-  pub stands : StandsFor v history
-  pub fits_on : (later : ℕ) → v.floor ≤ later → IsTrue (fits v.plan v.state later)
-  pub shape : IsTrue (fits v.plan v.state FAR)
+  pub stands : StandsFor (standing_of plan kept start floor) history
+  pub fits_on : (later : ℕ) → floor ≤ later → KeptFits plan kept later
+  pub shape : KeptFits plan kept FAR
 
 -- what a step gives where this is the history with the step's event
 pub record Goes (plan : Schedule) (h : List Event) (decision : Decision) (new : Standing) : Type 0 where

@@ -1,48 +1,26 @@
-ghost use Rattle.std.specs.Prelude.{◌≡◌, ℕ, ◌<◌, ◌≤◌, List, [], ◌∷◌, ◌++◌, IfOk, IfErr, IsTrue, option_copied};
+ghost use Rattle.std.specs.Prelude.{◌≡◌, ℕ, ◌<◌, ◌≤◌, List, [], ◌∷◌, ◌++◌, IfOk, IfErr};
 ghost use Rattle.sched_plan.specs.declared.history.Event.{Event};
-ghost use Rattle.sched_step.specs.Progress.{fits};
 ghost use Rattle.sched_step.specs.StateOf.{event_of};
 ghost use Rattle.sched_step.specs.Starts.{StartsBy};
-ghost use Rattle.sched_driver_stepper.specs.Standing.{standing_after, StandsFor, output_given, start_planned};
+ghost use Rattle.sched_driver_tree.specs.declared.trees.StepFault.{StepFault};
+ghost use Rattle.sched_driver_stepper.specs.Standing.{standing_after, StandsFor};
 
-use sched_plan::{Answer, Event, Plan, SharedPlan, Val};
-use sched_step::{State, initial};
+use crate::kept::Kept;
+use sched_driver_tree::StepFault;
+use sched_plan::{Event, Plan, SharedPlan, Val};
 use sched_time::{Decision, Moment, NoMemory, Tick};
 use std::alloc::Global;
 use std::marker::Model;
-use thiserror::Error;
-
-/// Why an event was refused.
-#[derive(Clone, Copy, Debug, PartialEq, Eq, Error)]
-pub enum StepFault {
-    /// The event is before the last one, which is at `floor`.
-    #[error("the event is before the last one, at {}", .floor.get())]
-    Backwards { floor: Moment },
-    /// A growth was refused.
-    #[error("no memory")]
-    NoMemory,
-}
-
-impl From<NoMemory> for StepFault {
-    ghost use Rattle.std.specs.Prelude.{◌≡◌};
-    ghost use Rattle.sched_driver_stepper.specs.declared.steppers.StepFault.{StepFault};
-
-    ghost from_gives = { λ _ fault. fault ≡ StepFault.NoMemory };
-
-    fn from(_: NoMemory) -> Self {
-        StepFault::NoMemory
-    }
-}
 
 /// Steps a plan event by event, any number of them, and keeps none.
 ///
-/// Its state, its last output and its next start are always those that the plan's definition gives for the events since
-/// the last reset. It has the plan's state, what was last answered and the last moment, and no list of events.
+/// Its state and its next start are always those that the plan's definition gives for the events since the last reset.
+/// It has the plan's state, the start planned last and the last moment, and neither outputs nor a list of events.
 #[derive(Drop)]
 pub struct Stepper {
     plan: SharedPlan,
-    state: State,
-    last: Option<Answer>,
+    kept: Kept,
+    start: Option<Moment>,
     floor: Moment,
 }
 
@@ -53,11 +31,12 @@ impl Model for Stepper {
 
     ghost coded = { coded_standing };
 
+    ghost use Rattle.sched_driver_stepper.specs.Kept.{standing_of};
     ghost use Rattle.sched_driver_stepper.specs.Stepper.{IsStepper};
 
-    ghost view = { λ s. record { plan = s.plan; state = s.state; last = s.last; floor = s.floor } };
+    ghost view = { λ s. standing_of s.plan s.kept s.start s.floor };
 
-    ghost invariant = { λ s. IsStepper record { plan = s.plan; state = s.state; last = s.last; floor = s.floor } };
+    ghost invariant = { λ s. IsStepper s.plan s.kept s.start s.floor };
 }
 
 impl Stepper {
@@ -74,11 +53,11 @@ impl Stepper {
     pub fn of_shared(alloc: Global, plan: SharedPlan) -> Result<Stepper, NoMemory>
         ensures { IfOk result (λ stepper. stepper ≡ standing_after plan []) }
     {
-        let state = initial(alloc, plan.get())?;
+        let kept = Kept::new(alloc, plan.get())?;
         Ok(Stepper {
             plan,
-            state,
-            last: None,
+            kept,
+            start: None,
             floor: Moment::new(0).unwrap(),
         })
     }
@@ -86,7 +65,7 @@ impl Stepper {
     /// Gives the plan one more event, also after `Done`, and answers what it decides: the next start, or `Done`.
     ///
     /// Refused as `Backwards` where the tick is before the last event, and as `NoMemory`; the stepper is then
-    /// unchanged.
+    /// unchanged. It takes memory only where the plan's state is kept as a tree.
     pub fn next(&mut self, alloc: Global, tick: &Tick, input: &Val) -> Result<Decision, StepFault>
         // Whatever history it stood for, it now stands for that one with this event, and decides as the plan answers
         // it.
@@ -98,10 +77,12 @@ impl Stepper {
         ensures refused { IfErr result (λ fault. Refuses self.old tick.entry.now.now fault) }
         ensures unchanged { IfErr result (λ _. self.new ≡ self.old) }
     {
+        // Tells what the proof rests on: that the moment is within `FAR`.
+        let _millis = tick.now.get();
         self.check_order(tick.now)?;
-        let answer = self.state.advance(alloc, self.plan.get(), tick, input)?;
-        let decision = answer.decision;
-        self.last = Some(answer);
+        let decision = self.kept.advance(alloc, self.plan.get(), tick, input)?;
+        let planned = decision;
+        self.start = planned.start();
         self.floor = tick.now;
         Ok(decision)
     }
@@ -125,24 +106,11 @@ impl Stepper {
         Ok(())
     }
 
-    /// The output last given, or `None` where there was no event since the last reset.
-    pub fn last(&self) -> Option<&Val>
-        ensures { option_copied result ≡ output_given self.now.last }
-    {
-        match &self.last {
-            Some(answer) => Some(&answer.output),
-            None => None,
-        }
-    }
-
     /// The start planned last, or `None` where there was no event since the last reset or the plan was done.
     pub fn next_start(&self) -> Option<Moment>
-        ensures { result ≡ start_planned self.now.last }
+        ensures { result ≡ self.now.start }
     {
-        match &self.last {
-            Some(answer) => answer.decision.start(),
-            None => None,
-        }
+        self.start
     }
 
     /// The plan.
@@ -150,15 +118,6 @@ impl Stepper {
         ensures { result.now ≡ self.now.plan }
     {
         self.plan.get()
-    }
-
-    /// The plan's state after the events since the last reset. It fits the plan from the last event's moment on, so
-    /// that it can be stepped there without a test.
-    pub fn state(&self) -> &State
-        ensures value { result.now ≡ self.now.state }
-        ensures fits { (later : ℕ) → self.now.floor ≤ later → IsTrue (fits self.now.plan result.now later) }
-    {
-        &self.state
     }
 
     /// The moment of the last event, or 0 where there was none since the last reset. No event before it is taken.
@@ -187,8 +146,8 @@ impl Stepper {
     pub fn reset(&mut self)
         ensures { self.new ≡ standing_after self.old.plan [] }
     {
-        self.state.renew(self.plan.get());
-        self.last = None;
+        self.kept.renew(self.plan.get());
+        self.start = None;
         self.floor = Moment::new(0).unwrap();
     }
 }

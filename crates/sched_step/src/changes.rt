@@ -1,3 +1,4 @@
+//! What a node over one plan makes of a decision.
 ghost use Rattle.std.specs.Prelude.{◌≡◌, ℕ, ◌<◌, ◌≤◌, min, get_or, length, IsTrue};
 ghost use Rattle.sched_time.specs.Capped.{capped};
 ghost use Rattle.sched_plan.specs.Changes.{moved_decision};
@@ -93,23 +94,24 @@ fn is_passed(test: Test, bound: Millis, value: &Val) -> bool
     ensures { result ≡ passes test bound value.now }
 {
     match value.shape() {
-        ValShape::Num(number) => compare(test, bound, *number),
+        ValShape::Num(number) => compare(test, bound, number.get()),
         _ => false,
     }
 }
 
-fn compare(test: Test, bound: Millis, number: Millis) -> bool
+/// How the number compares with the bound.
+pub fn compare(test: Test, bound: Millis, number: u64) -> bool
     ensures { result ≡ compares test bound number }
 {
     match test {
-        Test::Below => number.get() < bound.get(),
-        Test::AtLeast => bound.get() <= number.get(),
-        Test::Equal => number.get() == bound.get(),
+        Test::Below => number < bound.get(),
+        Test::AtLeast => bound.get() <= number,
+        Test::Equal => number == bound.get(),
     }
 }
 
-// Going on after a delay that is longer by so much.
-fn add(more: Millis, now: Moment, decision: Decision) -> Decision
+/// Going on after a delay that is longer by so much.
+pub fn add(more: Millis, now: Moment, decision: Decision) -> Decision
     ensures { result ≡ moved_decision (added more) now decision }
 {
     match decision {
@@ -121,8 +123,8 @@ fn add(more: Millis, now: Moment, decision: Decision) -> Decision
     }
 }
 
-// Going on after this delay.
-fn set(delay: Millis, now: Moment, decision: Decision) -> Decision
+/// Going on after this delay.
+pub fn set(delay: Millis, now: Moment, decision: Decision) -> Decision
     ensures { result ≡ moved_decision (λ _. delay) now decision }
 {
     match decision {
@@ -131,8 +133,8 @@ fn set(delay: Millis, now: Moment, decision: Decision) -> Decision
     }
 }
 
-// Going on after the delay, but at most this one.
-fn cap(most: Millis, now: Moment, decision: Decision) -> Decision
+/// Going on after the delay, but at most this one.
+pub fn cap(most: Millis, now: Moment, decision: Decision) -> Decision
     ensures { result ≡ moved_decision (λ delay. min delay most) now decision }
 {
     match decision {
@@ -172,8 +174,8 @@ fn plus_number(delay: Millis, value: &Val) -> Millis
     }
 }
 
-// Going on after the delay in the ratio that the lane's random word picks.
-fn jitter(lane: usize, least: u64, most: u64, tick: &Tick, decision: Decision) -> Decision
+/// Going on after the delay in the ratio that the lane's random word picks.
+pub fn jitter(lane: usize, least: u64, most: u64, tick: &Tick, decision: Decision) -> Decision
     requires lane { lane ≤ 3 }
     requires order { least ≤ most }
     requires small { most ≤ 10000 }

@@ -1,3 +1,4 @@
+//! What two decisions make together.
 ghost use Rattle.std.specs.Prelude.{◌≡◌};
 ghost use Rattle.sched_plan.specs.Answer.{join_decisions, meet_decisions};
 ghost use Rattle.sched_plan.specs.Changes.{goes_past};
@@ -5,7 +6,7 @@ ghost use Rattle.sched_plan.specs.Changes.{goes_past};
 use sched_time::{Decision, Moment};
 
 /// Going on at the later start where both do.
-pub(crate) fn meet(one: Decision, other: Decision) -> Decision
+pub fn meet(one: Decision, other: Decision) -> Decision
     ensures { result ≡ meet_decisions one other }
 {
     match one {
@@ -18,7 +19,7 @@ pub(crate) fn meet(one: Decision, other: Decision) -> Decision
 }
 
 /// Going on at the earlier start where both do, and where one does at its start.
-pub(crate) fn join(one: Decision, other: Decision) -> Decision
+pub fn join(one: Decision, other: Decision) -> Decision
     ensures { result ≡ join_decisions one other }
 {
     match one {

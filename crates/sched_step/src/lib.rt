@@ -3,8 +3,8 @@
 #![tactic(auto)]
 
 mod advance;
-mod changes;
-mod decisions;
+pub mod changes;
+pub mod decisions;
 mod kept;
 mod leaves;
 mod lists;
@@ -12,7 +12,7 @@ mod marks;
 mod outputs;
 mod states;
 mod steps;
-mod times;
+pub mod times;
 mod trees;
 mod turns;
 mod walks;

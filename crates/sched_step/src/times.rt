@@ -1,3 +1,4 @@
+//! Moments at which a schedule goes on.
 ghost use Rattle.std.specs.Prelude.{◌≡◌, ◌+◌, ◌-◌, ◌<◌};
 ghost use Rattle.sched_time.specs.Capped.{capped};
 ghost use Rattle.sched_time.specs.declared.starts.Decision.{Decision};
@@ -33,7 +34,7 @@ pub(crate) fn go_after(now: Moment, delay: Millis) -> Decision
 }
 
 /// Going on at `now`.
-pub(crate) fn go_at(now: Moment) -> Decision
+pub fn go_at(now: Moment) -> Decision
     ensures { result ≡ Decision.Go now }
 {
     Decision::Go(Interval::after(now))

@@ -1,19 +1,13 @@
 use super::*;
 use sched_plan::{Side, Test};
 
-// Asserts the text of the output last given.
-fn assert_last(rt: &impl Abort, alloc: Global, stepper: &Stepper, want: &str) {
-    let last = stepper.last().expect(rt, "an output was given");
-    let text = last.text(alloc).expect(rt, "there is memory");
-    assert_eq!(rt; text.as_str(), want);
-}
-
 #[test]
 fn a_closure_is_called_again_after_each_success(rt: HostRuntime) {
     let driver = stepper(&rt, rt.alloc(), 3);
     let (came, repeat) = repeated(&rt, driver, &mut clock_at(&rt, 1000), NEVER);
     assert_came(&rt, came, How::ScheduleDone, Ok(4), 1300);
-    assert_last(&rt, rt.alloc(), repeat.driver(), "(3, 3)");
+    assert!(&rt; repeat.driver().next_start().is_none());
+    assert_eq!(&rt; repeat.driver().floor().get(), 1300);
 }
 
 #[test]

@@ -1,56 +1,67 @@
--- `next` keeps the stepper's invariant: its state is that of the events so far.
-use Rattle.std.proofs.Common.{◌≡◌, ℕ, ◌≤◌, List, [], ◌∷◌, ◌++◌, Some, IsTrue, ap, subst}
+-- `next` keeps the stepper's invariant: what it keeps is the plan's state after the events so far.
+use Rattle.std.proofs.Common.{◌≡◌, ℕ, ◌≤◌, List, [], ◌∷◌, ◌++◌, Option, ap, sym, subst, arith}
 use Rattle.sched_time.specs.declared.numbers.TheConstants.{FAR}
 use Rattle.sched_plan.specs.Schedule.{Schedule}
 use Rattle.sched_plan.specs.declared.history.Event.{Event}
-use Rattle.sched_step.specs.Progress.{fits}
 use Rattle.sched_step.specs.StateOf.{event_of}
 use Rattle.sched_driver_stepper.specs.Standing.{Standing, StandsFor}
+use Rattle.sched_driver_stepper.specs.Kept.{IsKeptAfter, KeptFits, KeptSteps, standing_of}
 use Rattle.sched_driver_stepper.specs.Stepper.{Goes}
-use Rattle.sched_driver_stepper.proofs.Standings.{goes_on}
+use Rattle.sched_driver_stepper.proofs.Standings.{goes_on, starts_by}
 use Rattle.sched_driver_stepper.proofs.steppers.Stepper.next.Goals as goal
 
 pub invariant_of-self-2 : goal.invariant_of-self-2
 invariant_of-self-2 c =
-    let v : Standing = record {
-      plan = c.self.inside.plan;
-      state = c.self.inside.state;
-      last = c.self.inside.last;
-      floor = c.self.inside.floor;
-    } in
-    let e = event_of c.args.tick.now c.args.input.now in
-    let h = c.self.invariant.history in
-    let same : c.get.result.now ≡ v.plan = c.get.ensures in
-    let floor_is : v.floor ≡ c.args.self.now.floor = ap (λ (v : Standing). v.floor) c.self.view_is in
-    let later : v.floor ≤ e.now = rw floor_is c.in_ok-check_order.ensures.ok in
+    let plan : Schedule = c.self.inside.plan in
+    let kept = c.advance.new.self in
+    let e : Event = event_of c.args.tick.now c.args.input.now in
+    let h : List Event = c.self.invariant.history in
+    let same : c.get.result.now ≡ plan = c.get.ensures in
+    let floor_is : c.self.inside.floor ≡ c.args.self.now.floor = ap (λ (v : Standing). v.floor) c.self.view_is in
+    let later : c.self.inside.floor ≤ e.now = rw floor_is c.in_ok-check_order.ensures.ok in
+    let law = subst (λ (p : Schedule). (h : List Event) → IsKeptAfter p h c.self.inside.kept
+        → KeptSteps p (h ++ e ∷ []) kept c.in_ok-decision.decision) same c.in_ok-decision.ensures.law in
+    let went = goes_on plan c.self.inside.kept c.self.inside.start c.self.inside.floor kept e c.in_ok-decision.decision
+        later law h c.self.invariant.stands in
     record {
       history = h ++ e ∷ [];
-      stands = (goes_on v c.get.result.now e c.advance.new.self c.in_ok-answer.answer same later
-          c.in_ok-answer.ensures.law h c.self.invariant.stands).stands;
-      fits_on = subst (λ (p : Schedule). (later : ℕ) → e.now ≤ later → IsTrue (fits p c.advance.new.self later)) same
-          c.in_ok-answer.ensures.fits;
-      shape = subst (λ (p : Schedule). IsTrue (fits p c.advance.new.self FAR)) same c.in_ok-answer.ensures.shape;
+      stands = subst (λ (start : Option ℕ). StandsFor (standing_of plan kept start e.now) (h ++ e ∷ []))
+          (sym c.start-self-inside.ensures) went.stands;
+      fits_on = subst (λ (p : Schedule). (later : ℕ) → e.now ≤ later → KeptFits p kept later) same
+          c.in_ok-decision.ensures.fits;
+      shape = subst (λ (p : Schedule). KeptFits p kept FAR) same c.in_ok-decision.ensures.shape;
     }
 
 pub returns-clause-law : goal.returns-clause-law
 returns-clause-law c =
-    let v : Standing = record {
-      plan = c.self.inside.plan;
-      state = c.self.inside.state;
-      last = c.self.inside.last;
-      floor = c.self.inside.floor;
-    } in
-    let new : Standing = record {
-      plan = c.self.inside.plan;
-      state = c.advance.new.self;
-      last = Some c.in_ok-answer.answer;
-      floor = c.args.tick.now.now;
-    } in
-    let e = event_of c.args.tick.now c.args.input.now in
-    let same : c.get.result.now ≡ v.plan = c.get.ensures in
-    let floor_is : v.floor ≡ c.args.self.now.floor = ap (λ (v : Standing). v.floor) c.self.view_is in
-    let later : v.floor ≤ e.now = rw floor_is c.in_ok-check_order.ensures.ok in
-    subst (λ (o : Standing). (h : List Event) → StandsFor o h
-    → Goes o.plan (h ++ e ∷ []) c.in_ok-answer.answer.decision new)
-    c.self.view_is
-    (goes_on v c.get.result.now e c.advance.new.self c.in_ok-answer.answer same later c.in_ok-answer.ensures.law)
+    let plan : Schedule = c.self.inside.plan in
+    let kept = c.advance.new.self in
+    let e : Event = event_of c.args.tick.now c.args.input.now in
+    let d = c.in_ok-decision.decision in
+    let same : c.get.result.now ≡ plan = c.get.ensures in
+    let floor_is : c.self.inside.floor ≡ c.args.self.now.floor = ap (λ (v : Standing). v.floor) c.self.view_is in
+    let later : c.self.inside.floor ≤ e.now = rw floor_is c.in_ok-check_order.ensures.ok in
+    let law = subst (λ (p : Schedule). (h : List Event) → IsKeptAfter p h c.self.inside.kept
+        → KeptSteps p (h ++ e ∷ []) kept d) same c.in_ok-decision.ensures.law in
+    let new : Standing = standing_of plan kept c.start-self-inside.result e.now in
+    subst (λ (o : Standing). (h : List Event) → StandsFor o h → Goes o.plan (h ++ e ∷ []) d new) c.self.view_is
+    (λ h was. subst (λ (start : Option ℕ). Goes plan (h ++ e ∷ []) d (standing_of plan kept start e.now))
+        (sym c.start-self-inside.ensures)
+        (goes_on plan c.self.inside.kept c.self.inside.start c.self.inside.floor kept e d later law h was))
+
+pub returns-clause-start : goal.returns-clause-start
+returns-clause-start c =
+    let plan : Schedule = c.self.inside.plan in
+    let kept = c.advance.new.self in
+    let e : Event = event_of c.args.tick.now c.args.input.now in
+    let d = c.in_ok-decision.decision in
+    let h : List Event = c.self.invariant.history in
+    let same : c.get.result.now ≡ plan = c.get.ensures in
+    let floor_is : c.self.inside.floor ≡ c.args.self.now.floor = ap (λ (v : Standing). v.floor) c.self.view_is in
+    let later : c.self.inside.floor ≤ e.now = rw floor_is c.in_ok-check_order.ensures.ok in
+    let law = subst (λ (p : Schedule). (h : List Event) → IsKeptAfter p h c.self.inside.kept
+        → KeptSteps p (h ++ e ∷ []) kept d) same c.in_ok-decision.ensures.law in
+    let in_range : e.now ≤ FAR = omega arith in
+    starts_by plan h e d in_range
+    (goes_on plan c.self.inside.kept c.self.inside.start c.self.inside.floor kept e d later law h
+    c.self.invariant.stands).decided

@@ -1,6 +1,6 @@
 -- `replay` plays the events in order, and stops at the first that is refused.
 use Rattle.std.proofs.lemmas.Result.{err_from_is_err_and}
-use Rattle.sched_driver_stepper.proofs.Standings.{played_one, ends_early}
+use Rattle.sched_driver_stepper.proofs.Plays.{played_one, ends_early}
 use Rattle.sched_driver_stepper.proofs.steppers.Stepper.replay.Goals as goal
 
 pub returns-in_err-next-clause-refused : goal.returns-in_err-next-clause-refused

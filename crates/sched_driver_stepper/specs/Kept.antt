@@ -1,0 +1,39 @@
+-- What a stepper keeps of a plan's state, in either form.
+use Rattle.std.specs.Prelude.{◌≡◌, ℕ, false, List, [], length, Option, Some, None, IsTrue}
+use Rattle.sched_time.specs.declared.starts.Decision.{Decision}
+use Rattle.sched_plan.specs.Schedule.{Schedule}
+use Rattle.sched_plan.specs.Answer.{answer}
+use Rattle.sched_plan.specs.declared.history.Event.{Event}
+use Rattle.sched_step.specs.Progress.{Progress, fits}
+use Rattle.sched_step_flat.specs.Words.{width_of}
+use Rattle.sched_step_flat.specs.Record.{has_record}
+use Rattle.sched_driver_stepper.specs.Standing.{Standing, words_after, tree_after}
+use Rattle.sched_driver_stepper.specs.declared.kept.Kept.{Kept}
+use Rattle.sched_driver_stepper.specs.declared.kept.Kept.TheVariants.{Flat, Tree}
+
+abbrev pub words_in : Kept → List ℕ
+words_in (Flat words) = words
+words_in (Tree tree) = []
+
+abbrev pub tree_in : Kept → Option Progress
+tree_in (Flat words) = None
+tree_in (Tree tree) = Some tree
+
+abbrev pub standing_of : Schedule → Kept → Option ℕ → ℕ → Standing
+standing_of plan kept start floor =
+    record { plan = plan; words = words_in kept; tree = tree_in kept; start = start; floor = floor }
+
+-- it is what is kept after this history
+pub record IsKeptAfter (s : Schedule) (h : List Event) (kept : Kept) : Type 0 where
+  pub words_are : words_in kept ≡ words_after s h
+  pub tree_is : tree_in kept ≡ tree_after s h
+
+-- it may be stepped at `now`
+abbrev pub KeptFits : Schedule → Kept → ℕ → Type 0
+KeptFits s (Flat words) now = IsTrue (has_record s) × (length words ≡ width_of s)
+KeptFits s (Tree tree) now = (has_record s ≡ false) × IsTrue (fits s tree now)
+
+-- what a step gives where this is the history with the step's event
+pub record KeptSteps (s : Schedule) (h : List Event) (kept : Kept) (decision : Decision) : Type 0 where
+  pub after : IsKeptAfter s h kept
+  pub decided : decision ≡ (answer s h).decision

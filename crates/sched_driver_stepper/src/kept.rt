@@ -1,0 +1,68 @@
+ghost use Rattle.std.specs.Prelude.{◌≡◌, ℕ, ◌≤◌, List, [], ◌∷◌, ◌++◌, IfOk, IfErr};
+ghost use Rattle.sched_time.specs.declared.numbers.TheConstants.{FAR};
+ghost use Rattle.sched_plan.specs.declared.history.Event.{Event};
+ghost use Rattle.sched_step.specs.StateOf.{event_of};
+ghost use Rattle.sched_driver_stepper.specs.Kept.{IsKeptAfter, KeptFits, KeptSteps};
+
+use sched_plan::{Plan, Val};
+use sched_step::{State, initial};
+use sched_step_flat::{Record, has_record};
+use sched_time::{Decision, NoMemory, Tick};
+use std::alloc::Global;
+
+/// How far a plan has come.
+#[derive(Drop)]
+pub(crate) enum Kept {
+    /// As words, of which a step takes no memory.
+    Flat(Record),
+    /// As a tree, where the plan's decisions read more of an output than a number.
+    Tree(State),
+}
+
+impl Kept {
+    /// Before the first event. Fails only with `NoMemory`.
+    pub(crate) fn new(alloc: Global, plan: &Plan) -> Result<Kept, NoMemory>
+        ensures value { IfOk result (λ kept. IsKeptAfter plan.now [] kept) }
+        ensures fits { IfOk result (λ kept. (now : ℕ) → KeptFits plan.now kept now) }
+    {
+        if has_record(plan) {
+            return Ok(Kept::Flat(Record::new(alloc, plan)?));
+        }
+        Ok(Kept::Tree(initial(alloc, plan)?))
+    }
+
+    /// Steps the plan with one more event, in place, and gives what it decides. Fails only with `NoMemory`, and is then
+    /// unchanged.
+    pub(crate) fn advance(
+        &mut self,
+        alloc: Global,
+        plan: &Plan,
+        tick: &Tick,
+        input: &Val,
+    ) -> Result<Decision, NoMemory>
+        requires { KeptFits plan.now self.old tick.now.now }
+        ensures law { (h : List Event) → IsKeptAfter plan.now h self.old → IfOk result
+            (λ d. KeptSteps plan.now (h ++ event_of tick.entry.now input.now ∷ []) self.new d) }
+        ensures fits { IfOk result
+            (λ _. (later : ℕ) → tick.entry.now.now ≤ later → KeptFits plan.now self.new later) }
+        ensures shape { IfOk result (λ _. KeptFits plan.now self.new FAR) }
+        ensures unchanged { IfErr result (λ _. self.new ≡ self.old) }
+    {
+        match self {
+            Kept::Flat(record) => Ok(record.advance(plan, tick, input)),
+            Kept::Tree(state) => Ok(state.advance(alloc, plan, tick, input)?.decision),
+        }
+    }
+
+    /// Back to before the first event. It takes no memory.
+    pub(crate) fn renew(&mut self, plan: &Plan)
+        requires { KeptFits plan.now self.old FAR }
+        ensures value { IsKeptAfter plan.now [] self.new }
+        ensures fits { (now : ℕ) → KeptFits plan.now self.new now }
+    {
+        match self {
+            Kept::Flat(record) => record.renew(plan),
+            Kept::Tree(state) => state.renew(plan),
+        }
+    }
+}

@@ -1,0 +1,149 @@
+ghost use Rattle.std.specs.Prelude.{◌≡◌, ◌+◌, if◌then◌else◌, length, IsTrue};
+ghost use Rattle.sched_plan.specs.Schedule.{is_valid, one as one_schedule, two as two_schedule};
+ghost use Rattle.sched_step.specs.Progress.{is_beside};
+ghost use Rattle.sched_step.specs.Step.{begins};
+ghost use Rattle.sched_step_flat.specs.Words.{blank, kept_from, width_of, one_width};
+ghost use Rattle.sched_step_flat.specs.FlatStep.{cued, pair_number, FlatSteps};
+
+use crate::cues::{Cue, Reply};
+use crate::leaves::step_leaf;
+use crate::ones::{begins, keep, reply};
+use crate::parts::{Part, of_first, of_second, under};
+use crate::puts::{first_word, put_one};
+use crate::resets::reset;
+use crate::widths::{one_width, width};
+use sched_plan::{One, Plan, PlanShape, Two};
+use sched_step::decisions::{join, meet};
+use sched_time::{Decision, Moment};
+
+/// Makes the words those after one more event, and gives what is read of the plan's answer to it.
+///
+/// It is inlined where it is called, and the functions of the nodes are not: so a leaf takes no call that goes down.
+#[cycle(advance)]
+#[inline(always)]
+pub(crate) fn advance(cue: &Cue, plan: &Plan, part: Part, words: &mut [u64]) -> Reply
+    requires { length words.old ≡ width_of plan.now }
+    ensures { FlatSteps plan.now part words.old (cued cue.now) words.new result }
+{
+    match plan.shape() {
+        PlanShape::Leaf(leaf) => step_leaf(cue, leaf, part, words),
+        PlanShape::One(node, plan) => advance_one(cue, node, plan, part, words),
+        PlanShape::Two(node, plans) => match *node {
+            Two::Meet | Two::Join => advance_beside(cue, *node, plans, part, words),
+            Two::Follow => advance_follow(cue, plans, part, words),
+            Two::Feed => advance_feed(cue, plans, part, words),
+        },
+    }
+}
+
+// A node over one plan: the plan is stepped, and the node makes its answer of the plan's.
+#[cycle(advance)]
+#[inline(never)]
+fn advance_one(cue: &Cue, node: &One, plan: &Plan, part: Part, words: &mut [u64]) -> Reply
+    requires valid { IsTrue (is_valid (one_schedule node.now plan.now)) }
+    requires fits { length words.old ≡ one_width node.now + width_of plan.now }
+    ensures { FlatSteps (one_schedule node.now plan.now) part words.old (cued cue.now) words.new result }
+{
+    let (own, below) = words.split_at_mut(one_width(*node));
+    let word = first_word(own);
+    begin(node, word, cue.tick.now, plan, below);
+    let read = advance(cue, plan, under(*node, part), below);
+    keep(node, cue, &read, own);
+    reply(node, part, word, cue, &read)
+}
+
+// Makes the words of the plan under a node those before the first event where it begins anew.
+#[inline(always)]
+fn begin(node: &One, word: u64, now: Moment, plan: &Plan, words: &mut [u64])
+    requires { length words.old ≡ width_of plan.now }
+    ensures value { words.new ≡
+        (if begins node.now (kept_from node.now word) now then blank plan.now else words.old) }
+    ensures fits { length words.new ≡ length words.old }
+{
+    if begins(*node, word, now) {
+        reset(plan, words);
+    }
+}
+
+// Two plans side by side: a meet goes on while both do, a join while one does. A plan that is done is stepped as well.
+#[cycle(advance)]
+#[inline(never)]
+fn advance_beside(
+    cue: &Cue,
+    node: Two,
+    plans: &(Plan, Plan),
+    part: Part,
+    words: &mut [u64],
+) -> Reply
+    requires beside { IsTrue (is_beside node) }
+    requires fits { length words.old ≡ width_of plans.now.0 + width_of plans.now.1 }
+    ensures { FlatSteps (two_schedule node plans.now.0 plans.now.1) part words.old (cued cue.now) words.new result }
+{
+    let (front, rest) = words.split_at_mut(width(&plans.0));
+    let first = advance(cue, &plans.0, of_first(part), front);
+    let second = advance(cue, &plans.1, of_second(part), rest);
+    let decision = match node {
+        Two::Meet => meet(first.decision, second.decision),
+        Two::Join => join(first.decision, second.decision),
+        Two::Follow | Two::Feed => unreachable!(),
+    };
+    Reply {
+        number: pair_number(part, first.number, second.number),
+        decision,
+    }
+}
+
+// What is read of a pair, where these are read of its parts.
+#[inline(always)]
+fn pair_number(part: Part, first: Option<u64>, second: Option<u64>) -> Option<u64>
+    ensures { result ≡ pair_number part first second }
+{
+    match part {
+        Part::FirstOf => first,
+        Part::SecondOf => second,
+        Part::Unread | Part::Whole => None,
+    }
+}
+
+// Two plans one through the other: the input of the second is the output of the first.
+#[cycle(advance)]
+#[inline(never)]
+fn advance_feed(cue: &Cue, plans: &(Plan, Plan), part: Part, words: &mut [u64]) -> Reply
+    requires { length words.old ≡ width_of plans.now.0 + width_of plans.now.1 }
+    ensures { FlatSteps (two_schedule Two.Feed plans.now.0 plans.now.1) part words.old (cued cue.now) words.new result }
+{
+    let (front, rest) = words.split_at_mut(width(&plans.0));
+    let first = advance(cue, &plans.0, Part::Whole, front);
+    let through = Cue {
+        tick: cue.tick,
+        input: first.number,
+    };
+    let second = advance(&through, &plans.1, part, rest);
+    Reply {
+        number: second.number,
+        decision: meet(first.decision, second.decision),
+    }
+}
+
+// Two plans in turn: the first until it is done; that event and all later ones go to the second.
+#[cycle(advance)]
+#[inline(never)]
+fn advance_follow(cue: &Cue, plans: &(Plan, Plan), part: Part, words: &mut [u64]) -> Reply
+    requires { length words.old ≡ 1 + (width_of plans.now.0 + width_of plans.now.1) }
+    ensures { FlatSteps (two_schedule Two.Follow plans.now.0 plans.now.1) part words.old (cued cue.now)
+        words.new result }
+{
+    let (own, both) = words.split_at_mut(1);
+    if own[0] != 0 {
+        let (_, rest) = both.split_at_mut(both.len() - width(&plans.1));
+        return advance(cue, &plans.1, part, rest);
+    }
+    let (front, rest) = both.split_at_mut(width(&plans.0));
+    let first = advance(cue, &plans.0, part, front);
+    if let Decision::Go(_) = first.decision {
+        put_one(own, 0);
+        return first;
+    }
+    put_one(own, 1);
+    advance(cue, &plans.1, part, rest)
+}
