@@ -44,7 +44,7 @@ static uint64_t draw(uint64_t draws) {
 static uint64_t retry(hikebox_policy *policy) {
     hikebox_pass pass = HIKEBOX_INIT;
     hikebox_retry machine = HIKEBOX_INIT;
-    hikebox_next next;
+    hikebox_next next = HIKEBOX_NEXT;
     uint64_t tickets;
     check(hikebox_budget_fixed(ROUND, &pass));
     check(hikebox_retry_new(policy, &pass, HIKEBOX_NO_DEADLINE, &machine));
@@ -60,7 +60,7 @@ static uint64_t retry(hikebox_policy *policy) {
 static uint64_t step(hikebox_policy *policy) {
     static hikebox_line lines[ROUND];
     static char text[32 * ROUND];
-    const hikebox_course course = {ROUND, 0, 0};
+    const hikebox_course course = {sizeof course, ROUND, 0, 0};
     const hikebox_event event = {CODE, {0, 0, 0, 0}};
     size_t events, length;
     check(hikebox_policy_course(policy, &course, &event, 1, lines, ROUND, &events, text, sizeof text, &length));
@@ -70,7 +70,7 @@ static uint64_t step(hikebox_policy *policy) {
 static uint64_t wait_for_it(hikebox_policy *policy) {
     hikebox_pass pass = HIKEBOX_INIT;
     hikebox_retry machine = HIKEBOX_INIT;
-    hikebox_next next;
+    hikebox_next next = HIKEBOX_NEXT;
     uint64_t waits = 0;
     check(hikebox_budget_fixed(1, &pass));
     check(hikebox_retry_new(policy, &pass, HIKEBOX_NO_DEADLINE, &machine));
@@ -102,7 +102,7 @@ __attribute__((noinline)) static bool attempt(uint64_t *state, uint64_t left) {
 // The retry of a call whose first run has failed, which began at moment 0: it fails so often more. How many were granted.
 __attribute__((noinline)) static uint64_t retried(struct on *on, uint64_t *state, uint64_t left) {
     hikebox_retry machine = HIKEBOX_INIT;
-    hikebox_next next;
+    hikebox_next next = HIKEBOX_NEXT;
     check(hikebox_retry_new(&on->policy, &on->pass, HIKEBOX_NO_DEADLINE, &machine));
     check(hikebox_retry_poll(&machine, 0, words, HIKEBOX_NO_REPORT, 0, &next));
     do

@@ -16,6 +16,7 @@ const char *hikebox_status_text(unsigned status) {
     case 4: return "no memory";
     case 5: return "a number is out of range";
     case 6: return "there is not enough room";
+    case 7: return "a struct has another size than its call expects";
     case 10: return "the text is not JSON";
     case 11: return "the value is not a policy";
     case 12: return "a parameter is out of range";

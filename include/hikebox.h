@@ -10,6 +10,7 @@
  * its moments and its words are made up.
  * examples/c/retry.c is a whole program.
  *
+ *     hikebox_next next = HIKEBOX_NEXT;
  *     while (hikebox_retry_poll(&retry, now(), words(), report, code, &next) == HIKEBOX_OK
  *            && next.what != HIKEBOX_OVER) {
  *         report = HIKEBOX_NO_REPORT;
@@ -37,8 +38,12 @@
  * Where several apply, the first one in the order of the call's own list is the answer; a status that no list
  * names does not come from that call.
  *
- * STRUCTS. A struct keeps its size and its members within a major version; a later version adds structs and calls of
- * their own, under a later symbol version of libhikebox.so.
+ * STRUCTS. hikebox_course, hikebox_usage, hikebox_next, hikebox_storm and hikebox_totals begin with `size`: how many
+ * bytes they have in the header that the program was compiled with. The initializers HIKEBOX_COURSE, HIKEBOX_USAGE,
+ * HIKEBOX_NEXT, HIKEBOX_STORM and HIKEBOX_TOTALS set it. A later minor version may add members at the end of these
+ * structs. It accepts each size that an earlier version of its major version had, and reads and writes only the
+ * members that such a size covers. Every other size is refused by HIKEBOX_WRONG_SIZE, also one of a later version,
+ * and no other member is read or written. All other structs keep their size and members within a major version.
  *
  * WHAT THE PROGRAM OWES. The library does not check these:
  *  - Every pointer is to valid memory of its type, and not NULL, also where a length is 0; no two of a call's
@@ -116,6 +121,8 @@ enum {
     HIKEBOX_TOO_LARGE = 5,
     /* There are more bytes than room for them. */
     HIKEBOX_NO_ROOM = 6,
+    /* The `size` of a struct is not one that this library knows. */
+    HIKEBOX_WRONG_SIZE = 7,
 
     /* The text is not JSON, or not UTF-8. */
     HIKEBOX_NOT_JSON = 10,
@@ -256,8 +263,24 @@ HIKEBOX_CHECKED hikebox_status hikebox_policy_json(hikebox_policy *policy, char 
 HIKEBOX_CHECKED hikebox_status hikebox_policy_size(hikebox_policy *policy, uint64_t *nodes, uint64_t *depth,
                                                    uint64_t *most);
 
-/* How a policy is stepped along a course. */
+/* What a policy reads of an event beside its moment. */
+enum {
+    HIKEBOX_READS_LANE_0 = 1,
+    HIKEBOX_READS_LANE_1 = 2,
+    HIKEBOX_READS_LANE_2 = 4,
+    HIKEBOX_READS_LANE_3 = 8,
+    HIKEBOX_READS_INPUT = 16
+};
+
+/* Writes the sum of HIKEBOX_READS_LANE_0 to _3, for each lane whose random word a node of the policy reads, and of
+ * HIKEBOX_READS_INPUT where a node reads its input. A program can leave the other words at 0. HIKEBOX_EMPTY;
+ * _WRONG_KIND. */
+HIKEBOX_CHECKED hikebox_status hikebox_policy_reads(hikebox_policy *policy, uint64_t *reads);
+
+/* How a policy is stepped along a course. HIKEBOX_COURSE has ten events, the first at the moment 0. */
 typedef struct {
+    /* The size of this struct. */
+    size_t size;
     /* For how many events at most, 0 to HIKEBOX_MAX_STEPS. */
     uint64_t steps;
     /* The moment of the first event. */
@@ -265,6 +288,9 @@ typedef struct {
     /* How long after the start that was planned at an event the next one comes. */
     uint64_t took;
 } hikebox_course;
+
+#define HIKEBOX_COURSE                                                                                                 \
+    { sizeof(hikebox_course), 10, 0, 0 }
 
 /* What an event of a course has. */
 typedef struct {
@@ -291,9 +317,9 @@ typedef struct {
  * not go on. Event k has the input and the words of number k among the `given` ones at `events`, and each event past them
  * those of the last. The lines are written to `lines`, which has room for `capacity`, and their number to `count`; their
  * outputs as text, `()`, a decimal number, `(a, b)` or `[a, b, c]`, one after another and with no zero byte, to `text`,
- * which has room for `room`, and the number of all their bytes to `length`. HIKEBOX_OUT_OF_RANGE, of a number of the course
- * or an input, and where there is no event; _EMPTY; _WRONG_KIND; _NO_MEMORY; _NO_ROOM, of either, and then `count` and
- * `length` are the room that is needed.
+ * which has room for `room`, and the number of all their bytes to `length`. HIKEBOX_WRONG_SIZE; _OUT_OF_RANGE, of a
+ * number of the course or an input, and where there is no event; _EMPTY; _WRONG_KIND; _NO_MEMORY; _NO_ROOM, of either,
+ * and then `count` and `length` are the room that is needed.
  */
 HIKEBOX_CHECKED hikebox_status hikebox_policy_course(hikebox_policy *policy, const hikebox_course *course,
                                                      const hikebox_event *events, size_t given, hikebox_line *lines,
@@ -410,6 +436,8 @@ HIKEBOX_CHECKED hikebox_status hikebox_pass_count(hikebox_pass *pass, uint64_t *
 
 /* What is known of a window of a quota. */
 typedef struct {
+    /* The size of this struct. */
+    size_t size;
     /* Which window it is, from 0 on. */
     uint64_t window;
     /* The requests that were counted in it. */
@@ -422,9 +450,12 @@ typedef struct {
     uint64_t next;
 } hikebox_usage;
 
+#define HIKEBOX_USAGE                                                                                                  \
+    { sizeof(hikebox_usage), 0, 0, 0, 0, 0 }
+
 /* Writes what the window of `now` of a quota, or the latest one where that is later, was asked, has given and has left,
- * and when the next begins. HIKEBOX_TOO_LARGE; _EMPTY; _WRONG_KIND, also of a pass of a budget or of nothing: these have
- * no windows. */
+ * and when the next begins. HIKEBOX_WRONG_SIZE; _TOO_LARGE; _EMPTY; _WRONG_KIND, also of a pass of a budget or of
+ * nothing: these have no windows. */
 HIKEBOX_CHECKED hikebox_status hikebox_pass_seen(hikebox_pass *pass, uint64_t now, hikebox_usage *usage);
 
 /*
@@ -604,7 +635,7 @@ enum {
 
 /* What the program is to do. */
 enum {
-    /* Poll: no run was begun yet. No call answers it; it is where a hikebox_next of zeros begins. */
+    /* Poll: no run was begun yet. No call answers it; it is where HIKEBOX_NEXT begins. */
     HIKEBOX_POLL = 0,
     /* Run the call, and report at the next poll how it went. A run is under way until then. */
     HIKEBOX_RUN = 1,
@@ -636,6 +667,8 @@ enum {
 
 /* What a retry is at. */
 typedef struct {
+    /* The size of this struct. */
+    size_t size;
     /* HIKEBOX_POLL, HIKEBOX_RUN, HIKEBOX_WAIT or HIKEBOX_OVER. */
     uint32_t what;
     /* How it ended: HIKEBOX_UNENDED, or one of HIKEBOX_ENDED_.. where it is over. */
@@ -651,6 +684,9 @@ typedef struct {
      * that is past, and HIKEBOX_NO_DEADLINE where there is none. */
     uint64_t left;
 } hikebox_next;
+
+#define HIKEBOX_NEXT                                                                                                   \
+    { sizeof(hikebox_next), HIKEBOX_POLL, HIKEBOX_UNENDED, 0, 0, 0, 0 }
 
 /*
  * Puts a retry into `retry`, which has not begun. It has the policy, which is not copied, and a pass of its own, which is
@@ -678,9 +714,9 @@ HIKEBOX_CHECKED hikebox_status hikebox_retry_new(hikebox_policy *policy, hikebox
  * retry waits for the start planned, or runs at once where that is now. With HIKEBOX_NO_REPORT the code is
  * ignored, and a run begins where none is under way and `now` is not before the moment waited for; past the
  * deadline the retry is over instead, with HIKEBOX_ENDED_DEADLINE, unless no run was made yet. On a
- * retry that is over nothing changes. HIKEBOX_TOO_LARGE, of the moment; _NO_SUCH_REPORT; _TOO_LARGE, of the code;
- * _EMPTY; _WRONG_KIND; _NO_RUN. Where there is no memory or the clock went back the answer is HIKEBOX_OK, and the
- * retry is over.
+ * retry that is over nothing changes. HIKEBOX_WRONG_SIZE; _TOO_LARGE, of the moment; _NO_SUCH_REPORT; _TOO_LARGE, of
+ * the code; _EMPTY; _WRONG_KIND; _NO_RUN. Where there is no memory or the clock went back the answer is HIKEBOX_OK, and
+ * the retry is over.
  */
 HIKEBOX_CHECKED hikebox_status hikebox_retry_poll(hikebox_retry *retry, uint64_t now, const uint32_t words[4],
                                                   uint32_t report, uint64_t code, hikebox_next *next);
@@ -716,6 +752,8 @@ enum {
  * from 0 on. HIKEBOX_STORM has numbers to begin with.
  */
 typedef struct {
+    /* The size of this struct. */
+    size_t size;
     /* Requests a second, 1 to 1,000,000. */
     uint64_t rate;
     /* Requests that come at one moment, 1 to 1,000,000. */
@@ -756,7 +794,10 @@ typedef struct {
 
 /* 800 requests a second for a minute, on a peer that does 1,000 and is away from 10 to 20 s. */
 #define HIKEBOX_STORM                                                                                                  \
-    { 800, 1, 60, 1000, 500, 5000, 10000, 20000, 0, 0, 0, 1000, 120000, 16777216, 0, HIKEBOX_ON_NOTHING, 0, 0, 0, 1 }
+    {                                                                                                                  \
+        sizeof(hikebox_storm), 800, 1, 60, 1000, 500, 5000, 10000, 20000, 0, 0, 0, 1000, 120000, 16777216, 0,          \
+            HIKEBOX_ON_NOTHING, 0, 0, 0, 1                                                                             \
+    }
 
 /* A window of a storm. */
 typedef struct {
@@ -779,6 +820,8 @@ typedef struct {
 
 /* What a storm comes to. */
 typedef struct {
+    /* The size of this struct. */
+    size_t size;
     /* The requests, and how they ended: won, lost where the policy was done, denied where there was no ticket, or open. */
     uint64_t requests;
     uint64_t won;
@@ -805,12 +848,15 @@ typedef struct {
     bool cut;
 } hikebox_totals;
 
+#define HIKEBOX_TOTALS                                                                                                 \
+    { sizeof(hikebox_totals), 0, 0, 0, 0, 0, 0, 0, 0, 0, 0, 0, 0, 0, 0, false, false }
+
 /*
  * Plays a storm of requests under the policy, as `zsched storm` does, and writes its windows to `windows`, which has room
  * for `capacity`, their number to `count`, and its totals. The room that is needed is until / window, rounded down, and
  * one more. Two calls with the same parameters write the same. The call comes back once the storm is played, which
- * nothing breaks off but `calls`. HIKEBOX_OUT_OF_RANGE, of a parameter; _NO_ROOM, and then `count` is the room that is
- * needed; _EMPTY; _WRONG_KIND; _NO_MEMORY.
+ * nothing breaks off but `calls`. HIKEBOX_WRONG_SIZE, of the storm or the totals; _OUT_OF_RANGE, of a parameter;
+ * _NO_ROOM, and then `count` is the room that is needed; _EMPTY; _WRONG_KIND; _NO_MEMORY.
  */
 HIKEBOX_CHECKED hikebox_status hikebox_storm_play(hikebox_policy *policy, const hikebox_storm *storm,
                                                   hikebox_window *windows, size_t capacity, size_t *count,

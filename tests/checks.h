@@ -29,4 +29,8 @@ int courses(void);
 
 // Those of leases.c.
 int leased(void);
+
+// Those of structs.c.
+int sizes(void);
+int reads(void);
 #endif

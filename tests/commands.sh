@@ -114,7 +114,7 @@ runs_zsched() {
   ln -s tree/bin/zsched "$work/link"
   ln -s link "$work/link-of-link"
   wants 0 "$want" '' "$work/link-of-link" plan "$plan"
-  wants 3 '' $'zsched: not JSON\nnot JSON: line 1, column 1: the text ends too soon' bin/zsched plan /dev/null
+  wants 3 '' $'zsched: not JSON\nnot JSON: line 1, column 1: the text is empty' bin/zsched plan /dev/null
 
   append crates/sched_cli/src/lib.rt
   for _ in 1 2; do wants 0 "$want" "$old" bin/zsched plan "$plan"; done

@@ -17,14 +17,14 @@ RATTLE = {
     "&mut u64": ["uint64_t *"],
     "&mut usize": ["size_t *"],
     "&mut Place": ["hikebox_place *"],
-    "&CourseGiven": ["const hikebox_course *"],
+    "&SizedCourse": ["const hikebox_course *"],
     "&[EventGiven]": ["const hikebox_event *", "size_t"],
     "&mut [LineTold]": ["hikebox_line *", "size_t"],
-    "&mut Reply": ["hikebox_next *"],
-    "&mut Usage": ["hikebox_usage *"],
-    "&StormGiven": ["const hikebox_storm *"],
+    "&mut SizedReply": ["hikebox_next *"],
+    "&mut SizedUsage": ["hikebox_usage *"],
+    "&SizedStorm": ["const hikebox_storm *"],
     "&mut [WindowTold]": ["hikebox_window *", "size_t"],
-    "&mut TotalsTold": ["hikebox_totals *"],
+    "&mut SizedTotals": ["hikebox_totals *"],
     "&Asking": ["const hikebox_asking *"],
     "&mut Stored": ["hikebox_stored *"],
     "&mut Range": ["hikebox_range *"],
@@ -39,14 +39,14 @@ RATTLE = {
 }
 STRUCTS = {
     "Place": "hikebox_place",
-    "CourseGiven": "hikebox_course",
+    "SizedCourse": "hikebox_course",
     "EventGiven": "hikebox_event",
     "LineTold": "hikebox_line",
-    "Reply": "hikebox_next",
-    "Usage": "hikebox_usage",
-    "StormGiven": "hikebox_storm",
+    "SizedReply": "hikebox_next",
+    "SizedUsage": "hikebox_usage",
+    "SizedStorm": "hikebox_storm",
     "WindowTold": "hikebox_window",
-    "TotalsTold": "hikebox_totals",
+    "SizedTotals": "hikebox_totals",
     "Asking": "hikebox_asking",
     "Stored": "hikebox_stored",
     "Range": "hikebox_range",
@@ -57,7 +57,9 @@ STRUCTS = {
 CALLS = ("sched_storm_call",)
 #: The crates whose structs have the layout of C.
 LAID_OUT = ("sched_handle", "sched_storm_call", "sched_ticket_lease", "hikebox_c")
-FIELDS = {"u64": "uint64_t", "u32": "uint32_t", "[u32; 4]": "uint32_t[4]"}
+FIELDS = {"u64": "uint64_t", "u32": "uint32_t", "usize": "size_t", "[u32; 4]": "uint32_t[4]"}
+#: The structs after a size: their members follow it.
+AFTER_SIZE = ("CourseGiven", "Reply", "Usage", "StormGiven", "TotalsTold")
 
 
 def without_comments(text):
@@ -111,18 +113,26 @@ def passed_on():
             yield name, exports.get(name), [parameters, clauses, call]
 
 
+def members(rattle, replies):
+    """The members of a struct that has the layout of C: types and names of C."""
+    body = re.search(r"#\[repr\(C\)\]\s*#\[derive\([^)]*\)\]\s*pub struct " + rattle + r" \{([^}]*)\}", replies).group(
+        1
+    )
+    for name, kind in re.findall(r"pub (\w+): (\[.*?\]|\w+)", body):
+        if kind in AFTER_SIZE:
+            yield from members(kind, replies)
+        else:
+            yield FIELDS.get(kind, kind), name
+
+
 def structs():
     header = without_comments((TOP / "include/hikebox.h").read_text())
     files = [file for crate in LAID_OUT for file in sorted((TOP / "crates" / crate / "src").glob("*.rt"))]
     replies = "".join(without_comments(file.read_text()) for file in files)
     for rattle, c in STRUCTS.items():
         here = re.search(r"typedef struct \{([^}]*)\} " + c + ";", header).group(1)
-        there = re.search(
-            r"#\[repr\(C\)\]\s*#\[derive\([^)]*\)\]\s*pub struct " + rattle + r" \{([^}]*)\}", replies
-        ).group(1)
         is_c = [(kind + array, name) for kind, name, array in re.findall(r"(\w+) (\w+)((?:\[\d+\])?);", here)]
-        is_rattle = [(FIELDS.get(kind, kind), name) for name, kind in re.findall(r"pub (\w+): (\[.*?\]|\w+)", there)]
-        yield c, is_c, is_rattle
+        yield c, is_c, list(members(rattle, replies))
 
 
 def main():

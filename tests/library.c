@@ -71,7 +71,7 @@ static int retry(char **words, int count) {
     hikebox_policy policy = HIKEBOX_INIT;
     hikebox_pass pass = HIKEBOX_INIT;
     hikebox_retry machine = HIKEBOX_INIT;
-    hikebox_next next;
+    hikebox_next next = HIKEBOX_NEXT;
     uint64_t now = 0, code = 0, tickets;
     uint32_t report = HIKEBOX_NO_REPORT;
     int run = 1;
@@ -115,7 +115,7 @@ static int fault(void) {
 static int faults(void) {
     static const char *const table[][2] = {
         {"{\"recurs\":3}", ""},
-        {"", "not JSON: line 1, column 1: the text ends too soon"},
+        {"", "not JSON: line 1, column 1: the text is empty"},
         {"[\n{\"plan\":]", "not JSON: line 2, column 9: what stands here is not JSON, or is nested more than 127 deep"},
         {"[]", "top: expected a plan, a string or an object with one member, got []"},
         {"{\"fixed\":0}", "top: expected {\"fixed\":D}, D from 1 to 4611686018427387903, got {\"fixed\":0}"},
@@ -151,7 +151,7 @@ static void past_the_journal(void) {
     hikebox_policy policy = HIKEBOX_INIT;
     hikebox_pass pass = HIKEBOX_INIT;
     hikebox_retry machine = HIKEBOX_INIT, other = HIKEBOX_INIT;
-    hikebox_next next;
+    hikebox_next next = HIKEBOX_NEXT;
     uint64_t number, before = 0;
     wants(read_policy("\"forever\"", &policy), HIKEBOX_OK);
     wants(hikebox_budget_fixed(100000, &pass), HIKEBOX_OK);
@@ -185,7 +185,7 @@ static void one_policy(void) {
     static char text[8192];
     hikebox_policy policy = HIKEBOX_INIT;
     hikebox_retry machine = HIKEBOX_INIT;
-    hikebox_next next;
+    hikebox_next next = HIKEBOX_NEXT;
     uint64_t nodes, depth, most, before;
     // 128 leaves that meet by pairs, seven levels deep, with 127 meets and one `first` over all.
     strcpy(text, "{\"recurs\":2}");
@@ -227,10 +227,10 @@ static int handles(void) {
     hikebox_pass pass = HIKEBOX_INIT, part = HIKEBOX_INIT, other_pass = HIKEBOX_INIT;
     hikebox_pass quota = HIKEBOX_INIT, other_quota = HIKEBOX_INIT;
     hikebox_retry machine = HIKEBOX_INIT, other_machine = HIKEBOX_INIT, quota_machine = HIKEBOX_INIT;
-    hikebox_usage usage = {6, 6, 6, 6, 6};
+    hikebox_usage usage = {sizeof usage, 6, 6, 6, 6, 6};
     hikebox_place place = {7, 7};
-    hikebox_next next = {9, 9, 9, 9, 9, 9};
-    const hikebox_course course = {1, 0, 0};
+    hikebox_next next = {sizeof next, 9, 9, 9, 9, 9, 9};
+    const hikebox_course course = {sizeof course, 1, 0, 0};
     const hikebox_event event = {0, {0, 0, 0, 0}};
     hikebox_line line = {5, 5, 5, true};
     uint64_t number = 77, other = 78, most = 76;
@@ -386,7 +386,8 @@ static int handles(void) {
     holds(strcmp(hikebox_version(), HIKEBOX_VERSION) == 0);
     holds(strcmp(hikebox_status_text(HIKEBOX_NO_TICKET), "there is no ticket") == 0);
     holds(strcmp(hikebox_status_text(HIKEBOX_OK), "done") == 0);
-    holds(strcmp(hikebox_status_text(7), "no such status") == 0);
+    holds(strcmp(hikebox_status_text(HIKEBOX_WRONG_SIZE), "a struct has another size than its call expects") == 0);
+    holds(strcmp(hikebox_status_text(8), "no such status") == 0);
     wants(hikebox_policy_read("{\n \"recurs\" 2}", 14, &copy, &place), HIKEBOX_NOT_JSON);
     holds(place.line == 2 && place.column > 0);
     wants(hikebox_policy_read("\"\xff\"", 3, &copy, &place), HIKEBOX_NOT_JSON);
@@ -401,7 +402,7 @@ static int budgets(void) {
     hikebox_policy policy = HIKEBOX_INIT;
     hikebox_pass pass = HIKEBOX_INIT, part = HIKEBOX_INIT, last = HIKEBOX_INIT, none = HIKEBOX_INIT;
     hikebox_retry machine = HIKEBOX_INIT;
-    hikebox_next next;
+    hikebox_next next = HIKEBOX_NEXT;
     uint64_t number;
     wants(read_policy("{\"recurs\":1}", &policy), HIKEBOX_OK);
     for (int rises = 0; rises < 2; rises++) {
@@ -452,13 +453,13 @@ static uint64_t first_of(uint64_t window) {
 }
 
 static void sees_at(int line, hikebox_pass *quota, uint64_t now, hikebox_usage wanted) {
-    hikebox_usage got;
+    hikebox_usage got = HIKEBOX_USAGE;
     wants_at(__FILE__, line, hikebox_pass_seen(quota, now, &got), HIKEBOX_OK);
     holds_at(__FILE__, line,
              got.window == wanted.window && got.asked == wanted.asked && got.given == wanted.given &&
                  got.left == wanted.left && got.next == wanted.next);
 }
-#define sees(quota, now, ...) sees_at(__LINE__, quota, now, (hikebox_usage){__VA_ARGS__})
+#define sees(quota, now, ...) sees_at(__LINE__, quota, now, (hikebox_usage){sizeof(hikebox_usage), __VA_ARGS__})
 
 static void draws_at(int line, hikebox_pass *quota, uint64_t now, uint64_t wanted) {
     uint64_t ticket = 0;
@@ -708,7 +709,7 @@ static void passes(void) {
 
 // One failed run, begun at `from` and over at `to`: what is to be done then, and what was granted so far.
 static void fails_at(int line, hikebox_retry *machine, uint64_t from, uint64_t to, uint32_t what, uint64_t granted) {
-    hikebox_next next;
+    hikebox_next next = HIKEBOX_NEXT;
     wants_at(__FILE__, line, hikebox_retry_poll(machine, from, no_words, HIKEBOX_NO_REPORT, 0, &next), HIKEBOX_OK);
     holds_at(__FILE__, line, next.what == HIKEBOX_RUN);
     wants_at(__FILE__, line, hikebox_retry_poll(machine, to, no_words, HIKEBOX_LOST, 7, &next), HIKEBOX_OK);
@@ -718,7 +719,7 @@ static void fails_at(int line, hikebox_retry *machine, uint64_t from, uint64_t t
 
 // How a retry ended, after so many runs. A poll of one that is over changes nothing.
 static void ended_at(int line, hikebox_retry *machine, uint32_t how, uint64_t runs) {
-    hikebox_next next;
+    hikebox_next next = HIKEBOX_NEXT;
     wants_at(__FILE__, line, hikebox_retry_poll(machine, 0, no_words, HIKEBOX_NO_REPORT, 0, &next), HIKEBOX_OK);
     holds_at(__FILE__, line, next.what == HIKEBOX_OVER && next.how == how && next.runs == runs);
 }
@@ -784,7 +785,7 @@ static void nothings(void) {
     hikebox_policy policy = HIKEBOX_INIT;
     hikebox_pass nothing = HIKEBOX_INIT, part = HIKEBOX_INIT, budget = HIKEBOX_INIT;
     hikebox_retry machine = HIKEBOX_INIT;
-    hikebox_usage usage = {6, 6, 6, 6, 6};
+    hikebox_usage usage = {sizeof usage, 6, 6, 6, 6, 6};
     uint64_t number = 9;
     wants(hikebox_pass_unlimited(&nothing), HIKEBOX_OK);
     for (uint64_t ticket = 0; ticket < 3; ticket++) {
@@ -879,7 +880,7 @@ static void drawings(void) {
 
 // What a poll at a moment tells that a retry has left.
 static void has_left_at(int line, hikebox_retry *machine, uint64_t now, uint64_t wanted) {
-    hikebox_next next;
+    hikebox_next next = HIKEBOX_NEXT;
     wants_at(__FILE__, line, hikebox_retry_poll(machine, now, no_words, HIKEBOX_NO_REPORT, 0, &next), HIKEBOX_OK);
     holds_at(__FILE__, line, next.left == wanted);
 }
@@ -910,7 +911,7 @@ static void spaced_deadlines(void) {
         hikebox_policy policy = HIKEBOX_INIT;
         hikebox_pass pass = HIKEBOX_INIT;
         hikebox_retry machine = HIKEBOX_INIT;
-        hikebox_next next = {0, 0, 0, 0, 0, 0};
+        hikebox_next next = HIKEBOX_NEXT;
         uint64_t now = 0, tickets;
         wants(read_policy(rows[row].json, &policy), HIKEBOX_OK);
         wants(hikebox_budget_fixed(9, &pass), HIKEBOX_OK);
@@ -946,7 +947,7 @@ static void late_wakes(hikebox_policy *policy, hikebox_pass *pass) {
     };
     hikebox_retry machine = HIKEBOX_INIT;
     hikebox_pass quota = HIKEBOX_INIT;
-    hikebox_next next;
+    hikebox_next next = HIKEBOX_NEXT;
     for (size_t row = 0; row < sizeof rows / sizeof *rows; row++) {
         wants(hikebox_retry_new(policy, pass, 500, &machine), HIKEBOX_OK);
         fails(&machine, 0, 0, HIKEBOX_WAIT, 1);
@@ -1129,7 +1130,7 @@ static void *retry_by_share(void *given) {
     for (int times = 0; times < 100; times++) {
         hikebox_policy second = HIKEBOX_INIT;
         hikebox_retry machine = HIKEBOX_INIT;
-        hikebox_next next;
+        hikebox_next next = HIKEBOX_NEXT;
         uint32_t report = HIKEBOX_NO_REPORT;
         wants(hikebox_policy_share(&worker->policy, &second), HIKEBOX_OK);
         wants(hikebox_retry_new(&second, &worker->pass, HIKEBOX_NO_DEADLINE, &machine), HIKEBOX_OK);
@@ -1236,9 +1237,8 @@ static hikebox_window windows_told[128];
 // What a storm of this policy comes to.
 static hikebox_totals plays_at(int line, const char *json, const hikebox_storm *storm, size_t wanted) {
     hikebox_policy policy = HIKEBOX_INIT;
-    hikebox_totals totals;
+    hikebox_totals totals = HIKEBOX_TOTALS;
     size_t count = 99;
-    memset(&totals, 0, sizeof totals);
     wants_at(__FILE__, line, read_policy(json, &policy), HIKEBOX_OK);
     wants_at(__FILE__, line, hikebox_storm_play(&policy, storm, windows_told, 128, &count, &totals), HIKEBOX_OK);
     holds_at(__FILE__, line, count == wanted);
@@ -1249,9 +1249,10 @@ static hikebox_totals plays_at(int line, const char *json, const hikebox_storm *
 
 // A storm with one parameter changed is refused, and nothing is written.
 static void refuses_at(int line, hikebox_policy *policy, hikebox_storm storm) {
-    hikebox_totals totals;
+    hikebox_totals totals = HIKEBOX_TOTALS;
     size_t count = 99;
     memset(&totals, 7, sizeof totals);
+    totals.size = sizeof totals;
     hikebox_totals before = totals;
     wants_at(__FILE__, line, hikebox_storm_play(policy, &storm, windows_told, 128, &count, &totals),
              HIKEBOX_OUT_OF_RANGE);
@@ -1302,7 +1303,7 @@ static void storms_refused(void) {
     hikebox_policy policy = HIKEBOX_INIT;
     hikebox_pass pass = HIKEBOX_INIT;
     hikebox_storm storm = HIKEBOX_STORM;
-    hikebox_totals totals;
+    hikebox_totals totals = HIKEBOX_TOTALS;
     size_t count = 99;
     wants(hikebox_storm_play(&policy, &storm, windows_told, 120, &count, &totals), HIKEBOX_NO_ROOM);
     holds(count == 121);
@@ -1398,7 +1399,7 @@ static int draw(char **words) {
 // One retry to its end. It is over where there is no memory for a step.
 static void run_once(hikebox_policy *policy, hikebox_pass *pass) {
     hikebox_retry machine = HIKEBOX_INIT;
-    hikebox_next next;
+    hikebox_next next = HIKEBOX_NEXT;
     uint64_t now = 0;
     uint32_t report = HIKEBOX_NO_REPORT;
     again(hikebox_retry_new(policy, pass, HIKEBOX_NO_DEADLINE, &machine));
@@ -1436,16 +1437,16 @@ static void lease_once(void) {
 
 static int calls(void) {
     hikebox_policy policy = HIKEBOX_INIT, second = HIKEBOX_INIT, both = HIKEBOX_INIT, none = HIKEBOX_INIT;
-    const hikebox_course course = {4, 0, 0};
+    const hikebox_course course = {sizeof course, 4, 0, 0};
     const hikebox_event event = {7, {0, 0, 0, 0}};
     hikebox_line lines[3];
     hikebox_pass pass = HIKEBOX_INIT, part = HIKEBOX_INIT, sole = HIKEBOX_INIT;
     hikebox_pass quota = HIKEBOX_INIT, quota_part = HIKEBOX_INIT;
     hikebox_retry machine = HIKEBOX_INIT;
-    hikebox_usage usage;
-    hikebox_next next;
+    hikebox_usage usage = HIKEBOX_USAGE;
+    hikebox_next next = HIKEBOX_NEXT;
     hikebox_storm storm = HIKEBOX_STORM;
-    hikebox_totals totals;
+    hikebox_totals totals = HIKEBOX_TOTALS;
     uint64_t number = 5, other, most;
     char text[128];
     size_t length, count;
@@ -1536,9 +1537,10 @@ static const struct {
     const char *name;
     int (*run)(void);
 } groups[] = {
-    {"version", version}, {"handles", handles}, {"budgets", budgets}, {"deadlines", deadlines}, {"quotas", quotas},
-    {"leases", leases},   {"leased", leased},   {"faults", faults},   {"nodes", nodes},         {"policies", policies},
-    {"courses", courses}, {"storms", storms},   {"lasting", lasting}, {"shares", shares},
+    {"version", version}, {"handles", handles},   {"budgets", budgets}, {"deadlines", deadlines},
+    {"quotas", quotas},   {"leases", leases},     {"leased", leased},   {"faults", faults},
+    {"nodes", nodes},     {"policies", policies}, {"courses", courses}, {"storms", storms},
+    {"lasting", lasting}, {"shares", shares},     {"sizes", sizes},     {"reads", reads},
 };
 
 int main(int count, char **words) {

@@ -24,9 +24,9 @@ zsched=$dist/zsched
 python3 "$top/tests/exports.py" || failed=1
 "$top/bin/bindings" --check || failed=1
 flags=(-std=gnu11 -Wall -Wextra -Werror -O1 "-I$dist" -pthread)
-cc "${flags[@]}" -o "$work/linked" "$top/tests/library.c" "$top/tests/policies.c" "$top/tests/leases.c" "$dist/libhikebox.a"
+cc "${flags[@]}" -o "$work/linked" "$top/tests/library.c" "$top/tests/policies.c" "$top/tests/leases.c" "$top/tests/structs.c" "$dist/libhikebox.a"
 "$top/bin/install" --prefix "$work/home/.local" >"$work/out"
-cc "${flags[@]}" -o "$work/loaded" "$top/tests/library.c" "$top/tests/policies.c" "$top/tests/leases.c" "-L$dist" "-Wl,-rpath,$work/home/.local/lib" -lhikebox
+cc "${flags[@]}" -o "$work/loaded" "$top/tests/library.c" "$top/tests/policies.c" "$top/tests/leases.c" "$top/tests/structs.c" "-L$dist" "-Wl,-rpath,$work/home/.local/lib" -lhikebox
 cc "${flags[@]}" -o "$work/retry" "$top/examples/c/retry.c" "$dist/libhikebox.a"
 exported=$(nm -D --defined-only "$dist/libhikebox.so" | awk '$2 == "T" { print $NF }' | LC_ALL=C sort)
 shown=$(nm --defined-only "$dist/libhikebox.a" 2>/dev/null | awk '$2 ~ /^[A-Z]$/ { print $3 }' | LC_ALL=C sort)
@@ -111,8 +111,30 @@ sort -n "$work"/drawn.* | cmp -s - <(seq 0 999) || wrong "examples/c/lease.c: $(
 ! "$work/lease" "$work/counts" 1 >"$work/out" 2>&1 && [ "$(cat "$work/out")" = 'expected 24 bytes of counts, got less' ] ||
   wrong "examples/c/lease.c draws of a file that is cut off: $(cat "$work/out")"
 
+# Words that the examples don't take.
+# mistakes STATUS LINE WORD..: an example ends so and says this line on standard error, and nothing else
+mistakes() {
+  local want=$1 line=$2 status=0
+  "${@:3}" >"$work/out" 2>"$work/err" </dev/null || status=$?
+  [ "$status" = "$want" ] && [ ! -s "$work/out" ] && [ "$(cat "$work/err")" = "$line" ] ||
+    wrong "${*:3}: $status, $(cat "$work/out" "$work/err")"
+}
+mistakes 2 'retry: expected no words, got "x"' "$work/retry" x
+mistakes 2 'storm: expected no words, got "-v"' "$work/storm" -v y
+mistakes 2 'lease: expected 2 words, FILE and a number of tickets or `new`, got 1' "$work/lease" "$work/counts"
+for word in '' x 5x -5 ' 5' 1e3 1000000000; do
+  mistakes 2 "lease: expected a number of tickets below 1000000000 or \`new\`, got \"$word\"" "$work/lease" "$work/counts" "$word"
+done
+mistakes 0 '' "$work/lease" "$work/new" new
+mistakes 0 '' "$work/lease" "$work/new" 000000000
+
 # A loop of poll(): it hears a line while it waits, and connects once something listens; with nothing there it tells the fault.
 cc "${flags[@]}" -o "$work/poll" "$top/examples/c/poll.c" "$dist/libhikebox.a"
+for word in '' x 80x -1 0 65536 123456; do
+  mistakes 2 "connect: expected one port from 1 to 65535, got \"$word\"" "$work/poll" "$word"
+done
+mistakes 2 'connect: expected one port from 1 to 65535, got ""' "$work/poll"
+mistakes 2 'connect: expected one port from 1 to 65535, got "81"' "$work/poll" 80 81
 printf 'heard a line\nconnected after retries\n' >"$work/want"
 coproc listener { exec python3 -c 'import socket, time
 listener = socket.socket()

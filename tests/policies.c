@@ -55,7 +55,8 @@ int plan(char **words) {
     static hikebox_event events[HIKEBOX_MAX_STEPS];
     static hikebox_line lines[HIKEBOX_MAX_STEPS];
     static char text[1 << 22];
-    hikebox_course course = {strtoull(words[0], 0, 10), strtoull(words[1], 0, 10), strtoull(words[2], 0, 10)};
+    hikebox_course course = {sizeof course, strtoull(words[0], 0, 10), strtoull(words[1], 0, 10),
+                             strtoull(words[2], 0, 10)};
     hikebox_policy policy = HIKEBOX_INIT;
     size_t given = 0, count, length, needed, bytes;
     for (char *next = words[3]; *next; next += *next == ',')
@@ -225,7 +226,7 @@ int courses(void) {
     static const char json[] =
         "{\"meet\":[{\"recurs\":2},{\"jitter\":[3,1000,1500,{\"meet\":[\"identity\",{\"spaced\":100}]}]}]}";
     static const char wanted[] = "(0, (7, 0))(1, (9, 1))(2, (9, 2))";
-    const hikebox_course course = {4096, 5, 20};
+    const hikebox_course course = {sizeof course, 4096, 5, 20};
     hikebox_policy policy = HIKEBOX_INIT, empty = HIKEBOX_INIT;
     hikebox_pass pass = HIKEBOX_INIT;
     hikebox_line lines[4] = {{0, 0, 0, false}, {0, 0, 0, false}, {0, 0, 0, true}, {8, 8, 8, true}};
@@ -245,18 +246,22 @@ int courses(void) {
     holds(count == 3 && length == 33 && !memcmp(text, wanted, length));
     wants(hikebox_policy_course(&policy, &course, events, 2, lines, 3, &count, text, 33, &length), HIKEBOX_OK);
     // no event is stepped, and none has to be there for that but the one that gives the input
-    wants(hikebox_policy_course(&policy, &(hikebox_course){0, 0, 0}, events, 1, lines, 0, &count, text, 0, &length),
+    wants(hikebox_policy_course(&policy, &(hikebox_course){sizeof(hikebox_course), 0, 0, 0}, events, 1, lines, 0,
+                                &count, text, 0, &length),
           HIKEBOX_OK);
     holds(count == 0 && length == 0);
     wants(hikebox_budget_fixed(1, &pass), HIKEBOX_OK);
-    refuses(&empty, (hikebox_course){4097, 0, 0}, events, 1, HIKEBOX_OUT_OF_RANGE);
-    refuses(&empty, (hikebox_course){1, HIKEBOX_MAX_NUMBER + 1, 0}, events, 1, HIKEBOX_OUT_OF_RANGE);
-    refuses(&empty, (hikebox_course){1, 0, HIKEBOX_MAX_NUMBER + 1}, events, 1, HIKEBOX_OUT_OF_RANGE);
-    refuses(&empty, (hikebox_course){1, 0, 0}, events, 0, HIKEBOX_OUT_OF_RANGE);
-    refuses(&empty, (hikebox_course){1, 0, 0}, events, 3, HIKEBOX_OUT_OF_RANGE);
-    refuses(&empty, (hikebox_course){1, HIKEBOX_MAX_NUMBER, HIKEBOX_MAX_NUMBER}, events, 2, HIKEBOX_EMPTY);
-    refuses((hikebox_policy *)&pass, (hikebox_course){1, 0, 0}, events, 2, HIKEBOX_WRONG_KIND);
-    refuses(&policy, (hikebox_course){4, 0, 0}, events, 2, HIKEBOX_NO_ROOM);
+    refuses(&empty, (hikebox_course){sizeof(hikebox_course), 4097, 0, 0}, events, 1, HIKEBOX_OUT_OF_RANGE);
+    refuses(&empty, (hikebox_course){sizeof(hikebox_course), 1, HIKEBOX_MAX_NUMBER + 1, 0}, events, 1,
+            HIKEBOX_OUT_OF_RANGE);
+    refuses(&empty, (hikebox_course){sizeof(hikebox_course), 1, 0, HIKEBOX_MAX_NUMBER + 1}, events, 1,
+            HIKEBOX_OUT_OF_RANGE);
+    refuses(&empty, (hikebox_course){sizeof(hikebox_course), 1, 0, 0}, events, 0, HIKEBOX_OUT_OF_RANGE);
+    refuses(&empty, (hikebox_course){sizeof(hikebox_course), 1, 0, 0}, events, 3, HIKEBOX_OUT_OF_RANGE);
+    refuses(&empty, (hikebox_course){sizeof(hikebox_course), 1, HIKEBOX_MAX_NUMBER, HIKEBOX_MAX_NUMBER}, events, 2,
+            HIKEBOX_EMPTY);
+    refuses((hikebox_policy *)&pass, (hikebox_course){sizeof(hikebox_course), 1, 0, 0}, events, 2, HIKEBOX_WRONG_KIND);
+    refuses(&policy, (hikebox_course){sizeof(hikebox_course), 4, 0, 0}, events, 2, HIKEBOX_NO_ROOM);
     wants(hikebox_pass_free(&pass), HIKEBOX_OK);
     wants(hikebox_policy_free(&policy), HIKEBOX_OK);
     return wrong;

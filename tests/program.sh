@@ -151,7 +151,7 @@ bad 'a word is not UTF-8' plan --from $'\xff'
 { printf '"forever"'; head -c 1048568 /dev/zero | tr '\0' ' '; } >"$work/in"
 wants 3 '' 'zsched: input too long\n' plan
 input ''
-refuses 'not JSON' 'not JSON: line 1, column 1: the text ends too soon' plan
+refuses 'not JSON' 'not JSON: line 1, column 1: the text is empty' plan
 input '{"recurs":3'
 refuses 'not JSON' 'not JSON: line 1, column 11: the text ends too soon' plan
 input '{"recurs":-1}'
@@ -447,6 +447,25 @@ for words in 'plan --steps 4096' 'storm --rate 1 --seconds 1' check --help; do
   [ "$got" = 4 ] && ! [ -s "$work/err" ] ||
     { echo "tests/program.sh: zsched $words: a pipe that nobody reads: status $got; errors $(cat "$work/err")" >&2; failed=1; }
 done
+
+# Before it reads a text from a terminal it says so; a file that is named, it reads without a word.
+python3 - "$zsched" "$work/in" <<'EOF' || { echo "tests/program.sh: zsched on a terminal" >&2; failed=1; }
+import os, pty, subprocess, sys
+
+def run(*words):
+    leader, follower = pty.openpty()
+    with subprocess.Popen(words, stdin=follower, stdout=subprocess.PIPE, stderr=subprocess.PIPE) as program:
+        os.close(follower)
+        os.write(leader, b'"forever"\n\x04')
+        output, errors = program.communicate(timeout=60)
+    os.close(leader)
+    return program.returncode, output, errors
+
+program, file = sys.argv[1:]
+said = b"zsched: reading JSON from the terminal; Ctrl-D ends it\n"
+results = [run(program, "plan", "--steps", "1"), run(program, "plan", "--steps", "1", file)]
+sys.exit(results != [(0, b"0: 0 next 0\n", said), (0, b"0: 0 next 0\n", b"")])
+EOF
 
 if [ "$failed" = 0 ]; then
   echo "tests/program.sh: every run of the program is as wanted"

@@ -66,12 +66,23 @@ static bool draw(hikebox_leased *leased, int file, hikebox_ticket *ticket) {
     return true;
 }
 
+/* The number that a word of one to nine digits spells, or -1 of another word. */
+static long number_in(const char *word) {
+    size_t digits = strspn(word, "0123456789");
+    return digits > 0 && digits < 10 && word[digits] == 0 ? strtol(word, NULL, 10) : -1;
+}
+
 int main(int count, char **words) {
     if (count != 3) {
-        fprintf(stderr, "usage: lease FILE new|NUMBER\n");
+        fprintf(stderr, "lease: expected 2 words, FILE and a number of tickets or `new`, got %d\n", count - 1);
         return 2;
     }
     bool makes = strcmp(words[2], "new") == 0;
+    long wanted = makes ? 0 : number_in(words[2]);
+    if (wanted < 0) {
+        fprintf(stderr, "lease: expected a number of tickets below 1000000000 or `new`, got \"%s\"\n", words[2]);
+        return 2;
+    }
     int file = open(words[1], makes ? O_RDWR | O_CREAT | O_EXCL : O_RDWR, 0666);
     check_system(file >= 0, words[1]);
     if (makes) {
@@ -81,7 +92,7 @@ int main(int count, char **words) {
     hikebox_leased leased = HIKEBOX_INIT;
     hikebox_ticket ticket;
     check(hikebox_leased_new(0, &leased), "hikebox_leased_new");
-    for (long left = strtol(words[2], NULL, 10); left > 0 && draw(&leased, file, &ticket); left--)
+    for (; wanted > 0 && draw(&leased, file, &ticket); wanted--)
         printf("%" PRIu64 "\n", ticket.number);
     check(hikebox_leased_free(&leased), "hikebox_leased_free");
     return 0;

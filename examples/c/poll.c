@@ -69,14 +69,25 @@ static int until(const hikebox_next *next) {
     return next->until - at > 60000 ? 60000 : (int)(next->until - at);
 }
 
+/* The port that a word of one to five digits spells, or 0 of another word. */
+static uint16_t port_in(const char *word) {
+    size_t digits = strspn(word, "0123456789");
+    long number = digits < 6 && word[digits] == 0 ? strtol(word, NULL, 10) : 0;
+    return number < 65536 ? (uint16_t)number : 0;
+}
+
 int main(int count, char **words) {
-    uint16_t port = count == 2 ? (uint16_t)atoi(words[1]) : 0;
+    uint16_t port = count == 2 ? port_in(words[1]) : 0;
+    if (port == 0) {
+        fprintf(stderr, "connect: expected one port from 1 to 65535, got \"%s\"\n", count > 1 ? words[count - 1] : "");
+        return 2;
+    }
     static const uint32_t no_words[4]; /* (this policy has no jitter) */
     hikebox_policy policy = HIKEBOX_INIT;
     hikebox_pass pass = HIKEBOX_INIT;
     hikebox_retry retry = HIKEBOX_INIT;
     hikebox_place place;
-    hikebox_next next = {0};
+    hikebox_next next = HIKEBOX_NEXT;
     check(hikebox_policy_read(policy_json, strlen(policy_json), &policy, &place));
     check(hikebox_pass_unlimited(&pass));
     check(hikebox_retry_new(&policy, &pass, HIKEBOX_NO_DEADLINE, &retry));

@@ -53,7 +53,11 @@ static bool call(uint64_t *code) {
     return *code == 200;
 }
 
-int main(void) {
+int main(int count, char **words) {
+    if (count > 1) {
+        fprintf(stderr, "retry: expected no words, got \"%s\"\n", words[1]);
+        return 2;
+    }
     hikebox_policy policy = HIKEBOX_INIT;
     hikebox_pass pass = HIKEBOX_INIT;
     hikebox_retry retry = HIKEBOX_INIT;
@@ -62,7 +66,7 @@ int main(void) {
     check(hikebox_budget_fixed(1000, &pass), "hikebox_budget_fixed");
     check(hikebox_retry_new(&policy, &pass, HIKEBOX_NO_DEADLINE, &retry), "hikebox_retry_new");
 
-    hikebox_next next;
+    hikebox_next next = HIKEBOX_NEXT;
     uint32_t report = HIKEBOX_NO_REPORT;
     uint64_t code = 0;
     for (;;) {

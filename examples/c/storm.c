@@ -20,7 +20,7 @@ static void check(hikebox_status status, const char *call) {
 
 static void play(hikebox_policy *policy, const hikebox_storm *storm, const char *name) {
     static hikebox_window windows[121]; /* until / window, and one more */
-    hikebox_totals totals;
+    hikebox_totals totals = HIKEBOX_TOTALS;
     size_t count;
     check(hikebox_storm_play(policy, storm, windows, 121, &count, &totals), "hikebox_storm_play");
     printf("%s: %llu calls for %llu requests in %zu windows, ", name, (unsigned long long)totals.calls,
@@ -32,7 +32,11 @@ static void play(hikebox_policy *policy, const hikebox_storm *storm, const char 
     }
 }
 
-int main(void) {
+int main(int count, char **words) {
+    if (count > 1) {
+        fprintf(stderr, "storm: expected no words, got \"%s\"\n", words[1]);
+        return 2;
+    }
     hikebox_policy policy = HIKEBOX_INIT;
     hikebox_place place;
     check(hikebox_policy_read(policy_json, sizeof policy_json - 1, &policy, &place), "hikebox_policy_read");

@@ -49,6 +49,7 @@ TYPES: Dict[str, Any] = {
 }
 
 CTYPES: Dict[str, Any] = {
+    "size_t": ctypes.c_size_t,
     "uint64_t": c_uint64,
     "uint32_t": ctypes.c_uint32,
     "uint32_t[4]": structs.Words,
@@ -81,7 +82,7 @@ def test_the_signatures_are_those_of_the_header() -> None:
 
 def fields(body: str) -> List[Tuple[str, str]]:
     """The type and the name of each field of a struct."""
-    found = re.findall(r"(uint64_t|uint32_t|bool) (\w+)(\[4\])?;", body)
+    found = re.findall(r"(size_t|uint64_t|uint32_t|bool) (\w+)(\[4\])?;", body)
     return [(word + count, name) for word, name, count in found]
 
 

@@ -40,12 +40,12 @@ ANOTHER = {
     "reads": "word",
 }
 SPELL_IT = """
-from hikebox.policy.nodes import reads_of, walk
+from hikebox.policy.nodes import NODES, parts_of
 from hikebox.policy.parsing import read
 from hikebox.policy.spelling import spelt, spelt_in_rust
 
 tree = {"cap": [1, {"pause": [2, 8, "short_one", {"meet": ["forever", {"recurs": 3}]}]}]}
-print(spelt(tree), spelt_in_rust(tree), [name for name, _ in walk(tree)], sorted(reads_of(tree)[0]), sep="\\n")
+print(spelt(tree), spelt_in_rust(tree), parts_of(tree["cap"][1])[:2], NODES["pause"].reads, sep="\\n")
 print(read("recurs(1).pausd()").error.hint)
 """
 
@@ -98,8 +98,8 @@ def test_another_node_is_a_row(tmp_path: Path) -> None:
         '(forever() & recurs(3)).paused(0.008, "short_one", lane=2).cap(0.001)',
         "(Schedule::forever() & Schedule::recurs(3)).pause(2, Duration::from_millis(8), Kind::ShortOne)"
         ".cap(Duration::from_millis(1))",
-        "['cap', 'pause', 'meet', 'forever', 'recurs']",
-        "[2]",
+        "('pause', [2, 8, 'short_one'])",
+        "word",
         "no method is called 'pausd'; did you mean 'paused'?",
     ], ran.stderr
 

@@ -11,7 +11,7 @@ import subprocess
 import threading
 from datetime import timedelta
 from pathlib import Path
-from typing import Any, Callable, List, Tuple
+from typing import Any, Callable, Iterator, List, Tuple
 
 import faults
 import pytest
@@ -42,7 +42,7 @@ from hikebox import (
     unfold,
     windowed,
 )
-from hikebox.policy.nodes import NODES
+from hikebox.policy.nodes import NODES, parts_of
 
 NAMESPACE = {name: getattr(hikebox, name) for name in hikebox.__all__}
 
@@ -136,8 +136,16 @@ def test_a_builder_builds_the_node_of_its_name(policy: Policy, text: str, writte
     assert Policy.from_dict(json.loads(text)) == policy
 
 
+def nodes_of(tree: Any) -> Iterator[Tuple[str, List[Any]]]:
+    """Each node of a policy, with its own parameters."""
+    name, own, plans = parts_of(tree)
+    yield name, own
+    for plan in plans:
+        yield from nodes_of(plan)
+
+
 def test_every_node_has_a_builder() -> None:
-    built = {name for _, text, _ in BUILT for name, _ in hikebox.policy.nodes.walk(json.loads(text))}
+    built = {name for _, text, _ in BUILT for name, _ in nodes_of(json.loads(text))}
     assert built == set(NODES)
 
 
@@ -151,10 +159,11 @@ def test_random_policies_are_written_and_read_as_they_are() -> None:
         built = Policy.parse(repr(policy))
         assert built == policy and (built.nodes, built.depth) == (policy.nodes, policy.depth)
         assert pickle.loads(pickle.dumps(policy)) == policy
-        nodes = list(hikebox.policy.nodes.walk(tree))
-        picks = {own[0] for name, own in nodes if name in ("jitter", "decorrelated")}
-        codes = any(name == "identity" or (name == "gate" and own[0] == "input") for name, own in nodes)
-        assert policy.reads == built.reads == (frozenset(picks), codes)
+        nodes = list(nodes_of(tree))
+        reads = [(NODES[name].reads, own) for name, own in nodes]
+        picks = {own[0] for read, own in reads if read == "word"}
+        codes = any(read == "input" or (read == "SIDE" and own[0] == "input") for read, own in reads)
+        assert policy.reads == built.reads == (tuple(sorted(picks)), codes)
         assert policy.nodes == len(nodes)
 
 

@@ -1,1 +1,2 @@
+-- Lemmas that the proofs of `hikebox_c` cite.
 pub mod Lines

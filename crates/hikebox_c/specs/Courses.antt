@@ -1,5 +1,6 @@
 -- What C gives of a course, and what it is told.
-use Rattle.std.specs.Prelude.{◌≡◌, ◌⊎◌, ℕ, ◌+◌, ◌<◌, ◌≤◌, List, [], ◌∷◌, map, flat_map, length, true, false, Option, Some, Result, Ok, Err, string_bytes}
+use Rattle.std.specs.Prelude.{◌≡◌, ◌⊎◌, ℕ, ◌+◌, ◌<◌, ◌≤◌, List, [], ◌∷◌, map, flat_map, length, true, false, Option}
+use Rattle.std.specs.Prelude.{Some, Result, Ok, Err, string_bytes}
 use Rattle.std.specs.List.{All}
 use Rattle.sched_time.specs.declared.numbers.TheConstants.{FAR}
 use Rattle.sched_time.specs.declared.starts.Decision.{Decision}
@@ -84,8 +85,8 @@ pub record HasRoom (room : Room) (told : CourseTold) : Type 0 where
   pub lines : length told.lines.items ≤ length room.lines
   pub text : length (string_bytes told.text) ≤ length room.text
 
--- the lines and the text are written where there is room for both, and how many there are in any case; a reason is told by
--- its number, and the room is as it was
+-- the lines and the text are written where there is room for both, and how many there are in any case; a reason is told
+-- by its number, and the room is as it was
 abbrev pub TellsCourse : Room → ℕ → Room → Result CourseTold Status → Type 0
 TellsCourse old code new (Ok told) =
     (new.count ≡ length told.lines.items) × (new.length ≡ length (string_bytes told.text))

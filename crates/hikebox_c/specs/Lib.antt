@@ -1,3 +1,4 @@
+-- What the contracts of the library's exports cite.
 pub mod Calls
 pub mod Texts
 pub mod Policies

@@ -1,10 +1,12 @@
 //! What a policy does along a course.
-ghost use Rattle.std.specs.Prelude.{◌≡◌, ◌↔◌, map, IsTrue, IfOk};
+ghost use Rattle.std.specs.Prelude.{◌≡◌, ◌≢◌, ◌↔◌, map, IsTrue, IfOk, Err};
 ghost use Rattle.std.specs.List.{All};
 ghost use Rattle.sched_plan_course.specs.Course.{course_of};
 ghost use Rattle.sched_plan_course.specs.Lines.{course_lines as lines_of_course};
+ghost use Rattle.sched_handle.specs.declared.status.Status.TheVariants as status;
 ghost use Rattle.hikebox_c.specs.Calls.{Comes};
-ghost use Rattle.hikebox_c.specs.Courses.{IsGiven, InputIsInRange, course_given, told_by, AreTold, StepsPolicy, TellsCourse};
+ghost use Rattle.hikebox_c.specs.Courses.{IsGiven, InputIsInRange, course_given, told_by, AreTold, StepsPolicy};
+ghost use Rattle.hikebox_c.specs.Courses.{TellsCourse};
 
 use sched_handle::{Handle, Status};
 use sched_plan::Plan;
@@ -12,8 +14,8 @@ use sched_plan_course::{Line, MAX_STEPS, PlanCourse, course_lines};
 use sched_time::{FAR, Millis, Moment, NoMemory};
 use std::alloc::Global;
 
-/// How a policy is stepped: for so many events at most, from this moment on, and how long after a planned start the next
-/// event comes.
+/// How a policy is stepped: for so many events at most, from this moment on, and how long after a planned start the
+/// next event comes.
 #[repr(C)]
 #[derive(Clone, Copy)]
 pub struct CourseGiven {
@@ -21,6 +23,17 @@ pub struct CourseGiven {
     pub from: u64,
     pub took: u64,
 }
+
+/// A course, after the size in bytes that C gives of this struct.
+#[repr(C)]
+#[derive(Clone, Copy)]
+pub struct SizedCourse {
+    pub size: usize,
+    pub course: CourseGiven,
+}
+
+// The size of it.
+const COURSE_SIZE: usize = 32;
 
 /// The input of an event, and its random words.
 #[repr(C)]
@@ -30,8 +43,8 @@ pub struct EventGiven {
     pub words: [u32; 4],
 }
 
-/// What a policy does at an event: its moment, the start that is planned or 0, where its output ends among the bytes of all
-/// outputs, and whether the policy goes on.
+/// What a policy does at an event: its moment, the start that is planned or 0, where its output ends among the bytes of
+/// all outputs, and whether the policy goes on.
 #[repr(C)]
 #[derive(Clone, Copy)]
 pub struct LineTold {
@@ -50,6 +63,42 @@ pub struct CourseTold {
 
 #[unsafe(no_mangle)]
 pub extern "C" fn hikebox_policy_course(
+    alloc: Global,
+    policy: &mut Handle,
+    course: &SizedCourse,
+    events: &[EventGiven],
+    lines: &mut [LineTold],
+    count: &mut usize,
+    text: &mut [u8],
+    length: &mut usize,
+) -> u32
+    ensures kept { policy.new.held ≡ policy.old.held }
+    ensures course { course.now.size ≡ 32 →
+        Comes (StepsPolicy course.now.course events.now policy.old.held) (TellsCourse
+        (record { lines = lines.old; count = count.old; text = text.old; length = length.old }) result
+        (record { lines = lines.new; count = count.new; text = text.new; length = length.new })) }
+    ensures wrong_size { course.now.size ≢ 32 → TellsCourse
+        (record { lines = lines.old; count = count.old; text = text.old; length = length.old }) result
+        (record { lines = lines.new; count = count.new; text = text.new; length = length.new })
+        (Err status.WrongSize) }
+{
+    if course.size != COURSE_SIZE {
+        return Status::WrongSize.code();
+    }
+    tell_course(
+        alloc,
+        policy,
+        &course.course,
+        events,
+        lines,
+        count,
+        text,
+        length,
+    )
+}
+
+// Writes the lines of the course, and their outputs.
+fn tell_course(
     alloc: Global,
     policy: &mut Handle,
     course: &CourseGiven,

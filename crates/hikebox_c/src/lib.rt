@@ -1,5 +1,6 @@
-//! Hikebox for C, as include/hikebox.h declares it: calls for programs in C, or in any language that calls C. The header
-//! lists the refusals of each, and what the caller owes.
+//! Hikebox for C, as include/hikebox.h declares it: the exports for programs in C, or in any language that calls C. The
+//! clauses of each say what it does to the handles and the memory that it is given; the header lists its refusals, and
+//! what the caller owes. It stands on `sched_handle`, and on the crates that read, write and step policies.
 #![tactic(auto)]
 
 mod courses;

@@ -1,5 +1,5 @@
 //! Passes: what a retry draws on, a budget, a quota or nothing, in one kind of handle.
-ghost use Rattle.std.specs.Prelude.{◌≡◌, ◌<◌, ◌≤◌, true, false, Err};
+ghost use Rattle.std.specs.Prelude.{◌≡◌, ◌≢◌, ◌<◌, ◌≤◌, true, false, Err};
 ghost use Rattle.sched_time.specs.declared.numbers.TheConstants.{FAR};
 ghost use Rattle.sched_handle.specs.Drawing.{Draws, Deposits, HandsBack, SetsTerms, Raises, Sees};
 ghost use Rattle.sched_handle.specs.Fills.{Frees};
@@ -208,13 +208,40 @@ pub extern "C" fn hikebox_pass_count(alloc: Global, pass: &mut Handle, tickets: 
     tell(answer, tickets)
 }
 
+/// What is known of a window of a quota, after the size in bytes that C gives of this struct.
+#[repr(C)]
+#[derive(Clone, Copy)]
+pub struct SizedUsage {
+    pub size: usize,
+    pub usage: Usage,
+}
+
+// The size of it.
+const USAGE_SIZE: usize = 48;
+
 #[unsafe(no_mangle)]
 pub extern "C" fn hikebox_pass_seen(
     alloc: Global,
     pass: &mut Handle,
     now: u64,
-    usage: &mut Usage,
+    usage: &mut SizedUsage,
 ) -> u32
+    ensures seen { usage.old.size ≡ 48 → now ≤ FAR → OnHeld (OnPass (Sees now)) pass.old.held pass.new.held
+        (Tells result usage.old.usage usage.new.usage) }
+    ensures too_large { usage.old.size ≡ 48 → FAR < now → (pass.new.held ≡ pass.old.held)
+        × Tells result usage.old.usage usage.new.usage (Err status.TooLarge) }
+    ensures wrong_size { usage.old.size ≢ 48 → (pass.new.held ≡ pass.old.held)
+        × Tells result usage.old usage.new (Err status.WrongSize) }
+    ensures size { usage.new.size ≡ usage.old.size }
+{
+    if usage.size != USAGE_SIZE {
+        return Status::WrongSize.code();
+    }
+    see(alloc, pass, now, &mut usage.usage)
+}
+
+// Tells what is known of the window of this moment.
+fn see(alloc: Global, pass: &mut Handle, now: u64, usage: &mut Usage) -> u32
     ensures seen { now ≤ FAR → OnHeld (OnPass (Sees now)) pass.old.held pass.new.held
         (Tells result usage.old usage.new) }
     ensures too_large { FAR < now → (pass.new.held ≡ pass.old.held)

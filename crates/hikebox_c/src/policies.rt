@@ -1,7 +1,7 @@
 //! Policies.
 ghost use Rattle.std.specs.Prelude.{◌≡◌, ◌≢◌, IfOk, IfErr, option_copied};
 ghost use Rattle.sched_handle.specs.Fills.{Frees};
-ghost use Rattle.sched_handle.specs.Policies.{ReadsPolicy, Shares, Sizes};
+ghost use Rattle.sched_handle.specs.Policies.{ReadsPolicy, Shares, Sizes, Reads};
 ghost use Rattle.sched_handle.specs.Replies.{nowhere};
 ghost use Rattle.sched_handle.specs.Status.{code_of};
 ghost use Rattle.sched_handle.specs.declared.held.Kind.TheVariants as kind;
@@ -11,7 +11,7 @@ ghost use Rattle.hikebox_c.specs.Policies.{IsGiven, IsNotGiven, IsNodeOf, MakesN
 ghost use Rattle.hikebox_c.specs.Texts.{TellsText};
 
 use crate::texts::tell_text;
-use sched_handle::{Handle, Held, Kind, Place, Status};
+use sched_handle::{Handle, Held, Kind, Place, Status, tell};
 use sched_plan::{Plan, PlanFault, SharedPlan};
 use sched_plan_json_write::to_json;
 use sched_plan_node::{NodeFault, node};
@@ -166,6 +166,18 @@ pub extern "C" fn hikebox_policy_size(
         }
         Err(status) => status.code(),
     }
+}
+
+#[unsafe(no_mangle)]
+pub extern "C" fn hikebox_policy_reads(alloc: Global, policy: &mut Handle, reads: &mut u64) -> u32
+    ensures { OnHeld (Kept Reads) policy.old.held policy.new.held (Tells result reads.old reads.new) }
+{
+    let Some(held) = policy.take(alloc) else {
+        return Status::Empty.code();
+    };
+    let answer = held.reads();
+    policy.put(held);
+    tell(answer, reads)
 }
 
 #[unsafe(no_mangle)]

@@ -1,5 +1,5 @@
 //! Retries.
-ghost use Rattle.std.specs.Prelude.{◌≡◌, ◌<◌, ◌≤◌, Err};
+ghost use Rattle.std.specs.Prelude.{◌≡◌, ◌≢◌, ◌<◌, ◌≤◌, Err};
 ghost use Rattle.sched_time.specs.declared.numbers.TheConstants.{FAR};
 ghost use Rattle.sched_handle.specs.Fills.{Frees};
 ghost use Rattle.sched_handle.specs.Passes.{AreOfOne};
@@ -75,8 +75,43 @@ fn deadline_at(deadline: u64) -> Result<Option<Moment>, Status>
     }
 }
 
+/// What a retry is at, after the size in bytes that C gives of this struct.
+#[repr(C)]
+#[derive(Clone, Copy)]
+pub struct SizedReply {
+    pub size: usize,
+    pub reply: Reply,
+}
+
+// The size of it.
+const REPLY_SIZE: usize = 48;
+
 #[unsafe(no_mangle)]
 pub extern "C" fn hikebox_retry_poll(
+    alloc: Global,
+    retry: &mut Handle,
+    now: u64,
+    words: &[u32; 4],
+    report: u32,
+    code: u64,
+    next: &mut SizedReply,
+) -> u32
+    ensures poll { next.old.size ≡ 48 → now ≤ FAR → PollsAt now words.now report code
+        retry.old.held retry.new.held (Tells result next.old.reply next.new.reply) }
+    ensures too_large { next.old.size ≡ 48 → FAR < now → (retry.new.held ≡ retry.old.held)
+        × Tells result next.old.reply next.new.reply (Err status.TooLarge) }
+    ensures wrong_size { next.old.size ≢ 48 → (retry.new.held ≡ retry.old.held)
+        × Tells result next.old next.new (Err status.WrongSize) }
+    ensures size { next.new.size ≡ next.old.size }
+{
+    if next.size != REPLY_SIZE {
+        return Status::WrongSize.code();
+    }
+    poll(alloc, retry, now, words, report, code, &mut next.reply)
+}
+
+// Steps the retry and answers what it is at.
+fn poll(
     alloc: Global,
     retry: &mut Handle,
     now: u64,

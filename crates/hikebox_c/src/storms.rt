@@ -1,24 +1,33 @@
 //! Storms.
-ghost use Rattle.std.specs.Prelude.{◌≡◌};
-ghost use Rattle.sched_storm_call.specs.Plays.{PlaysStorm};
+ghost use Rattle.std.specs.Prelude.{◌≡◌, ◌≢◌, Err};
+ghost use Rattle.sched_handle.specs.declared.status.Status.TheVariants as status;
+ghost use Rattle.sched_storm_call.specs.Plays.{PlaysStorm, Tells};
 
 use sched_handle::Handle;
-use sched_storm_call::{StormGiven, TotalsTold, WindowTold};
+use sched_storm_call::{SizedStorm, SizedTotals, WindowTold};
 use std::alloc::Global;
 
 #[unsafe(no_mangle)]
 pub extern "C" fn hikebox_storm_play(
     alloc: Global,
     policy: &mut Handle,
-    storm: &StormGiven,
+    storm: &SizedStorm,
     windows: &mut [WindowTold],
     count: &mut usize,
-    totals: &mut TotalsTold,
+    totals: &mut SizedTotals,
 ) -> u32
     ensures kept { policy.new.held ≡ policy.old.held }
-    ensures played { PlaysStorm storm.now policy.old.held
-        (record { windows = windows.old; count = count.old; totals = totals.old }) result
-        (record { windows = windows.new; count = count.new; totals = totals.new }) }
+    ensures played { storm.now.size ≡ 168 → totals.old.size ≡ 128 →
+        PlaysStorm storm.now.storm policy.old.held
+        (record { windows = windows.old; count = count.old; totals = totals.old.totals }) result
+        (record { windows = windows.new; count = count.new; totals = totals.new.totals }) }
+    ensures wrong_storm { storm.now.size ≢ 168 → Tells storm.now.storm
+        (record { windows = windows.old; count = count.old; totals = totals.old.totals }) (Err status.WrongSize) result
+        (record { windows = windows.new; count = count.new; totals = totals.new.totals }) }
+    ensures wrong_totals { totals.old.size ≢ 128 → Tells storm.now.storm
+        (record { windows = windows.old; count = count.old; totals = totals.old.totals }) (Err status.WrongSize) result
+        (record { windows = windows.new; count = count.new; totals = totals.new.totals }) }
+    ensures size { totals.new.size ≡ totals.old.size }
 {
     sched_storm_call::storm_play(alloc, policy, storm, windows, count, totals)
 }

@@ -1,6 +1,7 @@
--- Retries with a deadline: which schedules they may go by, and that how one has ended tells whether its plan is done, and
--- whether the deadline ended it.
-use Rattle.std.proofs.Common.{◌≡◌, ℕ, Bool, true, false, ◌||◌, if◌then◌else◌, nat_eq, List, [], ◌∷◌, Option, Some, None, is_some, refl, sym, ap, ◌∙◌}
+-- Retries with a deadline: which schedules they may go by, and that how one has ended tells whether its plan is done,
+-- and whether the deadline ended it.
+use Rattle.std.proofs.Common.{◌≡◌, ℕ, Bool, true, false, ◌||◌, if◌then◌else◌, nat_eq, List, [], ◌∷◌, Option, Some, None}
+use Rattle.std.proofs.Common.{is_some, refl, sym, ap, ◌∙◌}
 use Rattle.sched_plan.specs.Schedule.{Schedule}
 use Rattle.sched_time.specs.Decision.{start_of}
 use Rattle.sched_time.specs.declared.starts.Decision.{Decision}
@@ -20,7 +21,8 @@ use Rattle.sched_run_machine.specs.Deadline.{is_past, late, until_from}
 use Rattle.sched_run_machine.specs.Drives.{GoesByPlan}
 use Rattle.sched_run_machine.specs.Machine.{WaitsInTime}
 use Rattle.sched_run_machine.specs.Next.{next_of, next_by_ending, next_by_start}
-use Rattle.sched_run_machine.specs.Until.{Until, unstepped_until, plan_of-until, beneath, GoesUntil, schedule_until, goes_until}
+use Rattle.sched_run_machine.specs.Until.{Until, unstepped_until, plan_of-until, beneath, GoesUntil, schedule_until}
+use Rattle.sched_run_machine.specs.Until.{goes_until}
 use Rattle.sched_run_machine.specs.declared.next.Next.{Next}
 use Rattle.sched_run_machine.specs.declared.next.Next.TheVariants as next
 use Rattle.sched_handle.specs.Retries.{how_number, reply_to, was_timed_out, plan_is_done, is_late}
@@ -61,7 +63,8 @@ no_start : (d : Decision) → is_done d ≡ true → start_of d ≡ None
 no_start (Go start) done = absurd cc
 no_start Done done = refl
 
-not_late : (deadline : Option ℕ) (s : Schedule) (h : List Event) → schedule_is_done (record { plan = s; journal = h }) ≡ true →
+not_late : (deadline : Option ℕ) (s : Schedule) (h : List Event)
+    → schedule_is_done (record { plan = s; journal = h }) ≡ true →
     is_some (late deadline (next_start_of (record { plan = s; journal = h }))) ≡ false
 not_late deadline s [] done = absurd cc
 not_late deadline s (e ∷ h) done = rw (no_start (answer s (e ∷ h)).decision done) refl
@@ -102,7 +105,8 @@ or_none : (late n : Bool) → late ≡ n → (late || false) ≡ n
 or_none true n same = same
 or_none false n same = same
 
-told_by : (over : Option How) (planned late : Bool) → (planned || late) ≡ says_done over → (planned ≡ true → late ≡ false) →
+told_by : (over : Option How) (planned late : Bool) → (planned || late) ≡ says_done over
+    → (planned ≡ true → late ≡ false) →
     (planned ≡ nat_eq (number_of over late) 2) × ((late || was_timed_out over) ≡ nat_eq (number_of over late) 8)
 told_by None planned late is apart = neither planned late is
 told_by (Some how.Won) planned late is apart = neither planned late is
@@ -135,8 +139,10 @@ tells_ending keeps deadline v granted runs left law parts =
     )
 
 -- what is told to wait for is in time
-pub waits_in_time : (deadline : Option ℕ) (next : Next) (late : Bool) (granted runs left : ℕ) → WaitsInTime deadline next →
-    (reply_to next late granted runs left).what ≡ 2 → is_past deadline (reply_to next late granted runs left).until ≡ false
+pub waits_in_time : (deadline : Option ℕ) (next : Next) (late : Bool) (granted runs left : ℕ)
+    → WaitsInTime deadline next →
+    (reply_to next late granted runs left).what ≡ 2
+    → is_past deadline (reply_to next late granted runs left).until ≡ false
 waits_in_time deadline next.Poll late granted runs left in_time waits = absurd cc
 waits_in_time deadline next.Run late granted runs left in_time waits = absurd cc
 waits_in_time deadline (next.Wait start) late granted runs left in_time waits = in_time

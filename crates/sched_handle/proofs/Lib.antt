@@ -1,3 +1,4 @@
+-- Lemmas that the proofs of `sched_handle` cite.
 mod AsBox
 mod Deadlines
 pub mod Quotas

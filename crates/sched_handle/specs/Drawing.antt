@@ -17,7 +17,8 @@ use Rattle.sched_handle.specs.Replies.{usage_of}
 use Rattle.sched_handle.specs.Status.{By, of_ticket, of_quota, of_refusal, of_not_back}
 use Rattle.sched_handle.specs.declared.replies.Usage.{Usage}
 use Rattle.sched_handle.specs.declared.status.Status.{Status}
-use Rattle.sched_handle.specs.declared.status.Status.TheVariants.{WrongKind, NoMemory, Fixed, NoTicket, NoTerms, NothingToHandBack, TooManyRequests}
+use Rattle.sched_handle.specs.declared.status.Status.TheVariants.{WrongKind, NoMemory, Fixed, NoTicket, NoTerms}
+use Rattle.sched_handle.specs.declared.status.Status.TheVariants.{NothingToHandBack, TooManyRequests}
 
 -- a ticket is drawn, which may be handed back where it is one of a quota, or there is none
 abbrev pub BudgetDraws : OfBudget → Result ℕ Status → Drawing → Type 0
@@ -51,7 +52,8 @@ abbrev pub Deposits : ℕ → ℕ → Drawing → Result (Unit {0}) Status → D
 Deposits now n (Quota s) r v = QuotaDeposits now n s r v
 Deposits now n d r v = (r ≡ Ok tt) × (v ≡ d)
 
--- the ticket of a quota is handed back that the pass may hand back, or it is kept, for this reason; nothing else takes any
+-- the ticket of a quota is handed back that the pass may hand back, or it is kept, for this reason; nothing else takes
+-- any
 abbrev pub QuotaHands : OfQuota → Result (Unit {0}) Status → Drawing → Type 0
 QuotaHands s (Ok x) v = SameQuota s v (λ t. quota_calls.Hands s.pass t.pass)
 QuotaHands s (Err e) v = SameQuota s v (λ t. By of_not_back (λ why. quota_calls.NotHanded s.pass why t.pass) e)

@@ -5,7 +5,8 @@ use Rattle.std_alloc.specs.declared.boxed.Box.{Box}
 use Rattle.sched_time.specs.declared.numbers.TheConstants.{FAR}
 use Rattle.sched_ticket_lease.specs.Spans.{weight}
 use Rattle.sched_ticket_lease.specs.Requests.{since_then}
-use Rattle.sched_ticket_lease.specs.Holders.{Holder, IsNew, Draws, DrawsNone, Takes, TakesNone, HandsBack, HandsNone, Lends, CountsRequests, TellsRequests}
+use Rattle.sched_ticket_lease.specs.Holders.{Holder, IsNew, Draws, DrawsNone, Takes, TakesNone, HandsBack, HandsNone}
+use Rattle.sched_ticket_lease.specs.Holders.{Lends, CountsRequests, TellsRequests}
 use Rattle.sched_ticket_lease.specs.declared.ticket.Ticket.{Ticket}
 use Rattle.sched_ticket_lease.specs.declared.ticket.Grant.{Grant}
 use Rattle.sched_ticket_lease.specs.declared.ticket.GrantFault.{GrantFault}
@@ -23,7 +24,8 @@ use Rattle.sched_handle.specs.declared.leases.Draw.TheVariants.{Got, LeaseWanted
 use Rattle.sched_handle.specs.declared.replies.Granted.{Granted}
 use Rattle.sched_handle.specs.declared.replies.Standing.{Standing}
 use Rattle.sched_handle.specs.declared.status.Status.{Status}
-use Rattle.sched_handle.specs.declared.status.Status.TheVariants.{NoMemory, TooLarge, Backwards, HeldAlready, NotOut, NoTicket}
+use Rattle.sched_handle.specs.declared.status.Status.TheVariants.{NoMemory, TooLarge, Backwards, HeldAlready, NotOut}
+use Rattle.sched_handle.specs.declared.status.Status.TheVariants.{NoTicket}
 
 -- a leased pass that holds nothing is made, or none for this reason
 abbrev pub MakesLeased : ℕ → Result (Box Held Global) Status → Type 0
@@ -33,7 +35,8 @@ MakesLeased period (Err NoMemory) = period ≤ FAR
 MakesLeased period (Err _) = ⊥
 
 -- a call on what a handle holds does this to its leased pass; of what is of another kind nothing changes
-abbrev pub OnLeased : {A : Type 0} → (Holder → Result A Status → Holder → Type 0) → Held → Result A Status → Held → Type 0
+abbrev pub OnLeased : {A : Type 0} → (Holder → Result A Status → Holder → Type 0) → Held → Result A Status → Held
+    → Type 0
 OnLeased does (Leased h) r v = (k : Holder) × (v ≡ Leased k) × does h r k
 OnLeased does u r v = OtherKind u r v
 

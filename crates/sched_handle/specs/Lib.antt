@@ -1,3 +1,4 @@
+-- What the contracts of `sched_handle` cite: what a handle owns, and what each call on it does and tells.
 pub mod Handle
 pub mod Status
 pub mod Replies

@@ -21,7 +21,8 @@ use Rattle.sched_handle.specs.declared.held.Held.{Held}
 use Rattle.sched_handle.specs.declared.held.Held.TheVariants.{Room, Pass, Retry}
 use Rattle.sched_handle.specs.declared.held.Kind.TheVariants as kind
 use Rattle.sched_handle.specs.declared.status.Status.{Status}
-use Rattle.sched_handle.specs.declared.status.Status.TheVariants.{NoMemory, TooLarge, ReserveTooLarge, ShareTooLarge, PeriodTooShort, PassesOut}
+use Rattle.sched_handle.specs.declared.status.Status.TheVariants.{NoMemory, TooLarge, ReserveTooLarge, ShareTooLarge}
+use Rattle.sched_handle.specs.declared.status.Status.TheVariants.{PeriodTooShort, PassesOut}
 
 -- a budget of this limit is made, with its first pass, or none for this reason
 abbrev pub MakesBudget : ℕ → Bool → Result (Box Held Global) Status → Type 0
@@ -42,7 +43,8 @@ NoQuota k TooLarge = (k.reserve ≤ 4294967296) × (k.share ≤ 1000000) × (FAR
 NoQuota k NoMemory = AreTerms k × (k.period ≤ FAR)
 NoQuota k _ = ⊥
 
--- a quota of these terms, that carries or does not, is made at this moment, with its first pass, or none for this reason
+-- a quota of these terms, that carries or does not, is made at this moment, with its first pass, or none for this
+-- reason
 abbrev pub MakesQuota : ℕ → Terms → Bool → Result (Box Held Global) Status → Type 0
 MakesQuota now k c (Ok b) = (s : OfQuota) × (b.value ≡ Pass (Quota s)) × (s.quota.terms ≡ k) × (s.quota.carries ≡ c)
     × (s.quota.start ≡ now / k.period) × (s.pass.has ≡ quota.first_of_kind c k) × (s.pass.latest ≡ None)

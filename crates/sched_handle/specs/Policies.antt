@@ -3,6 +3,7 @@ use Rattle.std.specs.Prelude.{◌≡◌, ℕ, List, IfSome, unwrap_or, Result, O
 use Rattle.sched_plan.specs.Schedule.{Schedule, nodes_of, depth_of}
 use Rattle.sched_plan_bound.specs.Bound.{bound_of, GoesOnAtMost}
 use Rattle.sched_plan_json.specs.Texts.{ReadsText}
+use Rattle.sched_plan_reads.specs.Reads.{reads_of}
 use Rattle.sched_handle.specs.Held.{kind_of, IsOther, Wants}
 use Rattle.sched_handle.specs.declared.held.Held.{Held}
 use Rattle.sched_handle.specs.declared.held.Held.TheVariants.{Policy}
@@ -36,7 +37,8 @@ abbrev pub Shares : Held → Result (Box Held Global) Status → Type 0
 Shares u (Ok b) = (b.value ≡ u) × (kind_of u ≡ kind.Policy)
 Shares u (Err s) = Wants kind.Policy u s
 
--- how many nodes a schedule has, how deep it is, and the bound that its nodes give, which is one; 2^64 - 1 stands for none
+-- how many nodes a schedule has, how deep it is, and the bound that its nodes give, which is one; 2^64 - 1 stands for
+-- none
 pub record IsSize (s : Schedule) (size : Size) : Type 0 where
   pub nodes : size.nodes ≡ nodes_of s
   pub depth : size.depth ≡ depth_of s
@@ -47,3 +49,8 @@ pub record IsSize (s : Schedule) (size : Size) : Type 0 where
 abbrev pub Sizes : Held → Result Size Status → Type 0
 Sizes u (Ok size) = (s : Schedule) × (u ≡ Policy s) × IsSize s size
 Sizes u (Err s) = IsOther kind.Policy u s
+
+-- what a policy reads of an event beside its moment
+abbrev pub Reads : Held → Result ℕ Status → Type 0
+Reads u (Ok reads) = (s : Schedule) × (u ≡ Policy s) × (reads ≡ reads_of s)
+Reads u (Err s) = IsOther kind.Policy u s

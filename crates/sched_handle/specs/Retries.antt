@@ -1,5 +1,6 @@
 -- What the calls on a retry do.
-use Rattle.std.specs.Prelude.{◌≡◌, ℕ, ◌-◌, Bool, true, false, ◌||◌, if◌then◌else◌, nat_eq, [], ◌∷◌, length, min, Option, Some, None, is_some, option_map, Result, Ok, Err}
+use Rattle.std.specs.Prelude.{◌≡◌, ℕ, ◌-◌, Bool, true, false, ◌||◌, if◌then◌else◌, nat_eq, [], ◌∷◌, length, min, Option}
+use Rattle.std.specs.Prelude.{Some, None, is_some, option_map, Result, Ok, Err}
 use Rattle.std.specs.Global.{Global}
 use Rattle.std_alloc.specs.declared.boxed.Box.{Box}
 use Rattle.sched_time.specs.declared.numbers.Tick.{Tick}
@@ -15,7 +16,8 @@ use Rattle.sched_task_law.specs.Past.{Past, schedule_is_done}
 use Rattle.sched_run_machine.specs.Retrying.{Retrying, gives_up}
 use Rattle.sched_run_machine.specs.Deadline.{is_past, late, until_from}
 use Rattle.sched_run_machine.specs.Drives.{IsStepped, GoesByPlan}
-use Rattle.sched_run_machine.specs.Machine.{Machine, begins, unbegun, is_told, cancelled, StandsFor, PollsUntil, PollsInTime, Polls as PollsMachine}
+use Rattle.sched_run_machine.specs.Machine.{Machine, begins, unbegun, is_told, cancelled, StandsFor, PollsUntil}
+use Rattle.sched_run_machine.specs.Machine.{PollsInTime, Polls as PollsMachine}
 use Rattle.sched_run_machine.specs.Next.{next_of}
 use Rattle.sched_run_machine.specs.Until.{Until, unstepped_until, beneath, StandsUntil, GoesUntil}
 use Rattle.sched_ticket_draws.specs.Drawing.{drawing_grants}
@@ -52,7 +54,8 @@ how_number (how.Broken fault.JournalFull) is_late = 6
 how_number (how.Broken fault.Backwards) is_late = 7
 how_number how.Failed is_late = 9
 
--- what is to be done: what, how it ended, the moment to wait for, the tickets granted, the runs reported and the time left
+-- what is to be done: what, how it ended, the moment to wait for, the tickets granted, the runs reported and the time
+-- left
 abbrev pub reply_to : Next → Bool → ℕ → ℕ → ℕ → Reply
 reply_to next.Poll is_late granted runs left =
     record { what = 0; how = 0; until = 0; granted = granted; runs = runs; left = left }

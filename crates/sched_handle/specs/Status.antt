@@ -20,6 +20,7 @@ code_of status.Full = 3
 code_of status.NoMemory = 4
 code_of status.TooLarge = 5
 code_of status.NoRoom = 6
+code_of status.WrongSize = 7
 code_of status.NotJson = 10
 code_of status.NotAPolicy = 11
 code_of status.OutOfRange = 12

@@ -1,5 +1,6 @@
-//! Handles: what a host that isn't written in Rattle holds of us, each a pointer to a policy, a pass or a retry, and what
-//! each call on it does and replies.
+//! Handles: what a host that isn't written in Rattle holds of the engine, each a pointer to a policy, a pass, a leased
+//! pass or a retry. Each call does and replies what its clause says of what the handle holds, and refuses an empty
+//! handle and one of another kind. It stands on plans, on the machine of retries and on what retries draw on.
 #![tactic(auto)]
 
 mod drawing;

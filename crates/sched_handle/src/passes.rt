@@ -143,8 +143,8 @@ impl Held {
         }
     }
 
-    /// Closes what this pass draws on, where it has all parts of that: then room is left of it. Otherwise another pass is
-    /// alive or was freed, and this one stays.
+    /// Closes what this pass draws on, where it has all parts of that: then room is left of it. Otherwise another pass
+    /// is alive or was freed, and this one stays.
     pub fn close(&mut self) -> Result<u64, Status>
         ensures { Closes self.old result self.new }
     {

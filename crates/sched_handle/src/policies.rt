@@ -2,7 +2,7 @@
 ghost use Rattle.std.specs.Prelude.{◌≡◌, [], IfOk, IfErr};
 ghost use Rattle.sched_driver_stepper.specs.Standing.{standing_after};
 ghost use Rattle.sched_handle.specs.Held.{Wants, IsOther};
-ghost use Rattle.sched_handle.specs.Policies.{IsMade, ReadsPolicy, TellsPlace, Shares, Sizes};
+ghost use Rattle.sched_handle.specs.Policies.{IsMade, ReadsPolicy, TellsPlace, Shares, Sizes, Reads};
 ghost use Rattle.sched_handle.specs.declared.held.Held.TheVariants as what;
 ghost use Rattle.sched_handle.specs.declared.held.Kind.TheVariants as kind;
 
@@ -13,6 +13,7 @@ use sched_driver_stepper::Stepper;
 use sched_plan::{Plan, SharedPlan};
 use sched_plan_bound::most_goes;
 use sched_plan_json::{TextFault, read_text};
+use sched_plan_reads::reads;
 use std::alloc::Global;
 
 impl Held {
@@ -87,6 +88,14 @@ impl Held {
             depth: plan.depth() as u64,
             most: most_goes(plan).unwrap_or(u64::MAX),
         })
+    }
+
+    /// What the policy reads of an event beside its moment, as `sched_plan_reads` adds it up.
+    pub fn reads(&self) -> Result<u64, Status>
+        ensures { Reads self.now result }
+    {
+        let plan = self.policy()?.get();
+        Ok(reads(plan))
     }
 
     /// What steps the policy and keeps no journal, before its first event.

@@ -26,8 +26,8 @@ impl Place {
     }
 }
 
-/// How many nodes a policy has, how deep it is, and at how many events it goes on at most, 2^64 - 1 where its nodes give
-/// no such number.
+/// How many nodes a policy has, how deep it is, and at how many events it goes on at most, 2^64 - 1 where its nodes
+/// give no such number.
 #[derive(Clone, Copy)]
 pub struct Size {
     pub nodes: u64,
@@ -35,9 +35,9 @@ pub struct Size {
     pub most: u64,
 }
 
-/// What a retry is at: what the host is to do (0 to poll, 1 to run, 2 to wait, 3 nothing), how it ended and the moment to
-/// wait for, or 0, the tickets that it was granted, the runs that were reported, and the milliseconds that are left up to
-/// its deadline, 0 where that is past, and 2^64 - 1 where there is none.
+/// What a retry is at: what the host is to do (0 to poll, 1 to run, 2 to wait, 3 nothing), how it ended and the moment
+/// to wait for, or 0, the tickets that it was granted, the runs that were reported, and the milliseconds that are left
+/// up to its deadline, 0 where that is past, and 2^64 - 1 where there is none.
 #[repr(C)]
 #[derive(Clone, Copy)]
 pub struct Reply {
@@ -49,8 +49,8 @@ pub struct Reply {
     pub left: u64,
 }
 
-/// What is known of a window of a quota: which it is, from 0 on, the requests that were counted in it, the tickets that it
-/// has given out and those that it may yet give for these, and when the next begins.
+/// What is known of a window of a quota: which it is, from 0 on, the requests that were counted in it, the tickets that
+/// it has given out and those that it may yet give for these, and when the next begins.
 #[repr(C)]
 #[derive(Clone, Copy)]
 pub struct Usage {
@@ -61,8 +61,8 @@ pub struct Usage {
     pub next: u64,
 }
 
-/// A range that a store granted, or that one leased pass lends another: so many tickets of a window from the number `first` on,
-/// and the moment at which the window ends.
+/// A range that a store granted, or that one leased pass lends another: so many tickets of a window from the number
+/// `first` on, and the moment at which the window ends.
 #[repr(C)]
 #[derive(Clone, Copy)]
 pub struct Granted {
@@ -72,8 +72,8 @@ pub struct Granted {
     pub until: u64,
 }
 
-/// What a leased pass has: how many tickets were drawn with it and not handed back, how many are at hand, and how many requests
-/// were counted and not told.
+/// What a leased pass has: how many tickets were drawn with it and not handed back, how many are at hand, and how many
+/// requests were counted and not told.
 #[derive(Clone, Copy)]
 pub struct Standing {
     pub drawn: u64,

@@ -18,8 +18,8 @@ use sched_time::{Millis, Moment, Tick};
 use std::alloc::Global;
 
 impl Held {
-    /// A retry that has not begun, of the policy, with a pass that is split off. Past the deadline, where there is one, it
-    /// begins no run but the first.
+    /// A retry that has not begun, of the policy, with a pass that is split off. Past the deadline, where there is one,
+    /// it begins no run but the first.
     pub fn retry(
         alloc: Global,
         policy: &Held,

@@ -21,6 +21,8 @@ pub enum Status {
     TooLarge,
     /// there is not enough room
     NoRoom,
+    /// a struct has another size than its call expects
+    WrongSize,
     /// the text is not JSON
     NotJson,
     /// the value is not a policy
@@ -83,6 +85,7 @@ impl Status {
             Status::NoMemory => 4,
             Status::TooLarge => 5,
             Status::NoRoom => 6,
+            Status::WrongSize => 7,
             Status::NotJson => 10,
             Status::NotAPolicy => 11,
             Status::OutOfRange => 12,

@@ -8,6 +8,8 @@ use std::alloc::{AllocError, Global};
 /// Why a text is no JSON.
 #[derive(Clone, Copy, Debug, PartialEq, Eq)]
 pub enum JsonFault {
+    /// It has no byte.
+    Empty,
     /// It ends before its value does.
     EndsTooSoon,
     /// A number is greater than a float can be.
@@ -22,6 +24,7 @@ impl JsonFault {
         ensures { result.now ≡ json_words self.now }
     {
         match self {
+            JsonFault::Empty => "the text is empty",
             JsonFault::EndsTooSoon => "the text ends too soon",
             JsonFault::TooLarge => "the number is too large",
             JsonFault::Unexpected =>
@@ -33,7 +36,11 @@ impl JsonFault {
 /// Why the reader of JSON gave this error, by its text.
 pub(crate) fn json_fault(alloc: Global, error: &Error) -> Result<JsonFault, AllocError> {
     if error.is_eof() {
-        return Ok(JsonFault::EndsTooSoon);
+        return Ok(if error.line() == 1 && error.column() == 0 {
+            JsonFault::Empty
+        } else {
+            JsonFault::EndsTooSoon
+        });
     }
     let said = error.to_string(alloc)?;
     if said.as_str().starts_with("number") {

@@ -1,1 +1,2 @@
+-- Lemmas that the proofs of `sched_storm_call` cite.
 pub mod Refused

@@ -25,7 +25,8 @@ pub record HasRoom (g : StormGiven) (t : Told) : Type 0 where
   pub given : IsGiven g
   pub room : room_of (parameters_of g) ≤ length t.windows
 
--- What is played where a handle holds this: a storm whose report adds up, or none for this reason. Of several reasons it is
+-- What is played where a handle holds this: a storm whose report adds up, or none for this reason. Of several reasons
+-- it is
 -- the first.
 abbrev pub Plays : StormGiven → Told → Option Held → Result Report Status → Type 0
 Plays g t held (Ok report) =

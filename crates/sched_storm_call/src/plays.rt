@@ -1,12 +1,15 @@
 //! Playing a storm.
-ghost use Rattle.std.specs.Prelude.{◌≡◌, map, IfOk, IfErr};
+ghost use Rattle.std.specs.Prelude.{◌≡◌, ◌≢◌, map, IfOk, IfErr, Err};
 ghost use Rattle.sched_storm.specs.Report.{AddsUp};
 ghost use Rattle.sched_handle.specs.Held.{kind_of, Wants};
 ghost use Rattle.sched_handle.specs.declared.held.Kind.TheVariants as kind;
 ghost use Rattle.sched_storm_call.specs.Told.{window_told};
-ghost use Rattle.sched_storm_call.specs.Plays.{PlaysStorm};
+ghost use Rattle.sched_handle.specs.declared.status.Status.TheVariants as status;
+ghost use Rattle.sched_storm_call.specs.Plays.{PlaysStorm, Tells};
 
-use crate::records::{StormGiven, TotalsTold, WindowTold, room_of};
+use crate::records::{
+    STORM_SIZE, SizedStorm, SizedTotals, StormGiven, TOTALS_SIZE, TotalsTold, WindowTold, room_of,
+};
 use sched_handle::{Handle, Held, Status};
 use sched_storm::{Report, Storm, Window};
 use sched_time::NoMemory;
@@ -14,6 +17,41 @@ use std::alloc::Global;
 
 /// Plays a storm of requests under the policy, and writes its windows, their number and its totals.
 pub fn storm_play(
+    alloc: Global,
+    policy: &mut Handle,
+    storm: &SizedStorm,
+    windows: &mut [WindowTold],
+    count: &mut usize,
+    totals: &mut SizedTotals,
+) -> u32
+    ensures kept { policy.new.held ≡ policy.old.held }
+    ensures played { storm.now.size ≡ 168 → totals.old.size ≡ 128 →
+        PlaysStorm storm.now.storm policy.old.held
+        (record { windows = windows.old; count = count.old; totals = totals.old.totals }) result
+        (record { windows = windows.new; count = count.new; totals = totals.new.totals }) }
+    ensures wrong_storm { storm.now.size ≢ 168 → Tells storm.now.storm
+        (record { windows = windows.old; count = count.old; totals = totals.old.totals }) (Err status.WrongSize) result
+        (record { windows = windows.new; count = count.new; totals = totals.new.totals }) }
+    ensures wrong_totals { totals.old.size ≢ 128 → Tells storm.now.storm
+        (record { windows = windows.old; count = count.old; totals = totals.old.totals }) (Err status.WrongSize) result
+        (record { windows = windows.new; count = count.new; totals = totals.new.totals }) }
+    ensures size { totals.new.size ≡ totals.old.size }
+{
+    if storm.size != STORM_SIZE || totals.size != TOTALS_SIZE {
+        return Status::WrongSize.code();
+    }
+    tell_storm(
+        alloc,
+        policy,
+        &storm.storm,
+        windows,
+        count,
+        &mut totals.totals,
+    )
+}
+
+// Plays the storm that is given, and writes what comes of it.
+fn tell_storm(
     alloc: Global,
     policy: &mut Handle,
     storm: &StormGiven,

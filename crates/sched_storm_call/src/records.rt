@@ -33,6 +33,17 @@ pub struct StormGiven {
     pub period: u64,
 }
 
+/// The parameters of a storm, after the size in bytes that C gives of this struct.
+#[repr(C)]
+#[derive(Clone, Copy)]
+pub struct SizedStorm {
+    pub size: usize,
+    pub storm: StormGiven,
+}
+
+/// The size of it.
+pub(crate) const STORM_SIZE: usize = 168;
+
 /// A window of a storm.
 #[repr(C)]
 #[derive(Clone, Copy)]
@@ -69,6 +80,17 @@ pub struct TotalsTold {
     pub recovers: bool,
     pub cut: bool,
 }
+
+/// What a storm comes to in all, after the size in bytes that C gives of this struct.
+#[repr(C)]
+#[derive(Clone, Copy)]
+pub struct SizedTotals {
+    pub size: usize,
+    pub totals: TotalsTold,
+}
+
+/// The size of it.
+pub(crate) const TOTALS_SIZE: usize = 128;
 
 impl StormGiven {
     /// The storm, or `None` where a parameter is outside its range.

@@ -10,20 +10,26 @@ use sched_cli::{Asked, Counted, Origin, Stop, WordsFault, answer, read_words, wi
 use std::alloc::{AllocGlobal, Global};
 use std::env;
 use std::fs::File;
-use std::io::{ErrorKind, Read, Write};
+use std::io::{ErrorKind, IsTerminal, Read, Write};
 use std::process::ExitCode;
 use std::random::RandomSource;
 use std::sync::Wait;
 use std::thread::Threads;
 
+// What it says before it reads a text from a terminal.
+const TERMINAL: &str = "zsched: reading JSON from the terminal; Ctrl-D ends it";
+
 fn main(rt: HostRuntime) -> ExitCode {
     match asked(&rt) {
         Ok(asked) => match with_texts(&rt, rt.alloc(), asked) {
             Ok(asked) => match asked.origin() {
-                Origin::StandardInput => ended(
-                    &rt,
-                    run(&rt, rt.alloc(), rt.stdin(), rt.stdout(), &asked),
-                ),
+                Origin::StandardInput => {
+                    let input = rt.stdin();
+                    if input.is_terminal() {
+                        let _ = eprintln!(rt; "{TERMINAL}");
+                    }
+                    ended(&rt, run(&rt, rt.alloc(), input, rt.stdout(), &asked))
+                }
                 Origin::File(name) => match File::open(&rt, name.as_str()) {
                     Ok(file) => ended(&rt, run(&rt, rt.alloc(), file, rt.stdout(), &asked)),
                     Err(error) => {

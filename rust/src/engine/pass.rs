@@ -2,6 +2,7 @@
 
 use super::sys::*;
 use super::{Handle, Kind, Status};
+use std::mem;
 
 /// The kind of a pass.
 #[derive(Debug)]
@@ -81,7 +82,7 @@ impl Handle<PassKind> {
 
     /// What is known of the latest window of a quota.
     pub(crate) fn seen(&mut self, now: u64) -> Used {
-        let mut used = Used::default();
+        let mut used = Used { size: mem::size_of::<Used>(), ..Used::default() };
         let status = unsafe { hikebox_pass_seen(self.raw(), now, &mut used) };
         debug_assert_eq!(status, OK);
         used

@@ -2,6 +2,7 @@
 
 use super::sys::*;
 use super::{text, Handle, Kind, Status};
+use std::mem;
 
 /// The kind of a policy.
 #[derive(Debug)]
@@ -72,7 +73,8 @@ impl Handle<PolicyKind> {
 
     /// Plays a storm under it, of at most so many windows: those that there are, and the totals.
     pub(crate) fn play(&mut self, storm: &Storm, room: usize) -> Result<(Vec<Window>, Totals), Status> {
-        let (mut windows, mut count, mut totals) = (vec![Window::default(); room], 0, Totals::default());
+        let mut totals = Totals { size: mem::size_of::<Totals>(), ..Totals::default() };
+        let (mut windows, mut count) = (vec![Window::default(); room], 0);
         Status::of(unsafe {
             hikebox_storm_play(self.raw(), storm, windows.as_mut_ptr(), windows.len(), &mut count, &mut totals)
         })?;

@@ -25,6 +25,7 @@ pub(crate) struct Place {
 #[repr(C)]
 #[derive(Clone, Copy, Debug)]
 pub(crate) struct Course {
+    pub(crate) size: usize,
     pub(crate) steps: u64,
     pub(crate) from: u64,
     pub(crate) took: u64,
@@ -49,6 +50,7 @@ pub(crate) struct Line {
 #[repr(C)]
 #[derive(Clone, Copy, Debug, Default)]
 pub(crate) struct Next {
+    pub(crate) size: usize,
     pub(crate) what: u32,
     pub(crate) how: u32,
     pub(crate) until: u64,
@@ -60,6 +62,7 @@ pub(crate) struct Next {
 #[repr(C)]
 #[derive(Clone, Copy, Debug, Default)]
 pub(crate) struct Used {
+    pub(crate) size: usize,
     pub(crate) window: u64,
     pub(crate) asked: u64,
     pub(crate) given: u64,
@@ -118,6 +121,7 @@ pub(crate) struct Grant {
 #[repr(C)]
 #[derive(Clone, Copy, Debug, PartialEq, Eq, Hash)]
 pub(crate) struct Storm {
+    pub(crate) size: usize,
     pub(crate) rate: u64,
     pub(crate) together: u64,
     pub(crate) seconds: u64,
@@ -157,6 +161,7 @@ pub(crate) struct Window {
 #[repr(C)]
 #[derive(Clone, Copy, Debug, Default)]
 pub(crate) struct Totals {
+    pub(crate) size: usize,
     pub(crate) requests: u64,
     pub(crate) won: u64,
     pub(crate) lost: u64,

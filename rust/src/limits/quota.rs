@@ -556,7 +556,7 @@ impl QuotaPass {
 }
 
 fn usage(used: Used) -> Usage {
-    let Used { window, asked, given, left, next } = used;
+    let Used { window, asked, given, left, next, .. } = used;
     Usage { window, asked, given, left, next: Duration::from_millis(next) }
 }
 

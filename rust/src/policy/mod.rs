@@ -10,6 +10,7 @@ use crate::engine::{self, Event, Handle, Place, PolicyKind, Size, Status, MAX_ST
 use crate::system::PerProcess;
 use std::error::Error;
 use std::fmt;
+use std::mem;
 use std::str::FromStr;
 use std::sync::{Arc, Mutex, PoisonError};
 
@@ -175,7 +176,7 @@ impl Policy {
     /// [`PolicyFault::NoMemory`] if memory runs out.
     pub fn preview(&self, steps: usize) -> Result<Vec<Line>, PolicyError> {
         let steps = u64::try_from(steps).unwrap_or(MAX_STEPS).min(MAX_STEPS);
-        let course = engine::Course { steps, from: 0, took: 0 };
+        let course = engine::Course { size: mem::size_of::<engine::Course>(), steps, from: 0, took: 0 };
         let event = Event { input: 0, words: [1 << 31; 4] };
         let mut policy = self.share().map_err(PolicyError::of)?;
         let (lines, text) = policy.course(course, &[event]).map_err(PolicyError::of)?;

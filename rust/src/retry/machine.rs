@@ -9,6 +9,7 @@ use crate::limits::ticket::{NoTicket, StoreFailure, Ticket};
 use crate::policy::Policy;
 use crate::random;
 use crate::system::generation;
+use std::mem;
 use std::time::Duration;
 
 /// A retry that you step yourself: it says when to run the call and when to wait, and you report how each run went.
@@ -158,8 +159,17 @@ impl Machine {
             Source::Store(_) | Source::Unlimited => Handle::on_nothing(policy, deadline),
         });
         let handle = Some(handle.map_err(BudgetError::of)?);
-        let (drawn, told) = (Drawn::default(), Next::default());
-        Ok(Self { handle, source, drawn, generation: generation(), deadline, told, waits: false, won: false })
+        let told = Next { size: mem::size_of::<Next>(), ..Next::default() };
+        Ok(Self {
+            handle,
+            source,
+            drawn: Drawn::default(),
+            generation: generation(),
+            deadline,
+            told,
+            waits: false,
+            won: false,
+        })
     }
 
     /// Steps the machine at the moment `now`, which is not before that of the last step, with the system's random

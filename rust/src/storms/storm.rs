@@ -8,6 +8,7 @@ use crate::policy::Policy;
 use crate::storms::report::{StormReport, StormTotals, StormWindow};
 use std::error::Error;
 use std::fmt;
+use std::mem;
 use std::ops::Range;
 use std::time::Duration;
 
@@ -94,6 +95,7 @@ impl Storm {
     /// all of them from 10 to 20 s.
     pub fn new(policy: &Policy) -> Self {
         let parameters = engine::Storm {
+            size: mem::size_of::<engine::Storm>(),
             rate: 800,
             together: 1,
             seconds: 60,

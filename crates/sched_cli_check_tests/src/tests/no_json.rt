@@ -5,7 +5,8 @@ use sched_cli_plan::PrintFault;
 #[test]
 fn the_line_and_the_column_and_the_reason_are_told(rt: HostRuntime) {
     let table = [
-        ("", "not JSON: line 1, column 1: the text ends too soon\n"),
+        ("", "not JSON: line 1, column 1: the text is empty\n"),
+        (" ", "not JSON: line 1, column 1: the text ends too soon\n"),
         (
             "{\n",
             "not JSON: line 2, column 1: the text ends too soon\n",

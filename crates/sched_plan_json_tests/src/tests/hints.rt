@@ -16,6 +16,7 @@ fn says(rt: &impl Abort, alloc: Global, text: &str, wanted: &str) {
 fn a_plan_has_no_fault_and_another_text_its_first(rt: HostRuntime) {
     let table = [
         (r#"{"recurs":3}"#, ""),
+        ("", "not JSON: line 1, column 1: the text is empty"),
         (
             r#"{"recurs":3"#,
             "not JSON: line 1, column 11: the text ends too soon",

@@ -68,6 +68,8 @@ NO_DEADLINE = 2**64 - 1
 NO_BOUND = 2**64 - 1
 #: The most events of a course.
 MAX_STEPS = 4096
+#: The random words of an event.
+LANES = 4
 
 NO_REPORT, WON, LOST = 0, 1, 2
 POLL, RUN, WAIT, OVER = 0, 1, 2, 3
@@ -86,6 +88,7 @@ SIGNATURES: Dict[str, Tuple[Any, ...]] = {
     "hikebox_policy_node": (c_char_p, c_size_t, _NUMBER, c_size_t, _HANDLE, _HANDLE, _HANDLE),
     "hikebox_policy_json": (_HANDLE, POINTER(c_uint8), c_size_t, POINTER(c_size_t)),
     "hikebox_policy_size": (_HANDLE, _NUMBER, _NUMBER, _NUMBER),
+    "hikebox_policy_reads": (_HANDLE, _NUMBER),
     "hikebox_policy_course": (
         _HANDLE,
         POINTER(Course),

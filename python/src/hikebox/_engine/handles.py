@@ -13,6 +13,7 @@ from typing import Any, Callable, List, NamedTuple, Optional, Sequence, Tuple
 
 from .calls import (
     FIXED,
+    LANES,
     NO_BOUND,
     NO_ROOM,
     NO_TICKET,
@@ -152,6 +153,14 @@ class PolicyHandle:
         if status != OK:
             raise refused("hikebox_policy_size", status)
         return nodes.value, depth.value, None if most.value == NO_BOUND else most.value
+
+    def reads(self) -> Tuple[Tuple[int, ...], bool]:
+        """The lanes whose random words a node of the policy reads, and whether a node reads the code of a failure."""
+        told = c_uint64()
+        status = library.hikebox_policy_reads(self.at, byref(told))
+        if status != OK:
+            raise refused("hikebox_policy_reads", status)
+        return tuple(lane for lane in range(LANES) if told.value >> lane & 1), bool(told.value >> LANES)
 
     def json(self) -> str:
         """The policy as JSON, without spaces."""

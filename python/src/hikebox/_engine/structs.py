@@ -2,7 +2,7 @@
 
 from __future__ import annotations
 
-from ctypes import Structure, c_bool, c_uint32, c_uint64, c_void_p
+from ctypes import Structure, c_bool, c_size_t, c_uint32, c_uint64, c_void_p, sizeof
 from typing import Any, List, Tuple
 
 __all__ = [
@@ -42,9 +42,18 @@ def _numbers(names: str) -> List[Tuple[str, Any]]:
 
 Words = c_uint32 * 4
 
+_SIZE: Tuple[str, Any] = ("size", c_size_t)
 
-class Course(Structure):
-    _fields_ = _numbers("steps from took")
+
+class _Sized(Structure):
+    """A struct that begins with its size, which is set when one is made."""
+
+    def __init__(self, *fields: Any, **named: Any) -> None:
+        super().__init__(sizeof(self), *fields, **named)
+
+
+class Course(_Sized):
+    _fields_ = [_SIZE, *_numbers("steps from took")]
 
 
 class Event(Structure):
@@ -55,27 +64,31 @@ class Line(Structure):
     _fields_ = [*_numbers("moment start text_to"), ("goes_on", c_bool)]
 
 
-class Next(Structure):
-    _fields_ = [("what", c_uint32), ("how", c_uint32), *_numbers("until granted runs left")]
+class Next(_Sized):
+    _fields_ = [_SIZE, ("what", c_uint32), ("how", c_uint32), *_numbers("until granted runs left")]
 
 
-class Usage(Structure):
-    _fields_ = _numbers("window asked given left next")
+class Usage(_Sized):
+    _fields_ = [_SIZE, *_numbers("window asked given left next")]
 
 
-class Storm(Structure):
-    _fields_ = _numbers(
-        "rate together seconds capacity patience queue outage_from outage_to slow_from slow_to slow_percent window "
-        "until calls words draws_on limit reserve share period"
-    )
+class Storm(_Sized):
+    _fields_ = [
+        _SIZE,
+        *_numbers(
+            "rate together seconds capacity patience queue outage_from outage_to slow_from slow_to slow_percent window "
+            "until calls words draws_on limit reserve share period"
+        ),
+    ]
 
 
 class Window(Structure):
     _fields_ = _numbers("from requests won retries succeeded refused shed late waiting")
 
 
-class Totals(Structure):
+class Totals(_Sized):
     _fields_ = [
+        _SIZE,
         *_numbers(
             "requests won lost denied open calls hundredths most_calls most_from tickets p50 p99 slowest recovered"
         ),

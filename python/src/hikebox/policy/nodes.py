@@ -2,9 +2,9 @@
 
 from __future__ import annotations
 
-from typing import Any, Dict, FrozenSet, Iterator, List, NamedTuple, Sequence, Tuple
+from typing import Any, Dict, List, NamedTuple, Tuple
 
-__all__ = ["FOLDS", "Item", "MAX_DEPTH", "MAX_NODES", "NODES", "Node", "parts_of", "reads_of", "reads_of_node", "walk"]
+__all__ = ["FOLDS", "Item", "MAX_DEPTH", "MAX_NODES", "NODES", "Node", "parts_of"]
 
 #: The most nodes of a policy, and the most of them one below another.
 MAX_NODES = 256
@@ -258,26 +258,3 @@ def parts_of(tree: Any) -> Tuple[str, List[Any], List[Any]]:
     items = [value] if len(kinds) == 1 else value
     own = [item for kind, item in zip(kinds, items) if kind.unit != "plan"]
     return name, own, [item for kind, item in zip(kinds, items) if kind.unit == "plan"]
-
-
-def walk(tree: Any) -> Iterator[Tuple[str, List[Any]]]:
-    """Each node of a policy that was accepted, with its own parameters."""
-    name, own, plans = parts_of(tree)
-    yield name, own
-    for plan in plans:
-        yield from walk(plan)
-
-
-def reads_of_node(name: str, own: Sequence[Any]) -> Tuple[FrozenSet[int], bool]:
-    """What one node reads at an event, as `reads_of` returns it."""
-    reads = NODES[name].reads
-    if reads == "word":
-        return frozenset(own[:1]), False
-    return frozenset(), reads == "input" or (reads == "SIDE" and own[0] == "input")
-
-
-def reads_of(tree: Any) -> Tuple[FrozenSet[int], bool]:
-    """What a policy that was accepted reads at an event: the lanes by which its nodes pick at random, and whether it
-    reads the code."""
-    reads = [reads_of_node(name, own) for name, own in walk(tree)]
-    return frozenset().union(*(lanes for lanes, _ in reads)), any(codes for _, codes in reads)

@@ -4,12 +4,12 @@ from __future__ import annotations
 
 import json
 import os
-from typing import Any, Callable, Dict, FrozenSet, Iterable, List, Optional, Tuple, Union
+from typing import Any, Callable, Dict, Iterable, List, Optional, Tuple, Union
 
 from .._time import Duration, seconds
 from ..errors import Fault, PolicyError
 from .checks import interval, ratio, whole
-from .nodes import FOLDS, MAX_DEPTH, MAX_NODES, reads_of, reads_of_node
+from .nodes import FOLDS, MAX_DEPTH, MAX_NODES
 from .plan import Plan
 from .preview import Step, played
 
@@ -38,7 +38,7 @@ class Policy:
     _node: Optional[Tuple[str, Tuple[Any, ...], Optional[Policy], Optional[Policy]]]
     _nodes: int
     _depth: int
-    _reads: Optional[Tuple[FrozenSet[int], bool]]
+    _reads: Optional[Tuple[Tuple[int, ...], bool]]
 
     def __init__(self, *_: Any, **__: Any) -> None:
         raise TypeError("a policy is made by a builder, as recurs(5), or by Policy.from_json, from_dict or from_file")
@@ -203,18 +203,11 @@ class Policy:
         return plan
 
     @property
-    def reads(self) -> Tuple[FrozenSet[int], bool]:
-        """The lanes by which its nodes pick at random, and whether one of them reads the code of a failure."""
+    def reads(self) -> Tuple[Tuple[int, ...], bool]:
+        """The lanes by which its nodes pick at random, and whether one of them reads the code of a failure, as the
+        engine says."""
         if self._reads is None:
-            if self._node is None:
-                self._reads = reads_of(self.plan.tree)
-            else:
-                name, own, first, second = self._node
-                lanes, codes = reads_of_node(name, own)
-                for policy in (first, second):
-                    if policy is not None:
-                        lanes, codes = lanes | policy.reads[0], codes or policy.reads[1]
-                self._reads = lanes, codes
+            self._reads = self.plan.reads()
         return self._reads
 
     def preview(

@@ -100,7 +100,7 @@ class Settings(HasOptions):
     @cached_property
     def lanes(self) -> Tuple[int, ...]:
         """The lanes of the policy's jitters."""
-        return tuple(sorted(self.policy.reads[0]))
+        return self.policy.reads[0]
 
     @cached_property
     def reads_codes(self) -> bool:

@@ -1,3 +1,4 @@
+-- The inputs so far are in range.
 use Rattle.std.proofs.Common.{take}
 use Rattle.std.specs.List.{All}
 use Rattle.hikebox_c.specs.Courses.{InputIsInRange}

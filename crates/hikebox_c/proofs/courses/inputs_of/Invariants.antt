@@ -1,3 +1,4 @@
+-- The inputs so far are those of the events so far.
 use Rattle.std.proofs.Common.{◌≡◌, map, take}
 use Rattle.hikebox_c.specs.declared.courses.EventGiven.{EventGiven}
 use Rattle.hikebox_c.proofs.courses.inputs_of.Given as goal

@@ -1,3 +1,4 @@
+-- All lines of a course are told, and the text is that of all their outputs.
 use Rattle.std.proofs.Common.{◌≡◌, ◌∷◌, [], ◌++◌, length, take, string_bytes, sym, ◌∙◌, ap}
 use Rattle.std_alloc.proofs.Concat.{String-len_is}
 use Rattle.hikebox_c.specs.Courses.{outputs_text, lines_told}
@@ -8,7 +9,8 @@ pub loop-line-preserved : goal.loop-line-preserved
 loop-line-preserved c =
     let item = c.line-item.result in
     let was = take c.loop-line.line-index c.deref-line-items.result.now in
-    let grown = one_more c.deref-line-items.result.now c.loop-line.line-index item c.loop-line-test.true c.line-item.is in
+    let all = c.deref-line-items.result.now in
+    let grown = one_more all c.loop-line.line-index item c.loop-line-test.true c.line-item.is in
     let text : string_bytes c.push_str.new.self ≡ outputs_text (was ++ item ∷ []) =
     c.in_ok-push_str.ensures.bytes ∙ ap (λ t. t ++ c.as_str.result.now) c.loop-line.invariant.text
     ∙ ap (λ o. outputs_text was ++ o) (c.as_str.ensures.value ∙ c.in_ok-output.ensures) ∙ sym (outputs_more was item) in

@@ -1,3 +1,4 @@
+-- The lines and the text so far are those of the lines of the course so far.
 use Rattle.std.proofs.Common.{◌≡◌, take, string_bytes}
 use Rattle.hikebox_c.specs.Courses.{outputs_text, lines_told}
 use Rattle.hikebox_c.proofs.courses.lines_told.Given as goal

@@ -1,3 +1,4 @@
+-- What one handle draws by is joined into the pass of another, or both stay as they are.
 use Rattle.std.proofs.Common.{◌≡◌, true, refl, sym, inl, arith, rules}
 use Rattle.std.proofs.lemmas.Grind.{common_steps}
 use Rattle.sched_handle.specs.Held.{kind_of}

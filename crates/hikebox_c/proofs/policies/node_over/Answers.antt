@@ -1,3 +1,4 @@
+-- The node is made over what both handles hold, or the first that holds no policy is told.
 use Rattle.std.proofs.Common.{inl, inr, refl}
 use Rattle.std.proofs.lemmas.Result.{err_from_is_err_and}
 use Rattle.hikebox_c.proofs.policies.node_over.Goals as goal

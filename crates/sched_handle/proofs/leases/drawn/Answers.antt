@@ -1,3 +1,4 @@
+-- A draw that gives no ticket changes nothing but what is drawn, and says why there is none.
 use Rattle.sched_handle.proofs.Undrawn.{none-drawn}
 use Rattle.sched_handle.proofs.leases.drawn.Goals as goal
 

@@ -1,3 +1,4 @@
+-- A retry that has not begun may stand for the one of its policy and deadline in which nothing has happened.
 use Rattle.std.proofs.Common.{◌≡◌, refl, sym, ap, subst, ◌∙◌}
 use Rattle.sched_driver_stepper.specs.Standing.{Standing}
 use Rattle.sched_run_machine.specs.Deadline.{until_from}

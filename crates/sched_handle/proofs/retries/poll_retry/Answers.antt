@@ -1,3 +1,4 @@
+-- A poll with a report ends the run under way and then polls; a report of no run is refused.
 use Rattle.sched_handle.proofs.retries.poll_retry.Goals as goal
 
 pub returns-else-not-report : goal.returns-else-not-report

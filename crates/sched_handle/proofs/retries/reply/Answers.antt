@@ -1,4 +1,6 @@
-use Rattle.std.proofs.Common.{◌≡◌, ℕ, Bool, false, ◌||◌, ◌-◌, nat_eq, length, min, is_some, option_map, sym, ap, ◌∙◌, subst}
+-- What C is told of a retry is so of each retry that the machine may stand for.
+use Rattle.std.proofs.Common.{◌≡◌, ℕ, Bool, false, ◌||◌, ◌-◌, nat_eq, length, min, is_some, option_map, sym, ap, ◌∙◌}
+use Rattle.std.proofs.Common.{subst}
 use Rattle.sched_run_machine.specs.declared.next.Next.{Next}
 use Rattle.sched_handle.specs.declared.replies.Reply.{Reply}
 use Rattle.sched_run_machine.specs.Retrying.{Retrying}
@@ -27,17 +29,21 @@ returns c =
     let m = c.args.retry.now in
     let deadline = m.driver.deadline in
     let start = c.late_start-late.result in
-    let late_is : (d : Driven) → StandsUntil IsStepped m.driver d → start ≡ late deadline (next_start_of (beneath deadline d)) =
-    subst (λ (v : Until Standing). (d : Driven) → StandsUntil IsStepped v d → start ≡ late v.deadline (next_start_of (beneath v.deadline d)))
+    let late_is : (d : Driven) → StandsUntil IsStepped m.driver d
+    → start ≡ late deadline (next_start_of (beneath deadline d)) =
+    subst (λ (v : Until Standing). (d : Driven) → StandsUntil IsStepped v d
+    → start ≡ late v.deadline (next_start_of (beneath v.deadline d)))
     c.driver.ensures c.late_start-late.ensures.late in
     let done_is : (d : Driven) → StandsUntil IsStepped m.driver d →
     schedule_is_done d ≡ (schedule_is_done (beneath deadline d) || is_some start) =
-    subst (λ (v : Until Standing). (d : Driven) → StandsUntil IsStepped v d → schedule_is_done d ≡ (schedule_is_done (beneath v.deadline d) || is_some start))
+    subst (λ (v : Until Standing). (d : Driven) → StandsUntil IsStepped v d
+    → schedule_is_done d ≡ (schedule_is_done (beneath v.deadline d) || is_some start))
     c.driver.ensures c.late_start-late.ensures.done in
     let now = c.args.now in
     let left_is : c.left_of-left.result ≡ left_at deadline now =
     c.left_of-left.ensures
-    ∙ ap left_number (c.left.ensures ∙ ap (λ (v : Until Standing). option_map (λ (end : ℕ). end - now) v.deadline) c.driver-2.ensures) in
+    ∙ ap left_number (c.left.ensures
+    ∙ ap (λ (v : Until Standing). option_map (λ (end : ℕ). end - now) v.deadline) c.driver-2.ensures) in
     let tells : (u : Retrying Drawing) → MayBe m u → c.reply_to.result ≡ reply_of deadline now u.past =
     λ u st. same_reply _ _ _ _ _ _ _ _ _ _ _ c.reply_to.ensures (c.next-next.ensures.next u st)
     (c.is_some.ensures ∙ ap is_some (late_is u.past.driver st.driver))
@@ -48,7 +54,8 @@ returns c =
     (done_is u.past.driver st.driver
     ∙ ap (λ b. plan_is_done deadline u.past || b) (ap is_some (late_is u.past.driver st.driver))) in
     record {
-      stands = let was = c.granted-granted.ensures.stands (schedule_until m.driver m.driver.driver.plan) (goes_by m.driver) in (was.0, was.2);
+      stands = let was = c.granted-granted.ensures.stands (schedule_until m.driver m.driver.driver.plan)
+          (goes_by m.driver) in (was.0, was.2);
       tells = tells;
       in_time = rw c.reply_to.ensures (waits_in_time deadline c.next-next.result _ _ _ _ c.next-next.ensures.in_time);
       done = λ u st. (ending u st).0 ∙ ap (λ (r : Reply). nat_eq r.how 2) (sym (tells u st));

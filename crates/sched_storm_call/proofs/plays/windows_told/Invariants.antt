@@ -1,3 +1,4 @@
+-- The windows told so far are those of the report so far.
 use Rattle.std.proofs.Common.{◌≡◌, map, take}
 use Rattle.sched_storm_call.specs.Told.{window_told}
 use Rattle.sched_storm_call.proofs.plays.windows_told.Given as goal

@@ -1,10 +1,11 @@
+-- A poll steps the retry at its moment with its words and its report, and what comes of that is told.
 use Rattle.std.proofs.Common.{◌≡◌, ℕ, List, Result, Ok, Err, IfOk, OnErr, refl, subst}
 use Rattle.sched_time.specs.declared.numbers.Tick.{Tick}
 use Rattle.sched_handle.specs.Retries.{Polls}
 use Rattle.sched_handle.specs.Status.{told}
 use Rattle.sched_handle.specs.declared.status.Status.{Status}
 use Rattle.hikebox_c.specs.Calls.{Tells}
-use Rattle.hikebox_c.proofs.retries.hikebox_retry_poll.Goals as goal
+use Rattle.hikebox_c.proofs.retries.poll.Goals as goal
 
 -- a tick is its moment and its words
 tick_is : (t : Tick) (now : ℕ) (words : List ℕ) → t.now ≡ now → t.words ≡ words →

@@ -1,0 +1,2 @@
+-- What the contract of `sched_plan_reads` cites.
+pub mod Reads
