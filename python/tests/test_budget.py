@@ -13,6 +13,7 @@ from typing import Any, List, Tuple
 import pytest
 
 from draws import drawn_by, number
+from processes import in_a_forked_child
 from hikebox import Budget, BudgetClosed, BudgetError, BudgetInUse, RetryState, Retrying, recurs
 
 
@@ -183,16 +184,13 @@ def test_a_forked_child_begins_anew() -> None:
     budget, rising = Budget(2), Budget.rising(1)
     budget.draw()
     rising.draw()
-    child = os.fork()
-    if child == 0:
-        status = 1
-        try:
-            retrying = Retrying(recurs(9), budget=budget, fallback=lambda state: state.granted)
-            found = (retrying(int, "3"), retrying(int, "x"), retrying(int, "x"), number(rising.draw()), budget.close())
-            status = 0 if found == (3, 2, 0, 0, 2) else 2
-        finally:
-            os._exit(status)
-    assert os.waitstatus_to_exitcode(os.waitpid(child, 0)[1]) == 0
+
+    def begins_anew() -> None:
+        retrying = Retrying(recurs(9), budget=budget, fallback=lambda state: state.granted)
+        assert [retrying(int, word) for word in "3xx"] == [3, 2, 0]
+        assert (number(rising.draw()), budget.close()) == (0, 2)
+
+    in_a_forked_child(begins_anew)
     assert number(budget.draw()) == 1
 
 

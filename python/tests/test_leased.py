@@ -3,60 +3,34 @@
 from __future__ import annotations
 
 import asyncio
-import json
-import os
 import pickle
-import subprocess
-import sys
 import time
 from pathlib import Path
 from typing import Any, Dict, List, Tuple
 
 import pytest
-from conftest import HERE, python_environment
 
 from draws import drawn_by, number
+from processes import Workers, in_a_forked_child
 from hikebox import AsyncRetrying, BudgetError, Ending, Retrying, StoreError, StoreLost, recurs, spaced, state_of
 from hikebox.leased import FileStore, Leased, Range, RedisStore
 
 
-class Workers:
+class Drawing(Workers):
     """Processes that draw tickets, and what they wrote down."""
 
-    def __init__(self, folder: Path) -> None:
-        self.folder = folder
-        self.processes: List[Any] = []
+    def look_at(self, number: int, output: str) -> None:
+        # it says how many tickets it drew, and wrote as many down
+        assert int(output) == len(self.lines(number))
 
-    def start(self, how: Any) -> Any:
-        output = self.folder / f"tickets-{len(self.processes)}"
-        words = [sys.executable, str(HERE / "leased_worker.py"), json.dumps(how), str(output)]
-        process = subprocess.Popen(
-            words, env=python_environment(), stdout=subprocess.PIPE, stderr=subprocess.PIPE, text=True
-        )
-        self.processes.append(process)
-        return process
-
-    def wait(self) -> List[int]:
-        """How they ended; each that was not killed said how many tickets it drew, and wrote as many down."""
-        for number, process in enumerate(self.processes):
-            output, errors = process.communicate(timeout=100)
-            assert process.returncode in (0, -9), errors
-            if process.returncode == 0:
-                assert int(output) == len(self.lines(number))
-        return [process.returncode for process in self.processes]
+    def count(self) -> int:
+        return len(self.drawn())
 
     def lines(self, number: int, kind: str = "") -> List[str]:
         """The lines of a process: those of its tickets, or of its pauses."""
-        path = self.folder / f"tickets-{number}"
+        path = self.notes_of(number)
         lines = path.read_text().splitlines() if path.exists() else []
         return [line for line in lines if line.startswith("paused") == (kind == "paused")]
-
-    def await_tickets(self, count: int) -> None:
-        """Waits until so many tickets were drawn."""
-        until = time.monotonic() + 30
-        while len(self.drawn()) < count:
-            assert time.monotonic() < until
-            time.sleep(0.02)
 
     def pauses(self) -> List[Tuple[int, int]]:
         """The moments between which a process was held up by the machine."""
@@ -74,12 +48,9 @@ class Workers:
 
 @pytest.fixture
 def workers(tmp_path: Path) -> Any:
-    made = Workers(tmp_path)
+    made = Drawing("leased_worker.py", tmp_path)
     yield made
-    for process in made.processes:
-        if process.poll() is None:
-            process.kill()
-            process.communicate()
+    made.end()
 
 
 # One process
@@ -271,17 +242,18 @@ def test_threads_draw_each_ticket_once(tmp_path: Path) -> None:
 def test_a_forked_child_has_leases_of_its_own(tmp_path: Path) -> None:
     leased = Leased(FileStore(tmp_path / "counts"), "a", limit=100, lease=10)
     assert number(leased.draw()) == 0
-    child = os.fork()
-    if child == 0:
-        os._exit(0 if (number(leased.draw()), leased.granted) == (10, 1) else 1)
-    assert os.waitstatus_to_exitcode(os.waitpid(child, 0)[1]) == 0
+
+    def goes_on() -> None:
+        assert (number(leased.draw()), leased.granted) == (10, 1)
+
+    in_a_forked_child(goes_on)
     assert number(leased.draw()) == 1
 
 
 # Many processes, a file
 
 
-def test_8_processes_draw_100000_tickets_of_a_file_each_once(workers: Workers, tmp_path: Path) -> None:
+def test_8_processes_draw_100000_tickets_of_a_file_each_once(workers: Drawing, tmp_path: Path) -> None:
     how = {"file": str(tmp_path / "counts"), "name": "a", "limit": 100_000, "lease": 500}
     for _ in range(8):
         workers.start(how)
@@ -292,7 +264,7 @@ def test_8_processes_draw_100000_tickets_of_a_file_each_once(workers: Workers, t
 KILLS = [("asked", 1), ("asked", 4), ("granted", 1), ("granted", 4), ("drawn", 1), ("drawn", 20), ("drawn", 33)]
 
 
-def kill_some(workers: Workers, how: Any) -> None:
+def kill_some(workers: Drawing, how: Any) -> None:
     """Processes that are killed at points of a lease, beside two that are not: each loses a range at most."""
     lost = 0
     for point, number in KILLS:
@@ -308,11 +280,11 @@ def kill_some(workers: Workers, how: Any) -> None:
     assert len(tickets) >= how["limit"] - lost
 
 
-def test_processes_killed_at_points_of_a_lease_of_a_file(workers: Workers, tmp_path: Path) -> None:
+def test_processes_killed_at_points_of_a_lease_of_a_file(workers: Drawing, tmp_path: Path) -> None:
     kill_some(workers, {"file": str(tmp_path / "counts"), "name": "a", "limit": 5000, "lease": 10})
 
 
-def test_processes_killed_at_any_moment(workers: Workers, tmp_path: Path) -> None:
+def test_processes_killed_at_any_moment(workers: Drawing, tmp_path: Path) -> None:
     how = {"file": str(tmp_path / "counts"), "name": "a", "limit": 30_000, "lease": 20, "threads": 2}
     for _ in range(6):
         workers.start(how)
@@ -344,7 +316,7 @@ def since_1970() -> int:
 DIFFER = 2
 
 
-def in_windows(workers: Workers, folder: Path, limit: int, period: int, offset: int = 0) -> None:
+def in_windows(workers: Drawing, folder: Path, limit: int, period: int, offset: int = 0) -> None:
     """Lets processes that heed the file `stop` draw until three windows were drawn nearly whole. No window has more
     tickets
     than the limit of those that were drawn in it for sure; and of a whole window nearly all are drawn, where the
@@ -372,7 +344,7 @@ def in_windows(workers: Workers, folder: Path, limit: int, period: int, offset: 
     assert sum(len(by_window[window]) for window in whole) >= 0.9 * limit * len(whole)
 
 
-def test_windows_of_many_processes_one_with_a_clock_an_hour_off(workers: Workers, tmp_path: Path) -> None:
+def test_windows_of_many_processes_one_with_a_clock_an_hour_off(workers: Drawing, tmp_path: Path) -> None:
     how = {"file": str(tmp_path / "counts"), "name": "a", "limit": 50, "lease": 5, "per": 0.5}
     for off in (0, 0, 3600, -3600):
         workers.start({**how, "clock_off": off, "patient": True, "seconds": 90, "stop": str(tmp_path / "stop")})
@@ -431,7 +403,7 @@ def test_a_redis_that_was_started_anew_grants_nothing(redis_server: Any) -> None
     assert durable.take("a", 7, 20, None, time.monotonic)[:2] == (6, 7)
 
 
-def test_8_processes_draw_100000_tickets_of_redis_each_once(workers: Workers, redis_server: Any) -> None:
+def test_8_processes_draw_100000_tickets_of_redis_each_once(workers: Drawing, redis_server: Any) -> None:
     server = redis_server()
     RedisStore(server.client()).begin("a")
     for _ in range(8):
@@ -440,14 +412,14 @@ def test_8_processes_draw_100000_tickets_of_redis_each_once(workers: Workers, re
     assert workers.tickets() == list(range(100_000))
 
 
-def test_processes_killed_at_points_of_a_lease_of_redis(workers: Workers, redis_server: Any) -> None:
+def test_processes_killed_at_points_of_a_lease_of_redis(workers: Drawing, redis_server: Any) -> None:
     server = redis_server()
     RedisStore(server.client()).begin("a")
     kill_some(workers, {"port": server.port, "name": "a", "limit": 5000, "lease": 10})
 
 
 @pytest.mark.parametrize("durable", [True, False])
-def test_redis_stopped_and_started_under_load(durable: bool, workers: Workers, redis_server: Any) -> None:
+def test_redis_stopped_and_started_under_load(durable: bool, workers: Drawing, redis_server: Any) -> None:
     options = ("--appendonly", "yes", "--appendfsync", "always") if durable else ()
     server = redis_server(*options)
     RedisStore(server.client()).begin("a")
@@ -479,7 +451,7 @@ def test_redis_stopped_and_started_under_load(durable: bool, workers: Workers, r
 
 
 def test_windows_of_redis_one_process_with_a_clock_an_hour_off(
-    workers: Workers, redis_server: Any, tmp_path: Path
+    workers: Drawing, redis_server: Any, tmp_path: Path
 ) -> None:
     server = redis_server()
     store = RedisStore(server.client())

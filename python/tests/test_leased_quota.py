@@ -3,21 +3,17 @@
 from __future__ import annotations
 
 import asyncio
-import json
-import os
 import pickle
 import random
-import subprocess
-import sys
 import time
 from collections import Counter
 from pathlib import Path
 from typing import Any, Counter as Counts, Dict, List, Optional, Tuple
 
 import pytest
-from conftest import HERE, python_environment
 
 from draws import drawn_by, number, repeated
+from processes import Workers, in_a_forked_child
 from hikebox import AsyncRetrying, Ending, Retrying, StoreError, TermsError, Usage, recurs, spaced, state_of
 from hikebox._engine.calls import MAX_TICKETS
 from hikebox._engine.leasing import Stored, lease_of_quota
@@ -28,24 +24,11 @@ from hikebox.budgets.terms import Terms
 LONG = 1_000_000.0
 
 
-class Workers:
+class Drawing(Workers):
     """Processes that draw on a quota, and what they wrote down."""
 
-    def __init__(self, folder: Path) -> None:
-        self.folder = folder
-        self.processes: List[Any] = []
-
-    def start(self, how: Any) -> None:
-        output = self.folder / f"notes-{len(self.processes)}"
-        words = [sys.executable, str(HERE / "quota_worker.py"), json.dumps(how), str(output)]
-        self.processes.append(subprocess.Popen(words, env=python_environment(), stderr=subprocess.PIPE, text=True))
-
-    def wait(self) -> List[int]:
-        """How they ended."""
-        for process in self.processes:
-            _, errors = process.communicate(timeout=100)
-            assert process.returncode in (0, -9), errors
-        return [process.returncode for process in self.processes]
+    def count(self) -> int:
+        return len(self.notes("ticket"))
 
     def notes(self, kind: str) -> List[Tuple[int, int]]:
         """What was noted of this kind: numbers, each with its window."""
@@ -71,22 +54,12 @@ class Workers:
             sums[window] += number
         return sums
 
-    def await_tickets(self, count: int) -> None:
-        """Waits until so many tickets were drawn."""
-        until = time.monotonic() + 30
-        while len(self.notes("ticket")) < count:
-            assert time.monotonic() < until
-            time.sleep(0.02)
-
 
 @pytest.fixture
 def workers(tmp_path: Path) -> Any:
-    made = Workers(tmp_path)
+    made = Drawing("quota_worker.py", tmp_path)
     yield made
-    for process in made.processes:
-        if process.poll() is None:
-            process.kill()
-            process.communicate()
+    made.end()
 
 
 def fails() -> Any:
@@ -339,15 +312,11 @@ def test_a_forked_child_has_leases_and_requests_of_its_own(tmp_path: Path) -> No
     quota = LeasedQuota(FileStore(tmp_path / "counts"), "a", 100, 1, LONG, lease=10)
     assert number(quota.draw()) == 0
     quota.deposit()
-    child = os.fork()
-    if child == 0:
-        status = 1
-        try:
-            found = (number(quota.draw()), quota.granted, quota.seen().asked)
-            status = 0 if found == (10, 1, 0) else 2
-        finally:
-            os._exit(status)
-    assert os.waitstatus_to_exitcode(os.waitpid(child, 0)[1]) == 0
+
+    def begins_anew() -> None:
+        assert (number(quota.draw()), quota.granted, quota.seen().asked) == (10, 1, 0)
+
+    in_a_forked_child(begins_anew)
     assert number(quota.draw()) == 1 and quota.seen().asked == 1
 
 
@@ -393,7 +362,7 @@ def test_windows_of_a_file_go_by_the_machines_uptime(tmp_path: Path) -> None:
 # Many processes, a file
 
 
-def test_8_processes_draw_all_tickets_of_a_file_each_once(workers: Workers, tmp_path: Path) -> None:
+def test_8_processes_draw_all_tickets_of_a_file_each_once(workers: Drawing, tmp_path: Path) -> None:
     how = {"file": str(tmp_path / "counts"), "name": "a", "reserve": 20_000, "share": 0.5, "per": LONG}
     for _ in range(8):
         workers.start({**how, "lease": 200, "first": 2500})
@@ -407,7 +376,7 @@ def test_8_processes_draw_all_tickets_of_a_file_each_once(workers: Workers, tmp_
 KILLS = [("asked", 1), ("asked", 4), ("granted", 1), ("granted", 4), ("drawn", 1), ("drawn", 20), ("drawn", 33)]
 
 
-def test_processes_killed_at_points_of_a_lease_of_a_file(workers: Workers, tmp_path: Path) -> None:
+def test_processes_killed_at_points_of_a_lease_of_a_file(workers: Drawing, tmp_path: Path) -> None:
     how = {"file": str(tmp_path / "counts"), "name": "a", "reserve": 1500, "share": 0.5, "per": LONG, "lease": 10}
     for point, number in KILLS:
         workers.start({**how, "first": 200, "kill": point, "number": number})
@@ -428,7 +397,7 @@ def test_processes_killed_at_points_of_a_lease_of_a_file(workers: Workers, tmp_p
     assert len(tickets) >= 2300 - 10 * len(KILLS)
 
 
-def check_windows(workers: Workers, folder: Path, reserve: int, share: float, offset: int = 0) -> None:
+def check_windows(workers: Drawing, folder: Path, reserve: int, share: float, offset: int = 0) -> None:
     """Lets processes that heed the file `stop` draw until of three windows of half a second most of what they allow was
     drawn. In no window a ticket is drawn twice, or one past what the requests allow that were told; and of whole
     windows most of what they allow is drawn, where the machine held no process up."""
@@ -459,7 +428,7 @@ def check_windows(workers: Workers, folder: Path, reserve: int, share: float, of
     assert sum(len(by_window[window]) for window in whole) >= 0.8 * sum(allowed(told, window) for window in whole)
 
 
-def test_windows_of_many_processes_two_with_a_clock_an_hour_off(workers: Workers, tmp_path: Path) -> None:
+def test_windows_of_many_processes_two_with_a_clock_an_hour_off(workers: Drawing, tmp_path: Path) -> None:
     how = {"file": str(tmp_path / "counts"), "name": "a", "reserve": 20, "share": 0.5, "per": 0.5, "lease": 2}
     for off in (0, 0, 3600, -3600):
         more = {"clock_off": off, "patient": True, "seconds": 90, "stop": str(tmp_path / "stop")}
@@ -574,7 +543,7 @@ def test_the_script_grants_what_the_step_of_a_lease_does(redis_server: Any) -> N
 
 
 def test_windows_of_redis_two_processes_with_a_clock_an_hour_off(
-    workers: Workers, redis_server: Any, tmp_path: Path
+    workers: Drawing, redis_server: Any, tmp_path: Path
 ) -> None:
     server = redis_server()
     time.sleep(3.2)
@@ -589,7 +558,7 @@ def test_windows_of_redis_two_processes_with_a_clock_an_hour_off(
     assert server.client().keys("*") == []
 
 
-def test_processes_killed_at_points_of_a_lease_of_redis(workers: Workers, redis_server: Any) -> None:
+def test_processes_killed_at_points_of_a_lease_of_redis(workers: Drawing, redis_server: Any) -> None:
     server = redis_server()
     time.sleep(3.2)
     how = {"port": server.port, "name": "a", "reserve": 100, "share": 0.5, "per": 0.5, "lease": 10, "each": 1}
@@ -609,7 +578,7 @@ def test_processes_killed_at_points_of_a_lease_of_redis(workers: Workers, redis_
 
 
 @pytest.mark.parametrize("durable", [True, False])
-def test_redis_stopped_and_started_under_load(durable: bool, workers: Workers, redis_server: Any) -> None:
+def test_redis_stopped_and_started_under_load(durable: bool, workers: Drawing, redis_server: Any) -> None:
     options = ("--appendonly", "yes", "--appendfsync", "always") if durable else ()
     server = redis_server(*options)
     time.sleep(3.2)

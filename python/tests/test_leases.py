@@ -3,7 +3,6 @@
 from __future__ import annotations
 
 import asyncio
-import os
 import shutil
 import threading
 import time
@@ -13,6 +12,7 @@ from typing import Any, Callable, List, Optional
 import pytest
 
 from draws import number
+from processes import in_a_forked_child
 from hikebox import (
     AsyncRetrying,
     Ending,
@@ -242,18 +242,14 @@ def test_tickets_without_the_store_come_back_to_what_is_spared(now: Clock) -> No
 
 def test_a_ticket_of_the_process_before_a_fork_does_not_come_back(tmp_path: Path) -> None:
     quota = LeasedQuota(FileStore(tmp_path / "counts"), "a", 2, 0, LONG, lease=2)
-    ticket = quota.draw()
-    assert ticket
-    child = os.fork()
-    if child == 0:
-        status = 1
-        try:
-            with pytest.raises(TicketError, match="before the fork"):
-                ticket.hand_back()
-            status = 0 if quota.granted == 0 and not quota.draw() else 2
-        finally:
-            os._exit(status)
-    assert os.waitstatus_to_exitcode(os.waitpid(child, 0)[1]) == 0
+    ticket: Any = quota.draw()
+
+    def begins_anew() -> None:
+        with pytest.raises(TicketError, match="before the fork"):
+            ticket.hand_back()
+        assert quota.granted == 0 and not quota.draw()
+
+    in_a_forked_child(begins_anew)
     ticket.hand_back()
     assert [number(quota.draw()) for _ in range(3)] == [0, 1, None]
 

@@ -4,7 +4,6 @@ from __future__ import annotations
 
 import asyncio
 import gc
-import os
 import pickle
 import threading
 import time
@@ -14,6 +13,7 @@ from typing import Any, List, Tuple
 import pytest
 
 from draws import drawn_by, engines_number as number, repeated
+from processes import in_a_forked_child
 from hikebox import (
     AsyncRetrying,
     BudgetClosed,
@@ -483,16 +483,12 @@ def test_a_forked_child_begins_anew() -> None:
     quota = Quota(2, 0.5, 3600)
     quota.deposit()
     assert bool(quota.draw())
-    child = os.fork()
-    if child == 0:
-        status = 1
-        try:
-            retrying = Retrying(recurs(3), budget=quota, fallback=lambda state: state.granted)
-            found = (retrying(int, "3"), retrying(int, "x"), quota.seen().asked, quota.close())
-            status = 0 if found == (3, 3, 2, 3) else 2
-        finally:
-            os._exit(status)
-    assert os.waitstatus_to_exitcode(os.waitpid(child, 0)[1]) == 0
+
+    def begins_anew() -> None:
+        retrying = Retrying(recurs(3), budget=quota, fallback=lambda state: state.granted)
+        assert (retrying(int, "3"), retrying(int, "x"), quota.seen().asked, quota.close()) == (3, 3, 2, 3)
+
+    in_a_forked_child(begins_anew)
     assert quota.granted == 1
     with pytest.raises(TypeError, match="quotas that processes share"):
         pickle.dumps(quota)

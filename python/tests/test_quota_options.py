@@ -5,7 +5,6 @@ from __future__ import annotations
 
 import asyncio
 import gc
-import os
 import threading
 from pathlib import Path
 from typing import Any, Callable, List
@@ -13,6 +12,7 @@ from typing import Any, Callable, List
 import pytest
 
 from draws import engines_number
+from processes import in_a_forked_child
 from hikebox import (
     AsyncRetrying,
     Budget,
@@ -172,14 +172,11 @@ def test_terms_are_changed_under_threads_that_draw(clock: VirtualClock) -> None:
 def test_a_forked_child_has_the_terms_in_force() -> None:
     quota = Quota(1, 0, LONG)
     quota.set_terms(reserve=3)
-    child = os.fork()
-    if child == 0:
-        status = 1
-        try:
-            status = 0 if (quota.seen().left, quota.terms.reserve) == (3, 3) else 2
-        finally:
-            os._exit(status)
-    assert os.waitstatus_to_exitcode(os.waitpid(child, 0)[1]) == 0
+
+    def has_them() -> None:
+        assert (quota.seen().left, quota.terms.reserve) == (3, 3)
+
+    in_a_forked_child(has_them)
 
 
 @KINDS
@@ -188,19 +185,17 @@ def test_a_forked_child_hands_none_of_its_parents_tickets_back(kind: str, tmp_pa
     attempts = iter(Retrying(recurs(3), budget=quota, clock=clock))
     with next(attempts):
         raise KeyError()
-    child = os.fork()
-    if child == 0:
-        status = 1
-        try:
-            attempts = iter(())
-            gc.collect()
-            # of a quota of the process the child has its own, and a lease is of the store's
-            found: Any = ([number(quota.draw()), number(quota.draw())], quota.granted)
-            own: Any = ([0, None], 1)
-            status = 0 if found == (([None, None], 0) if kind == "leased" else own) else 2
-        finally:
-            os._exit(status)
-    assert os.waitstatus_to_exitcode(os.waitpid(child, 0)[1]) == 0
+
+    def begins_anew() -> None:
+        nonlocal attempts
+        attempts = iter(())
+        gc.collect()
+        # of a quota of the process the child has its own, and a lease is of the store's
+        found: Any = ([number(quota.draw()), number(quota.draw())], quota.granted)
+        own: Any = ([0, None], 1)
+        assert found == (([None, None], 0) if kind == "leased" else own)
+
+    in_a_forked_child(begins_anew)
     attempts = iter(())
     gc.collect()
     assert quota.granted == 0 and bool(quota.draw())
@@ -305,18 +300,14 @@ def test_threads_hand_one_ticket_back_once(kind: str, tmp_path: Path, clock: Vir
 
 def test_a_ticket_of_the_process_before_a_fork_does_not_come_back(clock: VirtualClock) -> None:
     quota = Quota(2, 0, LONG, clock=clock)
-    ticket = quota.draw()
-    assert ticket
-    child = os.fork()
-    if child == 0:
-        status = 1
-        try:
-            with pytest.raises(TicketError, match="before the fork"):
-                ticket.hand_back()
-            status = 0 if quota.granted == 0 else 2
-        finally:
-            os._exit(status)
-    assert os.waitstatus_to_exitcode(os.waitpid(child, 0)[1]) == 0
+    ticket: Any = quota.draw()
+
+    def begins_anew() -> None:
+        with pytest.raises(TicketError, match="before the fork"):
+            ticket.hand_back()
+        assert quota.granted == 0
+
+    in_a_forked_child(begins_anew)
     ticket.hand_back()
     assert quota.close() == 0
 
@@ -738,15 +729,12 @@ def test_a_retry_draws_what_is_carried(by: str, carries: bool, granted: int, clo
 def test_a_forked_child_carries_what_is_its_own(clock: VirtualClock) -> None:
     quota = Quota(0, 1, 10, clock=clock, carries=True)
     quota.deposit(5)
-    child = os.fork()
-    if child == 0:
-        status = 1
-        try:
-            quota.deposit(2)
-            clock.advance(10)
-            status = 0 if [bool(quota.draw()) for _ in range(3)] == [True, True, False] else 2
-        finally:
-            os._exit(status)
-    assert os.waitstatus_to_exitcode(os.waitpid(child, 0)[1]) == 0
+
+    def begins_anew() -> None:
+        quota.deposit(2)
+        clock.advance(10)
+        assert [bool(quota.draw()) for _ in range(3)] == [True, True, False]
+
+    in_a_forked_child(begins_anew)
     clock.advance(10)
     assert sum(bool(quota.draw()) for _ in range(9)) == 5
