@@ -613,8 +613,8 @@ def test_what_is_below_the_grain_is_refused(build: Callable[[], Policy], hint: s
 
 
 SPOKEN: List[Tuple[Callable[[], Policy], str]] = [
-    (lambda: fixed(0), "fixed: an interval is at least 0.001 s, not 0"),
-    (lambda: spaced(1).renew(0), "renew: an interval is at least 0.001 s, not 0"),
+    (lambda: fixed(0), "fixed: expected an interval of at least 0.001 s, got 0"),
+    (lambda: spaced(1).renew(0), "renew: expected an interval of at least 0.001 s, got 0"),
     (lambda: recurs(-1), f"recurs: expected 0 to {MAX_NUMBER}, got -1"),
     (lambda: exponential(1, 1001), "exponential: a factor: expected 1 to 1000, got 1001"),
     (lambda: spaced(1).jittered(1.2, 0.8), "jittered(1.2, 0.8): the range is empty"),

@@ -152,16 +152,16 @@ def test_terms() -> None:
 
 
 BAD_TERMS: List[Any] = [
-    ((-1, 0, 1), "a reserve is from 0 to 4294967296 retries a window, not -1"),
-    ((2**32 + 1, 0, 1), "a reserve is from 0 to 4294967296 retries a window, not 4294967297"),
-    ((0, -0.1, 1), "a share is from 0 to 1000 retries a request, not -0.1"),
-    ((0, 1000.1, 1), "a share is from 0 to 1000 retries a request, not 1000.1"),
-    ((0, float("nan"), 1), "a share is from 0 to 1000 retries a request, not nan"),
-    ((0, 0.0004, 1), "a share is counted in thousandths of a retry a request, and 0.0004 is less than one"),
-    ((0, 0, 0), "the window of a quota is at least 100 ms long, not 0"),
-    ((0, 0, 0.099), "the window of a quota is at least 100 ms long, not 0.099"),
+    ((-1, 0, 1), "expected a reserve from 0 to 4294967296 retries a window, got -1"),
+    ((2**32 + 1, 0, 1), "expected a reserve from 0 to 4294967296 retries a window, got 4294967297"),
+    ((0, -0.1, 1), "expected a share from 0 to 1000 retries a request, got -0.1"),
+    ((0, 1000.1, 1), "expected a share from 0 to 1000 retries a request, got 1000.1"),
+    ((0, float("nan"), 1), "expected a share from 0 to 1000 retries a request, got nan"),
+    ((0, 0.0004, 1), "expected a share of 0 or at least 0.001 retries a request, got 0.0004"),
+    ((0, 0, 0), "expected a window of at least 100 ms, got 0"),
+    ((0, 0, 0.099), "expected a window of at least 100 ms, got 0.099"),
     ((0, 0, 0.0001), "the window of a quota: 0.0001 s is less than a millisecond"),
-    ((0, 0, timedelta(0)), "the window of a quota is at least 100 ms long, not datetime.timedelta(0)"),
+    ((0, 0, timedelta(0)), "expected a window of at least 100 ms, got datetime.timedelta(0)"),
     ((0, 0, -1), "the window of a quota: expected 0 to 4611686018427387903 milliseconds, got -1"),
     ((0, 0, float("inf")), "the window of a quota: a duration of inf seconds"),
 ]

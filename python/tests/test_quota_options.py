@@ -92,7 +92,7 @@ def test_several_requests_are_counted_at_once(kind: str, tmp_path: Path, clock: 
     assert (usage.asked, usage.left) == (6, 3)
     assert [number(quota.draw()) for _ in range(4)] == [0, 1, 2, None]
     for wrong in (-1, 2**32 + 1):
-        with pytest.raises(TermsError, match=f"from 0 to 4294967296 requests are counted at once, not {wrong}"):
+        with pytest.raises(TermsError, match=f"expected 0 to 4294967296 requests at once, got {wrong}"):
             quota.deposit(wrong)
     for other in (1.5, "2", None):
         with pytest.raises(TypeError, match="expected a whole number of requests"):
@@ -135,9 +135,9 @@ def test_terms_that_are_changed_count_for_the_next_draw(clock: VirtualClock) -> 
 def test_terms_that_are_refused_change_nothing(clock: VirtualClock) -> None:
     quota = Quota(2, 0.5, 10, clock=clock)
     for reserve, share, text in (
-        (2**32 + 1, None, "a reserve is from 0 to 4294967296 retries a window, not 4294967297"),
-        (9, 1000.5, "a share is from 0 to 1000 retries a request, not 1000.5"),
-        (9, 0.0001, "a share is counted in thousandths of a retry a request, and 0.0001 is less than one"),
+        (2**32 + 1, None, "expected a reserve from 0 to 4294967296 retries a window, got 4294967297"),
+        (9, 1000.5, "expected a share from 0 to 1000 retries a request, got 1000.5"),
+        (9, 0.0001, "expected a share of 0 or at least 0.001 retries a request, got 0.0001"),
     ):
         with pytest.raises(TermsError) as caught:
             quota.set_terms(reserve, share)

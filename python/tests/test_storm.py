@@ -123,7 +123,7 @@ WRONG: List[Tuple[Dict[str, Any], str]] = [
     ({"queue": -1}, "queue: expected 0 to 1048576, got -1"),
     ({"outage": (2, 1)}, "outage: it ends at 1000 ms, before it begins at 2000 ms"),
     ({"outage": (0, 3601)}, "outage: expected 0 to 3600000 ms, got 3601000"),
-    ({"slow": (0, 1, 50)}, "slow: a share of the capacity is from 0.01 to 1, not 50"),
+    ({"slow": (0, 1, 50)}, "slow: expected a share of the capacity from 0.01 to 1, got 50"),
     ({"slow": (2, 1, 0.5)}, "slow: it ends at 1000 ms, before it begins at 2000 ms"),
     ({"window": 0}, "window: expected 1 to 3600000 ms, got 0"),
     ({"window": 0.001}, "window: 120000 ms by windows of 1 ms are 120001 lines, and a report has at most 65537"),
@@ -294,7 +294,7 @@ NAMES = "rate, clients, together, seconds, capacity, queue, patience, outage, sh
         (["--rate", "20000"], "rate: 20000 a second for 60 s are 1200000 requests, and a storm has at most 1048576"),
         (["--window", "1"], "window: 120000 ms by windows of 1 ms are 120001 lines, and a report has at most 65537"),
         (["--budget", "4294967297"], "argument --budget: expected a number from 0 to 4294967296, got '4294967297'"),
-        (["--quota", "1/1%/0s"], "argument --quota: the window of a quota is at least 100 ms long, not 0.0"),
+        (["--quota", "1/1%/0s"], "argument --quota: expected a window of at least 100 ms, got 0.0"),
         (["--csv", "--budget", "1", "--quota", "1/1%/1s"], "storm: --csv and --json are of one storm, or of a sweep"),
         (["--csv", "--json"], "argument --json: not allowed with argument --csv"),
         (["--csv", "recurs(1)", "recurs(2)"], "storm: --csv and --json are of one storm, or of a sweep"),
@@ -304,7 +304,7 @@ NAMES = "rate, clients, together, seconds, capacity, queue, patience, outage, sh
         (["--measure", "calls"], "measure: it is of a sweep"),
         (["--bars", "--sweep", "rate=1,2"], "storm: --bars is of storms, not of a sweep or a border"),
         (["--detail"], "detail: it is of a picture of storms"),
-        (["--find", "retries", "recurs(1)", "recurs(2)"], "storm: --find is of one storm, not 2"),
+        (["--find", "retries", "recurs(1)", "recurs(2)"], "storm: expected one storm for --find, got 2"),
         (["--find", "quota", "--csv"], "storm: --find prints text or --json"),
         (["--sweep", "rats=1,2"], "sweep: expected a parameter, as rate=200..1600/8, got 'rats'"),
         (
@@ -485,7 +485,7 @@ def test_a_quota_without_units_is_told_what_it_would_be() -> None:
     for text in ("ten", "9" * 9000, "9" * 9000 + "/1%/1s"):
         with pytest.raises(BudgetError, match="expected N or RESERVE/SHARE%/PERIOD"):
             tickets_of(text)
-    with pytest.raises(BudgetError, match="a budget is from 0 to 4294967296"):
+    with pytest.raises(BudgetError, match="expected a budget from 0 to 4294967296"):
         tickets_of("4294967297")
 
 

@@ -100,4 +100,4 @@ class Budget(Granting):
 
 def _look_at_limit(limit: int) -> None:
     if not 0 <= limit <= MAX_TICKETS:
-        raise TermsError(f"a limit is from 0 to {MAX_TICKETS}, not {limit}")
+        raise TermsError(f"expected a limit from 0 to {MAX_TICKETS}, got {limit}")

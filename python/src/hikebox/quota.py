@@ -1,4 +1,4 @@
-"""Quotas: how many retries all threads of a process are granted in each window of time, at most."""
+"""Quotas: the most retries that all threads of a process are granted in each window of time."""
 
 from __future__ import annotations
 
@@ -25,51 +25,52 @@ WINDOW = 2**32
 
 @dataclass(frozen=True)
 class Usage:
-    """What is known of a window of a quota."""
+    """The use of a window of a quota."""
 
-    #: Which window it is: from 0 on, in which the quota was made; of a `LeasedQuota` by the store's clock.
+    #: The number of the window. Window 0 is the one in which the quota was made; a `LeasedQuota` counts windows by its
+    #: store's clock.
     window: int
-    #: The requests that were counted in it.
+    #: The requests counted in it.
     asked: int
-    #: The tickets that it has given out: without those handed back, but of a `LeasedQuota` with them. Of a quota that
-    #: carries, its own alone.
+    #: The tickets drawn from it, without those handed back. For a `LeasedQuota` those count too. For a quota that
+    #: carries, its own tickets alone.
     given: int
-    #: The tickets that it may yet give for the requests counted so far, and what is left of those carried to it.
+    #: The tickets that can still be drawn for the requests counted so far, with what is left of those carried to it.
     left: int
-    #: Of a `LeasedQuota`: whether the store may have lost its count of the window, and so grants nothing of it.
+    #: For a `LeasedQuota`: whether the store may have lost its count of the window, so that it grants nothing of it.
     lost: bool = False
-    #: When the next window begins, in seconds of the quota's clock. If that is further off than `per`, this window was
-    #: opened by a call whose clock was ahead, or by the requests past the 4,294,967,296 of the window before. It is
-    #: left out where usages are compared.
+    #: When the next window begins, in seconds by the quota's clock. If that is more than `per` away, a call with a clock
+    #: ahead opened this window, or the requests past the 4,294,967,296 of the window before. Comparisons leave it out.
     next: Optional[float] = field(default=None, compare=False)
 
 
 class Quota(Granting, CountsRequests):
-    """Retries for a service: each window of time grants no more than a reserve and a share of the requests made in it.
+    """Limits the retries of a service: each window of time grants a reserve, and a share of the requests made in it.
 
     `reserve`
-        The retries of each window that ask for no request.
+        The retries per window regardless of traffic.
     `share`
         The retries that each request adds to its window: 0.2 is one for every five requests. It is counted in
         thousandths.
     `per`
-        How long a window is: seconds, or a `timedelta`. Nothing is carried from a window to the next, but by `carries`.
+        The length of a window: seconds, or a `timedelta`. Without `carries`, nothing carries over to the next window.
     `counts_successes`
-        A call counts as a request where it succeeds, and not at its first attempt: so a callee that is dead gives no
-        share, and dries the quota out down to its reserve. gRPC's throttling counts so.
+        Counts a call as a request when it succeeds, and not at its first attempt, as gRPC's throttling does. A callee
+        that is down then adds no share, so the quota shrinks to its reserve.
     `returns_tickets`
-        A call that succeeds after retries hands the ticket of the last one back, as AWS's SDKs do. A repetition hands
-        none back.
+        A call that succeeds after retries hands back the ticket of the last one, as in AWS's SDKs. A repeat hands back
+        none.
     `carries`
-        Each window may draw, once, what the one before left of its share, but none of its reserve: for retries whose
-        attempts fail after a border. A window has at most 2**31 tickets of its own then, and leaves as many at most.
+        Each window may also draw, once, what the window before left of its share, but none of its reserve. This is for
+        attempts that fail just after a border. A window then has at most 2**31 tickets of its own, and leaves at most
+        as many.
     `clock`
-        What tells the seconds by which windows go, from what it tells when the quota is made: to be replaced in tests.
+        What returns the time in seconds, to be replaced in tests. Windows count from its time when the quota is made.
 
-    A retry that ends while it waits, since it was cancelled or stopped, hands its ticket back: one more may be drawn in
-    the ticket's window then, and `granted` is one less. A retry draws a ticket where its attempt fails, and begins
-    after its delay, maybe in a later window: more retries can begin in a window than it granted. Each call that is
-    retried counts as one request, at its first attempt:
+    A retry that is cancelled or stopped while it waits hands its ticket back: one more can be drawn in that ticket's
+    window, and `granted` is one less. A retry draws its ticket when its attempt fails and begins after its delay, maybe
+    in a later window, so more retries can begin in a window than it granted. Each call that is retried counts as one
+    request, at its first attempt:
 
     >>> from hikebox import recurs, retry
     >>> quota = Quota(reserve=10, share=0.2, per=10)
@@ -79,9 +80,9 @@ class Quota(Granting, CountsRequests):
     >>> [fetch() for _ in range(5)][-1], quota.seen().left
     ('fetched', 11)
 
-    All threads may share it, and draw at once. Closing it, or leaving it as a context, gives the exact number of all
-    tickets drawn; a service that runs until it is stopped need not close it. A quota belongs to its process: a
-    forked child has one of its own, with nothing counted. For one that processes share see `hikebox.leased`.
+    Threads may share it and draw at once. Closing it, or leaving its `with` block, returns the exact number of all
+    tickets drawn; a service that runs until it is stopped need not close it. A quota belongs to its process: a forked
+    child begins with a quota of its own and nothing counted. `hikebox.leased` has quotas that processes share.
     """
 
     __slots__ = ("_in_force", "_clock", "_counts_successes", "_returns_tickets", "_carries")
@@ -111,7 +112,7 @@ class Quota(Granting, CountsRequests):
 
     @property
     def reserve(self) -> int:
-        """The retries of each window that ask for no request."""
+        """The retries per window regardless of traffic."""
         return self.terms.reserve
 
     @property
@@ -121,7 +122,7 @@ class Quota(Granting, CountsRequests):
 
     @property
     def per(self) -> float:
-        """How many seconds a window is long."""
+        """The length of a window in seconds."""
         return self.terms.period / 1000
 
     @property
@@ -131,12 +132,12 @@ class Quota(Granting, CountsRequests):
 
     @property
     def clock(self) -> Callable[[], float]:
-        """What tells the seconds by which windows go."""
+        """What returns the time in seconds."""
         return self._clock
 
     def set_terms(self, reserve: Optional[int] = None, share: Optional[float] = None) -> None:
-        """Sets the reserve and the share, as where a service reads its configuration again: each draw goes by them from
-        now on, in the present window too. What is left out stays, and so do the windows and what they have given.
+        """Sets the reserve and the share, as when a service reloads its configuration. Each draw goes by them from now
+        on, in the present window too. What you leave out stays, and so do windows and the tickets they have given.
 
         >>> quota = Quota(reserve=1, share=0, per=60)
         >>> bool(quota.draw()), bool(quota.draw())
@@ -151,7 +152,7 @@ class Quota(Granting, CountsRequests):
             self._in_force.terms = terms
 
     def deposit(self, requests: int = 1) -> None:
-        """Counts a request in the present window, or so many at once, as for a dear one. Calls that are retried under
+        """Counts a request in the present window, or several at once for an expensive one. Calls that are retried under
         the quota count themselves."""
         if requests != 1:
             self._deposit_all(requests_of(requests))
@@ -172,9 +173,9 @@ class Quota(Granting, CountsRequests):
             root.deposit(moment(self._clock()), c_uint64(requests))
 
     def draw(self) -> Drawn:
-        """A `Ticket`, or a `Refusal`, which is false, where the present window has none left: the next one may, and so
-        may this one after more requests. A window's tickets are numbered from 0; those that are carried to it, which
-        are drawn first, are the last ones of the window before.
+        """Returns a `Ticket`, or a `Refusal`, which is false, if the present window has none left. The next window may
+        have one, and so may this one after more requests. A window's tickets are numbered from 0. Tickets carried to it
+        are drawn first, and are the last ones of the window before.
 
         >>> quota = Quota(reserve=1, share=0.5, per=60)
         >>> ticket = quota.draw()
@@ -203,9 +204,9 @@ class Quota(Granting, CountsRequests):
                 passes.give_back(lent)
 
     def hand_back(self, ticket: Ticket) -> None:
-        """Hands a ticket back that was drawn by hand, and not used: one more may be drawn in its window then, unless it
-        was carried from the one before, and `granted` is one less. That can be done once, else it is a `TicketError`.
-        `ticket.hand_back()` is the same. Retries under the quota do it by themselves.
+        """Hands back a ticket that you drew and did not use: one more can be drawn in its window, unless it was carried
+        from the one before, and `granted` is one less. A second time it raises a `TicketError`. `ticket.hand_back()` is
+        the same. Retries under the quota do it by themselves.
 
         >>> quota = Quota(reserve=1, share=0, per=60)
         >>> ticket = quota.draw()
@@ -221,7 +222,7 @@ class Quota(Granting, CountsRequests):
         self.passes.drop(checked_ticket(ticket).comes_back(self), hands_back=True)
 
     def seen(self) -> Usage:
-        """What was asked of the present window, what it has given, what it has left, and when the next begins."""
+        """Returns the use of the present window: its requests, its tickets given and left, and when the next begins."""
         with self.passes.lent() as lent:
             window, asked, given, left, after = lent.seen(moment(self._clock()))
         return Usage(window, asked, given, left, next=after / 1000)
@@ -230,16 +231,16 @@ class Quota(Granting, CountsRequests):
         return f"Quota({self.terms}{self.switches()}{', carries=True' * self._carries})"
 
     def moment_of(self, clock: float) -> int:
-        """The moment at which a retry begins that begins at so many seconds of the quota's clock."""
+        """The engine's moment of a time of the quota's clock."""
         return moment(clock)
 
     def retry_drawing(self, awaits: bool) -> Drawing:
-        """What draws for a retry that goes by another clock."""
+        """Returns what draws for a retry with another clock."""
         return ByPass(self.passes, lambda: moment(self._clock()))
 
 
 class _InForce:
-    """The terms by which a quota grants now."""
+    """The terms of a quota as of now."""
 
     __slots__ = ("terms",)
 

@@ -263,7 +263,7 @@ def _slow(slow: Any) -> Slow:
     if isinstance(share, bool) or not isinstance(share, (int, float)):
         raise TypeError(f"slow: expected a share of the capacity, got {share!r}")
     if not 0.01 <= share <= 1:
-        raise StormError("slow", f"a share of the capacity is from 0.01 to 1, not {share!r}")
+        raise StormError("slow", f"expected a share of the capacity from 0.01 to 1, got {share!r}")
     return Slow(_time("slow", begins), _time("slow", ends), round(share * 100))
 
 

@@ -13,17 +13,17 @@ __all__ = ["CountsRequests", "Terms", "requests_of", "terms_of"]
 
 
 class Terms(NamedTuple):
-    """What a quota is made with, in the engine's units."""
+    """The terms of a quota, in the engine's units."""
 
-    #: The tickets of each window that ask for no request.
+    #: The tickets of each window regardless of traffic.
     reserve: int
     #: The thousandths of a ticket that each request adds to its window.
     share: int
-    #: How many milliseconds a window is long.
+    #: The length of a window in milliseconds.
     period: int
 
     def allowed(self, asked: int) -> int:
-        """How many tickets a window of so many requests gives.
+        """How many tickets a window of this many requests gives.
 
         >>> Terms(10, 200, 1000).allowed(4), Terms(10, 200, 1000).allowed(5)
         (10, 11)
@@ -33,7 +33,7 @@ class Terms(NamedTuple):
         return quota_allows(self.reserve, self.share, asked)
 
     def changed(self, reserve: Optional[int], share: Optional[float]) -> Terms:
-        """The same with another reserve and share, where these are not None."""
+        """Returns the same with another reserve and share, if these are not None."""
         return Terms(
             self.reserve if reserve is None else _reserve_of(reserve),
             self.share if share is None else _share_of(share),
@@ -69,7 +69,7 @@ class CountsRequests:
 
 
 def terms_of(reserve: int, share: float, per: Duration) -> Terms:
-    """The terms of a quota, or a `TermsError`.
+    """Returns the terms of a quota, or raises a `TermsError`.
 
     >>> from datetime import timedelta
     >>> terms_of(10, 0.25, timedelta(minutes=1))
@@ -79,11 +79,11 @@ def terms_of(reserve: int, share: float, per: Duration) -> Terms:
 
 
 def requests_of(requests: int) -> int:
-    """A number of requests that are counted at once, or a `TermsError`."""
+    """Returns a number of requests that can be counted at once, or raises a `TermsError`."""
     if isinstance(requests, bool) or not isinstance(requests, int):
         raise TypeError(f"expected a whole number of requests, got {requests!r}")
     if not 0 <= requests <= MAX_TICKETS:
-        raise TermsError(f"from 0 to {MAX_TICKETS} requests are counted at once, not {requests}")
+        raise TermsError(f"expected 0 to {MAX_TICKETS} requests at once, got {requests}")
     return requests
 
 
@@ -91,7 +91,7 @@ def _reserve_of(reserve: int) -> int:
     if isinstance(reserve, bool) or not isinstance(reserve, int):
         raise TypeError(f"expected a whole number of retries as the reserve, got {reserve!r}")
     if not 0 <= reserve <= MAX_TICKETS:
-        raise TermsError(f"a reserve is from 0 to {MAX_TICKETS} retries a window, not {reserve}")
+        raise TermsError(f"expected a reserve from 0 to {MAX_TICKETS} retries a window, got {reserve}")
     return reserve
 
 
@@ -99,10 +99,10 @@ def _share_of(share: float) -> int:
     if isinstance(share, bool) or not isinstance(share, (int, float)):
         raise TypeError(f"expected a number of retries a request as the share, got {share!r}")
     if not (math.isfinite(share) and 0 <= share <= MAX_SHARE / 1000):
-        raise TermsError(f"a share is from 0 to {MAX_SHARE // 1000} retries a request, not {share!r}")
+        raise TermsError(f"expected a share from 0 to {MAX_SHARE // 1000} retries a request, got {share!r}")
     thousandths = round(share * 1000)
     if share > 0 and thousandths == 0:
-        raise TermsError(f"a share is counted in thousandths of a retry a request, and {share!r} is less than one")
+        raise TermsError(f"expected a share of 0 or at least 0.001 retries a request, got {share!r}")
     return thousandths
 
 
@@ -112,5 +112,5 @@ def _period_of(per: Duration) -> int:
     except PolicyError as error:
         raise TermsError(f"the window of a quota: {error.hint}") from None
     if period < MIN_PERIOD:
-        raise TermsError(f"the window of a quota is at least {MIN_PERIOD} ms long, not {per!r}")
+        raise TermsError(f"expected a window of at least {MIN_PERIOD} ms, got {per!r}")
     return period

@@ -78,7 +78,7 @@ def _look_at(given: Any, count: int) -> None:
     if given.find and (given.csv or given.svg is not None or given.sweep):
         raise StormError("storm", "--find prints text or --json")
     if given.find and count > 1:
-        raise StormError("storm", f"--find is of one storm, not {count}")
+        raise StormError("storm", f"expected one storm for --find, got {count}")
     if given.width is not None and given.svg is None and not given.bars:
         raise StormError("width", "it is of --bars, or of a picture")
     if given.measure and not given.sweep:

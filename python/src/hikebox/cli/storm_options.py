@@ -94,7 +94,7 @@ def tickets_of(text: str) -> Union[None, int, Terms]:
         return None
     if spelt.isascii() and spelt.isdigit() and len(spelt) <= _MAX_TEXT:
         if int(spelt) > MAX_TICKETS:
-            raise BudgetError(f"a budget is from 0 to {MAX_TICKETS}, not {spelt}")
+            raise BudgetError(f"expected a budget from 0 to {MAX_TICKETS}, got {spelt}")
         return int(spelt)
     if "/" not in spelt or len(spelt) > _MAX_TEXT:
         raise BudgetError(f"expected N or RESERVE/SHARE%/PERIOD, as 10/10%/1s, got {fitted(spelt, 300)!r}")

@@ -46,10 +46,10 @@ class Leased(Leases):
         clock: Callable[[], float] = uptime,
     ) -> None:
         if isinstance(limit, bool) or not isinstance(limit, int) or not 0 <= limit < 2**52:
-            raise TermsError(f"a limit is a whole number from 0 to 2**52 - 1, not {limit!r}")
+            raise TermsError(f"expected a limit from 0 to 2**52 - 1, got {limit!r}")
         millis = None if per is None else seconds(per, "per")
         if millis == 0:
-            raise TermsError(f"a window is at least a millisecond long, not {per!r}")
+            raise TermsError(f"expected a window of at least a millisecond, got {per!r}")
         self.store = store
         self.limit = limit
         self.lease = _checked_lease(lease) or max(1, min(1000, limit // 64))
@@ -187,5 +187,5 @@ class LeasedQuota(Leases, CountsRequests):
 def _checked_lease(lease: Optional[int]) -> Optional[int]:
     """How many tickets are leased at a time, where that is said: or a `TermsError`."""
     if lease is not None and not 1 <= lease <= 2**32:
-        raise TermsError(f"a lease is from 1 to 2**32 tickets, not {lease!r}")
+        raise TermsError(f"expected a lease of 1 to 2**32 tickets, got {lease!r}")
     return lease

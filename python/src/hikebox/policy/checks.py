@@ -25,7 +25,9 @@ def interval(duration: Duration, what: str) -> int:
     """A duration of at least a millisecond, in milliseconds."""
     count = seconds(duration, what)
     if count == 0:
-        raise PolicyError(Fault.OUT_OF_RANGE, hint=f"{what}: an interval is at least 0.001 s, not {duration!r}")
+        raise PolicyError(
+            Fault.OUT_OF_RANGE, hint=f"{what}: expected an interval of at least 0.001 s, got {duration!r}"
+        )
     return count
 
 

@@ -59,7 +59,7 @@ def sweep_picture(
     if not MIN_WIDTH <= width <= MAX_WIDTH:
         raise StormError("width", f"expected {MIN_WIDTH} to {MAX_WIDTH}, got {width}")
     if len(swept.lines) > LINES:
-        raise StormError("sweep", f"a picture has at most {LINES} lines, not {len(swept.lines)}")
+        raise StormError("sweep", f"expected at most {LINES} lines in a picture, got {len(swept.lines)}")
     columns = min(len(measures), max(1, (width - 2 * _MARGIN + _GAP) // (_MIN_PANEL + _GAP)))
     wide = (width - 2 * _MARGIN + _GAP) / columns - _GAP
     shared = _shared(swept, title, width - 2 * _MARGIN)
