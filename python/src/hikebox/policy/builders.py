@@ -1,4 +1,4 @@
-"""The builders of policies: the leaves. Operators and methods of `Policy` make policies of them."""
+"""Builders of policies: the leaves. Operators and methods of `Policy` combine them."""
 
 from __future__ import annotations
 
@@ -28,12 +28,12 @@ __all__ = [
 
 
 def forever() -> Policy:
-    """Goes on at once, for ever. Meet it with something that waits."""
+    """Goes on at once, without end. Combine it with something that waits."""
     return Policy.of_node("forever", ())
 
 
 def recurs(times: int) -> Policy:
-    """Goes on at once, so many times.
+    """Goes on at once, this many times.
 
     >>> [str(step) for step in recurs(1).preview()]
     ['0: 0 next 0', '0: 1 done']
@@ -42,7 +42,7 @@ def recurs(times: int) -> Policy:
 
 
 def once() -> Policy:
-    """Goes on once, at once, and gives nothing."""
+    """Goes on at once, one time, with nothing as output."""
     return recurs(1).nothing()
 
 
@@ -52,27 +52,27 @@ def stop() -> Policy:
 
 
 def spaced(delay: Duration) -> Policy:
-    """Goes on this long after each event."""
+    """Goes on this long after each failure."""
     return Policy.of_node("spaced", (seconds(delay, "spaced"),))
 
 
 def fixed(every: Duration) -> Policy:
-    """Goes on at the boundaries of intervals from the first event on; at once where it is more than one behind."""
+    """Goes on at boundaries of intervals from the first failure on; at once if it is more than one interval behind."""
     return Policy.of_node("fixed", (interval(every, "fixed"),))
 
 
 def windowed(every: Duration) -> Policy:
-    """Goes on at the next boundary of intervals from the first event on."""
+    """Goes on at the next boundary of intervals from the first failure on."""
     return Policy.of_node("windowed", (interval(every, "windowed"),))
 
 
 def linear(base: Duration) -> Policy:
-    """Waits the base, twice the base, three times the base and so on."""
+    """Waits the base, twice the base, three times the base, and so on."""
     return Policy.of_node("linear", (seconds(base, "linear"),))
 
 
 def exponential(base: Duration, factor: float = 2) -> Policy:
-    """Waits the base, and each time the factor times as long. A factor that is not whole is rounded to thousandths.
+    """Waits the base, and then each time `factor` times as long. A factor that is not whole is rounded to thousandths.
 
     >>> exponential(0.1, 1.5).to_json()
     '{"exponential_milli":[100,1500]}'
@@ -85,16 +85,16 @@ def exponential(base: Duration, factor: float = 2) -> Policy:
 
 
 def exponential_milli(base: Duration, factor: int) -> Policy:
-    """The same with a factor in thousandths, rounded down at each event."""
+    """The same with a factor in thousandths. Each wait is rounded down."""
     milli = whole(factor, "exponential_milli: a factor", 1, 1_000_000)
     return Policy.of_node("exponential_milli", (seconds(base, "exponential_milli"), milli))
 
 
 def decorrelated(base: Duration, longest: Duration, factor: float = 3, *, lane: int = 0) -> Policy:
-    """Waits at random, each time from the base up to the factor times the wait before, and never longer than `longest`.
+    """Waits at random, each time from the base up to `factor` times the wait before, and at most `longest`.
 
-    What AWS calls decorrelated jitter. The first wait is picked as if the base had been waited before. The factor, from
-    1 to 1000, is rounded to thousandths. Which random number picks, `lane` says, as for `Policy.jittered`.
+    AWS calls this decorrelated jitter. The first wait is picked as if the wait before had been the base. The factor is
+    from 1 to 1000 and rounded to thousandths. `lane` chooses the random number, as for `Policy.jittered`.
 
     >>> [step.next_ms for step in decorrelated(0.1, 10).preview(3)]
     [200, 550, 1125]
@@ -107,22 +107,22 @@ def decorrelated(base: Duration, longest: Duration, factor: float = 3, *, lane: 
 
 
 def fibonacci(one: Duration) -> Policy:
-    """Waits this long times 1, 1, 2, 3, 5 and so on."""
+    """Waits 1, 1, 2, 3, 5 and so on times this long."""
     return Policy.of_node("fibonacci", (seconds(one, "fibonacci"),))
 
 
 def elapsed() -> Policy:
-    """Goes on at once, and gives the time since the first event, in milliseconds."""
+    """Goes on at once. Its output is the time since the first failure, in milliseconds."""
     return Policy.of_node("elapsed", ())
 
 
 def identity() -> Policy:
-    """Goes on at once, and gives the code of the failure."""
+    """Goes on at once. Its output is the code of the failure."""
     return Policy.of_node("identity", ())
 
 
 def unfold(start: int, times: int, plus: int) -> Policy:
-    """Goes on at once, and gives `start`, and then each time the output before times `times` and `plus` more."""
+    """Goes on at once. Its output is `start`, and then each time the output before times `times`, plus `plus`."""
     return Policy.of_node("unfold", tuple([whole(number, "unfold") for number in (start, times, plus)]))
 
 

@@ -17,10 +17,11 @@ __all__ = ["Policy", "Step"]
 
 
 class Policy:
-    """A retry policy: at each failure it says when to call again, or that it is done.
+    """A retry policy: at each failure it says when to call again, or that it is done. A repeat asks it at each success.
 
-    It is made by the builders of this module, by `from_json`, `from_dict` or `from_file`. It never changes, two equal
-    ones are `==`, and its `repr` is the expression that builds it. What the engine refuses is a `PolicyError`.
+    Builders make one, such as `recurs`, and so do `from_json`, `from_dict`, `from_file` and `parse`. It never changes,
+    equal policies are `==`, and its `repr` is the expression that builds it. A policy that the engine refuses raises a
+    `PolicyError`.
 
     >>> from hikebox import exponential, recurs
     >>> policy = recurs(5) & exponential(0.1, 2).cap(1)
@@ -142,12 +143,12 @@ class Policy:
 
     @property
     def nodes(self) -> int:
-        """How many nodes it has, at most 256."""
+        """The number of its nodes, at most 256."""
         return self.plan.size()[0]
 
     @property
     def depth(self) -> int:
-        """How deep it is, at most 32; a leaf is 1 deep.
+        """Its depth, at most 32. A leaf has depth 1.
 
         >>> from hikebox import recurs, spaced
         >>> (recurs(5) & spaced(1).cap(2)).depth
@@ -157,7 +158,7 @@ class Policy:
 
     @property
     def most_retries(self) -> Optional[int]:
-        """At how many events it goes on at most, or None where its nodes alone don't bound that.
+        """The most failures at which it goes on, or None if its nodes alone don't bound that.
 
         >>> from hikebox import recurs, spaced
         >>> (recurs(5) & spaced(1)).most_retries, spaced(1).up_to(60).most_retries
@@ -219,11 +220,12 @@ class Policy:
         input: Union[int, Iterable[int]] = 0,
         random: Optional[Callable[[], float]] = None,
     ) -> List[Step]:
-        """What it does at its first events, on a clock of its own: up to the one at which it is done, at most `steps`.
+        """Returns what it does at its first failures, on a clock of its own: at most `steps`, up to the one at which it
+        is done.
 
-        The first event is at `start`, and each further one `took` after its planned start. `input` is the code of
-        every failure, or the codes one after another, the last one repeated. `random` gives numbers from 0 up to 1, by
-        which jitter is picked; the middle where it is None.
+        The first failure is at `start`, and each further one `took` after its planned start. `input` is the code of all
+        failures, or their codes in turn, the last one repeated. `random` returns numbers from 0 up to 1 that pick
+        jitter; None picks the middle.
 
         >>> from hikebox import exponential, recurs, spaced
         >>> for step in (recurs(2) & exponential(0.1, 2)).preview():
@@ -271,27 +273,26 @@ class Policy:
     # One policy
 
     def cap(self, longest: Duration) -> Policy:
-        """With no delay longer than this."""
+        """Limits each delay to this."""
         return Policy.of_node("cap", (seconds(longest, "cap"),), self)
 
     def add_delay(self, more: Duration) -> Policy:
-        """With each delay longer by this. JSON's `add`."""
+        """Adds this to each delay. JSON's `add`."""
         return Policy.of_node("add", (seconds(more, "add_delay"),), self)
 
     def set_delay(self, delay: Duration) -> Policy:
-        """With this in the place of each delay. JSON's `set`."""
+        """Replaces each delay by this. JSON's `set`."""
         return Policy.of_node("set", (seconds(delay, "set_delay"),), self)
 
     def add_output(self) -> Policy:
-        """With each delay longer by the output, in milliseconds, where that is a number. JSON's `add_out`."""
+        """Adds the output to each delay, in milliseconds, if it is a number. JSON's `add_out`."""
         return Policy.of_node("add_out", (), self)
 
     def jittered(self, least: float = 0.8, most: float = 1.2, *, lane: int = 0) -> Policy:
-        """With each delay times a ratio from `least` up to `most`, which a random number picks. JSON's `jitter`.
+        """Multiplies each delay by a random ratio from `least` up to `most`. JSON's `jitter`.
 
-        So `jittered()` is 20 % less to 20 % more, `jittered(0, 1)` is full jitter, and `jittered(0.2)` is a ratio from
-        0.2 up to 1.2. The ratios are rounded to thousandths. Jitters of one `lane`, from 0 to 3, pick by the same
-        number.
+        `jittered()` is 20 % less to 20 % more, `jittered(0, 1)` is full jitter, and `jittered(0.2)` is a ratio from 0.2
+        up to 1.2. Ratios are rounded to thousandths. Jitters of one `lane`, from 0 to 3, use the same random number.
 
         >>> from hikebox import spaced
         >>> spaced(1).jittered(0.5, 1.5).preview(1, random=lambda: 0.0)[0].delay
@@ -306,11 +307,11 @@ class Policy:
         return Policy.of_node("jitter", (whole(lane, "jittered: a lane", 0, 3), *ratios), self)
 
     def up_to(self, duration: Duration) -> Policy:
-        """But done once this much time has passed since the first event. ZIO's `upTo`, JSON's `within`."""
+        """Ends once this much time has passed since the first failure. ZIO's `upTo`, JSON's `within`."""
         return Policy.of_node("within", (seconds(duration, "up_to"),), self)
 
     def ends_by(self, duration: Duration) -> Policy:
-        """But done where the next call would start later than this after the first event, so that none does.
+        """Ends if the next call would begin later than this after the first failure, so that none does.
 
         >>> from hikebox import spaced
         >>> [step.next_ms for step in spaced(0.45).ends_by(1).preview()]
@@ -319,35 +320,35 @@ class Policy:
         return Policy.of_node("ends_by", (seconds(duration, "ends_by"),), self)
 
     def renew(self, duration: Duration) -> Policy:
-        """Begun anew at the first event at which this much time has passed since it last began."""
+        """Begins anew at the first failure at which this much time has passed since it last began."""
         return Policy.of_node("renew", (interval(duration, "renew"),), self)
 
     def renew_idle(self, duration: Duration) -> Policy:
-        """Begun anew at each event that comes this long or longer after the one before."""
+        """Begins anew at each failure that comes this long or longer after the one before."""
         return Policy.of_node("renew_idle", (interval(duration, "renew_idle"),), self)
 
     def gather(self, fold: str) -> Policy:
-        """With the "sum", "count", "max" or "list" of the outputs at the earlier events as output."""
+        """Changes the output to the "sum", "count", "max" or "list" of the outputs at the earlier failures."""
         if fold not in FOLDS:
             raise PolicyError(Fault.NOT_A_PLAN, hint=f"gather: expected one of {', '.join(FOLDS)}, got {fold!r}")
         return Policy.of_node("gather", (fold,), self)
 
     def first(self) -> Policy:
-        """With the first part of the output, where that is a pair."""
+        """Changes the output to its first part, if it is a pair."""
         return Policy.of_node("first", (), self)
 
     def second(self) -> Policy:
-        """With the second part of the output, where that is a pair."""
+        """Changes the output to its second part, if it is a pair."""
         return Policy.of_node("second", (), self)
 
     def nothing(self) -> Policy:
-        """With nothing as output."""
+        """Changes the output to nothing."""
         return Policy.of_node("nothing", (), self)
 
     def while_input(
         self, *, below: Optional[int] = None, at_least: Optional[int] = None, equal: Optional[int] = None
     ) -> Policy:
-        """But done where the code of the failure is not so.
+        """Ends at a failure whose code does not pass the test.
 
         >>> from hikebox import spaced
         >>> [step.next_ms for step in spaced(1).while_input(equal=503).preview(input=404)]
@@ -358,19 +359,19 @@ class Policy:
     def until_input(
         self, *, below: Optional[int] = None, at_least: Optional[int] = None, equal: Optional[int] = None
     ) -> Policy:
-        """But done where the code of the failure is so."""
+        """Ends at a failure whose code passes the test."""
         return self._gate("input", False, below=below, at_least=at_least, equal=equal)
 
     def while_output(
         self, *, below: Optional[int] = None, at_least: Optional[int] = None, equal: Optional[int] = None
     ) -> Policy:
-        """But done where its output is not so."""
+        """Ends when its output does not pass the test."""
         return self._gate("output", True, below=below, at_least=at_least, equal=equal)
 
     def until_output(
         self, *, below: Optional[int] = None, at_least: Optional[int] = None, equal: Optional[int] = None
     ) -> Policy:
-        """But done where its output is so."""
+        """Ends when its output passes the test."""
         return self._gate("output", False, below=below, at_least=at_least, equal=equal)
 
     def _gate(self, side: str, want: bool, **tests: Optional[int]) -> Policy:
