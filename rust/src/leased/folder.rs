@@ -5,7 +5,7 @@ use crate::engine::Stored;
 use crate::leased::slot::{Record, COPY, SIZE};
 use crate::leased::uptime::{boot, now, Window};
 use crate::random;
-use crate::system::{try_lock, unlock};
+use crate::system::{try_lock, unlock, OwnFile};
 use std::error::Error;
 use std::fmt;
 use std::fs::{self, DirEntry, File, OpenOptions};
@@ -61,7 +61,7 @@ pub(crate) struct Slot {
 }
 
 /// A file whose lock this process has.
-struct Locked(File);
+struct Locked(OwnFile);
 
 impl Key {
     /// That of a budget of this name.
@@ -104,7 +104,7 @@ impl Folder {
     pub(crate) fn lock(&self, key: &Key) -> Result<Slot, StoreError> {
         let (path, began) = (self.path.join(key.place()), Instant::now());
         while began.elapsed() <= PATIENCE {
-            let file = match OpenOptions::new().read(true).write(true).open(&path) {
+            let file = match opened(&path) {
                 Ok(file) => Locked::of(file, began)?,
                 Err(error) if error.kind() == io::ErrorKind::NotFound => {
                     make(&path, key).map_err(|error| self.refused(error))?;
@@ -127,6 +127,11 @@ impl Folder {
             _ => error.into(),
         }
     }
+}
+
+/// The file of a slot, to be read and written.
+fn opened(path: &Path) -> io::Result<OwnFile> {
+    OwnFile::opened(|| OpenOptions::new().read(true).write(true).open(path))
 }
 
 /// Makes a slot with nothing counted, where there is none: as a whole, so that nobody sees a part of one.
@@ -190,8 +195,7 @@ fn prune_new(entry: &DirEntry) -> io::Result<()> {
 
 /// Takes a slot away whose window is over for good, under its lock.
 fn prune_slot(path: &Path) -> io::Result<()> {
-    let file = OpenOptions::new().read(true).write(true).open(path)?;
-    let file = Locked::at_once(file).map_err(|(_, error)| error)?;
+    let file = Locked::at_once(opened(path)?).map_err(|(_, error)| error)?;
     let (boot, now) = (boot()?, now()?);
     let is_over = Record::read(&file, None).map_or(false, |record| record.is_over(&boot, now));
     if is_over && file.is_at(path) {
@@ -203,7 +207,7 @@ fn prune_slot(path: &Path) -> io::Result<()> {
 
 impl Locked {
     /// The file, once its lock is had: at the latest so long after that moment as a lock is waited for.
-    fn of(mut file: File, began: Instant) -> Result<Self, StoreError> {
+    fn of(mut file: OwnFile, began: Instant) -> Result<Self, StoreError> {
         loop {
             file = match Self::at_once(file) {
                 Ok(locked) => return Ok(locked),
@@ -215,7 +219,7 @@ impl Locked {
         }
     }
 
-    fn at_once(file: File) -> Result<Self, (File, io::Error)> {
+    fn at_once(file: OwnFile) -> Result<Self, (OwnFile, io::Error)> {
         match try_lock(&file) {
             Ok(()) => Ok(Self(file)),
             Err(error) => Err((file, error)),

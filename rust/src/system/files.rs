@@ -1,23 +1,96 @@
-//! Locks of files, and the machine's uptime.
+//! Files and their locks, which no forked child keeps, and the machine's uptime.
 
 use std::fs::File;
 use std::io;
+use std::ops::Deref;
 use std::os::unix::io::AsRawFd;
-use std::sync::atomic::{AtomicI32, Ordering};
+use std::sync::atomic::{AtomicI32, AtomicUsize, Ordering};
+use std::thread;
 use std::time::Duration;
 
-/// The descriptors of files whose locks this process may have, and -1s.
-static LOCKED: [AtomicI32; 32] = {
+/// The descriptors of the files that a forked child closes, and -1s. (Of more files at once it may keep some.)
+static OWN: [AtomicI32; 256] = {
     #[allow(clippy::declare_interior_mutable_const)]
     const NONE: AtomicI32 = AtomicI32::new(-1);
-    [NONE; 32]
+    [NONE; 256]
 };
+/// How many threads open a file that is not in [`OWN`] yet, and how many fork: neither does while another does the other.
+static OPENING: AtomicUsize = AtomicUsize::new(0);
+static FORKING: AtomicUsize = AtomicUsize::new(0);
+
+/// A file that a forked child closes. So a lock of it ends with this process, also where a child lives on.
+#[derive(Debug)]
+pub(crate) struct OwnFile(File);
+
+/// A thread that opens a file.
+struct Opening;
+
+impl Opening {
+    fn new() -> Self {
+        loop {
+            OPENING.fetch_add(1, Ordering::SeqCst);
+            if FORKING.load(Ordering::SeqCst) == 0 {
+                return Self;
+            }
+            OPENING.fetch_sub(1, Ordering::SeqCst);
+            thread::yield_now();
+        }
+    }
+}
+
+impl Drop for Opening {
+    fn drop(&mut self) {
+        OPENING.fetch_sub(1, Ordering::SeqCst);
+    }
+}
+
+impl OwnFile {
+    /// The file that the call opens.
+    pub(crate) fn opened(open: impl FnOnce() -> io::Result<File>) -> io::Result<Self> {
+        let _opening = Opening::new();
+        let file = open()?;
+        let _ = OWN.iter().any(|own| change(own, -1, file.as_raw_fd()));
+        Ok(Self(file))
+    }
+}
+
+impl Deref for OwnFile {
+    type Target = File;
+
+    fn deref(&self) -> &File {
+        &self.0
+    }
+}
+
+impl Drop for OwnFile {
+    fn drop(&mut self) {
+        let _ = OWN.iter().any(|own| change(own, self.0.as_raw_fd(), -1));
+    }
+}
+
+fn change(own: &AtomicI32, from: i32, to: i32) -> bool {
+    own.load(Ordering::Relaxed) == from && own.compare_exchange(from, to, Ordering::Relaxed, Ordering::Relaxed).is_ok()
+}
+
+/// Waits until no thread opens a file, and lets none begin. Called before a fork, by its thread.
+pub(super) unsafe extern "C" fn before_fork() {
+    FORKING.fetch_add(1, Ordering::SeqCst);
+    while OPENING.load(Ordering::SeqCst) != 0 {
+        thread::yield_now();
+    }
+}
+
+/// Lets threads open files again. Called after a fork, in the parent.
+pub(super) unsafe extern "C" fn after_fork() {
+    FORKING.fetch_sub(1, Ordering::SeqCst);
+}
 
 /// Closes the files of the parent's locks in a child: they would stay locked as long as it lives, where the parent
 /// died.
 pub(super) fn close_inherited() {
-    for locked in &LOCKED {
-        let descriptor = locked.swap(-1, Ordering::Relaxed);
+    FORKING.store(0, Ordering::SeqCst);
+    for own in &OWN {
+        let descriptor = own.swap(-1, Ordering::Relaxed);
         if descriptor >= 0 {
             // SAFETY: the descriptor is that of a file which a thread of the parent had open, and no thread of the
             // child.
@@ -26,29 +99,15 @@ pub(super) fn close_inherited() {
     }
 }
 
-/// Takes the file's lock, where nobody else has it. (Of more than 32 files at once a child may keep some.)
-pub(crate) fn try_lock(file: &File) -> io::Result<()> {
-    let _ = LOCKED.iter().any(|locked| change(locked, -1, file.as_raw_fd()));
-    let locked = flock(file, libc::LOCK_EX | libc::LOCK_NB);
-    if locked.is_err() {
-        forget(file);
-    }
-    locked
+/// Takes the file's lock, where nobody else has it.
+pub(crate) fn try_lock(file: &OwnFile) -> io::Result<()> {
+    flock(file, libc::LOCK_EX | libc::LOCK_NB)
 }
 
 /// Gives the file's lock up, also where a forked child has inherited the open file.
-pub(crate) fn unlock(file: &File) {
+pub(crate) fn unlock(file: &OwnFile) {
     // (an open file's lock can always be given up)
     let _ = flock(file, libc::LOCK_UN);
-    forget(file);
-}
-
-fn forget(file: &File) {
-    let _ = LOCKED.iter().any(|locked| change(locked, file.as_raw_fd(), -1));
-}
-
-fn change(locked: &AtomicI32, from: i32, to: i32) -> bool {
-    locked.compare_exchange(from, to, Ordering::Relaxed, Ordering::Relaxed).is_ok()
 }
 
 fn flock(file: &File, operation: i32) -> io::Result<()> {
@@ -71,4 +130,63 @@ pub(crate) fn boottime() -> io::Result<Duration> {
         time.assume_init()
     };
     Ok(Duration::new(u64::try_from(time.tv_sec).unwrap_or(0), u32::try_from(time.tv_nsec).unwrap_or(0)))
+}
+
+#[cfg(test)]
+mod tests {
+    use super::{change, OwnFile, OWN};
+    use crate::system::generation;
+    use std::fs::File;
+    use std::os::unix::io::AsRawFd;
+    use std::sync::atomic::{AtomicI32, Ordering};
+    use std::sync::Barrier;
+    use std::thread;
+    use std::time::Duration;
+
+    static OPENED: AtomicI32 = AtomicI32::new(-1);
+
+    /// Whether the process of a fork, which this thread makes, knows the file and has closed it.
+    fn child_has_closed_it() -> bool {
+        // SAFETY: the child calls what is safe after a fork alone.
+        unsafe {
+            match libc::fork() {
+                0 => {
+                    let opened = OPENED.load(Ordering::Relaxed);
+                    let is_closed = opened >= 0 && libc::fcntl(opened, libc::F_GETFD) == -1;
+                    libc::_exit(i32::from(!is_closed))
+                }
+                child => {
+                    let mut status = -1;
+                    libc::waitpid(child, &mut status, 0) == child && status == 0
+                }
+            }
+        }
+    }
+
+    #[test]
+    fn a_fork_waits_for_a_file_that_is_being_opened_and_the_child_closes_it() {
+        generation();
+        let (begun, over) = (Barrier::new(2), Barrier::new(2));
+        thread::scope(|scope| {
+            scope.spawn(|| {
+                let file = OwnFile::opened(|| {
+                    begun.wait();
+                    thread::sleep(Duration::from_millis(100));
+                    let file = File::open("/dev/null")?;
+                    OPENED.store(file.as_raw_fd(), Ordering::Relaxed);
+                    Ok(file)
+                });
+                over.wait();
+                drop(file.unwrap());
+            });
+            begun.wait();
+            let (first, second) = (child_has_closed_it(), child_has_closed_it());
+            over.wait();
+            assert!(first && second);
+        });
+        // nothing is left of it, and files are opened again
+        assert!(!OWN.iter().any(|own| change(own, OPENED.load(Ordering::Relaxed), -1)));
+        assert!(OwnFile::opened(|| File::open("/dev/null")).is_ok());
+        assert!(OwnFile::opened(|| File::open("/dev/no such file")).is_err());
+    }
 }

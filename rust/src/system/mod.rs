@@ -8,18 +8,17 @@ mod to_take;
 mod try_lock;
 
 #[cfg(feature = "leased")]
-pub(crate) use files::{boottime, try_lock, unlock};
+pub(crate) use files::{boottime, try_lock, unlock, OwnFile};
 use std::sync::atomic::{AtomicBool, AtomicPtr, AtomicU64, Ordering};
 #[cfg(feature = "tower")]
 pub(crate) use to_take::ToTake;
 pub(crate) use try_lock::TryLock;
 
+/// What is called around a fork.
+type Handler = Option<unsafe extern "C" fn()>;
+
 extern "C" {
-    fn pthread_atfork(
-        prepare: Option<unsafe extern "C" fn()>,
-        parent: Option<unsafe extern "C" fn()>,
-        child: Option<unsafe extern "C" fn()>,
-    ) -> i32;
+    fn pthread_atfork(prepare: Handler, parent: Handler, child: Handler) -> i32;
 }
 
 /// How many forks lie between the process in which this was first asked for and this one.
@@ -51,9 +50,13 @@ pub(crate) fn is_generation(number: u64) -> bool {
 #[cold]
 fn register() {
     if !IS_REGISTERED.swap(true, Ordering::Relaxed) {
-        // SAFETY: the function is called in each forked child, and changes an atomic number alone. (Where there is no
-        // memory to register it, children are taken for their parent.)
-        unsafe { pthread_atfork(None, None, Some(count_fork)) };
+        #[cfg(feature = "leased")]
+        let (before, after): (Handler, Handler) = (Some(files::before_fork), Some(files::after_fork));
+        #[cfg(not(feature = "leased"))]
+        let (before, after): (Handler, Handler) = (None, None);
+        // SAFETY: the functions are called around each fork, and change atomic numbers and own files alone. (Where there
+        // is no memory to register them, children are taken for their parent.)
+        unsafe { pthread_atfork(before, after, Some(count_fork)) };
     }
 }
 
