@@ -1,4 +1,6 @@
 //! Plans stepped side by side: by the tree of their state, which gives outputs too, and by their record.
+ghost use Rattle.std.specs.Prelude.{◌<◌};
+
 use sched_plan::{Plan, Val};
 use sched_plan_json::read_text;
 use sched_step::{State, initial};
@@ -24,10 +26,10 @@ impl Numbers {
     }
 
     // A number below this one.
-    fn below(&mut self, bound: u32) -> u64 {
-        if bound == 0 {
-            return 0;
-        }
+    fn below(&mut self, bound: u32) -> u64
+        requires { 0 < bound }
+        ensures { result < bound }
+    {
         u64::from(self.next() % bound)
     }
 }
