@@ -8,6 +8,8 @@ mod lines;
 mod printing;
 mod rows;
 mod side_by_side;
+mod sweep_rows;
+mod sweep_table;
 mod totals;
 
 pub use printing::print_storm;

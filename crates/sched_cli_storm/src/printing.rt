@@ -8,18 +8,20 @@ use crate::bars::push_bars;
 use crate::lines::push_lines;
 use crate::rows::{push_csv, push_json};
 use crate::side_by_side::push_table;
+use crate::sweep_rows::{push_sweep_csv, push_sweep_json};
+use crate::sweep_table::push_sweep;
 use crate::totals::push_words;
 use sched_cli_plan::{PrintFault, Sink, put_all, read_value};
-use sched_cli_storm_words::{Form, StormOptions};
+use sched_cli_storm_words::{Form, StormOptions, Sweep};
 use sched_plan::{Plan, SharedPlan};
 use sched_plan_json::read_plan;
 use sched_storm::Report;
 use sched_time::NoMemory;
 use std::alloc::Global;
 
-/// Plays the storm under the plan that the bytes spell, and writes what the options ask for; where they have further
-/// texts, it plays the same storm under the plan of each, and writes the totals side by side. Answers whether a storm
-/// was cut.
+/// Plays the storm under the plan that the bytes spell, and writes what the options ask for; where they ask for a sweep,
+/// it plays the storm with each value, and writes a line for each. Where they have further texts, it plays the same
+/// storm under the plan of each, and writes the totals side by side. Answers whether a storm was cut.
 ///
 /// Refused as `NotJson`, `NotAPlan`, `OutOfRange`, `TooDeep`, `TooMany` and `NoMemory` with nothing written, and as
 /// `WriteFailed` with a front of the text written.
@@ -68,6 +70,9 @@ fn text_of(
     others: Vec<Plan>,
     options: &StormOptions,
 ) -> Result<(String, bool), NoMemory> {
+    if let Some(sweep) = &options.sweep {
+        return swept(alloc, plan, sweep, options);
+    }
     let report = played(alloc, options, plan)?;
     if !others.is_empty() {
         return compared(alloc, &report, others, options);
@@ -92,6 +97,28 @@ fn text_of(
 fn played(alloc: Global, options: &StormOptions, plan: Plan) -> Result<Report, NoMemory> {
     let plan = SharedPlan::new(alloc, plan)?;
     options.storm.play(alloc, plan)
+}
+
+// The storms along a parameter, and whether one was cut.
+fn swept(
+    alloc: Global,
+    plan: Plan,
+    sweep: &Sweep,
+    options: &StormOptions,
+) -> Result<(String, bool), NoMemory> {
+    let plan = SharedPlan::new(alloc, plan)?;
+    let mut all = Vec::new(alloc);
+    for swept in &sweep.storms {
+        let report = swept.storm.play(alloc, plan.share()?)?;
+        all.push(report.totals)?;
+    }
+    let mut text = String::new(alloc);
+    match options.form {
+        Form::Csv => push_sweep_csv(&mut text, sweep, &all)?,
+        Form::Json => push_sweep_json(&mut text, sweep, &all)?,
+        Form::Bars | Form::Plain => push_sweep(alloc, &mut text, sweep, &all, options.width)?,
+    }
+    Ok((text, all.iter().any(|totals| totals.is_cut)))
 }
 
 // The totals of the storm under the first plan and of those under the others, side by side.

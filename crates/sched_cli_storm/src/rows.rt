@@ -35,6 +35,44 @@ pub(crate) fn row(window: &Window) -> [u64; 9] {
     ]
 }
 
+/// What each of the totals is called, but whether the storm was cut.
+pub(crate) const TOTALS: [&str; 14] = [
+    "requests",
+    "won",
+    "lost",
+    "denied",
+    "open",
+    "calls",
+    "hundredths",
+    "most_calls",
+    "most_from",
+    "tickets",
+    "p50",
+    "p99",
+    "slowest",
+    "recovered",
+];
+
+/// The totals, where there are such.
+pub(crate) fn totals_row(totals: &Totals) -> [Option<u64>; 14] {
+    [
+        Some(totals.counts.requests),
+        Some(totals.counts.won),
+        Some(totals.lost),
+        Some(totals.denied),
+        Some(totals.open),
+        Some(totals.calls),
+        Some(totals.hundredths),
+        Some(totals.most_calls),
+        Some(totals.most_from),
+        Some(totals.tickets),
+        totals.p50,
+        totals.p99,
+        totals.slowest,
+        totals.recovered,
+    ]
+}
+
 /// Adds a line with the names of the numbers, and a line for each window.
 pub(crate) fn push_csv(text: &mut String, report: &Report) -> Result<(), NoMemory> {
     for (place, name) in NAMES.iter().enumerate() {
@@ -58,9 +96,9 @@ pub(crate) fn push_json(text: &mut String, report: &Report) -> Result<(), NoMemo
         push_row(text, window)?;
         text.push(']')?;
     }
-    text.push_str("],\"totals\":{")?;
+    text.push_str("],\"totals\":")?;
     push_totals(text, &report.totals)?;
-    text.push_str("}}\n")?;
+    text.push_str("}\n")?;
     Ok(())
 }
 
@@ -73,51 +111,27 @@ fn push_row(text: &mut String, window: &Window) -> Result<(), NoMemory> {
     Ok(())
 }
 
-// Adds a comma before what does not stand first.
-fn push_comma(text: &mut String, place: usize) -> Result<(), NoMemory> {
+/// Adds a comma before what does not stand first.
+pub(crate) fn push_comma(text: &mut String, place: usize) -> Result<(), NoMemory> {
     if place > 0 {
         text.push(',')?;
     }
     Ok(())
 }
 
-// Adds the totals as the members of a JSON object.
-fn push_totals(text: &mut String, totals: &Totals) -> Result<(), NoMemory> {
-    write!(text, "\"requests\":{}", totals.counts.requests)?;
-    push_member(text, "won", totals.counts.won)?;
-    push_member(text, "lost", totals.lost)?;
-    push_member(text, "denied", totals.denied)?;
-    push_member(text, "open", totals.open)?;
-    push_member(text, "calls", totals.calls)?;
-    push_member(text, "hundredths", totals.hundredths)?;
-    push_member(text, "most_calls", totals.most_calls)?;
-    push_member(text, "most_from", totals.most_from)?;
-    push_member(text, "tickets", totals.tickets)?;
-    push_known(text, "p50", totals.p50)?;
-    push_known(text, "p99", totals.p99)?;
-    push_known(text, "slowest", totals.slowest)?;
-    push_known(text, "recovered", totals.recovered)?;
-    text.push_str(if totals.is_cut {
-        ",\"cut\":true"
-    } else {
-        ",\"cut\":false"
-    })?;
-    Ok(())
-}
-
-// Adds a member that is a number.
-fn push_member(text: &mut String, name: &str, number: u64) -> Result<(), NoMemory> {
-    write!(text, ",\"{name}\":{number}")?;
-    Ok(())
-}
-
-// Adds a member that is a number where there is one, and else null.
-fn push_known(text: &mut String, name: &str, number: Option<u64>) -> Result<(), NoMemory> {
-    match number {
-        Some(number) => push_member(text, name, number),
-        None => {
-            write!(text, ",\"{name}\":null")?;
-            Ok(())
+/// Adds the totals as a JSON object.
+pub(crate) fn push_totals(text: &mut String, totals: &Totals) -> Result<(), NoMemory> {
+    text.push('{')?;
+    for (name, number) in TOTALS.iter().zip(&totals_row(totals)) {
+        match number {
+            Some(number) => write!(text, "\"{name}\":{number},")?,
+            None => write!(text, "\"{name}\":null,")?,
         }
     }
+    text.push_str(if totals.is_cut {
+        "\"cut\":true}"
+    } else {
+        "\"cut\":false}"
+    })?;
+    Ok(())
 }

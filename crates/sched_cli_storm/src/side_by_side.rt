@@ -79,8 +79,12 @@ fn cell(alloc: Global, totals: &Totals, place: usize) -> Result<String, NoMemory
     Ok(cell)
 }
 
-// Adds a number where there is one, and else this word.
-fn push_known(text: &mut String, number: Option<u64>, other: &str) -> Result<(), NoMemory> {
+/// Adds a number where there is one, and else this word.
+pub(crate) fn push_known(
+    text: &mut String,
+    number: Option<u64>,
+    other: &str,
+) -> Result<(), NoMemory> {
     match number {
         Some(number) => write!(text, "{number}")?,
         None => text.push_str(other)?,

@@ -12,9 +12,10 @@ const MAX_WIDTH: u64 = 1000;
 const STORM_EXAMPLES: &str = "Examples:
   zsched storm plans/back-off.json
   zsched storm --quota 10/10%/1s plans/back-off.json
-  zsched storm --scenario herd --compare plans/three-times.json plans/back-off.json";
+  zsched storm --scenario herd --compare plans/three-times.json plans/back-off.json
+  zsched storm --sweep rate=200..1600/8 plans/back-off.json";
 
-const STORIES: [Row; 2] = [
+const STORIES: [Row; 3] = [
     Row {
         name: "scenario",
         takes: Takes::Text("NAME"),
@@ -27,6 +28,14 @@ const STORIES: [Row; 2] = [
         takes: Takes::Texts("FILE"),
         excludes: &[],
         help: "Play the same storm under this plan too, and print the totals side by side; you can give it again",
+    },
+    Row {
+        name: "sweep",
+        takes: Takes::Text("NAME=VALUES"),
+        excludes: &["compare"],
+        help: "Simulate the storm for each value of a parameter, as NAME=FROM..TO/COUNT or NAME=A,B,C, and print a line for \
+               each; NAME is rate, clients (at once), together, capacity, queue, patience, outage (its length), share or \
+               reserve (of --quota), or budget",
     },
 ];
 
@@ -131,7 +140,7 @@ const REPORT: [Row; 7] = [
     Row {
         name: "plain",
         takes: Takes::Nothing,
-        excludes: &[],
+        excludes: &["sweep"],
         help: "Print all numbers of each window, and no bar",
     },
     Row {

@@ -2,13 +2,17 @@
 //! its range, or there is a line that says why not. It stands on `sched_storm`.
 #![tactic(auto)]
 
+mod axes;
 mod commands;
 mod faults;
 mod numbers;
 mod options;
 mod rows;
+mod sweeps;
 
+pub use axes::Axis;
 pub use commands::storm_command;
 pub use faults::StormFault;
 pub use options::{Form, StormOptions, storm_options};
 pub use rows::{Row, Takes, file_command, with_option, with_options};
+pub use sweeps::{Sweep, Swept};

@@ -1,4 +1,4 @@
-//! Spans of moments, as words spell them.
+//! Numbers and spans of moments, as words spell them.
 use sched_storm::{BrownOut, MAX_MILLIS, Span};
 
 /// The span that a word spells as FROM..TO, in order and in range.
@@ -23,7 +23,17 @@ pub(crate) fn brown_out_in(word: &str) -> Option<BrownOut> {
     Some(BrownOut { span, percent })
 }
 
-// The number that a word spells.
-fn number_in(word: &str) -> Option<u64> {
+/// The number that a word spells.
+pub(crate) fn number_in(word: &str) -> Option<u64> {
     word.parse::<u64>().ok()
+}
+
+/// The tenths that a word spells, as a whole number or with one decimal.
+pub(crate) fn tenths_in(word: &str) -> Option<u64> {
+    let (whole, tenths) = match word.split_once('.') {
+        Some((whole, tenth)) if tenth.len() == 1 => (whole, number_in(tenth)?),
+        Some(_) => return None,
+        None => (word, 0),
+    };
+    number_in(whole)?.checked_mul(10)?.checked_add(tenths)
 }

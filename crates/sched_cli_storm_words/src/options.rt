@@ -1,6 +1,7 @@
 //! What the options of the command ask for.
 use crate::faults::StormFault;
 use crate::numbers::{brown_out_in, span_in};
+use crate::sweeps::{Sweep, sweep_in};
 use clap::ArgMatches;
 use sched_storm::{BrownOut, Draws, MAX_REQUESTS, Parameters, Span, Storm};
 use sched_ticket_quota::Terms;
@@ -36,6 +37,8 @@ pub enum Form {
 pub struct StormOptions {
     /// The storm.
     pub storm: Storm,
+    /// The storms that are played in its place, along a parameter.
+    pub sweep: Option<Sweep>,
     /// How it is told.
     pub form: Form,
     /// How wide a line with its bar is.
@@ -57,8 +60,13 @@ pub fn storm_options(
     let Some(storm) = Storm::new(parameters) else {
         return Err(StormFault::bad(alloc, too_many(&parameters)));
     };
+    let sweep = match options.get_str("sweep") {
+        Some(word) => Some(sweep_in(alloc, word, &parameters)?),
+        None => None,
+    };
     Ok(StormOptions {
         storm,
+        sweep,
         form: form_in(options),
         width: number(options, "width", WIDTH),
         names: names(alloc, options)?,
