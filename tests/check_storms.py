@@ -297,6 +297,29 @@ BAD = [
     "--scenario flood",
     "--csv --json",
     "--csv --compare other.json",
+    "--sweep rate",
+    "--sweep rate=",
+    "--sweep rats=1,2",
+    "--sweep rate=2,1",
+    "--sweep rate=1,1",
+    "--sweep rate=1,",
+    "--sweep rate=1..5",
+    "--sweep rate=5..1/3",
+    "--sweep rate=1..5/1",
+    "--sweep rate=1..99/65",
+    "--sweep rate=1..3/5",
+    "--sweep rate=0,1",
+    "--sweep rate=1,1000001",
+    "--sweep rate=1,2.5",
+    "--sweep rate=18446744073709551616",
+    "--sweep share=1,2",
+    "--sweep share=0.25 --quota 1/1/100",
+    "--sweep reserve=1,2 --budget 3",
+    "--sweep budget=1,2 --quota 1/1/100",
+    "--sweep outage=1,3590001",
+    f"--sweep rate={','.join(map(str, range(1, 66)))}",
+    "--sweep rate=1,2 --plain",
+    "--sweep rate=1,2 --compare other.json",
     "--rate 1 --rate 2",
 ]
 
@@ -372,6 +395,64 @@ def looks_at_lines(program: List[str]) -> List[str]:
     return wrong
 
 
+#: A call takes 9 ms, and each request comes after the one before is done. One that comes in the outage makes four.
+SWEPT = {"rate": 100, "capacity": 120, "seconds": 5, "outage": "1000..2000"}
+#: Sweeps: what they are given beside that, their values, and the options that each value stands for.
+SWEEPS: List[Tuple[str, Dict[str, Any], List[Tuple[str, Dict[str, Any]]]]] = [
+    ("rate=50,100", {}, [("50", {"rate": 50}), ("100", {"rate": 100})]),
+    ("clients=10,200", {}, [("10", {"rate": 10, "together": 10}), ("200", {"rate": 200, "together": 200})]),
+    ("together=1,50", {}, [("1", {"together": 1}), ("50", {"together": 50})]),
+    ("capacity=90..101/3", {}, [("90", {"capacity": 90}), ("96", {"capacity": 96}), ("101", {"capacity": 101})]),
+    ("queue=0,30", {}, [("0", {"queue": 0}), ("30", {"queue": 30})]),
+    ("patience=8,500", {}, [("8", {"patience": 8}), ("500", {"patience": 500})]),
+    ("outage=0..1000/2", {}, [("0", {"outage": "1000..1000"}), ("1000", {"outage": "1000..2000"})]),
+    (
+        "share=0,2.5,50",
+        {"quota": "10/100/1000"},
+        [("0", {"quota": "10/0/1000"}), ("2.5", {"quota": "10/25/1000"}), ("50", {"quota": "10/500/1000"})],
+    ),
+    (
+        "reserve=0,100",
+        {"quota": "10/100/1000"},
+        [("0", {"quota": "0/100/1000"}), ("100", {"quota": "100/100/1000"})],
+    ),
+    ("budget=0,20", {"budget": 5}, [("0", {"budget": 0}), ("20", {"budget": 20})]),
+]
+#: Along the length of the outage: 0, 50 and 100 of 500 requests are lost, after 0, 200 and 400 calls that are refused.
+ALONG = """\
+  won %  outage  calls for each  slowest ms  recovered ms
+  100.0       0            1.00           9          1000  #####################
+   90.0     500            1.30           9          2000  ###################
+   80.0    1000            1.60           9          2000  #################
+                                                           0               100 %
+"""
+
+
+def looks_at_sweeps(program: List[str]) -> List[str]:
+    """What is wrong with storms along a parameter, each of which the rules alone play too."""
+    wrong = []
+    for sweep, more, storms_of in SWEEPS:
+        singles = [told(SLOWLY, THREE, {**SWEPT, **more, **options})["totals"] for _, options in storms_of]
+        name, values = sweep.partition("=")[0], [value for value, _ in storms_of]
+        numbers = ",".join(json.dumps(totals, separators=(",", ":")) for totals in singles)
+        as_json = f'{{"parameter":"{name}","values":[{",".join(values)}],"totals":[{numbers}]}}\n'
+        lines = [",".join([name, *singles[0]])]
+        lines += [",".join([value, *map(_cell, totals.values())]) for value, totals in zip(values, singles)]
+        as_csv = "".join(f"{line}\n" for line in lines)
+        for form, wanted in (("--json", as_json), ("--csv", as_csv)):
+            got = played(program, THREE, {**SWEPT, **more, "sweep": sweep}, form)
+            if got != (0, wanted, ""):
+                wrong.append(f"{sweep} {form}: {got}, wanted {wanted}")
+    table = played(program, THREE, {**SWEPT, "sweep": "outage=0..1000/3"}, "--width=80")
+    if table != (0, ALONG, ""):
+        wrong.append(f"a sweep in lines: {table}, wanted {ALONG}")
+    return wrong
+
+
+def _cell(number: Any) -> str:
+    return "" if number is None else str(number).lower()
+
+
 def some_storm(rng: random.Random) -> Tuple[Any, Dict[str, Any]]:
     """A random policy with the options of a storm. One that looks back far, which the definitions play slowly, is
     cut early."""
@@ -438,7 +519,7 @@ def main() -> int:
     wrong = [line for program in programs for line in looks_at(program)]
     wrong += looks_at_numbers(programs[-1])
     if knows:
-        wrong += looks_at_words(programs[-1]) + looks_at_lines(programs[-1])
+        wrong += looks_at_words(programs[-1]) + looks_at_lines(programs[-1]) + looks_at_sweeps(programs[-1])
         with Pool() as pool:
             wrong += filter(None, pool.imap_unordered(differs, [f"{seed}.{number}" for number in range(count)]))
     for line in wrong[:20]:
@@ -449,7 +530,8 @@ def main() -> int:
         )
         print(
             f"tests/check_storms.py: {len(WORKED)} storms by hand and "
-            f"{len(KNOWN) + len(COMES_BACK)} that are known are right, {compared}"
+            f"{len(KNOWN) + len(COMES_BACK)} that are known are right, {len(SWEEPS)} sweeps are of single storms, "
+            f"{compared}"
         )
     return 1 if wrong else 0
 

@@ -383,6 +383,13 @@ wants 0 "{\"windows\":[[0,1,1,1,1,1,0,0,0]],\"totals\":{$totals}}\n" '' storm $o
 input '"forever"'
 wants 6 "${names}0,1,0,4,0,5,0,0,0\n" 'zsched: not finished\n' storm $one --calls 5 --csv
 wants 4 '' "zsched: read failed\n$work/none.json: No such file or directory (os error 2)\n" storm "$work/none.json"
+# Two requests come at 0 and at 500: the first makes a second call at 10, and the second one ends at 501.
+input '{"meet":[{"recurs":1},{"spaced":10}]}'
+names='rate,requests,won,lost,denied,open,calls,hundredths,most_calls,most_from,tickets,p50,p99,slowest,recovered,cut\n'
+wants 0 "${names}1,1,1,0,0,0,2,200,2,0,0,11,11,11,,false\n2,2,2,0,0,0,3,150,3,0,0,1,11,11,,false\n" '' \
+  storm $one --sweep rate=1,2 --csv
+input '"forever"'
+wants 6 "${names}1,1,0,0,0,1,5,500,5,0,0,,,,,true\n" 'zsched: not finished\n' storm $one --calls 5 --sweep rate=1 --csv
 # Of a further plan that is refused the file is told too.
 wants 4 '' "zsched: read failed\n$work/none.json: No such file or directory (os error 2)\n" storm --compare "$work/none.json"
 wants 4 '' "zsched: read failed\n$work: Is a directory (os error 21)\n" storm --compare "$work"
@@ -412,6 +419,12 @@ bad .. storm --quota 1/2
 bad .. storm --quota 1/2/300 --budget 1
 bad .. storm --csv --json
 bad .. storm --csv --compare "$work/one.json"
+bad "invalid value 'rats=1' for '--sweep <NAME=VALUES>': expected a parameter and its values, such as rate=200..1600/8; \
+the parameters are rate, clients, together, capacity, queue, patience, outage, share, reserve and budget" storm --sweep rats=1
+bad "invalid value 'rate=2,1' for '--sweep <NAME=VALUES>': expected 1 to 64 values, each greater than the one before, \
+such as rate=200..1600/8 or rate=200,400" storm --sweep rate=2,1
+bad "invalid value 'share=1' for '--sweep <NAME=VALUES>': expected values in the range of the parameter; \
+a share and a reserve are of --quota, and a budget of --budget" storm --sweep share=1
 
 # Standard input that is a folder can't be read, but a bad command line is refused before anything is.
 rm "$work/in"

@@ -19,9 +19,9 @@ use sched_storm::Report;
 use sched_time::NoMemory;
 use std::alloc::Global;
 
-/// Plays the storm under the plan that the bytes spell, and writes what the options ask for; where they ask for a sweep,
-/// it plays the storm with each value, and writes a line for each. Where they have further texts, it plays the same
-/// storm under the plan of each, and writes the totals side by side. Answers whether a storm was cut.
+/// Plays the storm under the plan that the bytes spell, and writes what the options ask for. Where they ask for a
+/// sweep, it plays the storm with each value, and writes a line for each. Where they have further texts, it plays the
+/// same storm under the plan of each, and writes the totals side by side. Answers whether a storm was cut.
 ///
 /// Refused as `NotJson`, `NotAPlan`, `OutOfRange`, `TooDeep`, `TooMany` and `NoMemory` with nothing written, and as
 /// `WriteFailed` with a front of the text written.

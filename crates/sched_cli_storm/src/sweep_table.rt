@@ -1,4 +1,4 @@
-//! Storms along a parameter, a line for each: the share of its requests that were won, what else it comes to, and a bar.
+//! Storms along a parameter, a line for each: the share of its requests that were won, its other totals, and a bar.
 use crate::lines::push_right;
 use crate::side_by_side::push_known;
 use crate::sweep_rows::push_value;
