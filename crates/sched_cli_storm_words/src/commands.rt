@@ -33,9 +33,9 @@ const STORIES: [Row; 3] = [
         name: "sweep",
         takes: Takes::Text("NAME=VALUES"),
         excludes: &["compare"],
-        help: "Play the storm for each value of a parameter, given as NAME=FROM..TO/COUNT or NAME=A,B,C, and print a line \
-               for each; NAME is rate, clients (at once), together, capacity, queue, patience, outage (its length), \
-               share or reserve (of --quota), or budget",
+        help: "Play the storm for each value of a parameter, as NAME=FROM..TO/COUNT or NAME=A,B,C, with a line for \
+               each; NAME is rate, clients (at once), together, capacity, queue, patience, outage (its length), share \
+               or reserve (of --quota), or budget",
     },
 ];
 
