@@ -40,12 +40,12 @@ ANOTHER = {
     "reads": "word",
 }
 SPELL_IT = """
-from hikebox.policy.nodes import NODES, parts_of
+from hikebox.policy.nodes import parts_of
 from hikebox.policy.parsing import read
 from hikebox.policy.spelling import spelt, spelt_in_rust
 
 tree = {"cap": [1, {"pause": [2, 8, "short_one", {"meet": ["forever", {"recurs": 3}]}]}]}
-print(spelt(tree), spelt_in_rust(tree), parts_of(tree["cap"][1])[:2], NODES["pause"].reads, sep="\\n")
+print(spelt(tree), spelt_in_rust(tree), parts_of(tree["cap"][1])[:2], sep="\\n")
 print(read("recurs(1).pausd()").error.hint)
 """
 
@@ -91,7 +91,7 @@ def test_another_node_is_a_row(tmp_path: Path) -> None:
     row = '| `{"pause":[LANE,D,"KIND",A]}` | none | A, but later; KIND is "long_one" or "short_one" |\n'
     assert row in (copy / "docs" / "COOKBOOK.md").read_text()
 
-    # both spellings, what it reads, and the parser's names
+    # both spellings, and the parser's names
     environment = {**python_environment(), "PYTHONPATH": str(copy / "python" / "src")}
     ran = subprocess.run([sys.executable, "-c", SPELL_IT], env=environment, capture_output=True, text=True)
     assert ran.stdout.splitlines() == [
@@ -99,7 +99,6 @@ def test_another_node_is_a_row(tmp_path: Path) -> None:
         "(Schedule::forever() & Schedule::recurs(3)).pause(2, Duration::from_millis(8), Kind::ShortOne)"
         ".cap(Duration::from_millis(1))",
         "('pause', [2, 8, 'short_one'])",
-        "word",
         "no method is called 'pausd'; did you mean 'paused'?",
     ], ran.stderr
 

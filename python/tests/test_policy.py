@@ -144,6 +144,11 @@ def nodes_of(tree: Any) -> Iterator[Tuple[str, List[Any]]]:
         yield from nodes_of(plan)
 
 
+#: What the table says that each node reads: the random word of its lane, the input, or that by its first item.
+TABLE = json.loads((TOP / "schemas" / "nodes.json").read_text())["nodes"]
+READS = {node["name"]: node.get("reads") for node in TABLE}
+
+
 def test_every_node_has_a_builder() -> None:
     built = {name for _, text, _ in BUILT for name, _ in nodes_of(json.loads(text))}
     assert built == set(NODES)
@@ -160,7 +165,7 @@ def test_random_policies_are_written_and_read_as_they_are() -> None:
         assert built == policy and (built.nodes, built.depth) == (policy.nodes, policy.depth)
         assert pickle.loads(pickle.dumps(policy)) == policy
         nodes = list(nodes_of(tree))
-        reads = [(NODES[name].reads, own) for name, own in nodes]
+        reads = [(READS[name], own) for name, own in nodes]
         picks = {own[0] for read, own in reads if read == "word"}
         codes = any(read == "input" or (read == "SIDE" and own[0] == "input") for read, own in reads)
         assert policy.reads == built.reads == (tuple(sorted(picks)), codes)

@@ -1,4 +1,4 @@
-"""The table of nodes: what each takes, how it is written in Python and in Rust, and what it reads."""
+"""The table of nodes: what each takes, and how it is written in Python and in Rust."""
 
 from __future__ import annotations
 
@@ -27,9 +27,6 @@ class Node(NamedTuple):
     #: The expressions that build it, of which the first is taken that can spell its items.
     python: Tuple[str, ...]
     rust: Tuple[str, ...]
-    #: Whether it picks by the random word of its lane ("word"), or reads the input: always ("input"), or if its first
-    #: item says so ("SIDE").
-    reads: str
 
     @property
     def takes_words(self) -> bool:
@@ -45,55 +42,46 @@ NODES: Dict[str, Node] = {
         (),
         ("forever()",),
         ("Schedule::forever()",),
-        "",
     ),
     "recurs": Node(
         (Item("N", "number"),),
         ("recurs({N})",),
         ("Schedule::recurs({N})",),
-        "",
     ),
     "spaced": Node(
         (Item("D", "ms"),),
         ("spaced({D})",),
         ("Schedule::spaced({D})",),
-        "",
     ),
     "fixed": Node(
         (Item("D", "ms"),),
         ("fixed({D})",),
         ("Schedule::fixed({D})",),
-        "",
     ),
     "windowed": Node(
         (Item("D", "ms"),),
         ("windowed({D})",),
         ("Schedule::windowed({D})",),
-        "",
     ),
     "linear": Node(
         (Item("D", "ms"),),
         ("linear({D})",),
         ("Schedule::linear({D})",),
-        "",
     ),
     "exponential": Node(
         (Item("D", "ms"), Item("F", "factor")),
         ("exponential({D}, {F})",),
         ("Schedule::exponential({D}, {F})",),
-        "",
     ),
     "exponential_milli": Node(
         (Item("D", "ms"), Item("F", "thousandths")),
         ("exponential({D}, {F:part})", "exponential_milli({D}, {F})"),
         ("Schedule::exponential_milli({D}, {F})",),
-        "",
     ),
     "fibonacci": Node(
         (Item("D", "ms"),),
         ("fibonacci({D})",),
         ("Schedule::fibonacci({D})",),
-        "",
     ),
     "decorrelated": Node(
         (Item("LANE", "lane"), Item("D", "ms"), Item("F", "thousandths"), Item("MAX", "ms")),
@@ -102,55 +90,46 @@ NODES: Dict[str, Node] = {
             "Schedule::decorrelated({D}, {F:whole}, {MAX}){LANE:none}",
             "Schedule::decorrelated_milli({LANE}, {D}, {F}, {MAX})",
         ),
-        "word",
     ),
     "elapsed": Node(
         (),
         ("elapsed()",),
         ("Schedule::elapsed()",),
-        "",
     ),
     "identity": Node(
         (),
         ("identity()",),
         ("Schedule::identity()",),
-        "input",
     ),
     "unfold": Node(
         (Item("S", "number"), Item("M", "number"), Item("A", "number")),
         ("unfold({S}, {M}, {A})",),
         ("Schedule::unfold({S}, {M}, {A})",),
-        "",
     ),
     "lone": Node(
         (Item("D", "ms"),),
         ("from_duration({D})",),
         ("Schedule::from_duration({D})",),
-        "",
     ),
     "meet": Node(
         (Item("A", "plan"), Item("B", "plan")),
         ("{A} & {B}",),
         ("{A} & {B}",),
-        "",
     ),
     "join": Node(
         (Item("A", "plan"), Item("B", "plan")),
         ("{A} | {B}",),
         ("{A} | {B}",),
-        "",
     ),
     "follow": Node(
         (Item("A", "plan"), Item("B", "plan")),
         ("{A}.and_then({B:inner})",),
         ("{A}.and_then({B:inner})",),
-        "",
     ),
     "feed": Node(
         (Item("A", "plan"), Item("B", "plan")),
         ("{A} >> {B}",),
         ("{A} >> {B}",),
-        "",
     ),
     "gate": Node(
         (
@@ -162,85 +141,71 @@ NODES: Dict[str, Node] = {
         ),
         ("{A}.{WANT:way}_{SIDE}({TEST}={N})",),
         ("{A}.{WANT:way}_{SIDE}(Test::{TEST:camel}({N}))",),
-        "SIDE",
     ),
     "gather": Node(
         (Item("KIND", "word", ("sum", "count", "max", "list")), Item("A", "plan")),
         ("{A}.gather(\"{KIND}\")",),
         ("{A}.gather(Fold::{KIND:camel})",),
-        "",
     ),
     "add": Node(
         (Item("D", "ms"), Item("A", "plan")),
         ("{A}.add_delay({D})",),
         ("{A}.add_delay({D})",),
-        "",
     ),
     "set": Node(
         (Item("D", "ms"), Item("A", "plan")),
         ("{A}.set_delay({D})",),
         ("{A}.set_delay({D})",),
-        "",
     ),
     "cap": Node(
         (Item("D", "ms"), Item("A", "plan")),
         ("{A}.cap({D})",),
         ("{A}.cap({D})",),
-        "",
     ),
     "add_out": Node(
         (Item("A", "plan"),),
         ("{A}.add_output()",),
         ("{A}.add_output()",),
-        "",
     ),
     "jitter": Node(
         (Item("LANE", "lane"), Item("MIN", "thousandths"), Item("MAX", "thousandths"), Item("A", "plan")),
         ("{A}.jittered({MIN:ratio}, {MAX:ratio}{LANE:option})",),
         ("{A}.jittered({MIN:ratio}..{MAX:ratio}){LANE:none}", "{A}.jitter({LANE}, {MIN}, {MAX})"),
-        "word",
     ),
     "within": Node(
         (Item("D", "ms"), Item("A", "plan")),
         ("{A}.up_to({D})",),
         ("{A}.up_to({D})",),
-        "",
     ),
     "ends_by": Node(
         (Item("D", "ms"), Item("A", "plan")),
         ("{A}.ends_by({D})",),
         ("{A}.ends_by({D})",),
-        "",
     ),
     "renew": Node(
         (Item("D", "ms"), Item("A", "plan")),
         ("{A}.renew({D})",),
         ("{A}.renew({D})",),
-        "",
     ),
     "renew_idle": Node(
         (Item("D", "ms"), Item("A", "plan")),
         ("{A}.renew_idle({D})",),
         ("{A}.renew_idle({D})",),
-        "",
     ),
     "first": Node(
         (Item("A", "plan"),),
         ("{A}.first()",),
         ("{A}.first()",),
-        "",
     ),
     "second": Node(
         (Item("A", "plan"),),
         ("{A}.second()",),
         ("{A}.second()",),
-        "",
     ),
     "nothing": Node(
         (Item("A", "plan"),),
         ("{A}.nothing()",),
         ("{A}.nothing()",),
-        "",
     ),
     # fmt: on
 }
