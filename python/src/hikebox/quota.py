@@ -39,8 +39,9 @@ class Usage:
     left: int
     #: For a `LeasedQuota`: whether the store may have lost its count of the window, so that it grants nothing of it.
     lost: bool = False
-    #: When the next window begins, in seconds by the quota's clock. If that is more than `per` away, a call with a clock
-    #: ahead opened this window, or the requests past the 4,294,967,296 of the window before. Comparisons leave it out.
+    #: When the next window begins, in seconds by the quota's clock. If that is more than `per` away, this window was
+    #: opened by a call whose clock was ahead, or by the requests past the 4,294,967,296 of the window before.
+    #: Comparisons leave it out.
     next: Optional[float] = field(default=None, compare=False)
 
 
