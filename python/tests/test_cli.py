@@ -295,9 +295,9 @@ def test_faults(tmp_path: Path) -> None:
         where = "" if place == "top" else f"{place}: "
         assert hikebox("plan", text=text) == (3, "", f"hikebox: {fault}: {where}{hint}\n")
         assert hikebox("check", text=text) == (3, f"{place}: {hint}\n", f"hikebox: {fault}\n")
-    for text in ('{"recurs":3', ""):
+    for text, column, why in (('{"recurs":3', 11, "the text ends too soon"), ("", 1, "the text is empty")):
         status, output, errors = hikebox("check", text=text)
-        said = f"not JSON: line 1, column {max(1, len(text))}: the text ends too soon\n"
+        said = f"not JSON: line 1, column {column}: {why}\n"
         assert (status, output, errors) == (3, said, "hikebox: not JSON\n")
         assert hikebox("plan", text=text) == (3, "", f"hikebox: {said}")
     assert hikebox("plan", text=" " * (2**20 + 1))[::2] == (3, "hikebox: input too long\n")

@@ -185,7 +185,7 @@ fn faults_are_those_of_the_text() {
 fn a_fault_has_its_place_and_what_is_wanted_there() {
     let deep = format!("{}\"forever\"{}", r#"{"nothing":"#.repeat(33), "}".repeat(33));
     for (json, place, hint) in [
-        ("", "line 1, column 1", "the text ends too soon"),
+        ("", "line 1, column 1", "the text is empty"),
         ("[\n{\"plan\":]", "line 2, column 9", "what stands here is not JSON, or is nested more than 127 deep"),
         ("7", "", "expected a plan, a string or an object with one member, got 7"),
         (r#"{"fixed":0}"#, "", r#"expected {"fixed":D}, D from 1 to 4611686018427387903, got {"fixed":0}"#),
