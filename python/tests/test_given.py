@@ -535,8 +535,8 @@ def test_an_event_ends_a_wait(kind: Any) -> None:
 @pytest.mark.parametrize("sleep", [time.sleep, lambda seconds: time.sleep(seconds)], ids=["time.sleep", "own"])
 def test_an_event_ends_a_wait_by_a_sleep_that_was_given(sleep: Any) -> None:
     event = threading.Event()
-    threading.Timer(0.1, event.set).start()
     began = time.monotonic()
+    threading.Timer(0.1, event.set).start()
     retrying = Retrying(spaced(60), stop=event, sleep=sleep, fallback=lambda state: state.ending)
     assert retrying(fails) is Ending.STOPPED
     assert 0.09 < time.monotonic() - began < 20
