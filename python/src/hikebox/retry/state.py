@@ -1,4 +1,4 @@
-"""What a retry is at, how it ended, and counts over many of them."""
+"""The state of a retry, its ending, and counts over many retries."""
 
 from __future__ import annotations
 
@@ -57,12 +57,12 @@ ENDINGS: Tuple[Optional[Ending], ...] = (
 
 
 class Outcome:
-    """How a call went: its result, or the exception that it raised."""
+    """The outcome of an attempt: its result, or the exception that it raised."""
 
     __slots__ = ("attempt_number", "_result", "_error")
 
     def __init__(self, result: Any = None, error: Optional[BaseException] = None, attempt_number: int = 1) -> None:
-        #: Of which attempt it is.
+        #: The number of the attempt.
         self.attempt_number = attempt_number
         self._result = result
         self._error = error
@@ -77,15 +77,15 @@ class Outcome:
         return True
 
     def exception(self) -> Optional[BaseException]:
-        """The exception, or None where it gave a result."""
+        """The exception, or None if it returned a result."""
         return self._error
 
     def told(self) -> Any:
-        """The exception, or the result where there is none."""
+        """The exception, or the result if there is none."""
         return self._result if self._error is None else self._error
 
     def result(self) -> Any:
-        """The result; raises the exception where there is one."""
+        """Returns the result, or raises the exception."""
         if self._error is None:
             return self._result
         try:
@@ -100,12 +100,12 @@ class Outcome:
 class NextAction(NamedTuple):
     """What a retry does next, while it waits."""
 
-    #: How many seconds are waited before the next attempt.
+    #: Seconds until the next attempt.
     sleep: float
 
 
 class RetryState:
-    """What a retry is at. Hooks get it, and the exception that a retry raises in the end has it as `retry_state`.
+    """The state of a retry. Hooks receive it, and the exception that a retry raises has it as `retry_state`.
 
     The names are those of tenacity's `RetryCallState`.
     """
@@ -135,64 +135,64 @@ class RetryState:
         kwargs: Mapping[str, Any],
         start_time: float = 0.0,
     ) -> None:
-        #: The `Retrying` that made it; None of a state that was pickled, as is what was called.
+        #: The `Retrying` that made it. A pickled state has None here and for the call.
         self.retry_object = retry_object
-        #: What is called, and with what; None where the attempts are made in a loop.
+        #: The function and its arguments; None in a loop of attempts.
         self.fn = fn
         self.args = args
         self.kwargs = kwargs
-        #: When the first attempt began, by the retry's clock.
+        #: When the first attempt began, by the clock of the retry.
         self.start_time = start_time
         #: The number of the present attempt, from 1.
         self.attempt_number = 1
-        #: How the present attempt went, where it is over. None again once the last exception was raised.
+        #: The outcome of the present attempt once it ended. None again after the last exception was raised.
         self.outcome: Optional[Outcome] = None
-        #: From the start of the first attempt to the end of the last one that is over.
+        #: Seconds from the start of the first attempt to the end of the latest one.
         self.seconds_since_start: Optional[float] = None
-        #: How many seconds were waited between attempts, with the wait that is to come.
+        #: Seconds waited between attempts, with the wait that comes next.
         self.idle_for = 0.0
-        #: How many seconds are waited before the next attempt, where one follows.
+        #: Seconds until the next attempt, if one follows.
         self.upcoming_sleep = 0.0
-        #: How many retries were granted: tickets drawn.
+        #: The number of retries granted: tickets drawn.
         self.granted = 0
-        #: Why there was no ticket, where what it draws on says so, as leases do.
+        #: Why there was no ticket, if the limit says so, as leases do.
         self.refusal: Optional[Refusal] = None
-        #: How it ended, or None where it is not over.
+        #: How it ended, or None while it is under way.
         self.ending: Optional[Ending] = None
-        #: Its deadline, where it has one.
+        #: Its deadline, if it has one.
         self.deadline: Optional[Deadline] = None
 
     @property
     def next_action(self) -> Optional[NextAction]:
-        """What comes next where one more attempt does: a wait."""
+        """The wait before the next attempt, or None if none follows."""
         outcome = self.outcome
         return None if outcome is None or self.ending is not None else NextAction(self.upcoming_sleep)
 
     @property
     def seconds_left(self) -> Optional[float]:
-        """How many seconds it is until the deadline of the retry, or None where it has none."""
+        """Seconds until the deadline of the retry, or None if it has none."""
         return None if self.deadline is None else self.deadline.left()
 
     @property
     def outcome_timestamp(self) -> Optional[float]:
-        """When the last attempt that is over ended, by the retry's clock."""
+        """When the latest attempt ended, by the clock of the retry."""
         return None if self.seconds_since_start is None else self.start_time + self.seconds_since_start
 
     @property
     def code(self) -> int:
-        """The code of the present outcome, which the policy is given."""
+        """The code of the present outcome, as the policy sees it."""
         if self.retry_object is None or self.outcome is None:
             return 0
         return self.retry_object.settings.code_for(self.outcome.told())
 
     @property
     def name(self) -> str:
-        """What is called, in texts."""
+        """The name of the function, for texts."""
         fn = self.fn
         return getattr(fn, "__qualname__", None) or ("a block" if fn is None else repr(fn))
 
     def set_result(self, value: Any) -> None:
-        """Says, in a loop of attempts, what this one gave: for `on_result` and `on_success`."""
+        """Sets the result of this attempt in a loop, for `on_result` and `on_success`."""
         self.outcome = Outcome(value, attempt_number=self.attempt_number)
 
     def __reduce__(self) -> Any:
@@ -220,7 +220,7 @@ def _unpickled(
 
 
 def state_of(error: BaseException) -> Optional[RetryState]:
-    """The state of the retry that raised this exception in the end, or None where none did."""
+    """Returns the state of the retry that raised this exception, or None if none did."""
     state = getattr(error, "retry_state", None)
     return state if isinstance(state, RetryState) else None
 
@@ -229,12 +229,10 @@ _CODES = ("status", "status_code", "code", "errno", "returncode")
 
 
 def code_of(failure: object) -> int:
-    """The number by which a policy knows an exception, or a result that was not accepted, where no `code` says
-    otherwise.
+    """Returns the number by which a policy knows an exception, or a result that was refused, unless `code` is given.
 
-    It is the first that is a whole number of its attributes `status`, `status_code`, `code`, `errno` and
-    `returncode`, and of its response's `status_code`; a result that is a whole number is its own; and 0 where there is
-    none.
+    It is the first whole number among the attributes `status`, `status_code`, `code`, `errno` and `returncode`, and
+    the `status_code` of its `response`. A result that is a whole number is its own code. Otherwise it is 0.
 
     >>> code_of(ConnectionRefusedError(111, "refused")), code_of(ValueError()), code_of(202)
     (111, 0, 202)
@@ -251,15 +249,15 @@ def code_of(failure: object) -> int:
 
 @dataclass(frozen=True)
 class Statistics:
-    """Counts over all calls of one `Retrying`, from all threads, as of the moment at which they were asked for."""
+    """Counts over all finished calls of one `Retrying`, of all threads."""
 
-    #: Calls that are over, each with all its attempts.
+    #: Calls, each with all its attempts.
     calls: int = 0
-    #: Attempts made by them.
+    #: Attempts of these calls.
     attempts: int = 0
     #: Seconds that they waited between attempts.
     idle_for: float = 0.0
-    #: Calls that ended so.
+    #: Calls by their ending.
     won: int = 0
     schedule_done: int = 0
     deadline: int = 0
@@ -271,12 +269,12 @@ class Statistics:
 
     @property
     def retries(self) -> int:
-        """Attempts but the first of each call."""
+        """Attempts after the first of each call."""
         return self.attempts - self.calls
 
     @property
     def by_ending(self) -> Dict[str, int]:
-        """The calls that are over by how they ended: for a counter with a label.
+        """The calls by their ending, for a counter with a label.
 
         >>> Statistics(calls=3, attempts=5, won=2, stopped=1).by_ending["stopped"]
         1
