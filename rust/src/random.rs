@@ -29,6 +29,7 @@ fn seed() -> u64 {
 }
 
 /// The next four of this thread.
+#[inline]
 pub(crate) fn next() -> [u32; 4] {
     STREAM.with(|own| {
         let stream = own.get();
