@@ -1,6 +1,7 @@
 """How policies and storms are written in Rust. tests/rust.sh compiles what this file makes of them and runs it.
 
-    python3 test_rust_spelling.py --write    makes rust/tests/spellings.rs anew
+    HIKEBOX_LIBRARY=dist/libhikebox.so python3 python/tests/test_rust_spelling.py --write
+                                                makes rust/tests/spellings.rs anew
 """
 
 from __future__ import annotations
