@@ -892,7 +892,7 @@ def busy() -> None:
 
 ENDS: List[Any] = [
     (
-        lambda: plain(recurs(1))(busy),
+        lambda: plain(recurs(1), clock=VirtualClock(100))(busy),
         "WARNING",
         "SCHEDULE_DONE",
         "gave up after 2 attempts in 0.000 s: the policy was done",
