@@ -385,8 +385,8 @@ def test_30_processes_killed_at_any_moment(tmp_path: Path) -> None:
         running.append(subprocess.Popen(words, env=python_environment()))
         if len(running) >= 5:
             until = time.monotonic() + 20
-            oldest = number - 4
-            while not (tmp_path / f"tickets-{oldest}").exists() and time.monotonic() < until:
+            oldest = tmp_path / f"tickets-{number - 4}"
+            while not (oldest.exists() and oldest.read_bytes().count(b"\n") > 12) and time.monotonic() < until:
                 time.sleep(0.01)
             time.sleep(0.02 + 0.001 * number)
             os.kill(running[0].pid, signal.SIGKILL)
