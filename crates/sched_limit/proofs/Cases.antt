@@ -1,5 +1,6 @@
 -- The cases of a test, and laws of machines from what is so of each call.
-use Rattle.std.proofs.Common.{◌≡◌, ◌≢◌, ℕ, ◌<◌, ◌≤◌, Bool, true, false, not, cond, ltb, eqb, ◌&&◌, ◌||◌, refl, sym, ap, subst, lt_of_not-le, lt-ltb, le-ltb, eq-eqb, ne_eqb}
+use Rattle.std.proofs.Common.{◌≡◌, ◌≢◌, ℕ, ◌<◌, ◌≤◌, Bool, true, false, not, cond, ltb, eqb, ◌&&◌, ◌||◌, refl, sym, ap}
+use Rattle.std.proofs.Common.{subst, lt_of_not-le, lt-ltb, le-ltb, eq-eqb, ne_eqb}
 use mathlib.Core.Bool.{false≢true}
 use mathlib.Core.Logic.{dite}
 use native.Mathlib.Decide.{ℕ_discrete, dec_le}
@@ -14,7 +15,8 @@ module _ {X : Type 0} (P : X → Type 0) where
   pub by_lt : (a b : ℕ) (x y : X) → (a < b → P x) → (b ≤ a → P y) → P (cond (ltb a b) x y)
   by_lt a b x y hit miss = dite (dec_le b a)
       (λ le. subst (λ (c : Bool). P (cond c x y)) (sym (le-ltb a b le)) (miss le))
-      (λ not-le. subst (λ (c : Bool). P (cond c x y)) (sym (lt-ltb a b (lt_of_not-le not-le))) (hit (lt_of_not-le not-le)))
+      (λ not-le.
+      subst (λ (c : Bool). P (cond c x y)) (sym (lt-ltb a b (lt_of_not-le not-le))) (hit (lt_of_not-le not-le)))
 
   pub by_eq : (a b : ℕ) (x y : X) → (a ≡ b → P x) → (a ≢ b → P y) → P (cond (eqb a b) x y)
   by_eq a b x y hit miss = dite (ℕ_discrete a b)
@@ -86,4 +88,5 @@ not_false a e = ap not e
 -- what is so of each call is so of each move of each pass
 pub each_is : (next : Next) (first : ℕ) (Q : ℕ → Bool) (R : Call → ℕ → ℕ → Bool) → IsKeptBy next first Q
     → ((c : Call) (w : ℕ) → Q w ≡ true → R c w (next c w) ≡ true) → EachMove next first R
-each_is next first Q R keeps so s kept by v at = each_move_is_so next first s kept by v at Q (λ (m : Move). R m.call m.found m.left) keeps so
+each_is next first Q R keeps so s kept by v at =
+    each_move_is_so next first s kept by v at Q (λ (m : Move). R m.call m.found m.left) keeps so

@@ -1,3 +1,4 @@
+-- The laws of each limit and the cases of their moves, which the laws' proofs cite.
 pub mod Cases
 pub mod Buckets
 pub mod Flights

@@ -1,8 +1,10 @@
 -- The breaker as a sequential machine.
-use Rattle.std.specs.Prelude.{ℕ, ◌+◌, ◌-◌, ◌%◌, ◌==◌, ◌&&◌, ◌||◌, not, min, Bool, if◌then◌else◌, nat_lt, slice_index, Option, Some, None}
+use Rattle.std.specs.Prelude.{ℕ, ◌+◌, ◌-◌, ◌%◌, ◌==◌, ◌&&◌, ◌||◌, not, min, Bool, if◌then◌else◌, nat_lt, slice_index}
+use Rattle.std.specs.Prelude.{Option, Some, None}
 use Rattle.sched_limit_word.specs.declared.call.Call.{Call}
 use Rattle.sched_limit_word.specs.declared.call.Call.TheVariants.{Admit, Draw, Failed, Succeeded, Ended, Returned}
-use Rattle.sched_limit.specs.Word.{generation_of, count_of, won_of, admitted_of, at_of, trip_of, closed, tripped, stamp_of}
+use Rattle.sched_limit.specs.Word.{generation_of, count_of, won_of, admitted_of, at_of, trip_of, closed, tripped}
+use Rattle.sched_limit.specs.Word.{stamp_of}
 use Rattle.sched_limit.specs.declared.refusal.Refusal.{Refusal}
 use Rattle.sched_limit.specs.declared.refusal.Refusal.TheVariants.{Open, Probing}
 use Rattle.sched_limit.specs.declared.breaker.Breaker.{Breaker}
@@ -82,7 +84,8 @@ succeeded b word = if word % 2 == 1 then succeeded_tripped b word else closed (g
 abbrev pub breaker_next : Breaker → Call → ℕ → ℕ
 breaker_next b (Admit now) word = asked b (since_start b now) word
 breaker_next b (Draw now cost slots) word = asked b (since_start b now) word
-breaker_next b (Failed now generation) word = if generation == stamp_of word then failed b (since_start b now) word else word
+breaker_next b (Failed now generation) word =
+    if generation == stamp_of word then failed b (since_start b now) word else word
 breaker_next b (Succeeded generation worth) word = if generation == stamp_of word then succeeded b word else word
 breaker_next b (Ended slots) word = word
 breaker_next b (Returned cost) word = word

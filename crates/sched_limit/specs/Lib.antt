@@ -1,3 +1,4 @@
+-- The definitions that the contracts of `sched_limit` cite: each machine, its word and its laws.
 pub mod Bucket
 pub mod InFlight
 pub mod Word

@@ -29,6 +29,7 @@ abbrev pub tripped : ℕ → ℕ → ℕ → ℕ → ℕ → ℕ
 tripped generation trip at admitted won =
     generation * 4503599627370496 + trip * 70368744177664 + at * 512 + admitted * 32 + won * 2 + 1
 
--- which runs may tell something: those that were admitted in the same generation, while it was closed or half open alike
+-- which runs may tell something: those that were admitted in the same generation, while it was closed or half open
+-- alike
 abbrev pub stamp_of : ℕ → ℕ
 stamp_of word = generation_of word * 2 + word % 2

@@ -25,7 +25,8 @@ pub struct Bucket {
 }
 
 impl Bucket {
-    /// Whether such a bucket can be: the floor, the debit and the credit are at most the capacity, and that at most 2^40.
+    /// Whether such a bucket can be: the floor, the debit and the credit are at most the capacity, and that at most
+    /// 2^40.
     pub fn is_sound(&self) -> bool
         ensures yes { result ≡ true → AreTerms self.now }
         ensures no { AreTerms self.now → result ≡ true }
@@ -60,8 +61,8 @@ impl Bucket {
         }
     }
 
-    /// The standard mode of the AWS SDKs: 500 tokens, of which a retry takes 5, and 10 after a timeout. A success gives back
-    /// what its request's last retry took, or else one.
+    /// The standard mode of the AWS SDKs: 500 tokens, of which a retry takes 5, and 10 after a timeout. A success gives
+    /// back what its request's last retry took, or else one.
     pub fn aws() -> Bucket
         ensures { result ≡ aws_bucket }
     {

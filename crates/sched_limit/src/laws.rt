@@ -1,5 +1,5 @@
-//! What holds of each limit between any two atomic steps, for any number of passes and calls. Each function does nothing:
-//! its contract is a law.
+//! What holds of each limit between any two atomic steps, for any number of passes and calls. Each function does
+//! nothing: its contract is a law.
 ghost use Rattle.sched_limit.specs.Laws.{LevelStaysWithin, TokensAreCounted, GrantsLeaveTheFloor};
 ghost use Rattle.sched_limit.specs.Laws.{GrantsAreWithinTheBound, RequestsAreCounted};
 ghost use Rattle.sched_limit.specs.Laws.{ProbesAreFew, OpenIsKept, LateResultsChangeNothing, OpensAfterFailures};
@@ -19,8 +19,8 @@ pub fn retries_are_bounded()
     ensures counted { RequestsAreCounted }
 {}
 
-/// A breaker has no more probes out than it admits. It is opened by the last of its failures in a row, is open until its
-/// moment, and what is told of a run of another generation changes nothing.
+/// A breaker has no more probes out than it admits. It is opened by the last of its failures in a row, is open until
+/// its moment, and what is told of a run of another generation changes nothing.
 pub fn breakers_hold()
     ensures probes { ProbesAreFew }
     ensures open { OpenIsKept }

@@ -1,5 +1,6 @@
-//! Limits that services use, each as sequential code over one word: a bucket that failures empty and successes fill, a
-//! bound on what is in flight, and a breaker. `sched_limit_word` lets any number of threads call them.
+//! Limits that services use: a bucket that failures empty and successes fill, a bound on what is in flight, and a
+//! breaker. Each call is a step of the limit's machine, by any number of threads, and `laws` says what then holds. It
+//! stands on `sched_limit_word`, which has the word that the threads call.
 #![tactic(auto)]
 
 mod breaker;

@@ -1,3 +1,4 @@
+-- The laws of a limit, and the lemmas that these and the steps of a pass cite.
 pub mod Names
 pub mod Runs
 pub mod Moves

@@ -1,5 +1,6 @@
 -- Each step keeps the rule.
-use Rattle.std.proofs.Common.{◌≡◌, ◌≢◌, ℕ, ◌+◌, ◌<◌, ◌==◌, List, [], ◌∷◌, length, set, slice_index, sym, refl, ap, ◌∙◌, subst, inl, inr, ⊎_elim, arith, length-set}
+use Rattle.std.proofs.Common.{◌≡◌, ◌≢◌, ℕ, ◌+◌, ◌<◌, ◌==◌, List, [], ◌∷◌, length, set, slice_index, sym, refl, ap, ◌∙◌}
+use Rattle.std.proofs.Common.{subst, inl, inr, ⊎_elim, arith, length-set}
 use Rattle.std.proofs.lemmas.List.{get_or-set_same}
 use mathlib.Core.Option.{Option, some}
 use prog.Atomic.{either}
@@ -19,7 +20,8 @@ use Rattle.sched_limit_word.proofs.Runs.{was_now}
 
 module _ (next : Next) (first : ℕ) where
   -- the rule, where the word has become n
-  kept-at : (ws : List ℕ) (homes : List (Option Call)) (views : List View) (n : ℕ) (run : List Move) → length ws ≡ 16 → IsRun next first run n
+  kept-at : (ws : List ℕ) (homes : List (Option Call)) (views : List View) (n : ℕ) (run : List Move) → length ws ≡ 16
+      → IsRun next first run n
       → ((h : Move → ℕ) → total h run ≡ moves_of h views) → weights views ≡ all_parts
       → ((by : ℕ) (v : View) → get_elem? views by ≡ some v → Fits first run v)
       → IsKept next first (record { words = set ws 8 n; homes = homes; views = views })
@@ -45,14 +47,21 @@ module _ (next : Next) (first : ℕ) where
       (λ (t : (by ≢ j) × (get_elem? views by ≡ some v)). each by v t.1)
       (at_set views j by w v there)
 
-  module _ (ws : List ℕ) (homes : List (Option Call)) (views : List View) (kept : IsKept next first (record { words = ws; homes = homes; views = views })) where
+  module _ (ws : List ℕ) (homes : List (Option Call)) (views : List View)
+      (kept : IsKept next first (record { words = ws; homes = homes; views = views })) where
     -- a view with the same moves, which has seen the present word
-    looked : (id : ℕ) (v w : View) → get_elem? views id ≡ some v → w.moves ≡ v.moves → w.weight ≡ v.weight → w.seen ≡ slice_index ws 8
+    looked : (id : ℕ) (v w : View) → get_elem? views id ≡ some v → w.moves ≡ v.moves → w.weight ≡ v.weight
+        → w.seen ≡ slice_index ws 8
         → IsKept next first (record { words = set ws 8 (slice_index ws 8); homes = homes; views = set views id w })
     looked id v w at moves weight seen =
         let n : ℕ = slice_index ws 8 in
         kept-at ws homes (set views id w) n kept.run kept.long kept.is_run
-        (λ h. omega (arith, kept.shared h, total-set (λ (u : View). total h u.moves) views id v w at, ap (total h) moves))
+        (λ h. omega (
+          arith,
+          kept.shared h,
+          total-set (λ (u : View). total h u.moves) views id v w at,
+          ap (total h) moves,
+        ))
         (omega (arith, kept.parts, total-set (λ (u : View). u.weight) views id v w at))
         (each-set kept.run kept.run views id w kept.each (record {
           seen = λ live. subst (WasThere first kept.run) (sym seen) (was_now next first kept.run n kept.is_run);
@@ -60,8 +69,10 @@ module _ (next : Next) (first : ℕ) where
         }))
 
     -- a view with one move more, from the present word
-    moved : (id : ℕ) (v : View) (c : Call) (n : ℕ) → get_elem? views id ≡ some v → 0 < v.weight → n ≡ next c (slice_index ws 8)
-        → IsKept next first (record { words = set ws 8 n; homes = homes; views = set views id (with_move v c (slice_index ws 8) n) })
+    moved : (id : ℕ) (v : View) (c : Call) (n : ℕ) → get_elem? views id ≡ some v → 0 < v.weight
+        → n ≡ next c (slice_index ws 8)
+        → IsKept next first
+        (record { words = set ws 8 n; homes = homes; views = set views id (with_move v c (slice_index ws 8) n) })
     moved id v c n at live next-is =
         let d : ℕ = slice_index ws 8 in
         let m : Move = move c d n in
@@ -99,7 +110,9 @@ module _ (next : Next) (first : ℕ) where
       let v : View = m.0 in
       let d : ℕ = slice_index s.words 8 in
       let st : Step Call = step n 8 old new (some c) in
-      let F : ℕ → Type 0 = λ y. (w : View) × IsKept next first (record { words = set s.words 8 y; homes = s.homes; views = set s.views id w }) × tries st m d (w, m.1) in
+      let F : ℕ → Type 0 = λ y. (w : View)
+      × IsKept next first (record { words = set s.words 8 y; homes = s.homes; views = set s.views id w })
+      × tries st m d (w, m.1) in
       let there : F (either (d == old) new d) = exchanged d old new F
       (λ hit. (
         with_move v c d new,

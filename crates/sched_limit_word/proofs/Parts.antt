@@ -1,5 +1,6 @@
 -- A split, a join and the first state keep the rule.
-use Rattle.std.proofs.Common.{◌≡◌, ◌≢◌, ℕ, zero, suc, ◌+◌, ◌<◌, List, [], ◌∷◌, ◌++◌, length, set, slice_index, sym, refl, ap, ◌∙◌, subst, ⊎_elim, arith}
+use Rattle.std.proofs.Common.{◌≡◌, ◌≢◌, ℕ, zero, suc, ◌+◌, ◌<◌, List, [], ◌∷◌, ◌++◌, length, set, slice_index, sym}
+use Rattle.std.proofs.Common.{refl, ap, ◌∙◌, subst, ⊎_elim, arith}
 use mathlib.Core.Option.{Option, some, some-injective, some-ne-none}
 use lib.ListN.{get_elem?}
 use Rattle.atomic_table.specs.Table.{Splits, Joins}
@@ -23,8 +24,12 @@ module _ (next : Next) (first : ℕ) where
       let after : List View = set views id left ++ right ∷ [] in
       let p = part-some v.weight more in
       let F : View → Type 0 = Fits first kept.run in
-      let sums : (g : View → ℕ) → total g after + g v ≡ total g views + g left + g right = λ g. omega (arith, total-append g (set views id left) (right ∷ []), total-set g views id v left at) in
-      let fits-left : F left = record { seen = λ _. f.seen (omega (arith, more)); spent = λ none. absurd (omega (arith, none, p.1)) } in
+      let sums : (g : View → ℕ) → total g after + g v ≡ total g views + g left + g right = λ g.
+      omega (arith, total-append g (set views id left) (right ∷ []), total-set g views id v left at) in
+      let fits-left : F left = record {
+        seen = λ _. f.seen (omega (arith, more));
+        spent = λ none. absurd (omega (arith, none, p.1));
+      } in
       let fits-right : F right = record { seen = λ _. f.seen (omega (arith, more)); spent = λ _. refl } in
       record {
         run = kept.run;
@@ -41,7 +46,8 @@ module _ (next : Next) (first : ℕ) where
             (at_snoc (set views id left) right u by there);
       }
 
-  pub joins_ok : (id : ℕ) (v : View) (other : ℕ) (w : View) → 0 < v.weight → Joins (IsKept next first) id v other w (joined_view v w) blank_view
+  pub joins_ok : (id : ℕ) (v : View) (other : ℕ) (w : View) → 0 < v.weight
+      → Joins (IsKept next first) id v other w (joined_view v w) blank_view
   joins_ok id v other w live s kept at apart there =
       let views : List View = s.views in
       let f = kept.each id v at in
@@ -49,14 +55,19 @@ module _ (next : Next) (first : ℕ) where
       let middle : List View = set views id joined in
       let after : List View = set middle other blank_view in
       let F : View → Type 0 = Fits first kept.run in
-      let sums : (g : View → ℕ) → total g after + g w + g v ≡ total g views + g joined + g blank_view = λ g. omega (arith, total-set g views id v joined at, total-set g middle other w blank_view there) in
-      let fits-joined : F joined = record { seen = λ _. f.seen live; spent = λ none. absurd (omega (arith, none, live)) } in
+      let sums : (g : View → ℕ) → total g after + g w + g v ≡ total g views + g joined + g blank_view = λ g.
+      omega (arith, total-set g views id v joined at, total-set g middle other w blank_view there) in
+      let fits-joined : F joined = record {
+        seen = λ _. f.seen live;
+        spent = λ none. absurd (omega (arith, none, live));
+      } in
       let fits-blank : F blank_view = record { seen = λ none. absurd (omega (arith, none)); spent = λ _. refl } in
       record {
         run = kept.run;
         long = kept.long;
         is_run = kept.is_run;
-        shared = λ h. omega (arith, sums (λ (u : View). total h u.moves), total-append h v.moves w.moves, kept.shared h);
+        shared = λ h.
+            omega (arith, sums (λ (u : View). total h u.moves), total-append h v.moves w.moves, kept.shared h);
         parts = omega (arith, sums (λ (u : View). u.weight), kept.parts);
         each = λ by u at-by. ⊎_elim
             (λ (e : (by ≡ other) × (blank_view ≡ u)). subst F e.1 fits-blank)

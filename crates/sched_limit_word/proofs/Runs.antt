@@ -1,5 +1,6 @@
 -- What follows of a run of a machine.
-use Rattle.std.proofs.Common.{◌≡◌, ℕ, ◌+◌, Bool, true, false, List, [], ◌∷◌, refl, sym, ap, ◌∙◌, subst, inl, inr, ⊎_elim, arith}
+use Rattle.std.proofs.Common.{◌≡◌, ℕ, ◌+◌, Bool, true, false, List, [], ◌∷◌, refl, sym, ap, ◌∙◌, subst, inl, inr}
+use Rattle.std.proofs.Common.{⊎_elim, arith}
 use Rattle.sched_ticket.specs.Lists.{total, Each}
 use Rattle.sched_limit_word.specs.Rule.{Next, IsRun, WasThere}
 use Rattle.sched_limit_word.specs.Laws.{IsKeptBy}
@@ -42,8 +43,10 @@ module _ (next : Next) (first : ℕ) where
 
     -- sums over a run telescope
     pub telescopes : (value : ℕ → ℕ) (taken given : Move → ℕ)
-        → ((c : Call) (w : ℕ) → Q w ≡ true → value (next c w) + taken (move c w (next c w)) ≡ value w + given (move c w (next c w)))
-        → (run : List Move) (word : ℕ) → IsRun next first run word → value word + total taken run ≡ value first + total given run
+        → ((c : Call) (w : ℕ) → Q w ≡ true
+        → value (next c w) + taken (move c w (next c w)) ≡ value w + given (move c w (next c w)))
+        → (run : List Move) (word : ℕ) → IsRun next first run word
+        → value word + total taken run ≡ value first + total given run
     telescopes value taken given so [] word r = omega (arith, ap value r)
     telescopes value taken given so (m ∷ run) word r = omega (
       arith,

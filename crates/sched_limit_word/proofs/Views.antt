@@ -2,7 +2,8 @@
 use Rattle.std.proofs.Common.{◌≡◌, ℕ, ◌+◌, ◌≤◌, List, refl, sym, ap, ◌∙◌, arith}
 use Rattle.sched_ticket.specs.Lists.{total}
 use Rattle.sched_ticket.proofs.Sums.{alone, term_le}
-use Rattle.sched_limit_word.specs.Laws.{MovesAreOneRun, SightIsTrue, WhatIsKeptHolds, EachMoveIsSo, SumsTelescope, PartsAreKept, SpentHasNothing, WholeHasAll, word_of}
+use Rattle.sched_limit_word.specs.Laws.{MovesAreOneRun, SightIsTrue, WhatIsKeptHolds, EachMoveIsSo, SumsTelescope}
+use Rattle.sched_limit_word.specs.Laws.{PartsAreKept, SpentHasNothing, WholeHasAll, word_of}
 use Rattle.sched_limit_word.specs.declared.view.View.{View}
 use Rattle.sched_limit_word.proofs.Runs.{kept_now, kept_there, each_so, telescopes, lapse, none_lapses, each_is_so}
 
@@ -21,11 +22,17 @@ what_is_kept_holds next first s kept Q keeps = (
 pub each_move_is_so : EachMoveIsSo
 each_move_is_so next first s kept by v at Q R keeps so =
     let all = none_lapses R kept.run (each_so next first Q keeps R so kept.run (word_of s) kept.is_run) in
-    each_is_so R v.moves (omega (arith, kept.shared (lapse R), term_le (λ (u : View). total (lapse R) u.moves) s.views by v at, all))
+    each_is_so R v.moves
+    (omega (arith, kept.shared (lapse R), term_le (λ (u : View). total (lapse R) u.moves) s.views by v at, all))
 
 pub sums_telescope : SumsTelescope
 sums_telescope next first s kept Q value taken given keeps so =
-    omega (arith, telescopes next first Q keeps value taken given so kept.run (word_of s) kept.is_run, kept.shared taken, kept.shared given)
+    omega (
+      arith,
+      telescopes next first Q keeps value taken given so kept.run (word_of s) kept.is_run,
+      kept.shared taken,
+      kept.shared given,
+    )
 
 pub parts_are_kept : PartsAreKept
 parts_are_kept next first s kept = kept.parts

@@ -1,10 +1,10 @@
-//! What holds of every limit, whatever its machine, between any two atomic steps, for any number of passes, calls, splits
-//! and joins. Each function does nothing: its contract is a law of the table's rule.
+//! What holds of every limit, whatever its machine, between any two atomic steps, for any number of passes, calls,
+//! splits and joins. Each function does nothing: its contract is a law of the table's rule.
 ghost use Rattle.sched_limit_word.specs.Laws.{MovesAreOneRun, SightIsTrue, WhatIsKeptHolds, EachMoveIsSo};
 ghost use Rattle.sched_limit_word.specs.Laws.{SumsTelescope, PartsAreKept, SpentHasNothing, WholeHasAll};
 
-/// All moves of all passes are one run of the machine: each found the word that the one before left, and left what its call
-/// makes of it. What a pass has seen was there.
+/// All moves of all passes are one run of the machine: each found the word that the one before left, and left what its
+/// call makes of it. What a pass has seen was there.
 pub fn moves_are_one_run()
     ensures run { MovesAreOneRun }
     ensures sight { SightIsTrue }

@@ -1,4 +1,5 @@
-//! A limit that any number of threads call, as one word under a sequential machine.
+//! A limit that any number of threads call, as one word under a sequential machine. The calls that changed the word are
+//! one run of the machine, each on the word that the one before left. It stands on the kit's `atomic_table`.
 //!
 //! A `Machine` says which word a limit begins with, and which word a call makes of the one that it finds. A `Limit` has
 //! that word, and a `Pass` is the right to call it: a thread splits a pass for another thread, and joins the passes of

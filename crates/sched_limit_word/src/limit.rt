@@ -14,8 +14,8 @@ use sched_time::NoMemory;
 use std::alloc::Global;
 use std::marker::Model;
 
-/// A limit that any number of threads call, each with a pass of its own. Contracts see it as its name: which limit it is,
-/// and its machine.
+/// A limit that any number of threads call, each with a pass of its own. Contracts see it as its name: which limit it
+/// is, and its machine.
 #[derive(Drop)]
 pub struct Limit<M: Machine> {
     pub(crate) table: Table<Call, View, M, Rule<M>, Global>,

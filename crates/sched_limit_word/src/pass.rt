@@ -47,8 +47,8 @@ impl Pass {
         Pass { seat, weight }
     }
 
-    /// Makes a call, and answers the word that it found, of which the machine makes the one that it leaves. Where that is
-    /// the same, nothing is written. `RacesLost` where other calls came first so many times.
+    /// Makes a call, and answers the word that it found, of which the machine makes the one that it leaves. Where that
+    /// is the same, nothing is written. `RacesLost` where other calls came first so many times.
     pub fn call<M: Machine>(
         &mut self,
         limit: &Limit<M>,
@@ -63,8 +63,8 @@ impl Pass {
         step(limit, &mut self.seat, call, tries)
     }
 
-    /// A new pass that has done nothing, for another thread. `TooManyPasses` where this pass has one part, which it keeps:
-    /// the first pass has 2^62, and a split gives 2^20 where there are more, or else one.
+    /// A new pass that has done nothing, for another thread. `TooManyPasses` where this pass has one part, which it
+    /// keeps: the first pass has 2^62, and a split gives 2^20 where there are more, or else one.
     pub fn split<M: Machine>(&mut self, limit: &Limit<M>) -> Result<Pass, TooManyPasses>
         requires { IsOf limit.now self.old }
         ensures of { IsOf limit.now self.new }

@@ -1,5 +1,5 @@
-//! Breakers, by rows worked by hand. The number of a result is that of its generation: twice as many as the breaker was half
-//! open so far, and one more where it is.
+//! Breakers, by rows worked by hand. The number of a result is that of its generation: twice as many as the breaker was
+//! half open so far, and one more where it is.
 
 use super::{at, calls};
 use sched_limit::{Breaker, Refusal};

@@ -14,7 +14,8 @@ fn draw(slots: u64) -> Call {
     Call::Draw(at(0), 0, slots)
 }
 
-// Of ten requests two retry, which is a fifth. Where one of them ends, one of nine is left, and where both did another may.
+// Of ten requests two retry, which is a fifth. Where one of them ends, one of nine is left, and where both did another
+// may.
 #[test]
 fn envoy(rt: HostRuntime) {
     calls(

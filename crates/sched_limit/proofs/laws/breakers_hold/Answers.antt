@@ -1,3 +1,4 @@
+-- What holds of a breaker: few probes, an open state that lasts, late results that change nothing.
 use Rattle.sched_limit.proofs.Breakers.{probes_are_few, open_is_kept, late_results_change_nothing, opens_after_failures}
 use Rattle.sched_limit.proofs.laws.breakers_hold.Goals as goal
 

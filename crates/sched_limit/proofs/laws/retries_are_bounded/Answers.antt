@@ -1,3 +1,4 @@
+-- Retries in flight are at most the bound that the requests in flight give.
 use Rattle.sched_limit.proofs.Flights.{grants_are_within_the_bound, requests_are_counted}
 use Rattle.sched_limit.proofs.laws.retries_are_bounded.Goals as goal
 

@@ -1,3 +1,4 @@
+-- The tokens that were taken and lost are those that a bucket began with, what came in, less what is left.
 use Rattle.sched_limit.proofs.Buckets.{level_stays_within, tokens_are_counted, grants_leave_the_floor}
 use Rattle.sched_limit.proofs.laws.tokens_are_counted.Goals as goal
 

@@ -1,3 +1,4 @@
+-- All moves of all passes are one run of the machine.
 use Rattle.sched_limit_word.proofs.Views.{moves_are_one_run, sight_is_true}
 use Rattle.sched_limit_word.proofs.laws.moves_are_one_run.Goals as goal
 

@@ -1,3 +1,4 @@
+-- The parts of all passes are those that the limit began with.
 use Rattle.sched_limit_word.proofs.Views.{parts_are_kept, spent_has_nothing, whole_has_all}
 use Rattle.sched_limit_word.proofs.laws.parts_are_kept.Goals as goal
 

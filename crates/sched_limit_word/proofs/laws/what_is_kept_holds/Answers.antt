@@ -1,3 +1,4 @@
+-- What each call of the machine keeps holds of the word.
 use Rattle.sched_limit_word.proofs.Views.{what_is_kept_holds, each_move_is_so}
 use Rattle.sched_limit_word.proofs.laws.what_is_kept_holds.Goals as goal
 

@@ -1,3 +1,4 @@
+-- A step answers the word that it found, where it left the machine's next.
 use Rattle.std.proofs.Common.{sym, ap, ◌∙◌, subst, arith}
 use mathlib.Core.Option.{none}
 use Rattle.atomic_table.specs.Table.{step}

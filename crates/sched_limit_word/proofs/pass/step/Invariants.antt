@@ -1,3 +1,4 @@
+-- What lasts from turn to turn of a step: the pass's table and counts, and the word that it saw last.
 use Rattle.std.proofs.Common.{◌≡◌, ◌+◌}
 use Rattle.sched_limit_word.proofs.pass.step.Given as goal
 

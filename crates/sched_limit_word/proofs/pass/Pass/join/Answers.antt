@@ -1,3 +1,4 @@
+-- A join adds the parts of both passes, and joins their moves.
 use Rattle.std.proofs.Common.{sym, ◌∙◌, arith}
 use mathlib.Core.Option.{none}
 use Rattle.atomic_table.specs.Table.{step}

@@ -1,3 +1,4 @@
+-- A split halves a pass's parts, or refuses where there is one.
 use Rattle.std.proofs.Common.{sym, ◌∙◌, arith}
 use Rattle.sched_limit_word.proofs.Names.{table_of, table_held}
 use Rattle.sched_limit_word.proofs.Parts.{splits_ok}
