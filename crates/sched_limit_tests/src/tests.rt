@@ -19,9 +19,8 @@ fn at(millis: u64) -> Moment {
 fn calls<M: Refuses>(rt: &impl Abort, machine: &M, list: &[(Call, Option<Refusal>)]) {
     let mut word = machine.first();
     for (place, entry) in list.iter().enumerate() {
-        let (call, want) = *entry;
-        let got = machine.refusal(call, word);
-        assert!(rt; got == want, "{place}: {got:?} in the place of {want:?}");
-        word = machine.next(call, word);
+        let got = machine.refusal(entry.0, word);
+        assert!(rt; got == entry.1, "{place}: {got:?}");
+        word = machine.next(entry.0, word);
     }
 }
