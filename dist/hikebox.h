@@ -10,6 +10,7 @@
  * its moments and its words are made up.
  * examples/c/retry.c is a whole program.
  *
+ *     hikebox_next next = HIKEBOX_NEXT;
  *     while (hikebox_retry_poll(&retry, now(), words(), report, code, &next) == HIKEBOX_OK
  *            && next.what != HIKEBOX_OVER) {
  *         report = HIKEBOX_NO_REPORT;
@@ -19,7 +20,7 @@
  *             sleep_until(next.until);
  *     }
  *
- * Moments, durations and codes are whole numbers from 0 to HIKEBOX_FAR; moments and durations are in
+ * Moments, durations and codes are whole numbers from 0 to HIKEBOX_MAX_NUMBER; moments and durations are in
  * milliseconds. Which moment is 0 is the program's choice, as the start of the process; moments given to one
  * retry never fall.
  *
@@ -37,8 +38,12 @@
  * Where several apply, the first one in the order of the call's own list is the answer; a status that no list
  * names does not come from that call.
  *
- * STRUCTS. A struct keeps its size and its members within a major version; a later version adds structs and calls of
- * their own, under a later symbol version of libhikebox.so.
+ * STRUCTS. hikebox_course, hikebox_usage, hikebox_next, hikebox_storm and hikebox_totals begin with `size`: how many
+ * bytes they have in the header that the program was compiled with. The initializers HIKEBOX_COURSE, HIKEBOX_USAGE,
+ * HIKEBOX_NEXT, HIKEBOX_STORM and HIKEBOX_TOTALS set it. A later minor version may add members at the end of these
+ * structs. It accepts each size that an earlier version of its major version had, and reads and writes only the
+ * members that such a size covers. Every other size is refused by HIKEBOX_WRONG_SIZE, also one of a later version,
+ * and no other member is read or written. All other structs keep their size and members within a major version.
  *
  * WHAT THE PROGRAM OWES. The library does not check these:
  *  - Every pointer is to valid memory of its type, and not NULL, also where a length is 0; no two of a call's
@@ -78,7 +83,7 @@ extern "C" {
 #define HIKEBOX_VERSION_NUMBER (HIKEBOX_VERSION_MAJOR * 1000000 + HIKEBOX_VERSION_MINOR * 1000 + HIKEBOX_VERSION_PATCH)
 
 /* The last moment, the longest duration and the greatest code: 2^62 - 1. */
-#define HIKEBOX_FAR UINT64_C(4611686018427387903)
+#define HIKEBOX_MAX_NUMBER UINT64_C(4611686018427387903)
 
 /* The deadline of a retry that has none. */
 #define HIKEBOX_NO_DEADLINE UINT64_MAX
@@ -87,16 +92,16 @@ extern "C" {
 #define HIKEBOX_NO_BOUND UINT64_MAX
 
 /* The most events of a course. */
-#define HIKEBOX_MOST_STEPS 4096
+#define HIKEBOX_MAX_STEPS 4096
 
 /* The most tickets of a budget, and the greatest reserve of a quota: 2^32. */
-#define HIKEBOX_MOST_TICKETS UINT64_C(4294967296)
+#define HIKEBOX_MAX_TICKETS UINT64_C(4294967296)
 
 /* The greatest share of a quota, in thousandths of a ticket a request: 1000 tickets. */
-#define HIKEBOX_MOST_SHARE UINT64_C(1000000)
+#define HIKEBOX_MAX_SHARE UINT64_C(1000000)
 
 /* The shortest period of a quota, in milliseconds. */
-#define HIKEBOX_LEAST_PERIOD UINT64_C(100)
+#define HIKEBOX_MIN_PERIOD UINT64_C(100)
 
 /* What a call answers. */
 typedef uint32_t hikebox_status;
@@ -112,10 +117,12 @@ enum {
     HIKEBOX_FULL = 3,
     /* The system gave no memory. */
     HIKEBOX_NO_MEMORY = 4,
-    /* A moment, an input, a code or a period is above HIKEBOX_FAR; or a deadline is, and is not HIKEBOX_NO_DEADLINE. */
+    /* A moment, an input, a code or a period is above HIKEBOX_MAX_NUMBER; or a deadline is, and is not HIKEBOX_NO_DEADLINE. */
     HIKEBOX_TOO_LARGE = 5,
     /* There are more bytes than room for them. */
     HIKEBOX_NO_ROOM = 6,
+    /* The `size` of a struct is not one that this library knows. */
+    HIKEBOX_WRONG_SIZE = 7,
 
     /* The text is not JSON, or not UTF-8. */
     HIKEBOX_NOT_JSON = 10,
@@ -131,7 +138,7 @@ enum {
     /* The window is before the one that a store counts. */
     HIKEBOX_BACKWARDS = 20,
 
-    /* The limit is above HIKEBOX_MOST_TICKETS. */
+    /* The limit is above HIKEBOX_MAX_TICKETS. */
     HIKEBOX_LIMIT_TOO_LARGE = 30,
     /* There is no limit that can be raised: the budget keeps its limit, or the pass is of no budget. */
     HIKEBOX_FIXED = 31,
@@ -142,11 +149,11 @@ enum {
     HIKEBOX_TOO_MANY_PASSES = 33,
     /* Another pass of the budget or of the quota is held somewhere, or was freed. */
     HIKEBOX_PASSES_OUT = 34,
-    /* The quota's reserve is above HIKEBOX_MOST_TICKETS. */
+    /* The quota's reserve is above HIKEBOX_MAX_TICKETS. */
     HIKEBOX_RESERVE_TOO_LARGE = 35,
-    /* The quota's share is above HIKEBOX_MOST_SHARE. */
+    /* The quota's share is above HIKEBOX_MAX_SHARE. */
     HIKEBOX_SHARE_TOO_LARGE = 36,
-    /* The quota's period is below HIKEBOX_LEAST_PERIOD. */
+    /* The quota's period is below HIKEBOX_MIN_PERIOD. */
     HIKEBOX_PERIOD_TOO_SHORT = 37,
     /* A step of a quota lost 64 races with others. */
     HIKEBOX_RACES_LOST = 38,
@@ -256,15 +263,34 @@ HIKEBOX_CHECKED hikebox_status hikebox_policy_json(hikebox_policy *policy, char 
 HIKEBOX_CHECKED hikebox_status hikebox_policy_size(hikebox_policy *policy, uint64_t *nodes, uint64_t *depth,
                                                    uint64_t *most);
 
-/* How a policy is stepped along a course. */
+/* What a policy reads of an event beside its moment. */
+enum {
+    HIKEBOX_READS_LANE_0 = 1,
+    HIKEBOX_READS_LANE_1 = 2,
+    HIKEBOX_READS_LANE_2 = 4,
+    HIKEBOX_READS_LANE_3 = 8,
+    HIKEBOX_READS_INPUT = 16
+};
+
+/* Writes the sum of HIKEBOX_READS_LANE_0 to _3, for each lane whose random word a node of the policy reads, and of
+ * HIKEBOX_READS_INPUT where a node reads its input. A program can leave the other words at 0. HIKEBOX_EMPTY;
+ * _WRONG_KIND. */
+HIKEBOX_CHECKED hikebox_status hikebox_policy_reads(hikebox_policy *policy, uint64_t *reads);
+
+/* How a policy is stepped along a course. HIKEBOX_COURSE has ten events, the first at the moment 0. */
 typedef struct {
-    /* For how many events at most, 0 to HIKEBOX_MOST_STEPS. */
+    /* The size of this struct. */
+    size_t size;
+    /* For how many events at most, 0 to HIKEBOX_MAX_STEPS. */
     uint64_t steps;
     /* The moment of the first event. */
     uint64_t from;
     /* How long after the start that was planned at an event the next one comes. */
     uint64_t took;
 } hikebox_course;
+
+#define HIKEBOX_COURSE                                                                                                 \
+    { sizeof(hikebox_course), 10, 0, 0 }
 
 /* What an event of a course has. */
 typedef struct {
@@ -291,9 +317,9 @@ typedef struct {
  * not go on. Event k has the input and the words of number k among the `given` ones at `events`, and each event past them
  * those of the last. The lines are written to `lines`, which has room for `capacity`, and their number to `count`; their
  * outputs as text, `()`, a decimal number, `(a, b)` or `[a, b, c]`, one after another and with no zero byte, to `text`,
- * which has room for `room`, and the number of all their bytes to `length`. HIKEBOX_OUT_OF_RANGE, of a number of the course
- * or an input, and where there is no event; _EMPTY; _WRONG_KIND; _NO_MEMORY; _NO_ROOM, of either, and then `count` and
- * `length` are the room that is needed.
+ * which has room for `room`, and the number of all their bytes to `length`. HIKEBOX_WRONG_SIZE; _OUT_OF_RANGE, of a
+ * number of the course or an input, and where there is no event; _EMPTY; _WRONG_KIND; _NO_MEMORY; _NO_ROOM, of either,
+ * and then `count` and `length` are the room that is needed.
  */
 HIKEBOX_CHECKED hikebox_status hikebox_policy_course(hikebox_policy *policy, const hikebox_course *course,
                                                      const hikebox_event *events, size_t given, hikebox_line *lines,
@@ -315,7 +341,7 @@ hikebox_status hikebox_policy_free(hikebox_policy *policy);
  *
  * A quota cuts time into windows of `period` milliseconds, which begin at its multiples. In each it gives out at most
  * `reserve` tickets, and `share` thousandths of a ticket for each request that was counted in it so far, rounded down;
- * never more than HIKEBOX_MOST_TICKETS. A ticket that comes back, by hikebox_pass_hand_back, is given out once more: so the
+ * never more than HIKEBOX_MAX_TICKETS. A ticket that comes back, by hikebox_pass_hand_back, is given out once more: so the
  * draws of a window are at most that, and one for each ticket that was handed back in it. What a window has left is lost with it, unless the quota carries. The program
  * counts each request once, before its first run, by hikebox_pass_deposit.
  *
@@ -410,6 +436,8 @@ HIKEBOX_CHECKED hikebox_status hikebox_pass_count(hikebox_pass *pass, uint64_t *
 
 /* What is known of a window of a quota. */
 typedef struct {
+    /* The size of this struct. */
+    size_t size;
     /* Which window it is, from 0 on. */
     uint64_t window;
     /* The requests that were counted in it. */
@@ -418,13 +446,16 @@ typedef struct {
     uint64_t given;
     /* The tickets that it may yet give for the requests counted, and those carried to it. */
     uint64_t left;
-    /* When the next window begins; HIKEBOX_FAR of the last. */
+    /* When the next window begins; HIKEBOX_MAX_NUMBER of the last. */
     uint64_t next;
 } hikebox_usage;
 
+#define HIKEBOX_USAGE                                                                                                  \
+    { sizeof(hikebox_usage), 0, 0, 0, 0, 0 }
+
 /* Writes what the window of `now` of a quota, or the latest one where that is later, was asked, has given and has left,
- * and when the next begins. HIKEBOX_TOO_LARGE; _EMPTY; _WRONG_KIND, also of a pass of a budget or of nothing: these have
- * no windows. */
+ * and when the next begins. HIKEBOX_WRONG_SIZE; _TOO_LARGE; _EMPTY; _WRONG_KIND, also of a pass of a budget or of
+ * nothing: these have no windows. */
 HIKEBOX_CHECKED hikebox_status hikebox_pass_seen(hikebox_pass *pass, uint64_t now, hikebox_usage *usage);
 
 /*
@@ -440,7 +471,7 @@ HIKEBOX_CHECKED hikebox_status hikebox_pass_close(hikebox_pass *pass, uint64_t *
 hikebox_status hikebox_pass_free(hikebox_pass *pass);
 
 /* How many tickets a window of so many requests may give, by a quota with this reserve and this share: `reserve`, and
- * `share` thousandths of a ticket for each request, of which HIKEBOX_MOST_TICKETS count; at most HIKEBOX_MOST_TICKETS.
+ * `share` thousandths of a ticket for each request, of which HIKEBOX_MAX_TICKETS count; at most HIKEBOX_MAX_TICKETS.
  * It is always HIKEBOX_OK. */
 HIKEBOX_CHECKED hikebox_status hikebox_quota_allows(uint64_t reserve, uint64_t share, uint64_t asked,
                                                     uint64_t *tickets);
@@ -532,7 +563,7 @@ typedef struct {
 } hikebox_ticket;
 
 /* What a store granted: `tickets` numbers of a window from `first` on, or none, and the moment at which the window ends, by
- * the program's clock: HIKEBOX_FAR where there are no windows. */
+ * the program's clock: HIKEBOX_MAX_NUMBER where there are no windows. */
 typedef struct {
     uint64_t window;
     uint64_t first;
@@ -604,7 +635,7 @@ enum {
 
 /* What the program is to do. */
 enum {
-    /* Poll: no run was begun yet. No call answers it; it is where a hikebox_next of zeros begins. */
+    /* Poll: no run was begun yet. No call answers it; it is where HIKEBOX_NEXT begins. */
     HIKEBOX_POLL = 0,
     /* Run the call, and report at the next poll how it went. A run is under way until then. */
     HIKEBOX_RUN = 1,
@@ -636,6 +667,8 @@ enum {
 
 /* What a retry is at. */
 typedef struct {
+    /* The size of this struct. */
+    size_t size;
     /* HIKEBOX_POLL, HIKEBOX_RUN, HIKEBOX_WAIT or HIKEBOX_OVER. */
     uint32_t what;
     /* How it ended: HIKEBOX_UNENDED, or one of HIKEBOX_ENDED_.. where it is over. */
@@ -651,6 +684,9 @@ typedef struct {
      * that is past, and HIKEBOX_NO_DEADLINE where there is none. */
     uint64_t left;
 } hikebox_next;
+
+#define HIKEBOX_NEXT                                                                                                   \
+    { sizeof(hikebox_next), HIKEBOX_POLL, HIKEBOX_UNENDED, 0, 0, 0, 0 }
 
 /*
  * Puts a retry into `retry`, which has not begun. It has the policy, which is not copied, and a pass of its own, which is
@@ -678,9 +714,9 @@ HIKEBOX_CHECKED hikebox_status hikebox_retry_new(hikebox_policy *policy, hikebox
  * retry waits for the start planned, or runs at once where that is now. With HIKEBOX_NO_REPORT the code is
  * ignored, and a run begins where none is under way and `now` is not before the moment waited for; past the
  * deadline the retry is over instead, with HIKEBOX_ENDED_DEADLINE, unless no run was made yet. On a
- * retry that is over nothing changes. HIKEBOX_TOO_LARGE, of the moment; _NO_SUCH_REPORT; _TOO_LARGE, of the code;
- * _EMPTY; _WRONG_KIND; _NO_RUN. Where there is no memory or the clock went back the answer is HIKEBOX_OK, and the
- * retry is over.
+ * retry that is over nothing changes. HIKEBOX_WRONG_SIZE; _TOO_LARGE, of the moment; _NO_SUCH_REPORT; _TOO_LARGE, of
+ * the code; _EMPTY; _WRONG_KIND; _NO_RUN. Where there is no memory or the clock went back the answer is HIKEBOX_OK, and
+ * the retry is over.
  */
 HIKEBOX_CHECKED hikebox_status hikebox_retry_poll(hikebox_retry *retry, uint64_t now, const uint32_t words[4],
                                                   uint32_t report, uint64_t code, hikebox_next *next);
@@ -716,6 +752,8 @@ enum {
  * from 0 on. HIKEBOX_STORM has numbers to begin with.
  */
 typedef struct {
+    /* The size of this struct. */
+    size_t size;
     /* Requests a second, 1 to 1,000,000. */
     uint64_t rate;
     /* Requests that come at one moment, 1 to 1,000,000. */
@@ -746,7 +784,7 @@ typedef struct {
     uint64_t words;
     /* HIKEBOX_ON_NOTHING, HIKEBOX_ON_BUDGET or HIKEBOX_ON_QUOTA. */
     uint64_t draws_on;
-    /* Of a budget: at most HIKEBOX_MOST_TICKETS. */
+    /* Of a budget: at most HIKEBOX_MAX_TICKETS. */
     uint64_t limit;
     /* Of a quota: as hikebox_quota_new takes them. */
     uint64_t reserve;
@@ -756,7 +794,10 @@ typedef struct {
 
 /* 800 requests a second for a minute, on a peer that does 1,000 and is away from 10 to 20 s. */
 #define HIKEBOX_STORM                                                                                                  \
-    { 800, 1, 60, 1000, 500, 5000, 10000, 20000, 0, 0, 0, 1000, 120000, 16777216, 0, HIKEBOX_ON_NOTHING, 0, 0, 0, 1 }
+    {                                                                                                                  \
+        sizeof(hikebox_storm), 800, 1, 60, 1000, 500, 5000, 10000, 20000, 0, 0, 0, 1000, 120000, 16777216, 0,          \
+            HIKEBOX_ON_NOTHING, 0, 0, 0, 1                                                                             \
+    }
 
 /* A window of a storm. */
 typedef struct {
@@ -779,6 +820,8 @@ typedef struct {
 
 /* What a storm comes to. */
 typedef struct {
+    /* The size of this struct. */
+    size_t size;
     /* The requests, and how they ended: won, lost where the policy was done, denied where there was no ticket, or open. */
     uint64_t requests;
     uint64_t won;
@@ -805,12 +848,15 @@ typedef struct {
     bool cut;
 } hikebox_totals;
 
+#define HIKEBOX_TOTALS                                                                                                 \
+    { sizeof(hikebox_totals), 0, 0, 0, 0, 0, 0, 0, 0, 0, 0, 0, 0, 0, 0, false, false }
+
 /*
  * Plays a storm of requests under the policy, as `zsched storm` does, and writes its windows to `windows`, which has room
  * for `capacity`, their number to `count`, and its totals. The room that is needed is until / window, rounded down, and
  * one more. Two calls with the same parameters write the same. The call comes back once the storm is played, which
- * nothing breaks off but `calls`. HIKEBOX_OUT_OF_RANGE, of a parameter; _NO_ROOM, and then `count` is the room that is
- * needed; _EMPTY; _WRONG_KIND; _NO_MEMORY.
+ * nothing breaks off but `calls`. HIKEBOX_WRONG_SIZE, of the storm or the totals; _OUT_OF_RANGE, of a parameter;
+ * _NO_ROOM, and then `count` is the room that is needed; _EMPTY; _WRONG_KIND; _NO_MEMORY.
  */
 HIKEBOX_CHECKED hikebox_status hikebox_storm_play(hikebox_policy *policy, const hikebox_storm *storm,
                                                   hikebox_window *windows, size_t capacity, size_t *count,
