@@ -455,7 +455,7 @@ def test_a_signal_ends_it_with_all_that_it_started(number: signal.Signals) -> No
 
 
 def test_a_storm_too_large_for_the_memory_is_told() -> None:
-    process = start("--no-browser", memory=300 << 20)
+    process = start("--no-browser", memory=200 << 20)
     connection, path = connected(process)
     # (a million requests that wait for their second call)
     asked = storm_of(("recurs(3) & spaced(30).jittered()", ""), rate=17_000, capacity=1, queue=0)

@@ -466,6 +466,8 @@ def test_a_quota_in_redis(redis_server: Any) -> None:
             first.deposit()
             second.deposit()
         seen = [second.seen(), first.seen()]
+        # (what was refused is asked for again after `again_after`)
+        time.sleep(0.05)
         drawn += [number(quota.draw()) for quota in (first, second, first)]
         key = "hikebox:{%s}:quota:3000:%d" % (name, window)
         kept = (server.client().pttl(key), server.client().hgetall(key))

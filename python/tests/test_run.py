@@ -214,7 +214,7 @@ class Shell:
             pytest.skip("there are no terminals on this machine")
         if self.process == 0:
             # (a script that runs the tests in its background has them ignore what a terminal sends)
-            for number in (signal.SIGINT, signal.SIGQUIT):
+            for number in (signal.SIGINT, signal.SIGQUIT, signal.SIGHUP):
                 signal.signal(number, signal.SIG_DFL)
             environment = {**python_environment(), "PS1": "", "TERM": "dumb", "HISTFILE": ""}
             os.execvpe("bash", ["bash", "--norc", "--noediting", "-i"], environment)

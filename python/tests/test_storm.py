@@ -434,7 +434,7 @@ def test_a_storm_too_large_for_the_memory_is_told() -> None:
     command = [sys.executable, "-m", "hikebox", "storm", *words]
     how: Any = {"capture_output": True, "text": True, "env": python_environment()}
     done = subprocess.run(
-        command, preexec_fn=lambda: resource.setrlimit(resource.RLIMIT_AS, (200 << 20, 200 << 20)), **how
+        command, preexec_fn=lambda: resource.setrlimit(resource.RLIMIT_AS, (120 << 20, 120 << 20)), **how
     )
     assert (done.returncode, done.stdout, done.stderr) == (5, "", "hikebox: no memory\n")
 
