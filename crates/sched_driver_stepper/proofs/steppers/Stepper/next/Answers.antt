@@ -20,9 +20,9 @@ invariant_of-self-2 c =
     let floor_is : c.self.inside.floor ≡ c.args.self.now.floor = ap (λ (v : Standing). v.floor) c.self.view_is in
     let later : c.self.inside.floor ≤ e.now = rw floor_is c.in_ok-check_order.ensures.ok in
     let law = subst (λ (p : Schedule). (h : List Event) → IsKeptAfter p h c.self.inside.kept
-        → KeptSteps p (h ++ e ∷ []) kept c.in_ok-decision.decision) same c.in_ok-decision.ensures.law in
+    → KeptSteps p (h ++ e ∷ []) kept c.in_ok-decision.decision) same c.in_ok-decision.ensures.law in
     let went = goes_on plan c.self.inside.kept c.self.inside.start c.self.inside.floor kept e c.in_ok-decision.decision
-        later law h c.self.invariant.stands in
+    later law h c.self.invariant.stands in
     record {
       history = h ++ e ∷ [];
       stands = subst (λ (start : Option ℕ). StandsFor (standing_of plan kept start e.now) (h ++ e ∷ []))
@@ -42,12 +42,12 @@ returns-clause-law c =
     let floor_is : c.self.inside.floor ≡ c.args.self.now.floor = ap (λ (v : Standing). v.floor) c.self.view_is in
     let later : c.self.inside.floor ≤ e.now = rw floor_is c.in_ok-check_order.ensures.ok in
     let law = subst (λ (p : Schedule). (h : List Event) → IsKeptAfter p h c.self.inside.kept
-        → KeptSteps p (h ++ e ∷ []) kept d) same c.in_ok-decision.ensures.law in
+    → KeptSteps p (h ++ e ∷ []) kept d) same c.in_ok-decision.ensures.law in
     let new : Standing = standing_of plan kept c.start-self-inside.result e.now in
     subst (λ (o : Standing). (h : List Event) → StandsFor o h → Goes o.plan (h ++ e ∷ []) d new) c.self.view_is
     (λ h was. subst (λ (start : Option ℕ). Goes plan (h ++ e ∷ []) d (standing_of plan kept start e.now))
-        (sym c.start-self-inside.ensures)
-        (goes_on plan c.self.inside.kept c.self.inside.start c.self.inside.floor kept e d later law h was))
+    (sym c.start-self-inside.ensures)
+    (goes_on plan c.self.inside.kept c.self.inside.start c.self.inside.floor kept e d later law h was))
 
 pub returns-clause-start : goal.returns-clause-start
 returns-clause-start c =
@@ -60,7 +60,7 @@ returns-clause-start c =
     let floor_is : c.self.inside.floor ≡ c.args.self.now.floor = ap (λ (v : Standing). v.floor) c.self.view_is in
     let later : c.self.inside.floor ≤ e.now = rw floor_is c.in_ok-check_order.ensures.ok in
     let law = subst (λ (p : Schedule). (h : List Event) → IsKeptAfter p h c.self.inside.kept
-        → KeptSteps p (h ++ e ∷ []) kept d) same c.in_ok-decision.ensures.law in
+    → KeptSteps p (h ++ e ∷ []) kept d) same c.in_ok-decision.ensures.law in
     let in_range : e.now ≤ FAR = omega arith in
     starts_by plan h e d in_range
     (goes_on plan c.self.inside.kept c.self.inside.start c.self.inside.floor kept e d later law h
