@@ -29,8 +29,7 @@ pub use sched_effect::{
     Action, Call, Code, Coded, Effect, Fallback, FutureAction, FutureCall, Ran, Scripted, Tagged,
 };
 pub use sched_plan::{Fold, Plan, PlanFault, SharedPlan, Side, Test, Val};
-pub use sched_repeat::{Repeat, RepeatEnding};
-pub use sched_retry::{Ending, Retry};
+pub use sched_retry::{Ending, Repeat, Rerun, Retry};
 pub use sched_retry_or::{RetryOr, RetryOrEnding};
 pub use sched_run_machine::{Aims, Drives, Machine, Next, RepeatMachine, Repeats, Retries, Until};
 pub use sched_task::{

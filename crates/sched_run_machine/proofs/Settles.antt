@@ -4,7 +4,7 @@ use Rattle.sched_time.specs.declared.numbers.Tick.{Tick}
 use Rattle.sched_ticket_draws.specs.Grants.{Grants, Lawful}
 use Rattle.sched_task_law.specs.Kind.{Kind, draws}
 use Rattle.sched_task_law.specs.Past.{Past, is_stopped}
-use Rattle.sched_task_law.specs.Poll.{Happened, stays, cannot_begin, runs_on, cannot_run, ends, breaks, stops_done, stops_denied, recurs, asks, cannot_ask, falls, after, May}
+use Rattle.sched_task_law.specs.Poll.{Happened, stays, cannot_begin, runs_on, cannot_run, ends, breaks, stops_done, stops_denied, recurs, times_out, after, May}
 use Rattle.sched_task_law.proofs.Lists.{by_test}
 use Rattle.sched_task_law.proofs.Fields.{none_of}
 use Rattle.sched_task_law.proofs.Law.{law_after}
@@ -40,9 +40,7 @@ module _ {D : Type 0} (grants : Grants D) (lawful : Lawful grants) where
       let one = lawful.counts v.drawing t.now true q (rw drawn at drew) in
       rw drawn (rw (one, was) (omega arith)))
       (λ free. rw free (same_granted v.drawing q (rw free at drew) ∙ was))
-  granted_after kind v t asks q was drew = same_granted v.drawing q drew ∙ was
-  granted_after kind v t cannot_ask q was drew = same_granted v.drawing q drew ∙ was
-  granted_after kind v t falls q was drew = same_granted v.drawing q drew ∙ was
+  granted_after kind v t times_out q was drew = same_granted v.drawing q drew ∙ was
 
   same_refused : (denied : Bool) (p q : D) → (denied ≡ true → grants.refused p) → q ≡ p → denied ≡ true → grants.refused q
   same_refused denied p q was same is = subst grants.refused (sym same) (was is)
@@ -57,10 +55,8 @@ module _ {D : Type 0} (grants : Grants D) (lawful : Lawful grants) where
   denied_after kind v t (breaks r fault) q was may drew = same_refused v.past.denied v.drawing q was drew
   denied_after kind v t (stops_done r) q was may drew = same_refused v.past.denied v.drawing q was drew
   denied_after kind v t (stops_denied r) q was may drew = λ yes. lawful.denies v.drawing t.now q drew
-  denied_after kind v t (recurs r) q was may drew = λ is. absurd (denied_stops v.past is may.0.can.unstopped)
-  denied_after kind v t asks q was may drew = same_refused v.past.denied v.drawing q was drew
-  denied_after kind v t cannot_ask q was may drew = same_refused v.past.denied v.drawing q was drew
-  denied_after kind v t falls q was may drew = same_refused v.past.denied v.drawing q was drew
+  denied_after kind v t (recurs r) q was may drew = λ is. absurd (denied_stops v.past is may.0.can.is_due.unstopped)
+  denied_after kind v t times_out q was may drew = same_refused v.past.denied v.drawing q was drew
 
   same_name : (p q : D) → q ≡ p → grants.name q ≡ grants.name p
   same_name p q same = ap (λ (d : D). grants.name d) same
@@ -77,9 +73,7 @@ module _ {D : Type 0} (grants : Grants D) (lawful : Lawful grants) where
   named_after kind t (stops_denied r) p q drew = lawful.keeps p t.now false q drew
   named_after kind t (recurs r) p q drew =
       by_test (draws kind) (λ drawn. lawful.keeps p t.now true q (rw drawn at drew)) (λ free. same_name p q (rw free at drew))
-  named_after kind t asks p q drew = same_name p q drew
-  named_after kind t cannot_ask p q drew = same_name p q drew
-  named_after kind t falls p q drew = same_name p q drew
+  named_after kind t times_out p q drew = same_name p q drew
 
   -- the task after a poll in which this happened
   abbrev pub next : Kind → Retrying D → Tick → Happened → D → Retrying D

@@ -1,9 +1,8 @@
 pub mod Aims
 pub mod Retrying
 pub mod Next
+pub mod Laws
 pub mod Drives
 pub mod Machine
-pub mod Deadline
-pub mod Until
 pub mod Runner
 pub mod Of

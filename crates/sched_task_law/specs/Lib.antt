@@ -1,4 +1,5 @@
 pub mod Lists
+pub mod Deadline
 pub mod Kind
 pub mod Past
 pub mod Poll

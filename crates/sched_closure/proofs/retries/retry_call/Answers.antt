@@ -12,8 +12,8 @@ returns-in-Ok-clause-unbegun g c = (
     words = refl;
     nothing = refl;
     calls = called g.C.FnMut c.call.ensures c.in-Ok.is;
-    wins = λ plan drawing holds.
-        wins_once g.D.Draws.grants g.met.D.Draws.lawful g.S.Drives.keeps plan drawing holds c.now-began.result _;
+    wins = λ plan deadline drawing holds.
+        wins_once g.D.Draws.grants g.met.D.Draws.lawful g.S.Drives.driving.keeps plan deadline drawing holds c.now-began.result _;
   },
 )
 

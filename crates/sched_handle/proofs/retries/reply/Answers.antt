@@ -1,16 +1,15 @@
-use Rattle.std.proofs.Common.{◌≡◌, ℕ, Bool, false, ◌||◌, ◌-◌, nat_eq, length, min, is_some, option_map, sym, ap, ◌∙◌, subst}
+use Rattle.std.proofs.Common.{◌≡◌, ℕ, Bool, false, ◌||◌, ◌-◌, nat_eq, length, min, Option, None, is_some, option_map, sym, ap, ◌∙◌, subst}
 use Rattle.sched_run_machine.specs.declared.next.Next.{Next}
 use Rattle.sched_handle.specs.declared.replies.Reply.{Reply}
 use Rattle.sched_run_machine.specs.Retrying.{Retrying}
 use Rattle.sched_ticket_draws.specs.declared.drawing.Drawing.{Drawing}
 use Rattle.sched_handle.specs.Retries.{MayBe, reply_to, reply_of, plan_is_done, left_number, left_at}
-use Rattle.sched_driver.specs.Driven.{Driven, next_start_of}
+use Rattle.sched_driver.specs.Driven.{Driven}
 use Rattle.sched_driver_stepper.specs.Standing.{Standing}
-use Rattle.sched_task_law.specs.Past.{schedule_is_done}
-use Rattle.sched_run_machine.specs.Deadline.{late}
-use Rattle.sched_run_machine.specs.Drives.{IsStepped}
-use Rattle.sched_run_machine.specs.Until.{Until, beneath, StandsUntil, schedule_until}
-use Rattle.sched_handle.proofs.Deadlines.{TellsEnding, goes_by, tells_ending, waits_in_time}
+use Rattle.sched_task_law.specs.Deadline.{late}
+use Rattle.sched_task_law.specs.Past.{schedule_is_done, next_start_by}
+use Rattle.sched_run_machine.specs.Drives.{Until, IsStepped}
+use Rattle.sched_handle.proofs.Deadlines.{TellsEnding, tells_ending, waits_in_time}
 use Rattle.sched_handle.proofs.retries.reply.Goals as goal
 
 -- of equal parts the same is told
@@ -27,12 +26,13 @@ returns c =
     let m = c.args.retry.now in
     let deadline = m.driver.deadline in
     let start = c.late_start-late.result in
-    let late_is : (d : Driven) → StandsUntil IsStepped m.driver d → start ≡ late deadline (next_start_of (beneath deadline d)) =
-    subst (λ (v : Until Standing). (d : Driven) → StandsUntil IsStepped v d → start ≡ late v.deadline (next_start_of (beneath v.deadline d)))
+    let late_is : (d : Driven) → IsStepped m.driver.driver d → start ≡ late deadline (next_start_by None d) =
+    subst (λ (v : Until Standing). (d : Driven) → IsStepped v.driver d → start ≡ late v.deadline (next_start_by None d))
     c.driver.ensures c.late_start-late.ensures.late in
-    let done_is : (d : Driven) → StandsUntil IsStepped m.driver d →
-    schedule_is_done d ≡ (schedule_is_done (beneath deadline d) || is_some start) =
-    subst (λ (v : Until Standing). (d : Driven) → StandsUntil IsStepped v d → schedule_is_done d ≡ (schedule_is_done (beneath v.deadline d) || is_some start))
+    let done_is : (d : Driven) → IsStepped m.driver.driver d →
+    schedule_is_done deadline d ≡ (schedule_is_done None d || is_some start) =
+    subst (λ (v : Until Standing). (d : Driven) → IsStepped v.driver d →
+    schedule_is_done v.deadline d ≡ (schedule_is_done None d || is_some start))
     c.driver.ensures c.late_start-late.ensures.done in
     let now = c.args.now in
     let left_is : c.left_of-left.result ≡ left_at deadline now =
@@ -45,10 +45,10 @@ returns c =
     let ending : (u : Retrying Drawing) → MayBe m u → TellsEnding deadline u.past (reply_of deadline now u.past).how =
     λ u st. tells_ending false deadline u.past u.past.granted (min (length u.past.runs) 18446744073709551615)
     (left_at deadline now) st.law.law
-    (done_is u.past.driver st.driver
-    ∙ ap (λ b. plan_is_done deadline u.past || b) (ap is_some (late_is u.past.driver st.driver))) in
+    (ap (λ (end : Option ℕ). schedule_is_done end u.past.driver) (sym st.deadline) ∙ done_is u.past.driver st.driver
+    ∙ ap (λ b. plan_is_done u.past || b) (ap is_some (late_is u.past.driver st.driver))) in
     record {
-      stands = let was = c.granted-granted.ensures.stands (schedule_until m.driver m.driver.driver.plan) (goes_by m.driver) in (was.0, was.2);
+      stands = c.granted-granted.ensures.stands;
       tells = tells;
       in_time = rw c.reply_to.ensures (waits_in_time deadline c.next-next.result _ _ _ _ c.next-next.ensures.in_time);
       done = λ u st. (ending u st).0 ∙ ap (λ (r : Reply). nat_eq r.how 2) (sym (tells u st));
