@@ -1,0 +1,4 @@
+pub mod Cases
+pub mod Buckets
+pub mod Flights
+pub mod Breakers

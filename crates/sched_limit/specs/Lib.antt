@@ -1,0 +1,5 @@
+pub mod Bucket
+pub mod InFlight
+pub mod Word
+pub mod Breaker
+pub mod Laws

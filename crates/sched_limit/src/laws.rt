@@ -1,0 +1,29 @@
+//! What holds of each limit between any two atomic steps, for any number of passes and calls. Each function does nothing:
+//! its contract is a law.
+ghost use Rattle.sched_limit.specs.Laws.{LevelStaysWithin, TokensAreCounted, GrantsLeaveTheFloor};
+ghost use Rattle.sched_limit.specs.Laws.{GrantsAreWithinTheBound, RequestsAreCounted};
+ghost use Rattle.sched_limit.specs.Laws.{ProbesAreFew, OpenIsKept, LateResultsChangeNothing, OpensAfterFailures};
+
+/// A bucket's level is at most its capacity; what it was and what came in is what went out and what is left; and each
+/// draw left at least the floor.
+pub fn tokens_are_counted()
+    ensures within { LevelStaysWithin }
+    ensures counted { TokensAreCounted }
+    ensures floor { GrantsLeaveTheFloor }
+{}
+
+/// Each retry that was granted left as many in flight as the requests then in flight allow, or fewer. The requests in
+/// flight are those that came in and are not over.
+pub fn retries_are_bounded()
+    ensures bounded { GrantsAreWithinTheBound }
+    ensures counted { RequestsAreCounted }
+{}
+
+/// A breaker has no more probes out than it admits. It is opened by the last of its failures in a row, is open until its
+/// moment, and what is told of a run of another generation changes nothing.
+pub fn breakers_hold()
+    ensures probes { ProbesAreFew }
+    ensures open { OpenIsKept }
+    ensures late { LateResultsChangeNothing }
+    ensures failures { OpensAfterFailures }
+{}
