@@ -12,18 +12,18 @@ use Rattle.sched_limit.specs.Laws.{EachMove}
 
 module _ {X : Type 0} (P : X → Type 0) where
   pub by_lt : (a b : ℕ) (x y : X) → (a < b → P x) → (b ≤ a → P y) → P (cond (ltb a b) x y)
-  by_lt a b x y yes no = dite (dec_le b a)
-      (λ le. subst (λ (c : Bool). P (cond c x y)) (sym (le-ltb a b le)) (no le))
-      (λ not-le. subst (λ (c : Bool). P (cond c x y)) (sym (lt-ltb a b (lt_of_not-le not-le))) (yes (lt_of_not-le not-le)))
+  by_lt a b x y hit miss = dite (dec_le b a)
+      (λ le. subst (λ (c : Bool). P (cond c x y)) (sym (le-ltb a b le)) (miss le))
+      (λ not-le. subst (λ (c : Bool). P (cond c x y)) (sym (lt-ltb a b (lt_of_not-le not-le))) (hit (lt_of_not-le not-le)))
 
   pub by_eq : (a b : ℕ) (x y : X) → (a ≡ b → P x) → (a ≢ b → P y) → P (cond (eqb a b) x y)
-  by_eq a b x y yes no = dite (ℕ_discrete a b)
-      (λ e. subst (λ (c : Bool). P (cond c x y)) (sym (eq-eqb a b e)) (yes e))
-      (λ ne. subst (λ (c : Bool). P (cond c x y)) (sym (ne_eqb a b ne)) (no ne))
+  by_eq a b x y hit miss = dite (ℕ_discrete a b)
+      (λ e. subst (λ (c : Bool). P (cond c x y)) (sym (eq-eqb a b e)) (hit e))
+      (λ ne. subst (λ (c : Bool). P (cond c x y)) (sym (ne_eqb a b ne)) (miss ne))
 
   pub by_bool : (c : Bool) (x y : X) → (c ≡ true → P x) → (c ≡ false → P y) → P (cond c x y)
-  by_bool true x y yes no = yes refl
-  by_bool false x y yes no = no refl
+  by_bool true x y hit miss = hit refl
+  by_bool false x y hit miss = miss refl
 
 or_true : (a : Bool) → (a || true) ≡ true
 or_true true = refl
@@ -37,8 +37,8 @@ or_right a b e = subst (λ (c : Bool). (a || c) ≡ true) (sym e) (or_true a)
 
 -- where an or is true and its left is not, its right is
 pub or_rest : (a b : Bool) → (a || b) ≡ true → a ≡ false → b ≡ true
-or_rest true b e no = absurd (false≢true (sym no))
-or_rest false b e no = e
+or_rest true b e miss = absurd (false≢true (sym miss))
+or_rest false b e miss = e
 
 pub either_bool : (z a : Bool) → (a || (not a || z)) ≡ true
 either_bool z true = refl
@@ -62,8 +62,8 @@ or_false false b e = refl
 
 -- where an and is false and its left is true, its right is false
 pub and_false : (a b : Bool) → (a && b) ≡ false → a ≡ true → b ≡ false
-and_false true b e yes = e
-and_false false b e yes = absurd (false≢true yes)
+and_false true b e hit = e
+and_false false b e hit = absurd (false≢true hit)
 
 -- a test that is false makes no demand
 pub no_demand : (c x : Bool) → c ≡ false → cond c x true ≡ true
