@@ -3,6 +3,7 @@ pub mod Numbers
 pub mod Counts
 pub mod Whole
 pub mod Moves
+pub mod Wins
 pub mod HandBacks
 pub mod Parts
 pub mod Views

@@ -8,7 +8,8 @@ use Rattle.sched_ticket_quota.specs.Steps.{Sat}
 use Rattle.sched_ticket_quota.specs.declared.view.View.{View}
 use Rattle.sched_ticket_quota.specs.declared.view.Terms.{Terms}
 use Rattle.sched_ticket_quota.proofs.Known.{carried_known, floor_known}
-use Rattle.sched_ticket_quota.proofs.Moves.{reads_ok, glances_ok, finds_ok, wins_ok}
+use Rattle.sched_ticket_quota.proofs.Moves.{reads_ok, glances_ok, finds_ok}
+use Rattle.sched_ticket_quota.proofs.Wins.{wins_ok}
 use Rattle.sched_ticket_quota.proofs.pass.win.Goals as goal
 
 pub load-drawn-requires : goal.load-drawn-requires
